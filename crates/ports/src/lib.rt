@@ -1,0 +1,8 @@
+//! The ports of a machine: the trait that a processor reads and writes through, its events, and a script of inputs.
+#![tactic(auto)]
+
+pub mod event;
+pub mod script;
+
+pub use event::{Event, PortFault, Ports};
+pub use script::Script;
