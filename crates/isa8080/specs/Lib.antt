@@ -1,0 +1,9 @@
+pub use Rattle.mem80.specs.Memory
+pub use Rattle.ports.specs.Events
+pub use Rattle.ports.specs.Input
+pub mod State
+pub mod Arithmetic
+pub mod Code
+pub mod Act
+pub mod Step
+pub mod Rows
