@@ -1,6 +1,7 @@
 pub use Rattle.mem80.specs.Memory
 pub use Rattle.ports.specs.Events
 pub use Rattle.ports.specs.Input
+pub mod Flags
 pub mod State
 pub mod Arithmetic
 pub mod Code

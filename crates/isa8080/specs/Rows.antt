@@ -1,14 +1,14 @@
 -- Worked rows, computed on the definitions.
 use Rattle.std.specs.Prelude.{◌≡◌, ℕ, true, false, List, [], refl}
 use Rattle.std.specs.Int.Count.{ones}
-use Rattle.isa8080.specs.declared.registers.Flags.{Flags}
+use Rattle.isa8080.specs.Flags.{Flags, flag_byte}
 use Rattle.ports.specs.declared.event.Event.{Event}
 use Rattle.isa8080.specs.declared.registers.Registers.{Registers}
 use Rattle.isa8080.specs.declared.registers.Status.TheVariants.{Running}
 use Rattle.isa8080.specs.declared.instr.Pair.TheVariants.{Hl}
 use Rattle.isa8080.specs.declared.instr.Instr.TheVariants.{Dad}
 use Rattle.isa8080.specs.declared.instr.Operation.TheVariants.{Subtract}
-use Rattle.isa8080.specs.State.{State, flag_byte}
+use Rattle.isa8080.specs.State.{State}
 use Rattle.isa8080.specs.Act.{act}
 use Rattle.isa8080.specs.Arithmetic.{operate, increment_of, decimal_adjust_of}
 
