@@ -1,5 +1,5 @@
 -- What happens at ports: reads and writes, in order, and a count of failures.
-use Rattle.std.specs.Prelude.{◌≡◌, ℕ, ◌+◌, ◌-◌, ◌^◌, ◌<◌, Bool, true, false, min, List, [], ◌∷◌, ◌++◌, All}
+use Rattle.std.specs.Prelude.{◌≡◌, ℕ, ◌+◌, ◌-◌, ◌^◌, true, false, min, List, [], ◌∷◌, ◌++◌}
 use Rattle.ports.specs.declared.event.Event.{Event}
 
 -- the machine read a byte

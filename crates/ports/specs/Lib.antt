@@ -1,3 +1,5 @@
 pub mod Events
 pub mod Input
+pub mod Kept
+pub mod Queues
 pub mod Session

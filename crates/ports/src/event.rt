@@ -1,6 +1,7 @@
 //! Ports, and what happens at them.
 
 ghost use Rattle.std.specs.Prelude.{◌≡◌, ℕ, List, IfOk, OnOk, OnErr};
+ghost use Rattle.ports.specs.declared.event.Event.{Event};
 ghost use Rattle.ports.specs.Events.{read_event, write_event, AddsEvent, CountsFailure};
 ghost use Rattle.ports.specs.Input.{input_value};
 
@@ -11,7 +12,9 @@ use thiserror::Error;
 pub struct Event {
     /// Whether the machine wrote the byte, and did not read it.
     pub write: bool,
+    /// The number of the port.
     pub port: u8,
+    /// The byte.
     pub value: u8,
 }
 
@@ -29,7 +32,8 @@ pub trait Ports {
 
     ghost failures: { Self → ℕ };
 
-    /// Reads a port: byte k of its queue after k reads of it, or 255 past the end of the queue.
+    /// Reads a port: byte k of its queue after k reads of it, or 255 past the end of the queue. An `Ok` adds one
+    /// event, and an `Err` one failure and no event.
     fn input(&mut self, port: u8) -> Result<u8, PortFault>
         ensures value { IfOk result (λ v. v ≡ input_value (script self.old) (events self.old) port) }
         ensures ok { IfOk result (λ v. AddsEvent (events self.old) (events self.new) (read_event port v)) }
@@ -38,7 +42,7 @@ pub trait Ports {
         ensures failed { OnErr result (CountsFailure (failures self.old) (failures self.new)) }
         ensures kept { script self.new ≡ script self.old };
 
-    /// Writes a byte to a port.
+    /// Writes a byte to a port. An `Ok` adds one event, and an `Err` one failure and no event.
     fn output(&mut self, port: u8, value: u8) -> Result<(), PortFault>
         ensures ok { OnOk result (AddsEvent (events self.old) (events self.new) (write_event port value)) }
         ensures count { OnOk result (failures self.new ≡ failures self.old) }
