@@ -55,6 +55,7 @@ impl Memory {
         ensures after { self.new ≡ slice_set self.old address value }
         ensures size { length self.new ≡ 65536 }
     {
-        self.bytes[address as usize] = value;
+        let place = address as usize;
+        self.bytes[place] = value;
     }
 }
