@@ -5,6 +5,7 @@ pub mod Flags
 pub mod State
 pub mod Arithmetic
 pub mod Code
+pub mod Reading
 pub mod Act
 pub mod Step
 pub mod Rows

@@ -1,0 +1,1 @@
+pub use Rattle.isa8080.specs.Arithmetic

@@ -1,0 +1,7 @@
+pub use Rattle.isa8080.specs.State
+pub use Rattle.isa8080.specs.Code
+pub use Rattle.isa8080.specs.Act
+pub use Rattle.isa8080.specs.Step
+pub mod Finish
+pub mod Machine
+pub mod Runs

@@ -1,0 +1,3 @@
+pub mod Decodes
+pub mod Reading
+pub mod Undocumented

@@ -1,0 +1,3 @@
+pub mod Symbols
+pub mod Grammar
+pub mod Reading

@@ -1,0 +1,11 @@
+pub mod Standing
+pub mod Ending
+pub mod SourceRuns
+pub mod Simulation
+pub mod Lengths
+pub mod Loading
+pub mod Faithful
+pub mod WriteLemmas
+pub mod ReportLemmas
+pub mod CommandLemmas
+pub mod PlmLemmas

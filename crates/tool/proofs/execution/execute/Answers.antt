@@ -1,0 +1,13 @@
+use Rattle.std.proofs.Common.{rules}
+use Rattle.cpu8080.specs.Runs.{IsRun}
+use Rattle.tool.specs.Execution.{started}
+use Rattle.tool.proofs.Faithful.{is_faithful}
+use Rattle.tool.proofs.execution.execute.Goals as goal
+
+pub returns-clause-faithful : goal.returns-clause-faithful
+returns-clause-faithful g c =
+    let script = g.P.Ports.script c.args.ports in
+    let events = g.P.Ports.events c.args.ports in
+    let failures = g.P.Ports.failures c.args.ports in
+    let run : IsRun c.args.limit (started c.args.built.now.image c.args.memory script events failures) c.run-end.result c.run-end.new.self = search rules in
+    λ is_memory is_script never. is_faithful c.args.built.now.image c.args.memory script events failures _ (c.image-image.ensures.headline c.args.memory script events is_memory is_script never) c.args.limit c.run-end.result c.run-end.new.self run

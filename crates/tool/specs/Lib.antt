@@ -1,0 +1,17 @@
+pub use Rattle.mem80.specs.Memory
+pub use Rattle.ports.specs.Events
+pub use Rattle.ports.specs.Input
+pub mod Image
+pub mod Code
+pub mod Headline
+pub mod Built
+pub mod Construction
+pub mod Refusals
+pub mod Reading
+pub mod Causes
+pub mod Sources
+pub mod Execution
+pub mod Command
+pub mod Files
+pub mod Report
+pub mod Writing

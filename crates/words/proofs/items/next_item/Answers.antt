@@ -1,0 +1,7 @@
+use Rattle.std.proofs.Common.{sym, subst, length}
+use Rattle.words.specs.Items.{FitsIn}
+use Rattle.words.proofs.ItemLemmas.{item_fits}
+use Rattle.words.proofs.items.next_item.Goals as goal
+
+pub returns-clause-fits : goal.returns-clause-fits
+returns-clause-fits c = subst (FitsIn (length c.args.text.now)) (sym c.item_at.ensures) (item_fits c.args.text.now)

@@ -1,0 +1,5 @@
+use Rattle.words.proofs.Tables.{longest_mark}
+use Rattle.words.proofs.laws.longest_mark.Goals as goal
+
+pub returns : goal.returns
+returns c = longest_mark

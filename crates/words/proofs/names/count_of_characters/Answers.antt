@@ -1,0 +1,6 @@
+use Rattle.words.proofs.NameLemmas.{length-name_of}
+use Rattle.std.proofs.Common.{rules}
+use Rattle.words.proofs.names.count_of_characters.Goals as goal
+
+pub returns : goal.returns
+returns c = search (rules, length-name_of)
