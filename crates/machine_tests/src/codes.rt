@@ -41,8 +41,14 @@ fn texts_of_instructions(rt: HostRuntime) -> Result<(), Fail> {
         (Instr::Mov(Register::L, Operand::M), "MOV L,M"),
         (Instr::MovToMemory(Register::E), "MOV M,E"),
         (Instr::Accumulate(Operation::Compare, Operand::M), "CMP M"),
-        (Instr::AccumulateImmediate(Operation::SubtractWithBorrow, 1), "SBI 01"),
-        (Instr::AccumulateImmediate(Operation::ExclusiveOr, 16), "XRI 10"),
+        (
+            Instr::AccumulateImmediate(Operation::SubtractWithBorrow, 1),
+            "SBI 01",
+        ),
+        (
+            Instr::AccumulateImmediate(Operation::ExclusiveOr, 16),
+            "XRI 10",
+        ),
         (Instr::ReturnIf(Condition::NotZero), "RNZ"),
         (Instr::JumpIf(Condition::ParityOdd, 0x100), "JPO 0100"),
         (Instr::CallIf(Condition::Minus, 0xABCD), "CM ABCD"),

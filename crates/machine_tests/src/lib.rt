@@ -1,12 +1,11 @@
 //! Tests of the machine that cross its crates, and what they run it with.
 #![tactic(auto)]
 
-pub mod faulty;
-pub mod program;
-
 #[cfg(test)]
 mod codes;
+pub mod faulty;
 #[cfg(test)]
 mod machine;
+pub mod program;
 #[cfg(test)]
 mod scripts;

@@ -143,7 +143,11 @@ fn decimal_adjustment_of_every_byte(rt: HostRuntime) -> Result<(), Fail> {
             assert_eq!(rt; registers.flags.ac(), half, "DAA of {a} with {flags}");
             assert_eq!(rt; registers.flags.z(), value == 0, "DAA of {a} with {flags}");
             assert_eq!(rt; registers.flags.s(), value > 127, "DAA of {a} with {flags}");
-            assert_eq!(rt; machine.memory().get(0x109), value, "DAA of {a} with {flags}");
+            assert_eq!(rt;
+                machine.memory().get(0x109),
+                value,
+                "DAA of {a} with {flags}"
+            );
         }
     }
     Ok(())

@@ -2,13 +2,10 @@
 //! `run_command`.
 #![tactic(auto)]
 
-use std::env;
-use std::io;
 use std::io::Write;
 use std::process::ExitCode;
-use std::rt;
-use tool::HostFiles;
-use tool::run_command;
+use std::{env, io, rt};
+use tool::{HostFiles, run_command};
 
 // Carries out the words of the command line, and answers the exit status.
 fn run_words<R: rt::Env + rt::Files + AllocGlobal, O: Write, E: Write>(

@@ -18,7 +18,7 @@ with_bytes-more bytes b start memory fits =
     let cut : drop n memory ≡ get_or memory n 0 ∷ drop (suc n) memory = drop-cons memory n 0 fits in
     let next : suc n ≡ start + length (bytes ++ b ∷ []) = omega (arith, length-append bytes (b ∷ [])) in
     let flat : with_bytes bytes start memory ≡ front ++ (get_or memory n 0 ∷ drop (suc n) memory) =
-      ap (λ rest. take start memory ++ (bytes ++ rest)) cut ∙ sym (append_assoc (take start memory) bytes (get_or memory n 0 ∷ drop (suc n) memory)) in
+    ap (λ rest. take start memory ++ (bytes ++ rest)) cut ∙ sym (append_assoc (take start memory) bytes (get_or memory n 0 ∷ drop (suc n) memory)) in
     ap (λ l. slice_set l n b) flat
     ∙ ap (λ k. slice_set (front ++ (get_or memory n 0 ∷ drop (suc n) memory)) k b) long
     ∙ set-append_seam front (get_or memory n 0) (drop (suc n) memory) b
@@ -30,5 +30,5 @@ with_bytes-more bytes b start memory fits =
 pub memory_is_long : (bytes : List ℕ) (start : ℕ) (memory : List ℕ) → length (with_bytes bytes start memory) ≡ 65536 → start + length bytes < 65536 → start + length bytes < length memory
 memory_is_long bytes start memory size below =
     let parts : length (with_bytes bytes start memory) ≡ length (take start memory) + (length bytes + length (drop (start + length bytes) memory)) =
-      length-append (take start memory) (bytes ++ drop (start + length bytes) memory) ∙ ap (λ n. length (take start memory) + n) (length-append bytes (drop (start + length bytes) memory)) in
+    length-append (take start memory) (bytes ++ drop (start + length bytes) memory) ∙ ap (λ n. length (take start memory) + n) (length-append bytes (drop (start + length bytes) memory)) in
     omega (arith, length-take start memory, length-drop (start + length bytes) memory)

@@ -74,13 +74,13 @@ module _ (script : List (List ℕ)) (m : List ℕ) where
       let event : Event = write_event port (low_byte n) in
       let more : events ++ (event ∷ outputs ss) ≡ (events ++ event ∷ []) ++ outputs ss = sym (append_assoc events (event ∷ []) (outputs ss)) in
       let end : EndsWith script (running r2 m (events ++ event ∷ [])) final =
-        statements_end ss r2 (events ++ event ∷ []) final (all ∙ more) (stands_moved m _ _ _ p4 stands.1.1.1.1) (omega arith) in
+      statements_end ss r2 (events ++ event ∷ []) final (all ∙ more) (stands_moved m _ _ _ p4 stands.1.1.1.1) (omega arith) in
       let second : EndsWith script (running r1 m events) final =
-        step_first script (running r1 m events) (running r2 m (events ++ event ∷ [])) final
-        (out_step r1 events port (byte_moved m _ _ _ p2 stands.1.1.0) (byte_moved m _ _ _ p3 stands.1.1.1.0))
-        (event ∷ outputs ss, all)
-        (running_legal r1 events)
-        end in
+      step_first script (running r1 m events) (running r2 m (events ++ event ∷ [])) final
+      (out_step r1 events port (byte_moved m _ _ _ p2 stands.1.1.0) (byte_moved m _ _ _ p3 stands.1.1.1.0))
+      (event ∷ outputs ss, all)
+      (running_legal r1 events)
+      end in
       step_first script (running r m events) (running r1 m events) final
       (mvi_step r events (low_byte n) stands.0 (byte_moved m _ _ _ p1 stands.1.0))
       (event ∷ outputs ss, all)
@@ -118,7 +118,7 @@ unfolding machine_run
 code_agrees program placement room stack_end image code begins fits memory script events is_memory is_script never =
     let stands : StandsAt (loaded image memory) image.code.start image.code.bytes = stands_loaded memory image.code.bytes image.code.start (omega (arith, is_memory.size)) in
     let here : StandsAt (loaded image memory) image.start (code_bytes (program_code stack_end program.main)) =
-      stands_moved (loaded image memory) (code_bytes (program_code stack_end program.main)) image.code.start image.start begins (subst (λ bs. StandsAt (loaded image memory) image.code.start bs) code stands) in
+    stands_moved (loaded image memory) (code_bytes (program_code stack_end program.main)) image.code.start image.start begins (subst (λ bs. StandsAt (loaded image memory) image.code.start bs) code stands) in
     let room_left : image.start + length (code_bytes (program_code stack_end program.main)) ≤ 65536 = omega (arith, ap length code) in
     agrees_at_end script (initial_state (loaded image memory) events image.start) events program.main (source_run program placement room memory script events)
     (run_ends program placement room memory script events never)

@@ -16,12 +16,7 @@ use ports::Ports;
 /// Loads the image of a program into a memory, and runs it on an 8080 with these ports for at most so many steps. Where
 /// the program never goes outside, the events are a beginning of those of its source, and a machine that halted has
 /// them all.
-pub fn execute<P: Ports>(
-    built: &Built,
-    memory: Memory,
-    ports: P,
-    limit: u64,
-) -> (End, Machine<P>)
+pub fn execute<P: Ports>(built: &Built, memory: Memory, ports: P, limit: u64) -> (End, Machine<P>)
     ensures run { IsRun limit (started built.now.image memory (P.script ports) (P.events ports) (P.failures ports)) result.0 result.1 }
     ensures script { result.1.script ≡ P.script ports }
     ensures faithful { let source = source_run built.now.program built.now.placement built.now.plan.stack_size memory (P.script ports) (P.events ports) in

@@ -64,10 +64,7 @@ fn emit_statement(code: &mut Vec<u8>, statement: Statement) -> Result<(), AllocE
 {
     match statement {
         Statement::Assignment(Target::Output(port), Expression::Number(n)) => {
-            emit(
-                code,
-                Instr::Mvi(Operand::Of(Register::A), (n % 256) as u8),
-            )?;
+            emit(code, Instr::Mvi(Operand::Of(Register::A), (n % 256) as u8))?;
             emit(code, Instr::Out(port))
         }
     }

@@ -9,8 +9,8 @@ use tool::{Built, Plan, Source, ToolFault, build, execute};
 
 const ANSWER: &str = "M: DO; OUTPUT(1) = 42; END M;";
 
-fn fault_of(result: &Result<Built, ToolFault>, alloc: Global) -> Result<String, Fail> {
-    match result {
+fn text_of(alloc: Global, answer: &Result<Built, ToolFault>) -> Result<String, Fail> {
+    match answer {
         Ok(_) => Ok(String::from_str(alloc, "built")?),
         Err(fault) => Ok(format!(in alloc; "{fault}")?),
     }
@@ -20,9 +20,12 @@ fn fault_of(result: &Result<Built, ToolFault>, alloc: Global) -> Result<String, 
 fn answer_of(alloc: Global, text: &[u8], copies: usize, plan: &Plan) -> Result<String, Fail> {
     let mut sources = Vec::new(alloc);
     for _ in 0..copies {
-        sources.push(Source { name: "a.plm", text })?;
+        sources.push(Source {
+            name: "a.plm",
+            text,
+        })?;
     }
-    fault_of(&build(alloc, sources.as_slice(), plan), alloc)
+    text_of(alloc, &build(alloc, sources.as_slice(), plan))
 }
 
 #[test]
@@ -33,8 +36,14 @@ fn numbers_of_sources(rt: HostRuntime) -> Result<(), Fail> {
         assert_eq!(rt; given.as_str(), answer, "{copies} sources");
     }
     let long = vec![in rt.alloc(); b' '; 1048577]?;
-    assert_eq!(rt; answer_of(rt.alloc(), long.as_slice(), 1, &plan)?.as_str(), "U2");
-    assert_eq!(rt; answer_of(rt.alloc(), &long.as_slice()[1..], 1, &plan)?.as_str(), "C7");
+    assert_eq!(rt;
+        answer_of(rt.alloc(), long.as_slice(), 1, &plan)?.as_str(),
+        "U2"
+    );
+    assert_eq!(rt;
+        answer_of(rt.alloc(), &long.as_slice()[1..], 1, &plan)?.as_str(),
+        "C7"
+    );
     Ok(())
 }
 
@@ -61,7 +70,11 @@ fn places_of_code_and_stack(rt: HostRuntime) -> Result<(), Fail> {
             ..usual
         };
         let given = answer_of(rt.alloc(), ANSWER.as_bytes(), 1, &plan)?;
-        assert_eq!(rt; given.as_str(), answer, "code {code} stack {stack} {stack_size}");
+        assert_eq!(rt;
+            given.as_str(),
+            answer,
+            "code {code} stack {stack} {stack_size}"
+        );
     }
     Ok(())
 }
@@ -85,9 +98,15 @@ fn the_longest_code(rt: HostRuntime) -> Result<(), Fail> {
         ..Plan::usual()
     };
     let fits = module_of(rt.alloc(), 16382)?;
-    assert_eq!(rt; answer_of(rt.alloc(), fits.as_bytes(), 1, &plan)?.as_str(), "built");
+    assert_eq!(rt;
+        answer_of(rt.alloc(), fits.as_bytes(), 1, &plan)?.as_str(),
+        "built"
+    );
     let long = module_of(rt.alloc(), 16383)?;
-    assert_eq!(rt; answer_of(rt.alloc(), long.as_bytes(), 1, &plan)?.as_str(), "G1");
+    assert_eq!(rt;
+        answer_of(rt.alloc(), long.as_bytes(), 1, &plan)?.as_str(),
+        "G1"
+    );
     Ok(())
 }
 

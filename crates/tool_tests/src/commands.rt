@@ -1,19 +1,26 @@
 //! The command line, on sources of a line or a few.
 
 use crate::files::OneFile;
+use std::process::Abort;
 use std::test::Fail;
 use tool::run_command;
 
 // What a source prints to standard output and to standard error, and the status, where it is the file `a.plm`.
-struct Row {
+#[derive(Clone, Copy)]
+struct Expectation {
     source: &'static str,
     out: &'static str,
     err: &'static str,
     status: u8,
 }
 
-const fn row(source: &'static str, out: &'static str, err: &'static str, status: u8) -> Row {
-    Row {
+const fn row(
+    source: &'static str,
+    out: &'static str,
+    err: &'static str,
+    status: u8,
+) -> Expectation {
+    Expectation {
         source,
         out,
         err,
@@ -21,7 +28,7 @@ const fn row(source: &'static str, out: &'static str, err: &'static str, status:
     }
 }
 
-fn check(rt: &HostRuntime, rows: &[Row]) -> Result<(), Fail> {
+fn check<R: Abort + AllocGlobal>(rt: &R, rows: &[Expectation]) -> Result<(), Fail> {
     for row in rows {
         let mut files = OneFile::new(rt.alloc(), "a.plm", row.source.as_bytes());
         let mut out: Vec<u8> = Vec::new(rt.alloc());
@@ -70,7 +77,12 @@ fn texts_that_are_refused(rt: HostRuntime) -> Result<(), Fail> {
             row("M: DO;\n\n/* open", "", "C2 a.plm 3\n", 1),
             row("M: DO; OUTPUT(0) = 65536; END M;", "", "C3 a.plm 1\n", 1),
             row("M: DO;\nOUTPUT(0) = 12A; END M;", "", "C3 a.plm 2\n", 1),
-            row("ABCDEFGHIJKLMNOPQRSTUVWXYZ012345: DO; END;", "", "C4 a.plm 1\n", 1),
+            row(
+                "ABCDEFGHIJKLMNOPQRSTUVWXYZ012345: DO; END;",
+                "",
+                "C4 a.plm 1\n",
+                1,
+            ),
         ],
     )
 }
@@ -87,7 +99,12 @@ fn modules_that_are_refused(rt: HostRuntime) -> Result<(), Fail> {
             row("M: DO; END M; END", "", "C7 a.plm 1\n", 1),
             row("M: DO;\nOUTPUT(1) = 2;\nEND N;", "", "C9 a.plm 3\n", 1),
             row("M: DO; OUTPUT(256) = 1; END M;", "", "C15 a.plm 1\n", 1),
-            row("M: DO; OUTPUT(1) = 1;\nOUTPUT(256) = 1; END M;", "", "C15 a.plm 2\n", 1),
+            row(
+                "M: DO; OUTPUT(1) = 1;\nOUTPUT(256) = 1; END M;",
+                "",
+                "C15 a.plm 2\n",
+                1,
+            ),
             row("M: DO; END M;", "", "J4 - 0\n", 1),
         ],
     )

@@ -17,7 +17,7 @@ loop-place-preserved c =
     let long : length so_far ≡ place = length-take-le place bytes (omega arith) in
     let size : length (slice_set c.loop-place.memory (start + place) byte) ≡ 65536 = ap length (sym c.set.ensures.after) ∙ c.set.ensures.size in
     let fits : start + length so_far < length memory =
-      memory_is_long so_far start memory (sym (ap length c.loop-place.invariant) ∙ sym (length-set c.loop-place.memory (start + place) byte) ∙ size) (omega arith) in
+    memory_is_long so_far start memory (sym (ap length c.loop-place.invariant) ∙ sym (length-set c.loop-place.memory (start + place) byte) ∙ size) (omega arith) in
     c.set.ensures.after
     ∙ ap (λ m. slice_set m (start + place) byte) c.loop-place.invariant
     ∙ ap (λ k. slice_set (with_bytes so_far start memory) (start + k) byte) (sym long)

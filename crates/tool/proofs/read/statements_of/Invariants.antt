@@ -9,6 +9,6 @@ abbrev pub invariant-loop-output : goal.invariant-loop-output
 invariant-loop-output l =
     record {
       ports : AllByRecursion (λ (output : tree.Output). output.port < 256) (drop l.output-index l.output-items)
-        → AllByRecursion (λ (output : tree.Output). output.port < 256) l.output-items;
+          → AllByRecursion (λ (output : tree.Output). output.port < 256) l.output-items;
       same : l.statements.items ++ map statement_from (drop l.output-index l.output-items) ≡ map statement_from l.output-items;
     }
