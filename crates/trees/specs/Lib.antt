@@ -1,9 +1,0 @@
-pub mod Names
-pub mod Symbols
-pub mod Trees
-pub mod Views
-pub mod Spelling
-pub mod Forms
-pub mod Nesting
-pub mod Derivation
-pub mod Rows
