@@ -1,0 +1,5 @@
+pub mod Names
+pub mod Derivations
+pub mod StatementDerivations
+mod Rows
+pub mod Views

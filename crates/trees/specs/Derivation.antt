@@ -1,0 +1,252 @@
+-- When words derive a module: a case for each line of the grammar. In each, the symbols before `rest` are those of the tree.
+use Rattle.std.specs.Prelude.{◌≡◌, ℕ, suc, ◌<◌, false, List, [], ◌∷◌, Option, Some, None}
+use Rattle.std.specs.List.{AllByRecursion}
+use Rattle.words.specs.declared.vocabulary.Mark.TheVariants.{EqualSign, MinusSign, LeftParenthesis, RightParenthesis, Comma, Semicolon, Colon, Period, AssignSign}
+use Rattle.words.specs.declared.vocabulary.ReservedWord.TheVariants as words
+use Rattle.words.specs.Spelling.{Lexeme}
+use Rattle.trees.specs.declared.expression.BinaryOperator.{BinaryOperator}
+use Rattle.trees.specs.declared.expression.BinaryOperator.TheVariants.{And}
+use Rattle.trees.specs.declared.expression.UnaryOperator.TheVariants.{Not, Negate}
+use Rattle.trees.specs.declared.identifier.Identifier.{Identifier}
+use Rattle.trees.specs.declared.identifier.Number.{Number}
+use Rattle.trees.specs.declared.identifier.Place.{Place}
+use Rattle.trees.specs.Forms.{expr_level, conj_level, neg_level, rel_level, sum_level, term_level, sec_level, primary_level, level_of, IsNotEmpty, IsElement, ends_in_open_if}
+use Rattle.trees.specs.Nesting.{module_height, IsNestedWithin, ModuleEndsRight}
+use Rattle.trees.specs.Spelling.{binary_symbol, between_commas, constant_symbols, element_symbols, heading_symbols, ending_symbols}
+use Rattle.trees.specs.Symbols.{Symbol, NameSymbol, NumberSymbol, StringSymbol, ReservedSymbol, PlacedSymbol, MarkSymbol, symbols_of}
+use Rattle.trees.specs.Trees.{StringTree, ConstantTree, NumberConstant, StringConstant, ExpressionTree, ConstantLeaf, ReferenceLeaf, LocationLeaf, ListLeaf, ParenthesizedNode, AssignmentNode, UnaryNode, BinaryNode, ReferenceTree, WholeReference, MemberReference, ArgumentTrees, NoArguments, MoreArguments, ElementTree, HeadingTree, StatementTree, NullStatement, AssignmentStatement, CallStatement, ReturnStatement, HaltStatement, IfStatement, IfElseStatement, DoStatement, WhileStatement, IterateStatement, CaseStatement, StatementTrees, NoStatements, MoreStatements, DeclarationTree, DeclareTree, ProcedureTree, DeclarationTrees, NoDeclarations, MoreDeclarations, ModuleTree}
+
+mutual
+  -- the symbols derive an expression at a level of the grammar
+  pub data DerivesExpression : ℕ → List Symbol → ExpressionTree → List Symbol → Type 0 where
+    -- expr: conj; conj: neg; neg: rel; rel: sum; sum: term; term: sec; sec: primary
+    next_level : {level : ℕ} {symbols rest : List Symbol} {tree : ExpressionTree}
+        → DerivesExpression (suc level) symbols tree rest
+        → DerivesExpression level symbols tree rest
+    -- expr: conj {(OR | XOR) conj}
+    or_chain : {symbols middle rest : List Symbol} {left right : ExpressionTree} {operator : BinaryOperator}
+        → level_of operator ≡ expr_level
+        → DerivesExpression expr_level symbols left (binary_symbol operator ∷ middle)
+        → DerivesExpression conj_level middle right rest
+        → DerivesExpression expr_level symbols (BinaryNode operator left right) rest
+    -- conj: neg {AND neg}
+    and_chain : {symbols middle rest : List Symbol} {left right : ExpressionTree}
+        → DerivesExpression conj_level symbols left (ReservedSymbol words.And ∷ middle)
+        → DerivesExpression neg_level middle right rest
+        → DerivesExpression conj_level symbols (BinaryNode And left right) rest
+    -- neg: NOT neg
+    negation : {symbols rest : List Symbol} {operand : ExpressionTree}
+        → DerivesExpression neg_level symbols operand rest
+        → DerivesExpression neg_level (ReservedSymbol words.Not ∷ symbols) (UnaryNode Not operand) rest
+    -- rel: sum (`=` | `<` | `>` | `<=` | `>=` | `<>`) sum
+    comparison : {symbols middle rest : List Symbol} {left right : ExpressionTree} {operator : BinaryOperator}
+        → level_of operator ≡ rel_level
+        → DerivesExpression sum_level symbols left (binary_symbol operator ∷ middle)
+        → DerivesExpression sum_level middle right rest
+        → DerivesExpression rel_level symbols (BinaryNode operator left right) rest
+    -- sum: term {(`+` | `-`) term}
+    sum_chain : {symbols middle rest : List Symbol} {left right : ExpressionTree} {operator : BinaryOperator}
+        → level_of operator ≡ sum_level
+        → DerivesExpression sum_level symbols left (binary_symbol operator ∷ middle)
+        → DerivesExpression term_level middle right rest
+        → DerivesExpression sum_level symbols (BinaryNode operator left right) rest
+    -- term: sec {(`*` | `/` | MOD) sec}
+    term_chain : {symbols middle rest : List Symbol} {left right : ExpressionTree} {operator : BinaryOperator}
+        → level_of operator ≡ term_level
+        → DerivesExpression term_level symbols left (binary_symbol operator ∷ middle)
+        → DerivesExpression sec_level middle right rest
+        → DerivesExpression term_level symbols (BinaryNode operator left right) rest
+    -- sec: `-` primary
+    minus : {symbols rest : List Symbol} {operand : ExpressionTree}
+        → DerivesExpression primary_level symbols operand rest
+        → DerivesExpression sec_level (MarkSymbol MinusSign ∷ symbols) (UnaryNode Negate operand) rest
+    -- primary: number
+    number : {value : Number} {rest : List Symbol}
+        → DerivesExpression primary_level (NumberSymbol value ∷ rest) (ConstantLeaf (NumberConstant value)) rest
+    -- primary: string
+    string : {text : StringTree} {rest : List Symbol}
+        → DerivesExpression primary_level (StringSymbol text ∷ rest) (ConstantLeaf (StringConstant text)) rest
+    -- primary: reference
+    reference : {symbols rest : List Symbol} {tree : ReferenceTree}
+        → DerivesReference symbols tree rest
+        → DerivesExpression primary_level symbols (ReferenceLeaf tree) rest
+    -- primary: `.` reference
+    location : {symbols rest : List Symbol} {tree : ReferenceTree}
+        → DerivesReference symbols tree rest
+        → DerivesExpression primary_level (MarkSymbol Period ∷ symbols) (LocationLeaf tree) rest
+    -- primary: `.` `(` constant {`,` constant} `)`
+    list : {constants : List ConstantTree} {rest : List Symbol}
+        → IsNotEmpty constants
+        → DerivesExpression primary_level (MarkSymbol Period ∷ MarkSymbol LeftParenthesis ∷ between_commas constant_symbols constants (MarkSymbol RightParenthesis ∷ rest)) (ListLeaf constants) rest
+    -- primary: `(` expr `)`
+    parenthesized : {symbols rest : List Symbol} {tree : ExpressionTree}
+        → DerivesExpression expr_level symbols tree (MarkSymbol RightParenthesis ∷ rest)
+        → DerivesExpression primary_level (MarkSymbol LeftParenthesis ∷ symbols) (ParenthesizedNode tree) rest
+    -- primary: `(` reference `:=` expr `)`
+    embedded_assignment : {symbols middle rest : List Symbol} {target : ReferenceTree} {value : ExpressionTree}
+        → DerivesReference symbols target (MarkSymbol AssignSign ∷ middle)
+        → DerivesExpression expr_level middle value (MarkSymbol RightParenthesis ∷ rest)
+        → DerivesExpression primary_level (MarkSymbol LeftParenthesis ∷ symbols) (AssignmentNode target value) rest
+
+  pub data DerivesReference : List Symbol → ReferenceTree → List Symbol → Type 0 where
+    -- reference: name [args]
+    whole : {name : Identifier} {symbols rest : List Symbol} {arguments : ArgumentTrees}
+        → DerivesArguments symbols arguments rest
+        → DerivesReference (NameSymbol name ∷ symbols) (WholeReference name arguments) rest
+    -- reference: name [args] `.` name [args]
+    with_member : {name member : Identifier} {symbols middle rest : List Symbol} {arguments its_arguments : ArgumentTrees}
+        → DerivesArguments symbols arguments (MarkSymbol Period ∷ NameSymbol member ∷ middle)
+        → DerivesArguments middle its_arguments rest
+        → DerivesReference (NameSymbol name ∷ symbols) (MemberReference name arguments member its_arguments) rest
+
+  -- [args]
+  pub data DerivesArguments : List Symbol → ArgumentTrees → List Symbol → Type 0 where
+    no_arguments : {rest : List Symbol} → DerivesArguments rest NoArguments rest
+    -- args: `(` expr {`,` expr} `)`
+    some_arguments : {symbols middle rest : List Symbol} {first : ExpressionTree} {others : ArgumentTrees}
+        → DerivesExpression expr_level symbols first middle
+        → DerivesMoreArguments middle others rest
+        → DerivesArguments (MarkSymbol LeftParenthesis ∷ symbols) (MoreArguments first others) rest
+
+  -- {`,` expr} `)`
+  pub data DerivesMoreArguments : List Symbol → ArgumentTrees → List Symbol → Type 0 where
+    last_argument : {rest : List Symbol}
+        → DerivesMoreArguments (MarkSymbol RightParenthesis ∷ rest) NoArguments rest
+    next_argument : {symbols middle rest : List Symbol} {first : ExpressionTree} {others : ArgumentTrees}
+        → DerivesExpression expr_level symbols first middle
+        → DerivesMoreArguments middle others rest
+        → DerivesMoreArguments (MarkSymbol Comma ∷ symbols) (MoreArguments first others) rest
+
+-- reference {`,` reference}
+pub data DerivesTargets : List Symbol → List ReferenceTree → List Symbol → Type 0 where
+  last_target : {symbols rest : List Symbol} {target : ReferenceTree}
+      → DerivesReference symbols target rest
+      → DerivesTargets symbols (target ∷ []) rest
+  next_target : {symbols middle rest : List Symbol} {target : ReferenceTree} {others : List ReferenceTree}
+      → DerivesReference symbols target (MarkSymbol Comma ∷ middle)
+      → DerivesTargets middle others rest
+      → DerivesTargets symbols (target ∷ others) rest
+
+mutual
+  pub data DerivesStatement : List Symbol → StatementTree → List Symbol → Type 0 where
+    -- statement: `;`
+    null : {rest : List Symbol} → DerivesStatement (MarkSymbol Semicolon ∷ rest) NullStatement rest
+    -- statement: reference {`,` reference} `=` expr `;`
+    assignment : {symbols middle rest : List Symbol} {targets : List ReferenceTree} {value : ExpressionTree}
+        → DerivesTargets symbols targets (MarkSymbol EqualSign ∷ middle)
+        → DerivesExpression expr_level middle value (MarkSymbol Semicolon ∷ rest)
+        → DerivesStatement symbols (AssignmentStatement targets value) rest
+    -- statement: CALL name [args] `;`
+    call : {place : Place} {name : Identifier} {symbols rest : List Symbol} {arguments : ArgumentTrees}
+        → DerivesArguments symbols arguments (MarkSymbol Semicolon ∷ rest)
+        → DerivesStatement (PlacedSymbol words.Call place ∷ NameSymbol name ∷ symbols) (CallStatement place name arguments) rest
+    -- statement: RETURN `;`
+    return : {place : Place} {rest : List Symbol}
+        → DerivesStatement (PlacedSymbol words.Return place ∷ MarkSymbol Semicolon ∷ rest) (ReturnStatement place None) rest
+    -- statement: RETURN expr `;`
+    return_value : {place : Place} {symbols rest : List Symbol} {value : ExpressionTree}
+        → DerivesExpression expr_level symbols value (MarkSymbol Semicolon ∷ rest)
+        → DerivesStatement (PlacedSymbol words.Return place ∷ symbols) (ReturnStatement place (Some value)) rest
+    -- statement: HALT `;`
+    halt : {place : Place} {rest : List Symbol}
+        → DerivesStatement (PlacedSymbol words.Halt place ∷ MarkSymbol Semicolon ∷ rest) (HaltStatement place) rest
+    -- statement: IF expr THEN statement
+    if_then : {place : Place} {symbols middle rest : List Symbol} {condition : ExpressionTree} {body : StatementTree}
+        → DerivesExpression expr_level symbols condition (ReservedSymbol words.Then ∷ middle)
+        → DerivesStatement middle body rest
+        → DerivesStatement (PlacedSymbol words.If place ∷ symbols) (IfStatement place condition body) rest
+    -- statement: IF expr THEN statement ELSE statement, where the ELSE goes with no IF nearer to it
+    if_then_else : {place : Place} {symbols middle behind rest : List Symbol} {condition : ExpressionTree} {body otherwise : StatementTree}
+        → DerivesExpression expr_level symbols condition (ReservedSymbol words.Then ∷ middle)
+        → DerivesStatement middle body (ReservedSymbol words.Else ∷ behind)
+        → ends_in_open_if body ≡ false
+        → DerivesStatement behind otherwise rest
+        → DerivesStatement (PlacedSymbol words.If place ∷ symbols) (IfElseStatement place condition body otherwise) rest
+    -- statement: DO `;` {declaration} {statement} END `;`
+    simple_do : {place : Place} {symbols middle rest : List Symbol} {declared : DeclarationTrees} {body : StatementTrees}
+        → DerivesDeclarations symbols declared middle
+        → DerivesStatements middle body (ReservedSymbol words.End ∷ MarkSymbol Semicolon ∷ rest)
+        → DerivesStatement (PlacedSymbol words.Do place ∷ MarkSymbol Semicolon ∷ symbols) (DoStatement place declared body) rest
+    -- statement: DO WHILE expr `;` {statement} END `;`
+    do_while : {place : Place} {symbols middle rest : List Symbol} {condition : ExpressionTree} {body : StatementTrees}
+        → DerivesExpression expr_level symbols condition (MarkSymbol Semicolon ∷ middle)
+        → DerivesStatements middle body (ReservedSymbol words.End ∷ MarkSymbol Semicolon ∷ rest)
+        → DerivesStatement (PlacedSymbol words.Do place ∷ ReservedSymbol words.While ∷ symbols) (WhileStatement place condition body) rest
+    -- statement: DO name `=` expr TO expr `;` {statement} END `;`
+    iterative_do : {place : Place} {variable : Identifier} {symbols middle behind rest : List Symbol} {first last : ExpressionTree} {body : StatementTrees}
+        → DerivesExpression expr_level symbols first (ReservedSymbol words.To ∷ middle)
+        → DerivesExpression expr_level middle last (MarkSymbol Semicolon ∷ behind)
+        → DerivesStatements behind body (ReservedSymbol words.End ∷ MarkSymbol Semicolon ∷ rest)
+        → DerivesStatement (PlacedSymbol words.Do place ∷ NameSymbol variable ∷ MarkSymbol EqualSign ∷ symbols) (IterateStatement place (record { variable = variable; first = first; last = last; step = None }) body) rest
+    -- statement: DO name `=` expr TO expr BY expr `;` {statement} END `;`
+    iterative_do_by : {place : Place} {variable : Identifier} {symbols middle behind after rest : List Symbol} {first last step : ExpressionTree} {body : StatementTrees}
+        → DerivesExpression expr_level symbols first (ReservedSymbol words.To ∷ middle)
+        → DerivesExpression expr_level middle last (ReservedSymbol words.By ∷ behind)
+        → DerivesExpression expr_level behind step (MarkSymbol Semicolon ∷ after)
+        → DerivesStatements after body (ReservedSymbol words.End ∷ MarkSymbol Semicolon ∷ rest)
+        → DerivesStatement (PlacedSymbol words.Do place ∷ NameSymbol variable ∷ MarkSymbol EqualSign ∷ symbols) (IterateStatement place (record { variable = variable; first = first; last = last; step = Some step }) body) rest
+    -- statement: DO CASE expr `;` {statement} END `;`
+    do_case : {place : Place} {symbols middle rest : List Symbol} {choice : ExpressionTree} {body : StatementTrees}
+        → DerivesExpression expr_level symbols choice (MarkSymbol Semicolon ∷ middle)
+        → DerivesStatements middle body (ReservedSymbol words.End ∷ MarkSymbol Semicolon ∷ rest)
+        → DerivesStatement (PlacedSymbol words.Do place ∷ ReservedSymbol words.Case ∷ symbols) (CaseStatement place choice body) rest
+
+  -- {statement}
+  pub data DerivesStatements : List Symbol → StatementTrees → List Symbol → Type 0 where
+    no_statement : {rest : List Symbol} → DerivesStatements rest NoStatements rest
+    next_statement : {symbols middle rest : List Symbol} {first : StatementTree} {others : StatementTrees}
+        → DerivesStatement symbols first middle
+        → DerivesStatements middle others rest
+        → DerivesStatements symbols (MoreStatements first others) rest
+
+  pub data DerivesDeclaration : List Symbol → DeclarationTree → List Symbol → Type 0 where
+    -- declaration: DECLARE element {`,` element} `;`
+    declare : {elements : List ElementTree} {rest : List Symbol}
+        → IsNotEmpty elements
+        → AllByRecursion IsElement elements
+        → DerivesDeclaration (ReservedSymbol words.Declare ∷ between_commas element_symbols elements (MarkSymbol Semicolon ∷ rest)) (DeclareTree elements) rest
+    -- procedure: its heading {declaration} {statement} END [name] `;`
+    procedure : {heading : HeadingTree} {symbols middle rest : List Symbol} {declared : DeclarationTrees} {body : StatementTrees} {end_name : Option Identifier}
+        → DerivesDeclarations symbols declared middle
+        → DerivesStatements middle body (ending_symbols end_name rest)
+        → DerivesDeclaration (heading_symbols heading symbols) (ProcedureTree heading declared body end_name) rest
+
+  -- {declaration}
+  pub data DerivesDeclarations : List Symbol → DeclarationTrees → List Symbol → Type 0 where
+    no_declaration : {rest : List Symbol} → DerivesDeclarations rest NoDeclarations rest
+    next_declaration : {symbols middle rest : List Symbol} {first : DeclarationTree} {others : DeclarationTrees}
+        → DerivesDeclaration symbols first middle
+        → DerivesDeclarations middle others rest
+        → DerivesDeclarations symbols (MoreDeclarations first others) rest
+
+-- module: name `:` DO `;` {declaration} {statement} END [name] `;`, and nothing behind it
+pub record DerivesModule (symbols : List Symbol) (tree : ModuleTree) : Type 0 where
+  pub behind_heading : List Symbol
+  pub behind_declarations : List Symbol
+  pub heading : symbols ≡ NameSymbol tree.name ∷ MarkSymbol Colon ∷ PlacedSymbol words.Do tree.place ∷ MarkSymbol Semicolon ∷ behind_heading
+  pub declarations : DerivesDeclarations behind_heading tree.declarations behind_declarations
+  pub statements : DerivesStatements behind_declarations tree.statements (ending_symbols tree.end_name [])
+
+-- words derive a module: by the grammar, nested 64 levels at most, and with the right names behind END
+pub record Derives (words : List Lexeme) (tree : ModuleTree) : Type 0 where
+  pub grammar : DerivesModule (symbols_of words) tree
+  pub nested : IsNestedWithin tree
+  pub ends : ModuleEndsRight tree
+
+-- words would derive a module, but for its depth
+pub record DerivesButForDepth (words : List Lexeme) : Type 0 where
+  pub tree : ModuleTree
+  pub grammar : DerivesModule (symbols_of words) tree
+  pub too_deep : 64 < module_height tree
+  pub ends : ModuleEndsRight tree
+
+-- words would derive a module, but for a name behind END
+pub record DerivesButForEndName (words : List Lexeme) : Type 0 where
+  pub tree : ModuleTree
+  pub grammar : DerivesModule (symbols_of words) tree
+  pub nested : IsNestedWithin tree
+  pub other : ¬ ModuleEndsRight tree
+
+-- words derive one module at most, whatever its depth and the names behind END
+abbrev pub DerivesAtMostOne : List Lexeme → Type 0
+DerivesAtMostOne words = (first second : ModuleTree) → DerivesModule (symbols_of words) first → DerivesModule (symbols_of words) second → first ≡ second

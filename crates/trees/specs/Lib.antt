@@ -1,0 +1,9 @@
+pub mod Names
+pub mod Symbols
+pub mod Trees
+pub mod Views
+pub mod Spelling
+pub mod Forms
+pub mod Nesting
+pub mod Derivation
+pub mod Rows

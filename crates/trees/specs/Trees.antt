@@ -1,0 +1,137 @@
+-- The trees of a module, without where their parts lie in memory. Names, numbers, operators and the like are those of the code.
+use Rattle.std.specs.Prelude.{ℕ, List, Option}
+use Rattle.trees.specs.declared.declaration.Dimension.{Dimension}
+use Rattle.trees.specs.declared.declaration.Linkage.{Linkage}
+use Rattle.trees.specs.declared.declaration.Member.{Member}
+use Rattle.trees.specs.declared.declaration.ScalarType.{ScalarType}
+use Rattle.trees.specs.declared.declaration.Sign.{Sign}
+use Rattle.trees.specs.declared.declaration.Storage.{Storage}
+use Rattle.trees.specs.declared.expression.BinaryOperator.{BinaryOperator}
+use Rattle.trees.specs.declared.expression.UnaryOperator.{UnaryOperator}
+use Rattle.trees.specs.declared.identifier.Identifier.{Identifier}
+use Rattle.trees.specs.declared.identifier.Number.{Number}
+use Rattle.trees.specs.declared.identifier.Place.{Place}
+
+-- a string: the bytes that it stands for, and its place
+pub record StringTree : Type 0 where
+  pub characters : List ℕ
+  pub place : Place
+
+-- a number or a string
+pub data ConstantTree : Type 0 where
+  NumberConstant : Number → ConstantTree
+  StringConstant : StringTree → ConstantTree
+
+mutual
+  pub data ExpressionTree : Type 0 where
+    ConstantLeaf : ConstantTree → ExpressionTree
+    ReferenceLeaf : ReferenceTree → ExpressionTree
+    LocationLeaf : ReferenceTree → ExpressionTree
+    ListLeaf : List ConstantTree → ExpressionTree
+    ParenthesizedNode : ExpressionTree → ExpressionTree
+    AssignmentNode : ReferenceTree → ExpressionTree → ExpressionTree
+    UnaryNode : UnaryOperator → ExpressionTree → ExpressionTree
+    BinaryNode : BinaryOperator → ExpressionTree → ExpressionTree → ExpressionTree
+
+  -- a name with its arguments, and perhaps a member of it with its own
+  pub data ReferenceTree : Type 0 where
+    WholeReference : Identifier → ArgumentTrees → ReferenceTree
+    MemberReference : Identifier → ArgumentTrees → Identifier → ArgumentTrees → ReferenceTree
+
+  -- a list of expressions
+  pub data ArgumentTrees : Type 0 where
+    NoArguments : ArgumentTrees
+    MoreArguments : ExpressionTree → ArgumentTrees → ArgumentTrees
+
+-- what a restricted expression begins with
+pub data OriginTree : Type 0 where
+  ConstantOrigin : ConstantTree → OriginTree
+  LocationOrigin : Identifier → OriginTree
+
+pub record OffsetTree : Type 0 where
+  pub sign : Sign
+  pub constant : ConstantTree
+
+-- a constant or a location, with constants added and subtracted
+pub record RestrictedTree : Type 0 where
+  pub origin : OriginTree
+  pub offsets : List OffsetTree
+
+pub data ItemTypeTree : Type 0 where
+  ScalarItem : ScalarType → ItemTypeTree
+  StructureItem : List Member → ItemTypeTree
+
+pub record AtTree : Type 0 where
+  pub place : Place
+  pub address : RestrictedTree
+
+pub record ValueListTree : Type 0 where
+  pub storage : Storage
+  pub values : List RestrictedTree
+
+-- one name, perhaps with the name of its base, or several
+pub data SubjectTree : Type 0 where
+  SingleSubject : Identifier → Option Identifier → SubjectTree
+  GroupSubject : List Identifier → SubjectTree
+
+pub record ItemTree : Type 0 where
+  pub subject : SubjectTree
+  pub dimension : Option Dimension
+  pub item_type : ItemTypeTree
+  pub linkage : Option Linkage
+  pub at : Option AtTree
+  pub value_list : Option ValueListTree
+
+pub data ElementTree : Type 0 where
+  LiterallyElement : Identifier → StringTree → ElementTree
+  ItemElement : ItemTree → ElementTree
+
+pub record HeadingTree : Type 0 where
+  pub name : Identifier
+  pub parameters : List Identifier
+  pub result : Option ScalarType
+  pub linkage : Option Linkage
+  pub reentrant : Option Place
+
+-- what stands between DO and the first statement of an iterative DO
+pub record IterationTree : Type 0 where
+  pub variable : Identifier
+  pub first : ExpressionTree
+  pub last : ExpressionTree
+  pub step : Option ExpressionTree
+
+mutual
+  -- a statement, with the place of its first word if that is a reserved one
+  pub data StatementTree : Type 0 where
+    NullStatement : StatementTree
+    AssignmentStatement : List ReferenceTree → ExpressionTree → StatementTree
+    CallStatement : Place → Identifier → ArgumentTrees → StatementTree
+    ReturnStatement : Place → Option ExpressionTree → StatementTree
+    HaltStatement : Place → StatementTree
+    IfStatement : Place → ExpressionTree → StatementTree → StatementTree
+    IfElseStatement : Place → ExpressionTree → StatementTree → StatementTree → StatementTree
+    DoStatement : Place → DeclarationTrees → StatementTrees → StatementTree
+    WhileStatement : Place → ExpressionTree → StatementTrees → StatementTree
+    IterateStatement : Place → IterationTree → StatementTrees → StatementTree
+    CaseStatement : Place → ExpressionTree → StatementTrees → StatementTree
+
+  pub data StatementTrees : Type 0 where
+    NoStatements : StatementTrees
+    MoreStatements : StatementTree → StatementTrees → StatementTrees
+
+  pub data DeclarationTree : Type 0 where
+    DeclareTree : List ElementTree → DeclarationTree
+    -- a heading, what the procedure declares and does, and the name behind its END
+    ProcedureTree : HeadingTree → DeclarationTrees → StatementTrees → Option Identifier → DeclarationTree
+
+  pub data DeclarationTrees : Type 0 where
+    NoDeclarations : DeclarationTrees
+    MoreDeclarations : DeclarationTree → DeclarationTrees → DeclarationTrees
+
+-- a module, with where its DO stands
+pub record ModuleTree : Type 0 where
+  pub name : Identifier
+  pub place : Place
+  pub declarations : DeclarationTrees
+  pub statements : StatementTrees
+  pub end_name : Option Identifier

@@ -1,0 +1,176 @@
+-- The trees of the code as trees without where their parts lie in memory.
+use Rattle.std.specs.Prelude.{List, [], ◌∷◌, map, Option, Some, None}
+use Rattle.std.specs.Option.{option_map}
+use Rattle.trees.specs.declared.declaration.At.{At}
+use Rattle.trees.specs.declared.declaration.Element.{Element}
+use Rattle.trees.specs.declared.declaration.Element.TheVariants.{Literally, Item as ItemVariant}
+use Rattle.trees.specs.declared.declaration.Item.{Item}
+use Rattle.trees.specs.declared.declaration.ItemType.{ItemType}
+use Rattle.trees.specs.declared.declaration.ItemType.TheVariants.{Scalar, Structure}
+use Rattle.trees.specs.declared.declaration.Offset.{Offset}
+use Rattle.trees.specs.declared.declaration.Origin.{Origin}
+use Rattle.trees.specs.declared.declaration.Origin.TheVariants as origins
+use Rattle.trees.specs.declared.declaration.Restricted.{Restricted}
+use Rattle.trees.specs.declared.declaration.Subject.{Subject}
+use Rattle.trees.specs.declared.declaration.Subject.TheVariants.{Single, Group}
+use Rattle.trees.specs.declared.declaration.ValueList.{ValueList}
+use Rattle.trees.specs.declared.expression.Expression.{Expression}
+use Rattle.trees.specs.declared.expression.Expression.TheVariants as expressions
+use Rattle.trees.specs.declared.expression.Reference.{Reference, Reference', Row_of-Expression, end_of-Expression, more_of-Expression, Held-Reference-member, None', Some'}
+use Rattle.trees.specs.declared.expression.Selector.{Selector}
+use Rattle.trees.specs.declared.identifier.Constant.{Constant}
+use Rattle.trees.specs.declared.identifier.Constant.TheVariants as constants
+use Rattle.trees.specs.declared.identifier.Identifier.{Identifier}
+use Rattle.trees.specs.declared.identifier.Place.{Place}
+use Rattle.trees.specs.declared.identifier.StringLiteral.{StringLiteral}
+use Rattle.trees.specs.declared.module.Module.{Module}
+use Rattle.trees.specs.declared.statement.Declaration.{Declaration, Row_of-Declaration, end_of-Declaration, more_of-Declaration}
+use Rattle.trees.specs.declared.statement.Declaration.TheVariants as declarations
+use Rattle.trees.specs.declared.statement.Heading.{Heading}
+use Rattle.trees.specs.declared.statement.Iteration.{Iteration}
+use Rattle.trees.specs.declared.statement.Statement.{Statement, Row_of-Statement, end_of-Statement, more_of-Statement, Held-Statement-If-3}
+use Rattle.trees.specs.declared.statement.Statement.{None' as NoElse', Some' as SomeElse'}
+use Rattle.trees.specs.declared.statement.Statement.TheVariants as statements
+use Rattle.trees.specs.Trees.{StringTree, ConstantTree, NumberConstant, StringConstant, ExpressionTree, ConstantLeaf, ReferenceLeaf, LocationLeaf, ListLeaf, ParenthesizedNode, AssignmentNode, UnaryNode, BinaryNode, ReferenceTree, WholeReference, MemberReference, ArgumentTrees, NoArguments, MoreArguments, OriginTree, ConstantOrigin, LocationOrigin, OffsetTree, RestrictedTree, ItemTypeTree, ScalarItem, StructureItem, AtTree, ValueListTree, SubjectTree, SingleSubject, GroupSubject, ItemTree, ElementTree, LiterallyElement, ItemElement, HeadingTree, IterationTree, StatementTree, NullStatement, AssignmentStatement, CallStatement, ReturnStatement, HaltStatement, IfStatement, IfElseStatement, DoStatement, WhileStatement, IterateStatement, CaseStatement, StatementTrees, NoStatements, MoreStatements, DeclarationTree, DeclareTree, ProcedureTree, DeclarationTrees, NoDeclarations, MoreDeclarations, ModuleTree}
+
+abbrev pub string_tree : StringLiteral → StringTree
+string_tree literal = record { characters = literal.characters.items; place = literal.place }
+
+abbrev pub constant_tree : Constant → ConstantTree
+constant_tree (constants.Number number) = NumberConstant number
+constant_tree (constants.String literal) = StringConstant (string_tree literal)
+
+abbrev mutual
+  pub expression_tree : Expression → ExpressionTree
+  expression_tree (expressions.Constant constant) = ConstantLeaf (constant_tree constant)
+  expression_tree (expressions.Reference reference) = ReferenceLeaf (reference_tree reference)
+  expression_tree (expressions.Location reference) = LocationLeaf (reference_tree reference)
+  expression_tree (expressions.List constants) = ListLeaf (map constant_tree constants.items)
+  expression_tree (expressions.Parenthesized' p inner) = ParenthesizedNode (expression_tree inner)
+  expression_tree (expressions.Assignment' reference p value) = AssignmentNode (reference_tree reference) (expression_tree value)
+  expression_tree (expressions.Unary' operator p operand) = UnaryNode operator (expression_tree operand)
+  expression_tree (expressions.Binary' operator p left q right) = BinaryNode operator (expression_tree left) (expression_tree right)
+
+  pub reference_tree : Reference → ReferenceTree
+  reference_tree (Reference' name shape arguments member) = with_member name (row_trees arguments) member
+
+  pub with_member : Identifier → ArgumentTrees → Held-Reference-member → ReferenceTree
+  with_member name arguments None' = WholeReference name arguments
+  with_member name arguments (Some' member shape its_arguments) = MemberReference name arguments member (row_trees its_arguments)
+
+  pub row_trees : {count : _} → Row_of-Expression count → ArgumentTrees
+  row_trees end_of-Expression = NoArguments
+  row_trees (more_of-Expression first rest) = MoreArguments (expression_tree first) (row_trees rest)
+
+-- the arguments in a list
+abbrev pub argument_trees : List Expression → ArgumentTrees
+argument_trees [] = NoArguments
+argument_trees (first ∷ rest) = MoreArguments (expression_tree first) (argument_trees rest)
+
+-- the reference of a name with its arguments, and perhaps a member with its own
+abbrev pub reference_of : Selector → Option Selector → ReferenceTree
+reference_of base None = WholeReference base.name (argument_trees base.arguments.items)
+reference_of base (Some member) = MemberReference base.name (argument_trees base.arguments.items) member.name (argument_trees member.arguments.items)
+
+abbrev pub origin_tree : Origin → OriginTree
+origin_tree (origins.Constant constant) = ConstantOrigin (constant_tree constant)
+origin_tree (origins.Location name) = LocationOrigin name
+
+abbrev pub offset_tree : Offset → OffsetTree
+offset_tree offset = record { sign = offset.sign; constant = constant_tree offset.constant }
+
+abbrev pub restricted_tree : Restricted → RestrictedTree
+restricted_tree restricted = record { origin = origin_tree restricted.origin; offsets = map offset_tree restricted.offsets.items }
+
+abbrev pub item_type_tree : ItemType → ItemTypeTree
+item_type_tree (Scalar scalar) = ScalarItem scalar
+item_type_tree (Structure members) = StructureItem members.items
+
+abbrev pub at_tree : At → AtTree
+at_tree at = record { place = at.place; address = restricted_tree at.address }
+
+abbrev pub value_list_tree : ValueList → ValueListTree
+value_list_tree list = record { storage = list.storage; values = map restricted_tree list.values.items }
+
+abbrev pub subject_tree : Subject → SubjectTree
+subject_tree (Single name base) = SingleSubject name base
+subject_tree (Group names) = GroupSubject names.items
+
+abbrev pub item_tree : Item → ItemTree
+item_tree item = record {
+  subject = subject_tree item.subject;
+  dimension = item.dimension;
+  item_type = item_type_tree item.item_type;
+  linkage = item.linkage;
+  at = option_map at_tree item.at;
+  value_list = option_map value_list_tree item.value_list;
+}
+
+abbrev pub element_tree : Element → ElementTree
+element_tree (Literally name text) = LiterallyElement name (string_tree text)
+element_tree (ItemVariant item) = ItemElement (item_tree item)
+
+abbrev pub heading_tree : Heading → HeadingTree
+heading_tree heading = record {
+  name = heading.name;
+  parameters = heading.parameters.items;
+  result = heading.result;
+  linkage = heading.linkage;
+  reentrant = heading.reentrant;
+}
+
+abbrev pub iteration_tree : Iteration → IterationTree
+iteration_tree iteration = record {
+  variable = iteration.variable;
+  first = expression_tree iteration.first;
+  last = expression_tree iteration.last;
+  step = option_map expression_tree iteration.step;
+}
+
+abbrev mutual
+  pub statement_tree : Statement → StatementTree
+  statement_tree statements.Null = NullStatement
+  statement_tree (statements.Assignment targets value) = AssignmentStatement (map reference_tree targets.items) (expression_tree value)
+  statement_tree (statements.Call place procedure) = CallStatement place procedure.name (argument_trees procedure.arguments.items)
+  statement_tree (statements.Return place value) = ReturnStatement place (option_map expression_tree value)
+  statement_tree (statements.Halt place) = HaltStatement place
+  statement_tree (statements.If' place condition p body otherwise) = with_else place (expression_tree condition) (statement_tree body) otherwise
+  statement_tree (statements.Do' place n declared m body) = DoStatement place (declaration_rows declared) (statement_rows body)
+  statement_tree (statements.While' place condition n body) = WhileStatement place (expression_tree condition) (statement_rows body)
+  statement_tree (statements.Iterate' place iteration n body) = IterateStatement place (iteration_tree iteration) (statement_rows body)
+  statement_tree (statements.Case' place choice n body) = CaseStatement place (expression_tree choice) (statement_rows body)
+
+  pub with_else : Place → ExpressionTree → StatementTree → Held-Statement-If-3 → StatementTree
+  with_else place condition body NoElse' = IfStatement place condition body
+  with_else place condition body (SomeElse' p otherwise) = IfElseStatement place condition body (statement_tree otherwise)
+
+  pub statement_rows : {count : _} → Row_of-Statement count → StatementTrees
+  statement_rows end_of-Statement = NoStatements
+  statement_rows (more_of-Statement first rest) = MoreStatements (statement_tree first) (statement_rows rest)
+
+  pub declaration_tree : Declaration → DeclarationTree
+  declaration_tree (declarations.Declare elements) = DeclareTree (map element_tree elements.items)
+  declaration_tree (declarations.Procedure' heading n declared m body end_name) = ProcedureTree (heading_tree heading) (declaration_rows declared) (statement_rows body) end_name
+
+  pub declaration_rows : {count : _} → Row_of-Declaration count → DeclarationTrees
+  declaration_rows end_of-Declaration = NoDeclarations
+  declaration_rows (more_of-Declaration first rest) = MoreDeclarations (declaration_tree first) (declaration_rows rest)
+
+-- the statements in a list
+abbrev pub statement_trees : List Statement → StatementTrees
+statement_trees [] = NoStatements
+statement_trees (first ∷ rest) = MoreStatements (statement_tree first) (statement_trees rest)
+
+-- the declarations in a list
+abbrev pub declaration_trees : List Declaration → DeclarationTrees
+declaration_trees [] = NoDeclarations
+declaration_trees (first ∷ rest) = MoreDeclarations (declaration_tree first) (declaration_trees rest)
+
+abbrev pub module_tree : Module → ModuleTree
+module_tree parsed = record {
+  name = parsed.name;
+  place = parsed.place;
+  declarations = declaration_trees parsed.body.declarations.items;
+  statements = statement_trees parsed.body.statements.items;
+  end_name = parsed.end_name;
+}

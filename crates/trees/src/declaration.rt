@@ -1,0 +1,126 @@
+//! What DECLARE declares.
+
+use crate::identifier::{Constant, Identifier, Number, Place, StringLiteral};
+
+/// BYTE or ADDRESS.
+#[derive(Clone, Copy, Debug, PartialEq, Eq)]
+pub enum ScalarType {
+    Byte,
+    Address,
+}
+
+/// `+` or `-` between constants.
+#[derive(Clone, Copy, Debug, PartialEq, Eq)]
+pub enum Sign {
+    Plus,
+    Minus,
+}
+
+/// How many elements an array has.
+#[derive(Clone, Copy, Debug, PartialEq, Eq)]
+pub enum Dimension {
+    /// `(number)`
+    Count(Number),
+    /// `(*)`: as many as the values of the list fill.
+    Implied,
+}
+
+/// PUBLIC or EXTERNAL, and where the word stands.
+#[derive(Clone, Copy, Debug, PartialEq, Eq)]
+pub enum Linkage {
+    Public(Place),
+    External(Place),
+}
+
+/// A member of a structure: `name [(number)] BYTE` or `name [(number)] ADDRESS`.
+#[derive(Clone, Copy, Debug, PartialEq, Eq)]
+pub struct Member {
+    pub name: Identifier,
+    pub dimension: Option<Number>,
+    pub scalar: ScalarType,
+}
+
+/// The type of a variable or of an element of an array.
+#[derive(Debug, Drop)]
+pub enum ItemType {
+    Scalar(ScalarType),
+    /// STRUCTURE and its members, of which there is one at least.
+    Structure(Vec<Member>),
+}
+
+/// What a restricted expression begins with.
+#[derive(Debug, Drop)]
+pub enum Origin {
+    Constant(Constant),
+    /// `.name`
+    Location(Identifier),
+}
+
+/// `+` or `-`, and a constant.
+#[derive(Debug, Drop)]
+pub struct Offset {
+    pub sign: Sign,
+    pub constant: Constant,
+}
+
+/// A restricted expression: a constant or a location, with constants added or subtracted.
+#[derive(Debug, Drop)]
+pub struct Restricted {
+    pub origin: Origin,
+    pub offsets: Vec<Offset>,
+}
+
+/// `AT (..)`, and where the word AT stands.
+#[derive(Debug, Drop)]
+pub struct At {
+    pub place: Place,
+    pub address: Restricted,
+}
+
+/// INITIAL or DATA, and where the word stands.
+#[derive(Clone, Copy, Debug, PartialEq, Eq)]
+pub enum Storage {
+    Initial(Place),
+    Data(Place),
+}
+
+/// `INITIAL (..)` or `DATA (..)`, with one value at least.
+#[derive(Debug, Drop)]
+pub struct ValueList {
+    pub storage: Storage,
+    pub values: Vec<Restricted>,
+}
+
+/// What an item declares.
+#[derive(Debug, Drop)]
+pub enum Subject {
+    /// A name, and the name behind BASED, if there is one.
+    Single {
+        name: Identifier,
+        base: Option<Identifier>,
+    },
+    /// Names in parentheses, of which there is one at least.
+    Group(Vec<Identifier>),
+}
+
+/// Variables that are declared together.
+#[derive(Debug, Drop)]
+pub struct Item {
+    pub subject: Subject,
+    pub dimension: Option<Dimension>,
+    pub item_type: ItemType,
+    pub linkage: Option<Linkage>,
+    pub at: Option<At>,
+    pub value_list: Option<ValueList>,
+}
+
+/// An element of a DECLARE.
+#[derive(Debug, Drop)]
+pub enum Element {
+    /// `name LITERALLY string`
+    Literally {
+        name: Identifier,
+        text: StringLiteral,
+    },
+    Item(Item),
+}

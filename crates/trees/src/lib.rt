@@ -1,0 +1,22 @@
+//! The trees of PL/M-80 modules, and which words derive them.
+#![tactic(auto)]
+
+pub mod declaration;
+pub mod expression;
+pub mod identifier;
+pub mod module;
+pub mod name;
+pub mod statement;
+
+pub use declaration::{
+    At, Dimension, Element, Item, ItemType, Linkage, Member, Offset, Origin, Restricted,
+    ScalarType, Sign, Storage, Subject, ValueList,
+};
+pub use expression::{BinaryOperator, Expression, Reference, Selector, UnaryOperator};
+pub use identifier::{Constant, Identifier, Number, Place, StringLiteral};
+pub use module::Module;
+pub use name::Name;
+pub use statement::{Block, Declaration, Heading, Iteration, Procedure, Statement};
+
+#[cfg(test)]
+mod tests;

@@ -1,0 +1,14 @@
+//! Modules.
+
+use crate::identifier::{Identifier, Place};
+use crate::statement::Block;
+
+/// A module, with the name behind its END, if there is one. It borrows nothing from the source.
+#[derive(Debug, Drop)]
+pub struct Module {
+    pub name: Identifier,
+    /// Where the word DO stands.
+    pub place: Place,
+    pub body: Block,
+    pub end_name: Option<Identifier>,
+}
