@@ -8,9 +8,15 @@ pub enum Fault {
     /// A word that no module has there, with its line, or the end of the words, with the line of the last one, or 1.
     #[error("C7")]
     Word { line: u32 },
-    /// The name after END is not the name of the module. The line is that of the name after END.
+    /// The word begins what would be nested more than 64 levels deep.
+    #[error("C8")]
+    Depth { line: u32 },
+    /// The name behind END is not that of what it ends. The line is that of the name behind END.
     #[error("C9")]
     EndName { line: u32 },
+    /// A label, with its line, or GOTO, with its line.
+    #[error("C10")]
+    Label { line: u32 },
     /// There was no memory on the host.
     #[error("MEMORY")]
     Memory,
