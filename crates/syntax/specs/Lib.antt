@@ -1,1 +1,5 @@
+pub mod Expressions
 pub mod Faults
+pub mod Giving
+pub mod Lists
+pub mod Looking
