@@ -1,16 +1,16 @@
 -- How the parser reads expressions: an operand, and then operators with what stands behind them, as long as they may stand there.
-use Rattle.std.specs.Prelude.{◌≡◌, ℕ, zero, suc, Bool, true, false, ◌&&◌, nat_le, nat_lt, List, [], ◌∷◌, drop, length, Option, Some, None, Result, Ok, Err, if◌then◌else◌}
+use Rattle.std.specs.Prelude.{ℕ, zero, suc, Bool, ◌&&◌, nat_le, nat_lt, List, [], ◌∷◌, drop, length, Option, Some, None, Ok, Err, if◌then◌else◌}
 use Rattle.words.specs.declared.vocabulary.Mark.TheVariants as marks
 use Rattle.words.specs.declared.vocabulary.ReservedWord.TheVariants as words
 use Rattle.trees.specs.declared.expression.BinaryOperator.{BinaryOperator}
 use Rattle.trees.specs.declared.expression.BinaryOperator.TheVariants.{Or, Xor, And, Equal, Less, Greater, LessOrEqual, GreaterOrEqual, Unequal, Add, Subtract, Multiply, Divide, Modulo}
 use Rattle.trees.specs.declared.expression.UnaryOperator.TheVariants.{Not, Negate}
 use Rattle.trees.specs.declared.identifier.Identifier.{Identifier}
-use Rattle.trees.specs.Forms.{expr_level, neg_level, sec_level, primary_level, level_of, left_level, unary_level_of, operand_level_of}
+use Rattle.trees.specs.Forms.{expr_level, neg_level, sec_level, primary_level, level_of, left_level, unary_level_of}
 use Rattle.trees.specs.Nesting.{expression_height}
 use Rattle.trees.specs.Symbols.{Symbol, MarkSymbol, ReservedSymbol}
 use Rattle.trees.specs.Trees.{ExpressionTree, ConstantLeaf, ReferenceLeaf, LocationLeaf, ListLeaf, ParenthesizedNode, AssignmentNode, UnaryNode, BinaryNode, ReferenceTree, WholeReference, MemberReference, ArgumentTrees, NoArguments, MoreArguments}
-use Rattle.syntax.specs.Looking.{Reading, Cause, Unexpected, TooDeep, ◌>>=◌, at_mark, at_word, mark, name, next_name, next_constant, constant}
+use Rattle.syntax.specs.Looking.{Reading, Unexpected, TooDeep, ◌>>=◌, at_mark, at_word, mark, name, next_name, constant}
 use Rattle.syntax.specs.Lists.{items}
 
 -- the operator of a symbol between operands

@@ -1,8 +1,8 @@
 -- How the parser reads lists. The numbers bound how many items there can be: the symbols that are left are always enough.
-use Rattle.std.specs.Prelude.{◌≡◌, ℕ, zero, suc, ◌≤◌, ◌<◌, Bool, true, false, List, [], ◌∷◌, drop, length, Result, Ok, Err, if◌then◌else◌}
+use Rattle.std.specs.Prelude.{◌≡◌, ℕ, zero, suc, ◌≤◌, ◌<◌, Bool, List, [], ◌∷◌, drop, length, Ok, Err, if◌then◌else◌}
 use Rattle.words.specs.declared.vocabulary.Mark.TheVariants.{Comma}
 use Rattle.trees.specs.Symbols.{Symbol}
-use Rattle.syntax.specs.Looking.{Reading, Cause, Unexpected, ◌>>=◌, at_mark}
+use Rattle.syntax.specs.Looking.{Reading, Unexpected, ◌>>=◌, at_mark}
 
 -- {`,` item}
 abbrev pub more_items : {A : Type 0} → (List Symbol → Reading A) → ℕ → List Symbol → Reading (List A)

@@ -3,6 +3,7 @@
 
 pub mod fault;
 pub mod parser;
+mod statements;
 
 pub use fault::Fault;
 pub use parser::parse;
