@@ -1,5 +1,5 @@
 -- The trees of the code as trees without where their parts lie in memory.
-use Rattle.std.specs.Prelude.{List, [], ◌∷◌, map, Option, Some, None}
+use Rattle.std.specs.Prelude.{Bool, true, false, List, [], ◌∷◌, map, Option, Some, None}
 use Rattle.std.specs.Option.{option_map}
 use Rattle.trees.specs.declared.declaration.At.{At}
 use Rattle.trees.specs.declared.declaration.Element.{Element}
@@ -28,8 +28,9 @@ use Rattle.trees.specs.declared.statement.Declaration.{Declaration, Row_of-Decla
 use Rattle.trees.specs.declared.statement.Declaration.TheVariants as declarations
 use Rattle.trees.specs.declared.statement.Heading.{Heading}
 use Rattle.trees.specs.declared.statement.Iteration.{Iteration}
-use Rattle.trees.specs.declared.statement.Statement.{Statement, Row_of-Statement, end_of-Statement, more_of-Statement, Held-Statement-If-3}
-use Rattle.trees.specs.declared.statement.Statement.{None' as NoElse', Some' as SomeElse'}
+use Rattle.trees.specs.declared.statement.IfThen.{Held-IfThen-otherwise}
+use Rattle.trees.specs.declared.statement.IfThen.{None' as NoElse', Some' as SomeElse'}
+use Rattle.trees.specs.declared.statement.Statement.{Statement, Row_of-Statement, end_of-Statement, more_of-Statement}
 use Rattle.trees.specs.declared.statement.Statement.TheVariants as statements
 use Rattle.trees.specs.Trees.{StringTree, ConstantTree, NumberConstant, StringConstant, ExpressionTree, ConstantLeaf, ReferenceLeaf, LocationLeaf, ListLeaf, ParenthesizedNode, AssignmentNode, UnaryNode, BinaryNode, ReferenceTree, WholeReference, MemberReference, ArgumentTrees, NoArguments, MoreArguments, OriginTree, ConstantOrigin, LocationOrigin, OffsetTree, RestrictedTree, ItemTypeTree, ScalarItem, StructureItem, AtTree, ValueListTree, SubjectTree, SingleSubject, GroupSubject, ItemTree, ElementTree, LiterallyElement, ItemElement, HeadingTree, IterationTree, StatementTree, NullStatement, AssignmentStatement, CallStatement, ReturnStatement, HaltStatement, IfStatement, IfElseStatement, DoStatement, WhileStatement, IterateStatement, CaseStatement, StatementTrees, NoStatements, MoreStatements, DeclarationTree, DeclareTree, ProcedureTree, DeclarationTrees, NoDeclarations, MoreDeclarations, ModuleTree}
 
@@ -38,16 +39,16 @@ string_tree literal = record { characters = literal.characters.items; place = li
 
 abbrev pub constant_tree : Constant → ConstantTree
 constant_tree (constants.Number number) = NumberConstant number
-constant_tree (constants.String literal) = StringConstant (string_tree literal)
+constant_tree (constants.String literal) = StringConstant (string_tree literal.value)
 
 abbrev mutual
   pub expression_tree : Expression → ExpressionTree
   expression_tree (expressions.Constant constant) = ConstantLeaf (constant_tree constant)
-  expression_tree (expressions.Reference reference) = ReferenceLeaf (reference_tree reference)
-  expression_tree (expressions.Location reference) = LocationLeaf (reference_tree reference)
+  expression_tree (expressions.Reference' p reference) = ReferenceLeaf (reference_tree reference)
+  expression_tree (expressions.Location' p reference) = LocationLeaf (reference_tree reference)
   expression_tree (expressions.List constants) = ListLeaf (map constant_tree constants.items)
   expression_tree (expressions.Parenthesized' p inner) = ParenthesizedNode (expression_tree inner)
-  expression_tree (expressions.Assignment' reference p value) = AssignmentNode (reference_tree reference) (expression_tree value)
+  expression_tree (expressions.Assignment' p reference q value) = AssignmentNode (reference_tree reference) (expression_tree value)
   expression_tree (expressions.Unary' operator p operand) = UnaryNode operator (expression_tree operand)
   expression_tree (expressions.Binary' operator p left q right) = BinaryNode operator (expression_tree left) (expression_tree right)
 
@@ -56,7 +57,7 @@ abbrev mutual
 
   pub with_member : Identifier → ArgumentTrees → Held-Reference-member → ReferenceTree
   with_member name arguments None' = WholeReference name arguments
-  with_member name arguments (Some' member shape its_arguments) = MemberReference name arguments member (row_trees its_arguments)
+  with_member name arguments (Some' p member shape its_arguments) = MemberReference name arguments member (row_trees its_arguments)
 
   pub row_trees : {count : _} → Row_of-Expression count → ArgumentTrees
   row_trees end_of-Expression = NoArguments
@@ -71,6 +72,11 @@ argument_trees (first ∷ rest) = MoreArguments (expression_tree first) (argumen
 abbrev pub reference_of : Selector → Option Selector → ReferenceTree
 reference_of base None = WholeReference base.name (argument_trees base.arguments.items)
 reference_of base (Some member) = MemberReference base.name (argument_trees base.arguments.items) member.name (argument_trees member.arguments.items)
+
+-- whether an expression is a reference alone
+abbrev pub is_reference_leaf : ExpressionTree → Bool
+is_reference_leaf (ReferenceLeaf reference) = true
+is_reference_leaf _ = false
 
 abbrev pub origin_tree : Origin → OriginTree
 origin_tree (origins.Constant constant) = ConstantOrigin (constant_tree constant)
@@ -107,8 +113,8 @@ item_tree item = record {
 }
 
 abbrev pub element_tree : Element → ElementTree
-element_tree (Literally name text) = LiterallyElement name (string_tree text)
-element_tree (ItemVariant item) = ItemElement (item_tree item)
+element_tree (Literally definition) = LiterallyElement definition.value.name (string_tree definition.value.text)
+element_tree (ItemVariant item) = ItemElement (item_tree item.value)
 
 abbrev pub heading_tree : Heading → HeadingTree
 heading_tree heading = record {
@@ -130,19 +136,19 @@ iteration_tree iteration = record {
 abbrev mutual
   pub statement_tree : Statement → StatementTree
   statement_tree statements.Null = NullStatement
-  statement_tree (statements.Assignment targets value) = AssignmentStatement (map reference_tree targets.items) (expression_tree value)
-  statement_tree (statements.Call place procedure) = CallStatement place procedure.name (argument_trees procedure.arguments.items)
-  statement_tree (statements.Return place value) = ReturnStatement place (option_map expression_tree value)
+  statement_tree (statements.Assignment assignment) = AssignmentStatement (reference_tree assignment.value.target ∷ map reference_tree assignment.value.others.items) (expression_tree assignment.value.value)
+  statement_tree (statements.Call place procedure) = CallStatement place procedure.value.name (argument_trees procedure.value.arguments.items)
+  statement_tree (statements.Return place value) = ReturnStatement place (option_map (λ held. expression_tree held.value) value)
   statement_tree (statements.Halt place) = HaltStatement place
-  statement_tree (statements.If' place condition p body otherwise) = with_else place (expression_tree condition) (statement_tree body) otherwise
-  statement_tree (statements.Do' place n declared m body) = DoStatement place (declaration_rows declared) (statement_rows body)
-  statement_tree (statements.While' place condition n body) = WhileStatement place (expression_tree condition) (statement_rows body)
-  statement_tree (statements.Iterate' place iteration n body) = IterateStatement place (iteration_tree iteration) (statement_rows body)
-  statement_tree (statements.Case' place choice n body) = CaseStatement place (expression_tree choice) (statement_rows body)
+  statement_tree (statements.If' p place condition body otherwise) = with_else place (expression_tree condition) (statement_tree body) otherwise
+  statement_tree (statements.Do' place p n declared m body) = DoStatement place (declaration_rows declared) (statement_rows body)
+  statement_tree (statements.While' p place condition n body) = WhileStatement place (expression_tree condition) (statement_rows body)
+  statement_tree (statements.Iterate' p place iteration n body) = IterateStatement place (iteration_tree iteration) (statement_rows body)
+  statement_tree (statements.Case' p place choice n body) = CaseStatement place (expression_tree choice) (statement_rows body)
 
-  pub with_else : Place → ExpressionTree → StatementTree → Held-Statement-If-3 → StatementTree
+  pub with_else : Place → ExpressionTree → StatementTree → Held-IfThen-otherwise → StatementTree
   with_else place condition body NoElse' = IfStatement place condition body
-  with_else place condition body (SomeElse' p otherwise) = IfElseStatement place condition body (statement_tree otherwise)
+  with_else place condition body (SomeElse' otherwise) = IfElseStatement place condition body (statement_tree otherwise)
 
   pub statement_rows : {count : _} → Row_of-Statement count → StatementTrees
   statement_rows end_of-Statement = NoStatements
@@ -150,11 +156,16 @@ abbrev mutual
 
   pub declaration_tree : Declaration → DeclarationTree
   declaration_tree (declarations.Declare elements) = DeclareTree (map element_tree elements.items)
-  declaration_tree (declarations.Procedure' heading n declared m body end_name) = ProcedureTree (heading_tree heading) (declaration_rows declared) (statement_rows body) end_name
+  declaration_tree (declarations.Procedure' p heading n declared m body end_name) = ProcedureTree (heading_tree heading) (declaration_rows declared) (statement_rows body) end_name
 
   pub declaration_rows : {count : _} → Row_of-Declaration count → DeclarationTrees
   declaration_rows end_of-Declaration = NoDeclarations
   declaration_rows (more_of-Declaration first rest) = MoreDeclarations (declaration_tree first) (declaration_rows rest)
+
+-- an IF, with what stands behind ELSE, if it has one
+abbrev pub if_tree : Place → ExpressionTree → StatementTree → Option StatementTree → StatementTree
+if_tree place condition body None = IfStatement place condition body
+if_tree place condition body (Some otherwise) = IfElseStatement place condition body otherwise
 
 -- the statements in a list
 abbrev pub statement_trees : List Statement → StatementTrees

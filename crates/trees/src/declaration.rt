@@ -1,6 +1,7 @@
 //! What DECLARE declares.
 
 use crate::identifier::{Constant, Identifier, Number, Place, StringLiteral};
+use std::alloc::{AllocError, Global};
 
 /// BYTE or ADDRESS.
 #[derive(Clone, Copy, Debug, PartialEq, Eq)]
@@ -114,13 +115,41 @@ pub struct Item {
     pub value_list: Option<ValueList>,
 }
 
+/// A name and the text that it stands for: `name LITERALLY string`.
+#[derive(Debug, Drop)]
+pub struct Definition {
+    pub name: Identifier,
+    pub text: StringLiteral,
+}
+
 /// An element of a DECLARE.
 #[derive(Debug, Drop)]
 pub enum Element {
     /// `name LITERALLY string`
-    Literally {
+    Literally(Box<Definition>),
+    Item(Box<Item>),
+}
+
+impl Element {
+    ghost use Rattle.std.specs.Prelude.{◌≡◌, IfOk};
+    ghost use Rattle.trees.specs.Trees.{LiterallyElement, ItemElement};
+    ghost use Rattle.trees.specs.Views.{element_tree, item_tree, string_tree};
+
+    /// `name LITERALLY string`
+    pub fn literally(
+        alloc: Global,
         name: Identifier,
         text: StringLiteral,
-    },
-    Item(Item),
+    ) -> Result<Element, AllocError>
+        ensures view { IfOk result (λ made. element_tree made ≡ LiterallyElement name (string_tree text)) }
+    {
+        Ok(Element::Literally(Box::new(alloc, Definition { name, text })?))
+    }
+
+    /// Variables that are declared together.
+    pub fn item(alloc: Global, item: Item) -> Result<Element, AllocError>
+        ensures view { IfOk result (λ made. element_tree made ≡ ItemElement (item_tree item)) }
+    {
+        Ok(Element::Item(Box::new(alloc, item)?))
+    }
 }

@@ -1,6 +1,7 @@
 //! Expressions.
 
 use crate::identifier::{Constant, Identifier};
+use std::alloc::{AllocError, Global};
 
 /// An operator with one operand.
 #[derive(Clone, Copy, Debug, PartialEq, Eq)]
@@ -51,16 +52,16 @@ pub enum Expression {
     /// A number or a string.
     Constant(Constant),
     /// A variable, an element or a member of one, or a call: these look alike until names are known.
-    Reference(Reference),
+    Reference(Box<Reference>),
     /// `.` and what it locates.
-    Location(Reference),
+    Location(Box<Reference>),
     /// `.(..)`, a list of constants.
     List(Vec<Constant>),
     /// `(..)`
     Parenthesized(Box<Expression>),
     /// `(reference := expression)`
     Assignment {
-        target: Reference,
+        target: Box<Reference>,
         value: Box<Expression>,
     },
     /// NOT or `-` before an operand.
@@ -68,6 +69,11 @@ pub enum Expression {
     /// An operator between its operands.
     Binary(BinaryOperator, Box<Expression>, Box<Expression>),
 }
+
+// A module has many expressions, so what is large is boxed.
+const _: () = prove!(size_of::<Expression>() <= 32);
+
+const _: () = prove!(size_of::<Reference>() <= 80);
 
 /// A name with what stands in parentheses behind it, subscripts or arguments; no parentheses are an empty list.
 #[cycle(expression)]
@@ -81,18 +87,123 @@ pub struct Selector {
 #[cycle(expression)]
 #[derive(Debug, Drop)]
 pub struct Reference {
-    pub base: Selector,
-    pub member: Option<Selector>,
+    pub name: Identifier,
+    pub arguments: Vec<Expression>,
+    pub member: Option<Box<Selector>>,
 }
 
 impl Reference {
-    ghost use Rattle.std.specs.Prelude.{◌≡◌};
+    ghost use Rattle.std.specs.Prelude.{◌≡◌, IfOk};
     ghost use Rattle.trees.specs.Views.{reference_tree, reference_of};
 
     /// The reference to what `base` names, or to a member of it.
-    pub fn new(base: Selector, member: Option<Selector>) -> Reference
-        ensures { reference_tree result ≡ reference_of base member }
+    #[tactic(auto, using(crate::specs::declared::expression::Reference::the_lemmas, crate::proofs::Views::row_trees_are))]
+    pub fn new(
+        alloc: Global,
+        base: Selector,
+        member: Option<Selector>,
+    ) -> Result<Reference, AllocError>
+        ensures view { IfOk result (λ made. reference_tree made ≡ reference_of base member) }
     {
-        Reference { base, member }
+        let Selector { name, arguments } = base;
+        let member = match member {
+            Some(selector) => Some(Box::new(alloc, selector)?),
+            None => None,
+        };
+        Ok(Reference {
+            name,
+            arguments,
+            member,
+        })
+    }
+}
+
+impl Expression {
+    ghost use Rattle.std.specs.Prelude.{◌≡◌, false, map, IfOk, IfErr};
+    ghost use Rattle.trees.specs.Trees.{ConstantLeaf, ReferenceLeaf, LocationLeaf, ListLeaf, ParenthesizedNode, AssignmentNode, UnaryNode, BinaryNode};
+    ghost use Rattle.trees.specs.Views.{constant_tree, expression_tree, reference_tree, is_reference_leaf};
+
+    /// A number or a string.
+    pub fn constant(constant: Constant) -> Expression
+        ensures view { expression_tree result ≡ ConstantLeaf (constant_tree constant) }
+    {
+        Expression::Constant(constant)
+    }
+
+    /// A variable, an element or a member of one, or a call.
+    pub fn reference(alloc: Global, reference: Reference) -> Result<Expression, AllocError>
+        ensures view { IfOk result (λ made. expression_tree made ≡ ReferenceLeaf (reference_tree reference)) }
+    {
+        Ok(Expression::Reference(Box::new(alloc, reference)?))
+    }
+
+    /// `.` and what it locates.
+    pub fn location(alloc: Global, reference: Reference) -> Result<Expression, AllocError>
+        ensures view { IfOk result (λ made. expression_tree made ≡ LocationLeaf (reference_tree reference)) }
+    {
+        Ok(Expression::Location(Box::new(alloc, reference)?))
+    }
+
+    /// `.(..)`, a list of constants.
+    pub fn list(constants: Vec<Constant>) -> Expression
+        ensures view { expression_tree result ≡ ListLeaf (map constant_tree constants.items) }
+    {
+        Expression::List(constants)
+    }
+
+    /// `(..)`
+    pub fn parenthesized(alloc: Global, inner: Expression) -> Result<Expression, AllocError>
+        ensures view { IfOk result (λ made. expression_tree made ≡ ParenthesizedNode (expression_tree inner)) }
+    {
+        Ok(Expression::Parenthesized(Box::new(alloc, inner)?))
+    }
+
+    /// `(reference := expression)`
+    pub fn assignment(
+        alloc: Global,
+        target: Reference,
+        value: Expression,
+    ) -> Result<Expression, AllocError>
+        ensures view { IfOk result (λ made. expression_tree made ≡ AssignmentNode (reference_tree target) (expression_tree value)) }
+    {
+        let target = Box::new(alloc, target)?;
+        let value = Box::new(alloc, value)?;
+        Ok(Expression::Assignment { target, value })
+    }
+
+    /// NOT or `-` before an operand.
+    pub fn unary(
+        alloc: Global,
+        operator: UnaryOperator,
+        operand: Expression,
+    ) -> Result<Expression, AllocError>
+        ensures view { IfOk result (λ made. expression_tree made ≡ UnaryNode operator (expression_tree operand)) }
+    {
+        Ok(Expression::Unary(operator, Box::new(alloc, operand)?))
+    }
+
+    /// An operator between its operands.
+    pub fn binary(
+        alloc: Global,
+        operator: BinaryOperator,
+        left: Expression,
+        right: Expression,
+    ) -> Result<Expression, AllocError>
+        ensures view { IfOk result (λ made. expression_tree made ≡ BinaryNode operator (expression_tree left) (expression_tree right)) }
+    {
+        let left = Box::new(alloc, left)?;
+        Ok(Expression::Binary(operator, left, Box::new(alloc, right)?))
+    }
+
+    /// The reference that an expression is, or the expression itself, where it is none.
+    pub fn into_reference(self) -> Result<Reference, Expression>
+        ensures found { IfOk result (λ reference. expression_tree self ≡ ReferenceLeaf (reference_tree reference)) }
+        ensures other { IfErr result (λ kept. expression_tree kept ≡ expression_tree self) }
+        ensures not_one { IfErr result (λ _. is_reference_leaf (expression_tree self) ≡ false) }
+    {
+        match self {
+            Expression::Reference(reference) => Ok(Box::into_inner(reference)),
+            other => Err(other),
+        }
     }
 }

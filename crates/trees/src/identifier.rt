@@ -1,6 +1,7 @@
 //! Names, numbers and strings as they stand in a source.
 
 use crate::name::Name;
+use std::alloc::{AllocError, Global};
 
 /// Where a word stands: the place of its first byte, counted from 0, and its line, counted from 1.
 #[derive(Clone, Copy, Debug, PartialEq, Eq)]
@@ -34,5 +35,25 @@ pub struct StringLiteral {
 #[derive(Debug, Drop)]
 pub enum Constant {
     Number(Number),
-    String(StringLiteral),
+    String(Box<StringLiteral>),
+}
+
+impl Constant {
+    ghost use Rattle.std.specs.Prelude.{◌≡◌, IfOk};
+    ghost use Rattle.trees.specs.Trees.{NumberConstant, StringConstant};
+    ghost use Rattle.trees.specs.Views.{constant_tree, string_tree};
+
+    /// A number.
+    pub fn number(number: Number) -> Constant
+        ensures view { constant_tree result ≡ NumberConstant number }
+    {
+        Constant::Number(number)
+    }
+
+    /// A string.
+    pub fn string(alloc: Global, literal: StringLiteral) -> Result<Constant, AllocError>
+        ensures view { IfOk result (λ made. constant_tree made ≡ StringConstant (string_tree literal)) }
+    {
+        Ok(Constant::String(Box::new(alloc, literal)?))
+    }
 }
