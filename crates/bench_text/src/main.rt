@@ -1,24 +1,28 @@
-//! Reads a source of a kind up to a phase, and prints how long the phase took and how much memory the program had at most:
-//! `bench_text page|statements|names|semicolons|literally|nesting read|scan|expand|parse`. `bench/text` prints ratios of these.
+//! Reads a source of a kind up to a phase, and prints how many microseconds each phase took and how much memory the program had at
+//! most: `bench_text page|statements|names|semicolons|literally|nesting read|scan|expand|parse|all`, where `parse` leaves expansion
+//! out. `bench/text` prints ratios of these.
 #![tactic(auto)]
 
 mod sources;
 
+ghost use Rattle.std.specs.Prelude.{◌≤◌, length, IfOk};
+ghost use Rattle.literally.specs.Expansion.{AreShort};
+ghost use Rattle.words.specs.Spelling.{lexemes_of};
+
 use anyhow::{Context, Result, bail};
 use sources::{LONGEST, source_of};
+use std::alloc::Global;
 use std::env;
 use std::fs;
 use std::time::Instant;
+use words::Word;
 
-// A plain reading: how many bytes are lines' ends, and the sum of all.
+// A plain reading: how many lines end, and the sum of all bytes.
 fn plain_reading(source: &[u8]) -> (usize, u32) {
-    let mut lines = 0;
+    let lines = source.iter().filter(|byte| **byte == b'\n').count();
     let mut sum: u32 = 0;
     for byte in source {
         sum = sum.wrapping_add(u32::from(*byte));
-        if *byte == b'\n' {
-            lines += 1;
-        }
     }
     (lines, sum)
 }
@@ -34,31 +38,66 @@ fn greatest_memory(rt: &HostRuntime) -> Result<String> {
     bail!("the system does not tell")
 }
 
-fn main(rt: HostRuntime) -> Result<()> {
-    let args: Vec<String> = env::args(&rt)?.collect(rt.alloc())?;
-    let kind = args.get(1).map_or("page", |kind| kind.as_str());
-    let phase = args.get(2).map_or("parse", |phase| phase.as_str());
-    let source = source_of(rt.alloc(), kind)?.context("no such kind")?;
+// The words of a source, of which none is longer than a source.
+fn words_of<'a>(alloc: Global, source: &'a [u8]) -> Result<Vec<Word<'a>>, words::Fault>
+    requires { length source.now ≤ LONGEST }
+    ensures short { IfOk result (λ words. AreShort (lexemes_of words.items)) }
+{
+    words::scan(alloc, source)
+}
+
+// Prints how many microseconds a phase took.
+fn report(rt: &HostRuntime, phase: &str, begun: Instant) -> Result<()> {
+    println!(rt; "{phase} {}", begun.elapsed(rt)?.as_micros())?;
+    Ok(())
+}
+
+// Reads a source up to a phase.
+fn read_up_to(rt: &HostRuntime, source: &[u8], phase: &str) -> Result<()> {
+    let begun = Instant::now(rt)?;
+    let (lines, sum) = plain_reading(source);
+    report(rt, "read", begun)?;
+    println!(rt; "bytes {} lines {lines} sum {sum}", source.len())?;
+    if phase == "read" {
+        return Ok(());
+    }
     if source.len() > LONGEST {
         bail!("the source is too long");
     }
-    let begun = Instant::now(&rt)?;
-    let (lines, sum) = plain_reading(source.as_slice());
-    let taken = begun.elapsed(&rt)?.as_micros();
-    println!(rt; "bytes {} lines {lines} sum {sum}", source.len())?;
-    println!(rt; "read {taken}")?;
-    if phase == "read" {
-        println!(rt; "{}", greatest_memory(&rt)?)?;
-        return Ok(());
-    }
-    let begun = Instant::now(&rt)?;
-    let words = words::scan(rt.alloc(), source.as_slice())?;
-    let taken = begun.elapsed(&rt)?.as_micros();
-    println!(rt; "words {}", words.len())?;
-    println!(rt; "scan {taken}")?;
+    let begun = Instant::now(rt)?;
+    let words = words_of(rt.alloc(), source)?;
+    report(rt, "scan", begun)?;
     if phase == "scan" {
-        println!(rt; "{}", greatest_memory(&rt)?)?;
         return Ok(());
     }
+    if phase == "parse" {
+        return parse(rt, words.as_slice());
+    }
+    let begun = Instant::now(rt)?;
+    let output = literally::expand(rt.alloc(), words.as_slice())?;
+    report(rt, "expand", begun)?;
+    println!(rt; "words {} to {}", words.len(), output.len())?;
+    if phase == "expand" {
+        return Ok(());
+    }
+    parse(rt, output.as_slice())
+}
+
+// Parses words.
+fn parse(rt: &HostRuntime, words: &[Word]) -> Result<()> {
+    let begun = Instant::now(rt)?;
+    let module = syntax::parse(rt.alloc(), words)?;
+    report(rt, "parse", begun)?;
+    println!(rt; "module {}", module.name.name)?;
+    Ok(())
+}
+
+fn main(rt: HostRuntime) -> Result<()> {
+    let args: Vec<String> = env::args(&rt)?.collect(rt.alloc())?;
+    let kind = args.get(1).map_or("page", |kind| kind.as_str());
+    let phase = args.get(2).map_or("all", |phase| phase.as_str());
+    let source = source_of(rt.alloc(), kind)?.context("no such kind of source")?;
+    read_up_to(&rt, source.as_slice(), phase)?;
+    println!(rt; "{}", greatest_memory(&rt)?)?;
     Ok(())
 }

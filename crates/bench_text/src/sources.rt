@@ -45,10 +45,10 @@ fn module_of(alloc: Global, text: &[u8], most: usize) -> Result<Vec<u8>, AllocEr
     Ok(source)
 }
 
-// Definitions of which one use takes up over 1,800,000 words.
+// Definitions of which one use takes up some two million words.
 fn definitions(alloc: Global) -> Result<Vec<u8>, AllocError> {
     let mut source = Vec::new(alloc);
-    source.extend_from_slice(b"M: DO; DECLARE Z LITERALLY ';;;;;;;;;;;;'")?;
+    source.extend_from_slice(b"M: DO; DECLARE Z LITERALLY ';;;;;;;;;;;;;;;;'")?;
     let names: [u8; 6] = [b'Y', b'X', b'W', b'V', b'U', b'T'];
     let mut last = b'Z';
     for name in names {
