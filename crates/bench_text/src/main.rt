@@ -12,9 +12,8 @@ ghost use Rattle.words.specs.Spelling.{lexemes_of};
 use anyhow::{Context, Result, bail};
 use sources::{LONGEST, source_of};
 use std::alloc::Global;
-use std::env;
-use std::fs;
 use std::time::Instant;
+use std::{env, fs};
 use words::Word;
 
 // A plain reading: how many lines end, and the sum of all bytes.

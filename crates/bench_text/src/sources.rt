@@ -36,11 +36,12 @@ fn repeat(source: &mut Vec<u8>, text: &[u8], most: usize) -> Result<(), AllocErr
     Ok(())
 }
 
-// A module whose inside is a text again and again, up to a length.
-fn module_of(alloc: Global, text: &[u8], most: usize) -> Result<Vec<u8>, AllocError> {
+// A module whose inside is a text again and again, and at last another, up to a length.
+fn module_of(alloc: Global, text: &[u8], last: &[u8]) -> Result<Vec<u8>, AllocError> {
     let mut source = Vec::with_capacity(alloc, LONGEST)?;
     source.extend_from_slice(b"M: DO;\n")?;
-    repeat(&mut source, text, most)?;
+    repeat(&mut source, text, LONGEST - 16)?;
+    source.extend_from_slice(last)?;
     source.extend_from_slice(b"END M;\n")?;
     Ok(source)
 }
@@ -76,17 +77,16 @@ fn nesting(alloc: Global) -> Result<Vec<u8>, AllocError> {
     for _ in 0..63_usize {
         deep.extend_from_slice(b"END;")?;
     }
-    module_of(alloc, deep.as_slice(), LONGEST - 16)
+    module_of(alloc, deep.as_slice(), b"")
 }
 
 /// The source of a kind, if there is one.
 pub fn source_of(alloc: Global, kind: &str) -> Result<Option<Vec<u8>>, AllocError> {
-    let most = LONGEST - 16;
     let source = match kind {
-        "page" => module_of(alloc, PAGE, most)?,
-        "statements" => module_of(alloc, b"X=A+1;Y(I)=X*2-Z;", most)?,
-        "names" => module_of(alloc, b"COUNTER,LIMIT,TOTAL$SUM,", most)?,
-        "semicolons" => module_of(alloc, b";", most)?,
+        "page" => module_of(alloc, PAGE, b"")?,
+        "statements" => module_of(alloc, b"X=A+1;Y(I)=X*2-Z;", b"")?,
+        "names" => module_of(alloc, b"COUNTER,LIMIT,TOTAL$SUM,", b"X=1;")?,
+        "semicolons" => module_of(alloc, b";", b"")?,
         "literally" => definitions(alloc)?,
         "nesting" => nesting(alloc)?,
         _ => return Ok(None),
