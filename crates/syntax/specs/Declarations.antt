@@ -213,16 +213,21 @@ subject_of None symbols = do
 unfoldable pub subject : List Symbol → Reading SubjectTree
 subject symbols = subject_of (next_name symbols) symbols
 
--- an item
-unfoldable pub item : List Symbol → Reading ItemTree
-item symbols = do
-  its_subject ← subject symbols
-  its_dimension ← dimension its_subject.1
+-- what stands behind the subject of an item
+abbrev pub item_behind : SubjectTree → List Symbol → Reading ItemTree
+item_behind its_subject symbols = do
+  its_dimension ← dimension symbols
   its_type ← item_type its_dimension.1
   its_linkage ← linkage its_type.1
   its_place ← at its_linkage.1
   its_values ← value_list its_place.1
-  Ok (record { subject = its_subject.0; dimension = its_dimension.0; item_type = its_type.0; linkage = its_linkage.0; at = its_place.0; value_list = its_values.0 }, its_values.1)
+  Ok (record { subject = its_subject; dimension = its_dimension.0; item_type = its_type.0; linkage = its_linkage.0; at = its_place.0; value_list = its_values.0 }, its_values.1)
+
+-- an item
+unfoldable pub item : List Symbol → Reading ItemTree
+item symbols = do
+  its_subject ← subject symbols
+  item_behind its_subject.0 its_subject.1
 
 -- name LITERALLY string | item
 abbrev pub item_element : List Symbol → Reading ElementTree
@@ -234,12 +239,30 @@ abbrev pub element_of : Option Identifier → List Symbol → Reading ElementTre
 element_of None symbols = item_element symbols
 element_of (Some own) symbols =
     if at_word words.Literally (drop 1 symbols) then (do
-      text ← string (drop 2 symbols)
+      text ← string (drop 1 (drop 1 symbols))
       Ok (LiterallyElement own text.0, text.1))
     else item_element symbols
 
 unfoldable pub element : List Symbol → Reading ElementTree
 element symbols = element_of (next_name symbols) symbols
+
+-- an element behind the name with which it begins
+abbrev pub element_behind : Identifier → List Symbol → Reading ElementTree
+element_behind own symbols =
+    if at_word words.Literally symbols then (do
+      text ← string (drop 1 symbols)
+      Ok (LiterallyElement own text.0, text.1))
+    else (do
+      its_base ← base symbols
+      found ← item_behind (SingleSubject own its_base.0) its_base.1
+      Ok (ItemElement found.0, found.1))
+
+-- an element that begins with no name
+abbrev pub group_element : List Symbol → Reading ElementTree
+group_element symbols = do
+  its_names ← names symbols
+  found ← item_behind (GroupSubject its_names.0) its_names.1
+  Ok (ItemElement found.0, found.1)
 
 -- element {`,` element} `;`, behind DECLARE
 unfoldable pub elements : List Symbol → Reading (List ElementTree)

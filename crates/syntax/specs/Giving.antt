@@ -1,5 +1,5 @@
 -- What a function of the parser returned is what reading the symbols gives, unless memory ran out.
-use Rattle.std.specs.Prelude.{◌≡◌, List, Result, Ok, Err}
+use Rattle.std.specs.Prelude.{◌≡◌, List, Option, None, Some, Result, Ok, Err}
 use Rattle.words.specs.declared.scanner.Word as scanned
 use Rattle.words.specs.Spelling.{lexemes_of}
 use Rattle.trees.specs.Symbols.{Symbol, symbols_of}
@@ -11,15 +11,29 @@ use Rattle.syntax.specs.Looking.{Cause, Unexpected, TooDeep, OtherEndName, Readi
 abbrev pub left_of : List scanned.Word → List Symbol
 left_of words = symbols_of (lexemes_of words)
 
+-- the cause that a fault tells of; want of memory tells of none
+abbrev pub cause_of : Fault → Option Cause
+cause_of (Word line) = Some Unexpected
+cause_of (Label line) = Some Unexpected
+cause_of (Depth line) = Some TooDeep
+cause_of (EndName line) = Some OtherEndName
+cause_of Memory = None
+
+-- a cause is that for which reading gives nothing
+abbrev pub FailsBy : {Y : Type 0} → Option Cause → Result Y Cause → Type 0
+FailsBy None read = Unit {0}
+FailsBy (Some cause) read = read ≡ Err cause
+
 -- a fault has the cause for which reading gives nothing
 abbrev pub Fails : {Y : Type 0} → Fault → Result Y Cause → Type 0
-Fails (Word line) read = read ≡ Err Unexpected
-Fails (Label line) read = read ≡ Err Unexpected
-Fails (Depth line) read = read ≡ Err TooDeep
-Fails (EndName line) read = read ≡ Err OtherEndName
-Fails Memory read = Unit {0}
+Fails fault read = FailsBy (cause_of fault) read
 
 -- what was returned, with the symbols that are left, is what reading gives
 abbrev pub Gives : {X Y : Type 0} → (X → Y) → Result X Fault → List Symbol → Reading Y → Type 0
 Gives view (Ok x) rest read = read ≡ Ok (view x, rest)
 Gives view (Err fault) rest read = Fails fault read
+
+-- the same where nothing but the symbols that are left is told
+abbrev pub Leaves : {X : Type 0} → Result X Fault → List Symbol → Result (List Symbol) Cause → Type 0
+Leaves (Ok x) rest read = read ≡ Ok rest
+Leaves (Err fault) rest read = Fails fault read

@@ -1,9 +1,19 @@
 //! The grammar of PL/M-80: from words to the tree of the module that they are.
 #![tactic(auto)]
 
+mod declarations;
+mod expressions;
 pub mod fault;
+pub mod laws;
+mod measured;
 pub mod parser;
+mod reader;
 mod statements;
 
 pub use fault::Fault;
 pub use parser::parse;
+
+#[cfg(test)]
+mod declaration_tests;
+#[cfg(test)]
+mod tests;

@@ -1,21 +1,20 @@
 -- What a run of the machine says of its source.
-use Rattle.std.proofs.Common.{◌≡◌, ◌≢◌, ℕ, zero, suc, ◌+◌, ◌-◌, ◌≤◌, List, refl, sym, ap, ◌∙◌, subst, arith, ⊎_elim}
+use Rattle.std.proofs.Common.{◌≡◌, ℕ, zero, suc, ◌+◌, ◌-◌, ◌≤◌, List, sym, ap, ◌∙◌, subst, arith, ⊎_elim}
 use Rattle.std.proofs.lemmas.Bool.{cases_lt}
 use Rattle.ports.specs.declared.event.Event.{Event}
-use Rattle.isa8080.specs.declared.registers.Status.{Status}
-use Rattle.isa8080.specs.declared.registers.Status.TheVariants.{Running, Halted, Illegal}
+use Rattle.isa8080.specs.declared.registers.Status.TheVariants.{Halted}
 use Rattle.isa8080.specs.State.{State}
-use Rattle.isa8080.specs.Step.{step_of, step_by, state_after, initial_state}
+use Rattle.isa8080.specs.Step.{step_of, step_by, state_after}
 use Rattle.cpu8080.specs.declared.machine.End.{End}
 use Rattle.cpu8080.specs.declared.machine.End.TheVariants as end
 use Rattle.cpu8080.specs.Machine.{Machine}
-use Rattle.cpu8080.specs.Runs.{IsRun, ComesTo, FailsAfter}
+use Rattle.cpu8080.specs.Runs.{IsRun}
 use Rattle.source_meaning.specs.Outcome.{Ended}
 use Rattle.source_meaning.specs.Run.{Run}
 use Rattle.tool.specs.declared.image.Image.{Image}
 use Rattle.tool.specs.Execution.{started, IsFaithful}
 use Rattle.tool.specs.Headline.{Agrees, IsBeginning}
-use Rattle.tool.specs.Image.{loaded, machine_run}
+use Rattle.tool.specs.Image.{machine_run}
 
 -- a halted state stays
 stays : (script : List (List ℕ)) (s : State) → s.status ≡ Halted → step_of script s ≡ s

@@ -1,5 +1,5 @@
 -- How long the code of statements is.
-use Rattle.std.proofs.Common.{◌≡◌, ℕ, ◌+◌, ◌*◌, List, [], ◌∷◌, length, arith}
+use Rattle.std.proofs.Common.{◌≡◌, ◌+◌, ◌*◌, List, [], ◌∷◌, length, arith}
 use Rattle.source_meaning.specs.declared.program.Expression.TheVariants.{Number}
 use Rattle.source_meaning.specs.declared.program.Target.TheVariants.{Output}
 use Rattle.source_meaning.specs.declared.program.Statement.{Statement}

@@ -1,3 +1,5 @@
+pub mod ServedLemmas
+pub mod Service
 pub mod Standing
 pub mod Ending
 pub mod SourceRuns

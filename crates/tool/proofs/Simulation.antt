@@ -1,12 +1,11 @@
 -- The code of a program does on the machine what the program means.
-use Rattle.std.proofs.Common.{◌≡◌, ◌≢◌, ℕ, suc, ◌+◌, ◌%◌, ◌<◌, ◌≤◌, List, [], ◌∷◌, ◌++◌, length, refl, sym, ap, ◌∙◌, subst, arith, append-nil, append_assoc, length-append}
+use Rattle.std.proofs.Common.{◌≡◌, ◌≢◌, ℕ, ◌+◌, ◌%◌, ◌≤◌, List, [], ◌∷◌, ◌++◌, length, refl, sym, ap, ◌∙◌, subst, arith, append-nil, append_assoc}
 use Rattle.ports.specs.declared.event.Event.{Event}
 use Rattle.ports.specs.Events.{write_event}
-use Rattle.ports.specs.Input.{IsScript}
-use Rattle.mem80.specs.Memory.{IsMemory, byte_at}
+use Rattle.mem80.specs.Memory.{byte_at}
 use Rattle.isa8080.specs.declared.registers.Registers.{Registers}
-use Rattle.isa8080.specs.declared.registers.Status.TheVariants.{Running, Halted, Illegal}
-use Rattle.isa8080.specs.State.{State, low_byte, high_byte}
+use Rattle.isa8080.specs.declared.registers.Status.TheVariants.{Running, Illegal}
+use Rattle.isa8080.specs.State.{State, low_byte}
 use Rattle.isa8080.specs.Code.{form_of}
 use Rattle.isa8080.specs.Step.{carry_out, step_of, state_after, initial_registers, initial_state}
 use Rattle.source_meaning.specs.declared.program.Joined.{Joined}
@@ -15,10 +14,9 @@ use Rattle.source_meaning.specs.declared.program.Expression.TheVariants.{Number}
 use Rattle.source_meaning.specs.declared.program.Target.TheVariants.{Output}
 use Rattle.source_meaning.specs.declared.program.Statement.{Statement}
 use Rattle.source_meaning.specs.declared.program.Statement.TheVariants.{Assignment}
-use Rattle.source_meaning.specs.Outcome.{Ended}
-use Rattle.source_meaning.specs.Run.{Run, source_run, NeverOutside}
+use Rattle.source_meaning.specs.Run.{Run, source_run}
 use Rattle.tool.specs.declared.image.Image.{Image}
-use Rattle.tool.specs.Image.{with_bytes, loaded, machine_run}
+use Rattle.tool.specs.Image.{loaded, machine_run}
 use Rattle.tool.specs.Code.{statements_code, program_code, code_bytes}
 use Rattle.tool.specs.Headline.{IsBeginning, Agrees, DoesWhatItSays}
 use Rattle.tool.proofs.Standing.{StandsAt, byte_moved, stands_moved, stands_loaded}

@@ -9,10 +9,10 @@ use Rattle.source_meaning.specs.declared.program.Target.TheVariants.{Output}
 use Rattle.source_meaning.specs.declared.program.Statement.{Statement}
 use Rattle.source_meaning.specs.declared.program.Statement.TheVariants.{Assignment}
 use Rattle.source_meaning.specs.declared.program.Reason.TheVariants.{Stack}
-use Rattle.source_meaning.specs.Outcome.{Situation, Surroundings, Ended, Outside, Outcome, Gave, Stopped, then_do}
+use Rattle.source_meaning.specs.Outcome.{Situation, Surroundings, Ended, Outside, Gave, Stopped}
 use Rattle.source_meaning.specs.Charge.{charge_of}
 use Rattle.source_meaning.specs.Meaning.{meaning_of_statements}
-use Rattle.source_meaning.specs.Run.{Run, source_run, run_of, charged, NeverOutside}
+use Rattle.source_meaning.specs.Run.{Run, source_run, run_of, NeverOutside}
 
 -- the events of statements
 abbrev pub outputs : List Statement → List Event

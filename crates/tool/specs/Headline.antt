@@ -1,5 +1,5 @@
 -- What it means that a machine does what a source says.
-use Rattle.std.specs.Prelude.{◌≡◌, ◌≢◌, ℕ, ◌+◌, ◌%◌, List, ◌++◌}
+use Rattle.std.specs.Prelude.{◌≡◌, ◌≢◌, ℕ, List, ◌++◌}
 use Rattle.ports.specs.declared.event.Event.{Event}
 use Rattle.ports.specs.Input.{IsScript}
 use Rattle.mem80.specs.Memory.{IsMemory}

@@ -7,6 +7,8 @@ pub mod Headline
 pub mod Built
 pub mod Construction
 pub mod Refusals
+pub mod Served
+pub mod Outputs
 pub mod Reading
 pub mod Causes
 pub mod Sources

@@ -1,14 +1,12 @@
 -- Sources: the program that they are, and why they are refused.
 use Rattle.std.specs.Prelude.{◌≡◌, ℕ, ◌+◌, ◌%◌, ◌<◌, ◌⊎◌, List, [], ◌∷◌, map, length, slice_index_or}
 use Rattle.source_meaning.specs.declared.program.Joined.{Joined}
-use Rattle.source_meaning.specs.declared.program.JoinFault.{JoinFault}
 use Rattle.source_meaning.specs.declared.program.Statement.{Statement}
 use Rattle.tool.specs.declared.sources.Source as declared_source
 use Rattle.tool.specs.declared.sources.ToolFault.{ToolFault}
 use Rattle.tool.specs.declared.sources.ToolFault.TheVariants.{TooManySources, Source, CodeTooLong, NotServed, Join, Placement, Memory}
 use Rattle.tool.specs.declared.built.PlacementFault.{PlacementFault}
 use Rattle.tool.specs.declared.plan.Plan.{Plan}
-use Rattle.tool.specs.declared.read.ReadFault.{ReadFault}
 use Rattle.tool.specs.Causes.{HasReadCause}
 use Rattle.tool.specs.Code.{code_bytes, program_code}
 use Rattle.tool.specs.Reading.{IsSourceOf}

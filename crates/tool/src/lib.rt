@@ -12,6 +12,7 @@ pub mod load;
 pub mod plan;
 pub mod read;
 pub mod report;
+pub mod served;
 pub mod sources;
 pub mod writing;
 

@@ -104,17 +104,33 @@ fn build_one(alloc: Global, text: &[u8], plan: &Plan) -> Result<Built, ToolFault
     Ok(built)
 }
 
-// Why several sources are refused: the first fault of one of them, or that they are several.
+// Why several sources are refused: the first fault of one of them, where that something is not served comes behind all
+// others, or else that they are several.
 fn refusal_of_several(alloc: Global, sources: &[Source], plan: &Plan) -> ToolFault
     requires { 1 < length sources.now }
     ensures { HasCause result (texts_of sources.now) plan.now }
 {
+    let mut unserved = None;
     for (file, source) in sources.iter().enumerate() {
         if let Err(fault) = compile(alloc, file, source.text, plan) {
-            return fault;
+            if !is_of_service(&fault) {
+                return fault;
+            }
+            unserved = unserved.or(Some(fault));
         }
     }
-    ToolFault::NotServed { file: 1, line: 1 }
+    unserved.unwrap_or(ToolFault::NotServed { file: 1, line: 1 })
+}
+
+// Whether a fault is that a source is right, but not served.
+fn is_of_service(fault: &ToolFault) -> bool {
+    matches!(
+        fault,
+        ToolFault::Source {
+            fault: ReadFault::NotServed { .. },
+            ..
+        }
+    )
 }
 
 // The statements of a source, and their code.

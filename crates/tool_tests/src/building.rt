@@ -47,6 +47,35 @@ fn numbers_of_sources(rt: HostRuntime) -> Result<(), Fail> {
     Ok(())
 }
 
+// What `build` answers for two sources, and the line of the fault.
+fn answer_of_two(alloc: Global, first: &str, second: &str) -> Result<String, Fail> {
+    let sources = [first, second].map(|text| Source {
+        name: "a.plm",
+        text: text.as_bytes(),
+    });
+    match build(alloc, &sources, &Plan::usual()) {
+        Ok(_) => Ok(String::from_str(alloc, "built")?),
+        Err(fault) => Ok(format!(in alloc; "{fault} {}", fault.line())?),
+    }
+}
+
+#[test]
+fn faults_of_two_sources(rt: HostRuntime) -> Result<(), Fail> {
+    let unserved = "M: DO;\n\nHALT; END M;";
+    for (first, second, answer) in [
+        (ANSWER, ANSWER, "N1 1"),
+        (ANSWER, unserved, "N1 3"),
+        (unserved, ANSWER, "N1 3"),
+        (unserved, "M: DO;\nEND N;", "C9 2"),
+        ("M: DO;\nEND N;", "?", "C9 2"),
+        (unserved, "M: DO;\nOUTPUT(256) = 1; END M;", "C15 2"),
+    ] {
+        let given = answer_of_two(rt.alloc(), first, second)?;
+        assert_eq!(rt; given.as_str(), answer, "{first} {second}");
+    }
+    Ok(())
+}
+
 #[test]
 fn places_of_code_and_stack(rt: HostRuntime) -> Result<(), Fail> {
     let usual = Plan::usual();

@@ -5,4 +5,20 @@
 mod building;
 #[cfg(test)]
 mod commands;
+#[cfg(test)]
+mod depths;
 pub mod files;
+#[cfg(test)]
+mod grammar;
+#[cfg(test)]
+mod programs;
+#[cfg(test)]
+mod reserved;
+#[cfg(test)]
+mod runs;
+#[cfg(test)]
+mod texts;
+#[cfg(test)]
+mod unserved;
+#[cfg(test)]
+mod words;

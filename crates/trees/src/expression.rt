@@ -1,4 +1,4 @@
-//! Expressions.
+//! Expressions. Where there is no memory for one, its parts are dropped.
 
 use crate::identifier::{Constant, Identifier};
 use std::alloc::{AllocError, Global};

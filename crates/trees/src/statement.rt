@@ -1,4 +1,4 @@
-//! Statements, declarations and procedures.
+//! Statements, declarations and procedures. Where there is no memory for one, its parts are dropped.
 
 use crate::declaration::{Element, Linkage, ScalarType};
 use crate::expression::{Expression, Reference, Selector};

@@ -1,4 +1,4 @@
-use Rattle.std.proofs.Common.{◌≡◌, ◌+◌, ◌%◌, refl, sym, ap, ◌∙◌, arith, rules, length, true}
+use Rattle.std.proofs.Common.{◌≡◌, ◌+◌, ◌%◌, refl, sym, ap, ◌∙◌, arith, length, true}
 use Rattle.tool.proofs.Simulation.{code_agrees}
 use Rattle.tool.proofs.built.place.Goals as goal
 

@@ -1,14 +1,14 @@
-use Rattle.std.proofs.Common.{◌≡◌, ◌<◌, ◌++◌, drop, map}
-use Rattle.std.specs.List.{AllByRecursion}
-use Rattle.syntax.specs.declared.tree.Output as tree
-use Rattle.tool.specs.Reading.{statement_from}
+use Rattle.std.proofs.Common.{◌≡◌, ◌++◌, drop, map, find, nat_lt}
+use Rattle.tool.specs.declared.served.Output.{Output}
+use Rattle.tool.specs.Reading.{statement_from, HavePorts}
 use Rattle.tool.proofs.read.statements_of.Given as goal
 
--- if the ports of what is left are numbers of ports, all are; and what was made, and what is left to make, is all
+-- if the ports of what is left are numbers of ports, all are; what was made, and what is left to make, is all; and the
+-- first port over 255 is in what is left
 abbrev pub invariant-loop-output : goal.invariant-loop-output
 invariant-loop-output l =
     record {
-      ports : AllByRecursion (λ (output : tree.Output). output.port < 256) (drop l.output-index l.output-items)
-          → AllByRecursion (λ (output : tree.Output). output.port < 256) l.output-items;
-      same : l.statements.items ++ map statement_from (drop l.output-index l.output-items) ≡ map statement_from l.output-items;
+      ports : HavePorts (drop l.output-index l.outputs) → HavePorts l.outputs;
+      same : l.statements.items ++ map statement_from (drop l.output-index l.outputs) ≡ map statement_from l.outputs;
+      first : find (λ (output : Output). nat_lt 255 output.port.value) l.outputs ≡ find (λ (output : Output). nat_lt 255 output.port.value) (drop l.output-index l.outputs);
     }

@@ -1,0 +1,14 @@
+use Rattle.syntax.proofs.Parsed.{made_of_words, parsed-derives, refused-derives_none, deep-refused, end_name-refused}
+use Rattle.syntax.proofs.parser.parse.Goals as goal
+
+pub returns-clause-ok : goal.returns-clause-ok
+returns-clause-ok c = parsed-derives _ _ (made_of_words _ _ _ c.new-reader.ensures c.take_module.ensures)
+
+pub returns-clause-err : goal.returns-clause-err
+returns-clause-err c = refused-derives_none _ _ (made_of_words _ _ _ c.new-reader.ensures c.take_module.ensures)
+
+pub returns-clause-depth : goal.returns-clause-depth
+returns-clause-depth c = deep-refused _ _ (made_of_words _ _ _ c.new-reader.ensures c.take_module.ensures)
+
+pub returns-clause-end_name : goal.returns-clause-end_name
+returns-clause-end_name c = end_name-refused _ _ (made_of_words _ _ _ c.new-reader.ensures c.take_module.ensures)

@@ -1,0 +1,49 @@
+use Rattle.std.proofs.Common.{◌≡◌, true, ◌+◌, ◌*◌, length}
+use Rattle.syntax.specs.Inside.{behind_statements, behind_declarations}
+use Rattle.syntax.specs.Statements.{statements, declarations, statement, declaration}
+use Rattle.syntax.proofs.reader.Reader.+statement.Given as goal
+
+abbrev pub decreases-take_block : goal.decreases-take_block
+decreases-take_block l = 10 * l.room + 3
+
+abbrev pub decreases-take_body : goal.decreases-take_body
+decreases-take_body l = 10 * l.room + 2
+
+abbrev pub decreases-take_declaration : goal.decreases-take_declaration
+decreases-take_declaration l = 10 * l.room + 0
+
+abbrev pub decreases-take_declarations : goal.decreases-take_declarations
+decreases-take_declarations l = 10 * l.room + 1
+
+abbrev pub decreases-take_do : goal.decreases-take_do
+decreases-take_do l = 10 * l.room + 4
+
+abbrev pub decreases-take_if : goal.decreases-take_if
+decreases-take_if l = 10 * l.room + 2
+
+abbrev pub decreases-take_inside : goal.decreases-take_inside
+decreases-take_inside l = 10 * l.room + 5
+
+abbrev pub decreases-take_otherwise : goal.decreases-take_otherwise
+decreases-take_otherwise l = 10 * l.room + 1
+
+abbrev pub decreases-take_procedure : goal.decreases-take_procedure
+decreases-take_procedure l = 10 * l.room + 4
+
+abbrev pub decreases-take_statement : goal.decreases-take_statement
+decreases-take_statement l = 10 * l.room + 0
+
+abbrev pub decreases-take_statements : goal.decreases-take_statements
+decreases-take_statements l = 10 * l.room + 1
+
+abbrev pub invariant-take_declarations-loop-alloc : goal.invariant-take_declarations-loop-alloc
+invariant-take_declarations-loop-alloc l = declarations (declaration true l.room) l.initial.self ≡ behind_declarations l.declarations.items (declarations (declaration true l.room) l.self)
+
+abbrev pub decreases-take_declarations-loop-alloc : goal.decreases-take_declarations-loop-alloc
+decreases-take_declarations-loop-alloc l = length l.self
+
+abbrev pub invariant-take_statements-loop-alloc : goal.invariant-take_statements-loop-alloc
+invariant-take_statements-loop-alloc l = statements (statement true l.room) l.initial.self ≡ behind_statements l.statements.items (statements (statement true l.room) l.self)
+
+abbrev pub decreases-take_statements-loop-alloc : goal.decreases-take_statements-loop-alloc
+decreases-take_statements-loop-alloc l = length l.self

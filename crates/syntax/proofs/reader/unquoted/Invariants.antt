@@ -1,0 +1,6 @@
+use Rattle.std.proofs.Common.{◌≡◌, false, ◌++◌, drop}
+use Rattle.words.specs.Strings.{unquoted}
+use Rattle.syntax.proofs.reader.unquoted.Given as goal
+
+abbrev pub invariant-loop-byte : goal.invariant-loop-byte
+invariant-loop-byte l = l.characters.items ++ unquoted l.quoted (drop l.byte-index l.text) ≡ unquoted false l.text

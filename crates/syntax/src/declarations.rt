@@ -1,0 +1,421 @@
+//! What DECLARE declares, and the heads of procedures.
+
+ghost use Rattle.std.specs.Prelude.{◌≡◌, Ok, map};
+ghost use Rattle.std.specs.Option.{option_map};
+ghost use Rattle.trees.specs.Views.{origin_tree, restricted_tree, item_type_tree, at_tree, value_list_tree, subject_tree, item_tree, element_tree, heading_tree, offset_tree};
+ghost use Rattle.syntax.specs.Declarations.{origin, next_sign, all_offsets, restricted, next_scalar, scalar, result_type, count, dimension_inside, dimension, member, item_type, next_linkage, linkage, at, next_storage, value_list, base, names, item_behind, element_behind, element, elements, parameters, reentrant, heading};
+ghost use Rattle.syntax.specs.Giving.{Gives};
+ghost use Rattle.syntax.specs.Lists.{items};
+ghost use Rattle.syntax.specs.Looking.{name};
+
+use crate::fault::Fault;
+use crate::reader::Reader;
+use std::alloc::Global;
+use trees::{
+    At, Dimension, Element, Heading, Identifier, Item, ItemType, Linkage, Member, Number, Offset,
+    Origin, Place, Restricted, ScalarType, Sign, Storage, Subject, ValueList,
+};
+use words::{Mark, ReservedWord};
+
+impl<'a> Reader<'a> {
+    // constant | `.` name
+    fn take_origin(&mut self, alloc: Global) -> Result<Origin, Fault>
+        ensures { Gives origin_tree result self.new (origin self.old) }
+    {
+        if self.at_mark(Mark::Period) {
+            self.skip();
+            return Ok(Origin::Location(self.take_name()?));
+        }
+        Ok(Origin::Constant(self.take_constant(alloc)?))
+    }
+
+    // The next word, if it is a sign.
+    fn next_sign(&self) -> Option<Sign>
+        ensures { result ≡ next_sign self.now }
+    {
+        if self.at_mark(Mark::PlusSign) {
+            Some(Sign::Plus)
+        } else if self.at_mark(Mark::MinusSign) {
+            Some(Sign::Minus)
+        } else {
+            None
+        }
+    }
+
+    // The next word, if it is BYTE or ADDRESS.
+    fn next_scalar(&self) -> Option<ScalarType>
+        ensures { result ≡ next_scalar self.now }
+    {
+        if self.at_word(ReservedWord::Byte) {
+            Some(ScalarType::Byte)
+        } else if self.at_word(ReservedWord::Address) {
+            Some(ScalarType::Address)
+        } else {
+            None
+        }
+    }
+
+    // BYTE | ADDRESS
+    fn take_scalar(&mut self) -> Result<ScalarType, Fault>
+        ensures { Gives (λ found. found) result self.new (scalar self.old) }
+    {
+        match self.next_scalar() {
+            Some(found) => {
+                self.skip();
+                Ok(found)
+            }
+            None => Err(self.unexpected()),
+        }
+    }
+
+    // [`(` number `)`]
+    fn take_count(&mut self) -> Result<Option<Number>, Fault>
+        ensures { Gives (λ found. found) result self.new (count self.old) }
+    {
+        if !self.at_mark(Mark::LeftParenthesis) {
+            return Ok(None);
+        }
+        self.skip();
+        let found = self.take_number()?;
+        self.take_mark(Mark::RightParenthesis)?;
+        Ok(Some(found))
+    }
+
+    // `*` | number
+    fn take_dimension_inside(&mut self) -> Result<Dimension, Fault>
+        ensures { Gives (λ found. found) result self.new (dimension_inside self.old) }
+    {
+        if self.at_mark(Mark::Asterisk) {
+            self.skip();
+            return Ok(Dimension::Implied);
+        }
+        Ok(Dimension::Count(self.take_number()?))
+    }
+
+    // [`(` number `)` | `(` `*` `)`]
+    fn take_dimension(&mut self) -> Result<Option<Dimension>, Fault>
+        ensures { Gives (λ found. found) result self.new (dimension self.old) }
+    {
+        if !self.at_mark(Mark::LeftParenthesis) {
+            return Ok(None);
+        }
+        self.skip();
+        let found = self.take_dimension_inside()?;
+        self.take_mark(Mark::RightParenthesis)?;
+        Ok(Some(found))
+    }
+
+    // name [`(` number `)`] (BYTE | ADDRESS)
+    #[tactic(auto, unfolding(crate::specs::Declarations::member))]
+    fn take_member(&mut self) -> Result<Member, Fault>
+        ensures { Gives (λ found. found) result self.new (member self.old) }
+    {
+        let name = self.take_name()?;
+        let dimension = self.take_count()?;
+        let scalar = self.take_scalar()?;
+        Ok(Member {
+            name,
+            dimension,
+            scalar,
+        })
+    }
+
+    // {(`+` | `-`) constant}
+    #[tactic(auto, using(crate::proofs::DeclarationLoops::offset_steps))]
+    fn take_offsets(&mut self, alloc: Global) -> Result<Vec<Offset>, Fault>
+        ensures { Gives (λ found. map offset_tree found.items) result self.new (all_offsets self.old) }
+    {
+        let mut found = Vec::new(alloc);
+        'more: while let Some(sign) = self.next_sign() {
+            self.skip();
+            let constant = self.take_constant(alloc)?;
+            found.push(Offset { sign, constant })?;
+        }
+        found.shrink_to_fit();
+        Ok(found)
+    }
+
+    // constant {(`+` | `-`) constant} | `.` name {(`+` | `-`) constant}
+    #[tactic(auto, unfolding(crate::specs::Declarations::restricted))]
+    fn take_restricted(&mut self, alloc: Global) -> Result<Restricted, Fault>
+        ensures { Gives restricted_tree result self.new (restricted self.old) }
+    {
+        let origin = self.take_origin(alloc)?;
+        let offsets = self.take_offsets(alloc)?;
+        Ok(Restricted { origin, offsets })
+    }
+
+    // member {`,` member}
+    #[tactic(auto, using(crate::proofs::DeclarationLoops::member_steps))]
+    fn take_members(&mut self, alloc: Global) -> Result<Vec<Member>, Fault>
+        ensures { Gives (λ found. found.items) result self.new (items member self.old) }
+    {
+        let first = self.take_member()?;
+        let mut found = Vec::with_capacity(alloc, 1)?;
+        found.push(first)?;
+        'more: while self.at_mark(Mark::Comma) {
+            self.skip();
+            let next = self.take_member()?;
+            found.push(next)?;
+        }
+        found.shrink_to_fit();
+        Ok(found)
+    }
+
+    // BYTE | ADDRESS | STRUCTURE `(` member {`,` member} `)`
+    #[tactic(auto, unfolding(crate::specs::Declarations::item_type))]
+    fn take_item_type(&mut self, alloc: Global) -> Result<ItemType, Fault>
+        ensures { Gives item_type_tree result self.new (item_type self.old) }
+    {
+        if !self.at_word(ReservedWord::Structure) {
+            return Ok(ItemType::Scalar(self.take_scalar()?));
+        }
+        self.skip();
+        self.take_mark(Mark::LeftParenthesis)?;
+        let members = self.take_members(alloc)?;
+        self.take_mark(Mark::RightParenthesis)?;
+        Ok(ItemType::Structure(members))
+    }
+
+    // The next word, if it is PUBLIC or EXTERNAL.
+    fn next_linkage(&self) -> Option<Linkage>
+        ensures { result ≡ next_linkage self.now }
+    {
+        if let Some(place) = self.place_of_word(ReservedWord::Public) {
+            return Some(Linkage::Public(place));
+        }
+        let place = self.place_of_word(ReservedWord::External)?;
+        Some(Linkage::External(place))
+    }
+
+    // [PUBLIC | EXTERNAL]
+    fn take_linkage(&mut self) -> Option<Linkage>
+        ensures { linkage self.old ≡ Ok (result, self.new) }
+    {
+        let found = self.next_linkage()?;
+        self.skip();
+        Some(found)
+    }
+
+    // [AT `(` place `)`]
+    #[tactic(auto, unfolding(crate::specs::Declarations::at))]
+    fn take_at(&mut self, alloc: Global) -> Result<Option<At>, Fault>
+        ensures { Gives (option_map at_tree) result self.new (at self.old) }
+    {
+        let Some(place) = self.place_of_word(ReservedWord::At) else {
+            return Ok(None);
+        };
+        self.skip();
+        self.take_mark(Mark::LeftParenthesis)?;
+        let address = self.take_restricted(alloc)?;
+        self.take_mark(Mark::RightParenthesis)?;
+        Ok(Some(At { place, address }))
+    }
+
+    // The next word, if it is INITIAL or DATA.
+    fn next_storage(&self) -> Option<Storage>
+        ensures { result ≡ next_storage self.now }
+    {
+        if let Some(place) = self.place_of_word(ReservedWord::Initial) {
+            return Some(Storage::Initial(place));
+        }
+        let place = self.place_of_word(ReservedWord::Data)?;
+        Some(Storage::Data(place))
+    }
+
+    // place {`,` place}
+    #[tactic(auto, using(crate::proofs::DeclarationLoops::values_first))]
+    fn take_values(&mut self, alloc: Global) -> Result<Vec<Restricted>, Fault>
+        ensures { Gives (λ found. map restricted_tree found.items) result self.new (items restricted self.old) }
+    {
+        let first = self.take_restricted(alloc)?;
+        let mut found = Vec::with_capacity(alloc, 1)?;
+        found.push(first)?;
+        'more: while self.at_mark(Mark::Comma) {
+            self.skip();
+            let next = self.take_restricted(alloc)?;
+            found.push(next)?;
+        }
+        found.shrink_to_fit();
+        Ok(found)
+    }
+
+    // [INITIAL `(` list `)` | DATA `(` list `)`]
+    #[tactic(auto, unfolding(crate::specs::Declarations::value_list))]
+    fn take_value_list(&mut self, alloc: Global) -> Result<Option<ValueList>, Fault>
+        ensures { Gives (option_map value_list_tree) result self.new (value_list self.old) }
+    {
+        let Some(storage) = self.next_storage() else {
+            return Ok(None);
+        };
+        self.skip();
+        self.take_mark(Mark::LeftParenthesis)?;
+        let values = self.take_values(alloc)?;
+        self.take_mark(Mark::RightParenthesis)?;
+        Ok(Some(ValueList { storage, values }))
+    }
+
+    // [BASED name]
+    fn take_base(&mut self) -> Result<Option<Identifier>, Fault>
+        ensures { Gives (λ found. found) result self.new (base self.old) }
+    {
+        if !self.at_word(ReservedWord::Based) {
+            return Ok(None);
+        }
+        self.skip();
+        Ok(Some(self.take_name()?))
+    }
+
+    // name {`,` name}
+    #[tactic(auto, using(crate::proofs::DeclarationLoops::name_steps))]
+    fn take_name_list(&mut self, alloc: Global) -> Result<Vec<Identifier>, Fault>
+        ensures { Gives (λ found. found.items) result self.new (items name self.old) }
+    {
+        let first = self.take_name()?;
+        let mut found = Vec::with_capacity(alloc, 1)?;
+        found.push(first)?;
+        'more: while self.at_mark(Mark::Comma) {
+            self.skip();
+            let next = self.take_name()?;
+            found.push(next)?;
+        }
+        found.shrink_to_fit();
+        Ok(found)
+    }
+
+    // `(` name {`,` name} `)`
+    #[tactic(auto, unfolding(crate::specs::Declarations::names))]
+    fn take_names(&mut self, alloc: Global) -> Result<Vec<Identifier>, Fault>
+        ensures { Gives (λ found. found.items) result self.new (names self.old) }
+    {
+        self.take_mark(Mark::LeftParenthesis)?;
+        let found = self.take_name_list(alloc)?;
+        self.take_mark(Mark::RightParenthesis)?;
+        Ok(found)
+    }
+
+    // What stands behind the subject of an item.
+    fn take_item_behind(&mut self, alloc: Global, subject: Subject) -> Result<Item, Fault>
+        ensures { Gives item_tree result self.new (item_behind (subject_tree subject) self.old) }
+    {
+        let dimension = self.take_dimension()?;
+        let item_type = self.take_item_type(alloc)?;
+        let linkage = self.take_linkage();
+        let at = self.take_at(alloc)?;
+        let value_list = self.take_value_list(alloc)?;
+        Ok(Item {
+            subject,
+            dimension,
+            item_type,
+            linkage,
+            at,
+            value_list,
+        })
+    }
+
+    // What stands behind the name with which an element begins.
+    fn take_element_behind(&mut self, alloc: Global, name: Identifier) -> Result<Element, Fault>
+        ensures { Gives element_tree result self.new (element_behind name self.old) }
+    {
+        if self.at_word(ReservedWord::Literally) {
+            self.skip();
+            let text = self.take_string(alloc)?;
+            return Ok(Element::literally(alloc, name, text)?);
+        }
+        let base = self.take_base()?;
+        let found = self.take_item_behind(alloc, Subject::Single { name, base })?;
+        Ok(Element::item(alloc, found)?)
+    }
+
+    // name LITERALLY string | item
+    #[tactic(auto, using(crate::proofs::DeclarationLoops::element_is), unfolding(crate::specs::Declarations::element, crate::specs::Declarations::item, crate::specs::Declarations::subject))]
+    fn take_element(&mut self, alloc: Global) -> Result<Element, Fault>
+        ensures { Gives element_tree result self.new (element self.old) }
+    {
+        if let Some(name) = self.next_name() {
+            self.skip();
+            return self.take_element_behind(alloc, name);
+        }
+        let names = self.take_names(alloc)?;
+        let found = self.take_item_behind(alloc, Subject::Group(names))?;
+        Ok(Element::item(alloc, found)?)
+    }
+
+    // element {`,` element}
+    #[tactic(auto, using(crate::proofs::DeclarationLoops::elements_first))]
+    fn take_element_list(&mut self, alloc: Global) -> Result<Vec<Element>, Fault>
+        ensures { Gives (λ found. map element_tree found.items) result self.new (items element self.old) }
+    {
+        let first = self.take_element(alloc)?;
+        let mut found = Vec::with_capacity(alloc, 1)?;
+        found.push(first)?;
+        'more: while self.at_mark(Mark::Comma) {
+            self.skip();
+            let next = self.take_element(alloc)?;
+            found.push(next)?;
+        }
+        found.shrink_to_fit();
+        Ok(found)
+    }
+
+    /// element {`,` element} `;`, behind DECLARE
+    #[tactic(auto, unfolding(crate::specs::Declarations::elements))]
+    pub(crate) fn take_elements(&mut self, alloc: Global) -> Result<Vec<Element>, Fault>
+        ensures { Gives (λ found. map element_tree found.items) result self.new (elements self.old) }
+    {
+        let found = self.take_element_list(alloc)?;
+        self.take_mark(Mark::Semicolon)?;
+        Ok(found)
+    }
+
+    // [`(` name {`,` name} `)`]
+    fn take_parameters(&mut self, alloc: Global) -> Result<Vec<Identifier>, Fault>
+        ensures { Gives (λ found. found.items) result self.new (parameters self.old) }
+    {
+        if self.at_mark(Mark::LeftParenthesis) {
+            self.take_names(alloc)
+        } else {
+            Ok(Vec::new(alloc))
+        }
+    }
+
+    // [BYTE | ADDRESS]
+    fn take_result_type(&mut self) -> Option<ScalarType>
+        ensures { result_type self.old ≡ Ok (result, self.new) }
+    {
+        let found = self.next_scalar()?;
+        self.skip();
+        Some(found)
+    }
+
+    // [REENTRANT]
+    fn take_reentrant(&mut self) -> Option<Place>
+        ensures { reentrant self.old ≡ Ok (result, self.new) }
+    {
+        let place = self.place_of_word(ReservedWord::Reentrant)?;
+        self.skip();
+        Some(place)
+    }
+
+    /// name `:` PROCEDURE [`(` name {`,` name} `)`] [BYTE | ADDRESS] [PUBLIC | EXTERNAL] [REENTRANT] `;`
+    #[tactic(auto, unfolding(crate::specs::Declarations::heading))]
+    pub(crate) fn take_heading(&mut self, alloc: Global) -> Result<Heading, Fault>
+        ensures { Gives heading_tree result self.new (heading self.old) }
+    {
+        let name = self.take_name()?;
+        self.take_mark(Mark::Colon)?;
+        self.take_word(ReservedWord::Procedure)?;
+        let parameters = self.take_parameters(alloc)?;
+        let result = self.take_result_type();
+        let linkage = self.take_linkage();
+        let reentrant = self.take_reentrant();
+        self.take_mark(Mark::Semicolon)?;
+        Ok(Heading {
+            name,
+            parameters,
+            result,
+            linkage,
+            reentrant,
+        })
+    }
+}

@@ -1,0 +1,271 @@
+//! Expressions.
+
+ghost use Rattle.std.specs.Prelude.{◌≡◌, ◌<◌, ◌≤◌, ◌+◌, suc, map, IfOk};
+ghost use Rattle.trees.specs.Views.{constant_tree, expression_tree, reference_tree, argument_trees};
+ghost use Rattle.syntax.specs.Expressions.{arguments, reference, location, assigned, closed, parenthesized, primary, operand, all_operators, expression, expression_less, next_operator};
+ghost use Rattle.trees.specs.Forms.{expr_level};
+ghost use Rattle.trees.specs.Trees.{ReferenceLeaf};
+ghost use Rattle.syntax.specs.Giving.{Gives};
+ghost use Rattle.syntax.specs.Lists.{items};
+ghost use Rattle.syntax.specs.Looking.{constant, name};
+ghost use Rattle.syntax.specs.Parts.{reference_behind, operator_on};
+
+use crate::fault::Fault;
+use crate::measured::{
+    EXPRESSION_LEVEL, Measured, MeasuredArguments, MeasuredReference, NEGATION_LEVEL,
+    PRIMARY_LEVEL, SIGN_LEVEL, left_level, level_of,
+};
+use crate::reader::Reader;
+use std::alloc::Global;
+use trees::{BinaryOperator, Constant, Identifier, UnaryOperator};
+use words::{Mark, ReservedWord};
+
+impl<'a> Reader<'a> {
+    /// An expression at a level, of no more levels than the room.
+    #[cycle(expression)]
+    #[tactic(auto, using(crate::proofs::Operators::expression_at, crate::proofs::Operators::expression_none))]
+    pub(crate) fn expression(
+        &mut self,
+        alloc: Global,
+        level: u8,
+        room: u8,
+    ) -> Result<Measured, Fault>
+        requires { room ≤ 64 }
+        ensures gives { Gives (λ found. expression_tree found.expression) result self.new (expression room level self.old) }
+        ensures fits { IfOk result (λ found. found.height ≤ room) }
+    {
+        if room == 0 {
+            return Err(self.too_deep());
+        }
+        let left = self.operand(alloc, level, room - 1)?;
+        self.operators(alloc, level, room - 1, left)
+    }
+
+    // Operators that may stand at a level, with what stands behind them, behind a left operand.
+    #[cycle(expression)]
+    #[tactic(auto, using(crate::proofs::Operators::operators_more, crate::proofs::Operators::operators_fail, crate::proofs::Operators::operators_deep, crate::proofs::Operators::operators_end))]
+    fn operators(
+        &mut self,
+        alloc: Global,
+        level: u8,
+        room: u8,
+        left: Measured,
+    ) -> Result<Measured, Fault>
+        requires room { room < 64 }
+        requires left { left.height ≤ room + 1 }
+        ensures gives { Gives (λ found. expression_tree found.expression) result self.new (all_operators (expression room) (suc room) level (expression_tree left.expression) self.old) }
+        ensures fits { IfOk result (λ found. found.height ≤ room + 1) }
+    {
+        let mut left = left;
+        'more: while let Some(operator) = self.operator_on(level, left.level) {
+            if left.height > room {
+                return Err(self.too_deep());
+            }
+            self.skip();
+            let right = self.expression(alloc, level_of(operator) + 1, room)?;
+            left = Measured::binary(alloc, operator, left, right)?;
+        }
+        Ok(left)
+    }
+
+    // The next word, if it is an operator that goes on with an expression of a level, where what comes out must stand at another.
+    fn operator_on(&self, level: u8, top: u8) -> Option<BinaryOperator>
+        ensures { result ≡ operator_on level top (next_operator self.now) }
+    {
+        let operator = self.next_operator()?;
+        let at = level_of(operator);
+        if level <= at && left_level(at) <= top {
+            Some(operator)
+        } else {
+            None
+        }
+    }
+
+    // An operator before its operand, or a primary, at a level.
+    #[cycle(expression)]
+    #[tactic(auto, unfolding(crate::specs::Expressions::operand))]
+    fn operand(&mut self, alloc: Global, level: u8, room: u8) -> Result<Measured, Fault>
+        requires { room < 64 }
+        ensures gives { Gives (λ found. expression_tree found.expression) result self.new (operand (expression room) (expression_less room) level self.old) }
+        ensures fits { IfOk result (λ found. found.height ≤ room + 1) }
+    {
+        if self.at_word(ReservedWord::Not) && level <= NEGATION_LEVEL {
+            self.skip();
+            let inner = self.expression(alloc, NEGATION_LEVEL, room)?;
+            return Ok(Measured::unary(alloc, UnaryOperator::Not, inner)?);
+        }
+        if self.at_mark(Mark::MinusSign) && level <= SIGN_LEVEL {
+            self.skip();
+            let inner = self.expression(alloc, PRIMARY_LEVEL, room)?;
+            return Ok(Measured::unary(alloc, UnaryOperator::Negate, inner)?);
+        }
+        self.primary(alloc, room)
+    }
+
+    // A constant, a reference, a location or an expression in parentheses.
+    #[cycle(expression)]
+    #[tactic(auto, using(crate::proofs::Operators::primary_constant, crate::proofs::Operators::primary_parenthesized, crate::proofs::Operators::primary_location))]
+    fn primary(&mut self, alloc: Global, room: u8) -> Result<Measured, Fault>
+        requires { room < 64 }
+        ensures gives { Gives (λ found. expression_tree found.expression) result self.new (primary (expression room) (expression_less room) self.old) }
+        ensures fits { IfOk result (λ found. found.height ≤ room + 1) }
+    {
+        if self.at_mark(Mark::LeftParenthesis) {
+            self.skip();
+            return self.parenthesized(alloc, room);
+        }
+        if self.at_mark(Mark::Period) {
+            self.skip();
+            return self.location(alloc, room);
+        }
+        let Some(base) = self.next_name() else {
+            let found = self.take_constant(alloc)?;
+            return Ok(Measured::constant(found));
+        };
+        self.skip();
+        let found = self.reference_behind(alloc, base, room)?;
+        Ok(Measured::reference(alloc, found)?)
+    }
+
+    // What stands behind an opening parenthesis: an expression, or an assignment.
+    #[cycle(expression)]
+    #[tactic(auto, unfolding(crate::specs::Expressions::parenthesized))]
+    fn parenthesized(&mut self, alloc: Global, room: u8) -> Result<Measured, Fault>
+        requires { room < 64 }
+        ensures gives { Gives (λ found. expression_tree found.expression) result self.new (parenthesized (expression room) (expression_less room) self.old) }
+        ensures fits { IfOk result (λ found. found.height ≤ room + 1) }
+    {
+        let inner = self.expression(alloc, EXPRESSION_LEVEL, room)?;
+        if self.at_mark(Mark::RightParenthesis) {
+            self.skip();
+            return Ok(Measured::parenthesized(alloc, inner)?);
+        }
+        match inner.into_reference() {
+            Some(target) => self.assigned(alloc, target, room),
+            None => Err(self.unexpected()),
+        }
+    }
+
+    // What stands behind an opening parenthesis and the reference that is assigned to.
+    #[cycle(expression)]
+    #[tactic(auto, using(crate::proofs::Operators::expression_less_at))]
+    fn assigned(
+        &mut self,
+        alloc: Global,
+        target: MeasuredReference,
+        room: u8,
+    ) -> Result<Measured, Fault>
+        requires room { room < 64 }
+        requires target { target.height < room }
+        ensures gives { Gives (λ found. expression_tree found.expression) result self.new (assigned (expression_less room) (ReferenceLeaf (reference_tree target.reference)) self.old) }
+        ensures fits { IfOk result (λ found. found.height ≤ room + 1) }
+    {
+        self.take_mark(Mark::AssignSign)?;
+        let value = self.expression(alloc, EXPRESSION_LEVEL, room - 1)?;
+        self.take_mark(Mark::RightParenthesis)?;
+        Ok(Measured::assignment(alloc, target, value)?)
+    }
+
+    // What stands behind a period: a reference, or constants in parentheses.
+    #[cycle(expression)]
+    #[tactic(auto, unfolding(crate::specs::Expressions::location, crate::specs::Expressions::reference))]
+    fn location(&mut self, alloc: Global, room: u8) -> Result<Measured, Fault>
+        requires { room < 64 }
+        ensures gives { Gives (λ found. expression_tree found.expression) result self.new (location (expression room) self.old) }
+        ensures fits { IfOk result (λ found. found.height ≤ room + 1) }
+    {
+        if self.at_mark(Mark::LeftParenthesis) {
+            self.skip();
+            let constants = self.take_constants(alloc)?;
+            self.take_mark(Mark::RightParenthesis)?;
+            return Ok(Measured::list(constants));
+        }
+        let base = self.take_name()?;
+        let found = self.reference_behind(alloc, base, room)?;
+        Ok(Measured::location(alloc, found)?)
+    }
+
+    /// A reference whose arguments take no more levels than the room.
+    #[tactic(auto, unfolding(crate::specs::Expressions::reference))]
+    pub(crate) fn reference(&mut self, alloc: Global, room: u8) -> Result<MeasuredReference, Fault>
+        requires { room ≤ 64 }
+        ensures gives { Gives (λ found. reference_tree found.reference) result self.new (reference (expression room) self.old) }
+        ensures fits { IfOk result (λ found. found.height ≤ room) }
+    {
+        let base = self.take_name()?;
+        self.reference_behind(alloc, base, room)
+    }
+
+    // What stands behind the name of a reference: arguments, and perhaps a member with its own.
+    #[cycle(expression)]
+    fn reference_behind(
+        &mut self,
+        alloc: Global,
+        base: Identifier,
+        room: u8,
+    ) -> Result<MeasuredReference, Fault>
+        requires { room ≤ 64 }
+        ensures gives { Gives (λ found. reference_tree found.reference) result self.new (reference_behind (expression room) base self.old) }
+        ensures fits { IfOk result (λ found. found.height ≤ room) }
+    {
+        let its_arguments = self.arguments(alloc, room)?;
+        if !self.at_mark(Mark::Period) {
+            return Ok(MeasuredReference::whole(alloc, base, its_arguments)?);
+        }
+        self.skip();
+        let member = self.take_name()?;
+        let behind = self.arguments(alloc, room)?;
+        Ok(MeasuredReference::member(alloc, base, its_arguments, member, behind)?)
+    }
+
+    /// Arguments in parentheses that take no more levels than the room, or none.
+    #[cycle(expression)]
+    #[tactic(auto, using(crate::proofs::Arguments::arguments_of_map))]
+    pub(crate) fn arguments(&mut self, alloc: Global, room: u8) -> Result<MeasuredArguments, Fault>
+        requires { room ≤ 64 }
+        ensures gives { Gives (λ found. argument_trees found.items.items) result self.new (arguments (expression room) self.old) }
+        ensures fits { IfOk result (λ found. found.height ≤ room) }
+    {
+        if !self.at_mark(Mark::LeftParenthesis) {
+            return Ok(MeasuredArguments::none(alloc));
+        }
+        self.skip();
+        let found = self.expressions(alloc, room)?;
+        self.take_mark(Mark::RightParenthesis)?;
+        Ok(found)
+    }
+
+    // Expressions between commas.
+    #[cycle(expression)]
+    fn expressions(&mut self, alloc: Global, room: u8) -> Result<MeasuredArguments, Fault>
+        requires { room ≤ 64 }
+        ensures gives { Gives (λ found. map expression_tree found.items.items) result self.new (items (expression room expr_level) self.old) }
+        ensures fits { IfOk result (λ found. found.height ≤ room) }
+    {
+        let first = self.expression(alloc, EXPRESSION_LEVEL, room)?;
+        let mut found = MeasuredArguments::one(alloc, first)?;
+        'more: while self.at_mark(Mark::Comma) {
+            self.skip();
+            let next = self.expression(alloc, EXPRESSION_LEVEL, room)?;
+            found.push(next)?;
+        }
+        found.shrink();
+        Ok(found)
+    }
+
+    /// Constants between commas.
+    pub(crate) fn take_constants(&mut self, alloc: Global) -> Result<Vec<Constant>, Fault>
+        ensures { Gives (λ found. map constant_tree found.items) result self.new (items constant self.old) }
+    {
+        let first = self.take_constant(alloc)?;
+        let mut found = Vec::with_capacity(alloc, 1)?;
+        found.push(first)?;
+        'more: while self.at_mark(Mark::Comma) {
+            self.skip();
+            let next = self.take_constant(alloc)?;
+            found.push(next)?;
+        }
+        found.shrink_to_fit();
+        Ok(found)
+    }
+}

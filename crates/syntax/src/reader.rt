@@ -1,0 +1,439 @@
+//! What is left of the words, and how single words are taken.
+
+ghost use Rattle.std.specs.Prelude.{◌≡◌, ◌≢◌, ◌↔◌, MatchOption, MatchBool, Ok, None, ◌<◌, IsTrue, true, false, [], ◌∷◌, drop, length, IfOk, Some};
+ghost use Rattle.words.specs.Spelling.{lexeme_of};
+ghost use Rattle.trees.specs.Symbols.{symbol_of, MarkSymbol, ReservedSymbol};
+ghost use Rattle.words.specs.Strings.{characters_of, unquoted};
+ghost use Rattle.trees.specs.Views.{constant_tree, string_tree};
+ghost use Rattle.syntax.specs.Expressions.{operator_of, next_operator};
+ghost use Rattle.syntax.specs.Giving.{left_of, cause_of, Gives, Leaves};
+ghost use Rattle.syntax.specs.Looking.{Cause, Unexpected, TooDeep, at_mark, at_word, keeps_place, place_of_word, next_name, mark, word, taken, name, number, string, constant};
+ghost use Rattle.syntax.specs.Parts.{string_constant, number_constant};
+
+use crate::fault::Fault;
+use std::alloc::{AllocError, AllocFailed, Global};
+use std::marker::Model;
+use trees::{BinaryOperator, Constant, Identifier, Name, Number, Place, StringLiteral};
+use words::{Kind, Mark, ReservedWord, Word};
+
+impl<T: Drop> From<AllocFailed<T>> for Fault {
+    ghost use Rattle.std.specs.Prelude.{◌≡◌};
+    ghost use Rattle.syntax.specs.declared.fault.Fault.TheVariants as faults;
+
+    ghost from_gives = { λ _ fault. fault ≡ faults.Memory };
+
+    fn from(_failed: AllocFailed<T>) -> Fault {
+        Fault::Memory
+    }
+}
+
+impl From<AllocError> for Fault {
+    ghost use Rattle.std.specs.Prelude.{◌≡◌};
+    ghost use Rattle.syntax.specs.declared.fault.Fault.TheVariants as faults;
+
+    ghost from_gives = { λ _ fault. fault ≡ faults.Memory };
+
+    fn from(_failed: AllocError) -> Fault {
+        Fault::Memory
+    }
+}
+
+/// The words that are left. Contracts see their symbols.
+#[derive(Drop)]
+pub(crate) struct Reader<'a> {
+    rest: &'a [Word<'a>],
+    // From where the last statement began.
+    statement: &'a [Word<'a>],
+    // The line of the word before.
+    line: u32,
+}
+
+impl<'a> Model for Reader<'a> {
+    ghost use Rattle.std.specs.Prelude.{List};
+    ghost use Rattle.trees.specs.Symbols.{Symbol};
+    ghost use Rattle.syntax.specs.Giving.{left_of};
+
+    ghost Value = { List Symbol };
+
+    ghost view = { λ reader. left_of reader.rest.now };
+}
+
+/// The place of a word.
+pub(crate) fn place_of(word: &Word) -> Place
+    ensures start { result.start ≡ word.now.start }
+    ensures line { result.line ≡ word.now.line }
+{
+    Place {
+        start: word.start,
+        line: word.line,
+    }
+}
+
+impl<'a> Reader<'a> {
+    /// The reader of words.
+    pub(crate) fn new(words: &'a [Word<'a>]) -> Reader<'a>
+        ensures { result ≡ left_of words.now }
+    {
+        Reader {
+            rest: words,
+            statement: words,
+            line: 1,
+        }
+    }
+
+    /// Whether no word is left.
+    pub(crate) fn is_at_end(&self) -> bool
+        ensures { IsTrue result ↔ (self.now ≡ []) }
+    {
+        self.rest.is_empty()
+    }
+
+    /// A statement may begin here.
+    pub(crate) fn begin_statement(&mut self)
+        ensures { self.new ≡ self.old }
+    {
+        self.statement = self.rest;
+    }
+
+    /// The words that are left.
+    pub(crate) fn words(&self) -> &'a [Word<'a>]
+        ensures { left_of result.now ≡ self.now }
+    {
+        self.rest
+    }
+
+    // The next word.
+    fn next(&self) -> Option<&'a Word<'a>>
+        ensures { MatchOption result (self.now ≡ []) (λ word. self.now ≡ symbol_of (lexeme_of word.now) ∷ drop 1 self.now) }
+    {
+        self.rest.first()
+    }
+
+    /// Whether the next word is a mark.
+    pub(crate) fn at_mark(&self, mark: Mark) -> bool
+        ensures { result ≡ at_mark mark self.now }
+    {
+        match self.next() {
+            Some(word) => is_mark(word.kind, mark),
+            None => false,
+        }
+    }
+
+    /// Whether the next word is a reserved word.
+    pub(crate) fn at_word(&self, wanted: ReservedWord) -> bool
+        requires { keeps_place wanted ≡ false }
+        ensures { result ≡ at_word wanted self.now }
+    {
+        match self.next() {
+            Some(word) => is_reserved(word.kind, wanted),
+            None => false,
+        }
+    }
+
+    /// The next word is left behind.
+    pub(crate) fn skip(&mut self)
+        requires { self.old ≢ [] }
+        ensures { self.new ≡ drop 1 self.old }
+    {
+        if let [first, rest @ ..] = self.rest {
+            self.line = first.line;
+            self.rest = rest;
+        }
+    }
+
+    /// The place of a reserved word whose place is kept, if it is the next word.
+    pub(crate) fn place_of_word(&self, wanted: ReservedWord) -> Option<Place>
+        requires { keeps_place wanted ≡ true }
+        ensures { result ≡ place_of_word wanted self.now }
+    {
+        match self.next() {
+            Some(word) if is_reserved(word.kind, wanted) => Some(place_of(word)),
+            _ => None,
+        }
+    }
+
+    /// The next word, if it is a name.
+    pub(crate) fn next_name(&self) -> Option<Identifier>
+        ensures { result ≡ next_name self.now }
+    {
+        match self.next() {
+            Some(word) if word.kind == Kind::Name => identifier_of(word),
+            _ => None,
+        }
+    }
+
+    /// The next word, if it is an operator between operands.
+    pub(crate) fn next_operator(&self) -> Option<BinaryOperator>
+        ensures { result ≡ next_operator self.now }
+    {
+        match self.next()?.kind {
+            Kind::Mark(mark) => operator_of_mark(mark),
+            Kind::Reserved(word) => operator_of_word(word),
+            _ => None,
+        }
+    }
+
+    /// A mark.
+    pub(crate) fn take_mark(&mut self, wanted: Mark) -> Result<(), Fault>
+        ensures { Leaves result self.new (mark wanted self.old) }
+    {
+        if !self.at_mark(wanted) {
+            return Err(self.unexpected());
+        }
+        self.skip();
+        Ok(())
+    }
+
+    /// A reserved word whose place is not kept.
+    pub(crate) fn take_word(&mut self, wanted: ReservedWord) -> Result<(), Fault>
+        requires { keeps_place wanted ≡ false }
+        ensures { Leaves result self.new (word wanted self.old) }
+    {
+        if !self.at_word(wanted) {
+            return Err(self.unexpected());
+        }
+        self.skip();
+        Ok(())
+    }
+
+    /// A reserved word whose place is kept.
+    pub(crate) fn take_placed(&mut self, wanted: ReservedWord) -> Result<Place, Fault>
+        requires { keeps_place wanted ≡ true }
+        ensures { Gives (λ place. place) result self.new (taken (place_of_word wanted self.old) self.old) }
+    {
+        match self.place_of_word(wanted) {
+            Some(place) => {
+                self.skip();
+                Ok(place)
+            }
+            None => Err(self.unexpected()),
+        }
+    }
+
+    /// A name.
+    pub(crate) fn take_name(&mut self) -> Result<Identifier, Fault>
+        ensures { Gives (λ found. found) result self.new (name self.old) }
+    {
+        match self.next_name() {
+            Some(found) => {
+                self.skip();
+                Ok(found)
+            }
+            None => Err(self.unexpected()),
+        }
+    }
+
+    /// A number.
+    pub(crate) fn take_number(&mut self) -> Result<Number, Fault>
+        ensures { Gives (λ found. found) result self.new (number self.old) }
+    {
+        match self.next() {
+            Some(
+                Word {
+                    kind: Kind::Number(value),
+                    start,
+                    line,
+                    ..
+                },
+            ) => {
+                let place = Place {
+                    start: *start,
+                    line: *line,
+                };
+                self.skip();
+                Ok(Number {
+                    value: *value,
+                    place,
+                })
+            }
+            _ => Err(self.unexpected()),
+        }
+    }
+
+    /// A string.
+    pub(crate) fn take_string(&mut self, alloc: Global) -> Result<StringLiteral, Fault>
+        ensures { Gives string_tree result self.new (string self.old) }
+    {
+        match self.next() {
+            Some(word) if word.kind == Kind::String => {
+                let place = place_of(word);
+                let characters = characters_of(alloc, word.text)?;
+                self.skip();
+                Ok(StringLiteral { characters, place })
+            }
+            _ => Err(self.unexpected()),
+        }
+    }
+
+    /// A number or a string.
+    pub(crate) fn take_constant(&mut self, alloc: Global) -> Result<Constant, Fault>
+        ensures { Gives constant_tree result self.new (constant self.old) }
+    {
+        if self.at_string() {
+            let literal = self.take_string(alloc)?;
+            return Ok(Constant::string(alloc, literal)?);
+        }
+        let number = self.take_number()?;
+        Ok(Constant::number(number))
+    }
+
+    // Whether the next word is a string.
+    fn at_string(&self) -> bool
+        ensures { MatchBool result (constant self.now ≡ string_constant self.now) (constant self.now ≡ number_constant self.now) }
+    {
+        match self.next() {
+            Some(word) => word.kind == Kind::String,
+            None => false,
+        }
+    }
+
+    /// The fault of a word that can't stand there: that of a label, where the word is GOTO or a colon behind the name
+    /// with which a statement began, unless PROCEDURE is behind it.
+    pub(crate) fn unexpected(&self) -> Fault
+        ensures { cause_of result ≡ Some Unexpected }
+    {
+        match self.rest {
+            [first, ..] if is_reserved(first.kind, ReservedWord::Goto) => {
+                Fault::Label { line: first.line }
+            }
+            [first, behind @ ..] if is_mark(first.kind, Mark::Colon) => {
+                self.fault_of_colon(first.line, behind)
+            }
+            [first, ..] => Fault::Word { line: first.line },
+            [] => Fault::Word { line: self.line },
+        }
+    }
+
+    // The fault of a colon on a line, with these words behind it.
+    fn fault_of_colon(&self, line: u32, behind: &[Word]) -> Fault
+        ensures { cause_of result ≡ Some Unexpected }
+    {
+        match self.statement {
+            [name, after @ ..] if name.kind == Kind::Name && after.len() == self.rest.len() => {
+                fault_of_label(name.line, behind)
+            }
+            _ => Fault::Word { line },
+        }
+    }
+
+    /// The fault of the next word behind a label on a line and its colon.
+    pub(crate) fn fault_behind_colon(&self, line: u32) -> Fault
+        ensures { cause_of result ≡ Some Unexpected }
+    {
+        fault_of_label(line, self.rest)
+    }
+
+    /// The fault of what is nested too deep.
+    pub(crate) fn too_deep(&self) -> Fault
+        ensures { cause_of result ≡ Some TooDeep }
+    {
+        let line = match self.rest {
+            [first, ..] => first.line,
+            [] => self.line,
+        };
+        Fault::Depth { line }
+    }
+}
+
+// The fault of a label on a line, with these words behind its colon.
+fn fault_of_label(line: u32, behind: &[Word]) -> Fault
+    ensures { cause_of result ≡ Some Unexpected }
+{
+    match behind {
+        [word, ..] if is_reserved(word.kind, ReservedWord::Procedure) => {
+            Fault::Word { line: word.line }
+        }
+        _ => Fault::Label { line },
+    }
+}
+
+// The identifier that a word is, if its characters are a name's.
+fn identifier_of(word: &Word) -> Option<Identifier>
+    requires { word.now.kind ≡ Kind.Name }
+    ensures { result ≡ next_name (symbol_of (lexeme_of word.now) ∷ []) }
+{
+    match Name::from_text(word.text) {
+        Some(name) => Some(Identifier {
+            name,
+            place: place_of(word),
+        }),
+        None => None,
+    }
+}
+
+// The bytes that a string stands for, from the bytes of its word.
+fn characters_of(alloc: Global, text: &[u8]) -> Result<Vec<u8>, AllocError>
+    ensures { IfOk result (λ made. made.items ≡ characters_of text.now) }
+{
+    match text {
+        [_, after @ ..] => unquoted(alloc, after),
+        [] => Ok(Vec::new(alloc)),
+    }
+}
+
+// The bytes that a string stands for, from the bytes behind its opening quote: of two quotes one stays.
+fn unquoted(alloc: Global, text: &[u8]) -> Result<Vec<u8>, AllocError>
+    ensures { IfOk result (λ made. made.items ≡ unquoted false text.now) }
+{
+    let mut characters = Vec::with_capacity(alloc, text.len().saturating_sub(1))?;
+    let mut quoted = false;
+    for byte in text {
+        quoted = *byte == b'\'' && !quoted;
+        if !quoted {
+            characters.push(*byte)?;
+        }
+    }
+    Ok(characters)
+}
+
+// The operator that a mark is.
+fn operator_of_mark(mark: Mark) -> Option<BinaryOperator>
+    ensures { result ≡ operator_of (MarkSymbol mark) }
+{
+    match mark {
+        Mark::EqualSign => Some(BinaryOperator::Equal),
+        Mark::LessSign => Some(BinaryOperator::Less),
+        Mark::GreaterSign => Some(BinaryOperator::Greater),
+        Mark::LessEqualSign => Some(BinaryOperator::LessOrEqual),
+        Mark::GreaterEqualSign => Some(BinaryOperator::GreaterOrEqual),
+        Mark::UnequalSign => Some(BinaryOperator::Unequal),
+        Mark::PlusSign => Some(BinaryOperator::Add),
+        Mark::MinusSign => Some(BinaryOperator::Subtract),
+        Mark::Asterisk => Some(BinaryOperator::Multiply),
+        Mark::Slash => Some(BinaryOperator::Divide),
+        _ => None,
+    }
+}
+
+// The operator that a reserved word is.
+fn operator_of_word(word: ReservedWord) -> Option<BinaryOperator>
+    ensures { result ≡ operator_of (ReservedSymbol word) }
+{
+    match word {
+        ReservedWord::Or => Some(BinaryOperator::Or),
+        ReservedWord::Xor => Some(BinaryOperator::Xor),
+        ReservedWord::And => Some(BinaryOperator::And),
+        ReservedWord::Mod => Some(BinaryOperator::Modulo),
+        _ => None,
+    }
+}
+
+/// Whether a kind is that of a mark.
+pub(crate) fn is_mark(kind: Kind, mark: Mark) -> bool
+    ensures { IsTrue result ↔ (kind ≡ Kind.Mark mark) }
+{
+    match kind {
+        Kind::Mark(found) => found == mark,
+        _ => false,
+    }
+}
+
+/// Whether a kind is that of a reserved word.
+pub(crate) fn is_reserved(kind: Kind, word: ReservedWord) -> bool
+    ensures { IsTrue result ↔ (kind ≡ Kind.Reserved word) }
+{
+    match kind {
+        Kind::Reserved(found) => found == word,
+        _ => false,
+    }
+}

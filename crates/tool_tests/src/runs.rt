@@ -1,0 +1,57 @@
+//! Runs of `plm` on one source, and what they print.
+
+use crate::files::OneFile;
+use std::process::Abort;
+use std::test::Fail;
+use tool::run_command;
+
+/// What the source prints to standard output and to standard error, and the exit status.
+fn check<R: Abort + AllocGlobal>(
+    rt: &R,
+    source: &str,
+    out: &str,
+    err: &str,
+    status: u8,
+) -> Result<(), Fail> {
+    let mut files = OneFile::new(rt.alloc(), "a.plm", source.as_bytes());
+    let mut written: Vec<u8> = Vec::new(rt.alloc());
+    let mut told: Vec<u8> = Vec::new(rt.alloc());
+    let words = ["plm", "run", "a.plm"];
+    let ended = run_command(
+        rt.alloc(),
+        words.as_slice(),
+        &mut files,
+        &mut written,
+        &mut told,
+    );
+    assert_eq!(rt; told.as_slice(), err.as_bytes(), "{source}");
+    assert_eq!(rt; written.as_slice(), out.as_bytes(), "{source}");
+    assert_eq!(rt; ended, status, "{source}");
+    Ok(())
+}
+
+/// A source runs and prints these lines.
+pub fn check_run<R: Abort + AllocGlobal>(rt: &R, source: &str, out: &str) -> Result<(), Fail> {
+    check(rt, source, out, "", 0)
+}
+
+/// A source is refused with this fault.
+pub fn check_refusal<R: Abort + AllocGlobal>(rt: &R, source: &str, err: &str) -> Result<(), Fail> {
+    check(rt, source, "", err, 1)
+}
+
+/// Each source runs and prints the lines beside it.
+pub fn check_runs<R: Abort + AllocGlobal>(rt: &R, rows: &[(&str, &str)]) -> Result<(), Fail> {
+    for (source, out) in rows {
+        check_run(rt, source, out)?;
+    }
+    Ok(())
+}
+
+/// Each source is refused with the fault beside it.
+pub fn check_refusals<R: Abort + AllocGlobal>(rt: &R, rows: &[(&str, &str)]) -> Result<(), Fail> {
+    for (source, err) in rows {
+        check_refusal(rt, source, err)?;
+    }
+    Ok(())
+}
