@@ -1,5 +1,5 @@
 -- What fails first, fails as a whole.
-use Rattle.std.proofs.Common.{◌≡◌, ◌≢◌, List, [], ◌∷◌, Option, Some, None, Result, Ok, Err, refl, ap}
+use Rattle.std.proofs.Common.{◌≡◌, ◌≢◌, List, [], ◌∷◌, Option, Some, None, Result, refl, ap}
 use Rattle.trees.specs.Symbols.{Symbol}
 use Rattle.syntax.specs.Giving.{FailsBy}
 use Rattle.syntax.specs.Statements.{at_the_end}

@@ -1,20 +1,38 @@
 -- What is read where there is room.
-use Rattle.std.proofs.Common.{◌≡◌, ℕ, zero, suc, ◌<◌, ◌-◌, true, false, List, drop, Option, Some, None, Result, Ok, Err, if◌then◌else◌, refl, sym, ◌∙◌, ap, arith}
+use Rattle.std.proofs.Common.{◌≡◌, ℕ, zero, suc, ◌<◌, ◌-◌, true, false, List, [], ◌∷◌, drop, Option, Some, None, Ok, Err, refl, ◌∙◌, ap, arith}
 use Rattle.words.specs.declared.vocabulary.ReservedWord.TheVariants.{Declare}
-use Rattle.trees.specs.Symbols.{Symbol}
+use Rattle.trees.specs.Symbols.{Symbol, NameSymbol, NumberSymbol, StringSymbol, ReservedSymbol, PlacedSymbol, MarkSymbol, UnknownSymbol}
 use Rattle.trees.specs.Trees.{ElementTree, DeclarationTree, DeclareTree}
 use Rattle.syntax.specs.Declarations.{elements}
+use Rattle.syntax.specs.Expressions.{expression, reference}
 use Rattle.syntax.specs.Giving.{FailsBy}
 use Rattle.syntax.specs.Inside.{block_in, statement_inside}
-use Rattle.syntax.specs.Looking.{Cause, TooDeep, Reading, ◌>>=◌, at_word}
-use Rattle.syntax.specs.Statements.{statement, declaration, declare_or, procedure}
+use Rattle.syntax.specs.Looking.{Cause, Unexpected, TooDeep, Reading, ◌>>=◌, at_word}
+use Rattle.syntax.specs.Statements.{assignment, beginning_of, statement, statement_by, declaration, declare_or, procedure}
+
+-- a symbol that the grammar doesn't have is no target of an assignment
+unknown_target : (room : ℕ) (rest : List Symbol) → Err Unexpected ≡ assignment (expression room) (UnknownSymbol ∷ rest)
+unfolding assignment reference
+unknown_target room rest = refl
+
+-- what a statement begins with, where a symbol that the grammar doesn't have is taken for a name
+by_beginning : (room : ℕ) (symbols : List Symbol)
+    → statement_by (expression room) (statement true room) (block_in room) (beginning_of symbols) symbols ≡ statement_inside room symbols
+by_beginning room [] = refl
+by_beginning room (NameSymbol name ∷ rest) = refl
+by_beginning room (NumberSymbol number ∷ rest) = refl
+by_beginning room (StringSymbol string ∷ rest) = refl
+by_beginning room (ReservedSymbol word ∷ rest) = refl
+by_beginning room (PlacedSymbol word place ∷ rest) = refl
+by_beginning room (MarkSymbol mark ∷ rest) = refl
+by_beginning room (UnknownSymbol ∷ rest) = unknown_target room rest
 
 pub statement_in : (room : ℕ) (symbols : List Symbol) → 0 < room → statement true room symbols ≡ statement_inside (room - 1) symbols
 unfolding statement
 statement_in zero symbols more = absurd (omega arith)
 statement_in (suc room) symbols more =
     let same : room ≡ suc room - 1 = omega arith in
-    ap (λ inner. statement_inside inner symbols) same
+    by_beginning room symbols ∙ ap (λ inner. statement_inside inner symbols) same
 
 pub declaration_in : (room : ℕ) (symbols : List Symbol) → 0 < room → declaration true room symbols ≡ declare_or (procedure true (block_in (room - 1))) symbols
 unfolding declaration

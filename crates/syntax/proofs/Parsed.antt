@@ -12,7 +12,7 @@ use Rattle.syntax.specs.declared.fault.Fault.TheVariants.{Word, Depth, EndName, 
 use Rattle.syntax.specs.Faults.{IsOfDepth, IsOfEndName}
 use Rattle.syntax.specs.Giving.{Fails}
 use Rattle.syntax.specs.Inside.{Makes}
-use Rattle.syntax.specs.Looking.{Cause, Unexpected, TooDeep, OtherEndName}
+use Rattle.syntax.specs.Looking.{Cause, TooDeep, OtherEndName}
 use Rattle.syntax.specs.Statements.{whole_module}
 use Rattle.syntax.proofs.ModuleLaws.{module_read-derives, module_derives-reads, module_deep-reads, module_end_name-reads}
 

@@ -1,5 +1,5 @@
 -- How the loops over statements and declarations go on.
-use Rattle.std.proofs.Common.{◌≡◌, ℕ, zero, suc, ◌≤◌, ◌<◌, Bool, true, false, List, [], ◌∷◌, ◌++◌, drop, length, Option, Some, None, Result, Ok, Err, if◌then◌else◌, refl, sym, ◌∙◌, ap, arith}
+use Rattle.std.proofs.Common.{◌≡◌, ℕ, zero, suc, ◌≤◌, ◌<◌, Bool, true, false, List, [], ◌∷◌, ◌++◌, length, Option, Some, None, Ok, Err, if◌then◌else◌, refl, sym, ◌∙◌, ap, arith}
 use Rattle.words.specs.declared.vocabulary.ReservedWord.TheVariants.{End}
 use Rattle.trees.specs.declared.statement.Declaration.{Declaration}
 use Rattle.trees.specs.declared.statement.Statement.{Statement}
@@ -9,11 +9,11 @@ use Rattle.trees.specs.Views.{statement_tree, statement_trees, declaration_tree,
 use Rattle.syntax.specs.Giving.{FailsBy}
 use Rattle.syntax.specs.Inside.{statements_before, behind_statements, declarations_before, behind_declarations}
 use Rattle.syntax.specs.Lists.{many, many_items, Shrinks}
-use Rattle.syntax.specs.Looking.{Cause, Unexpected, TooDeep, Reading, ◌>>=◌, at_word}
+use Rattle.syntax.specs.Looking.{Cause, Unexpected, Reading, ◌>>=◌, at_word}
 use Rattle.syntax.specs.Statements.{statement, declaration, statements, declarations, statements_of, declarations_of, ends_declarations}
 use Rattle.syntax.proofs.ListLaws.{item_then, many-step, many-end, many-nothing, Starts}
 use Rattle.syntax.proofs.StatementLaws.{statement-shrinks, declaration-shrinks}
-use Rattle.syntax.proofs.LookingLemmas.{read, if_true, if_false, bind_at, bind_fails}
+use Rattle.syntax.proofs.LookingLemmas.{read, if_true, if_false}
 
 -- a statement is read only where there is room
 statement-starts : (room : ℕ) → Starts (statement true room)

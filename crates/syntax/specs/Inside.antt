@@ -6,10 +6,12 @@ use Rattle.trees.specs.declared.statement.Block.{Block}
 use Rattle.trees.specs.declared.statement.Declaration.{Declaration}
 use Rattle.trees.specs.declared.statement.Statement.{Statement}
 use Rattle.trees.specs.Forms.{expr_level}
-use Rattle.trees.specs.Symbols.{Symbol, NameSymbol}
+use Rattle.trees.specs.Symbols.{Symbol, NameSymbol, UnknownSymbol}
 use Rattle.trees.specs.Trees.{ExpressionTree, StatementTree, StatementTrees, MoreStatements, DeclarationTrees, MoreDeclarations}
 use Rattle.trees.specs.Views.{statement_tree, statement_trees, declaration_tree, declaration_trees}
 use Rattle.syntax.specs.declared.fault.Fault.{Fault}
+use Rattle.syntax.specs.declared.statements.Beginning.{Beginning}
+use Rattle.syntax.specs.declared.statements.Beginning.TheVariants.{Name}
 use Rattle.syntax.specs.Expressions.{expression}
 use Rattle.syntax.specs.Giving.{Fails}
 use Rattle.syntax.specs.Looking.{Reading, Cause, ◌>>=◌, at_word, mark}
@@ -19,9 +21,14 @@ use Rattle.syntax.specs.Statements.{Expressions, statement, declaration, stateme
 abbrev pub block_in : ℕ → List Symbol → Reading (DeclarationTrees × StatementTrees)
 block_in room symbols = block (declaration true room) (statement true room) symbols
 
+-- what a statement begins with, where a symbol that the grammar doesn't have is taken for a name
+abbrev pub next_beginning : List Symbol → Beginning
+next_beginning (UnknownSymbol ∷ rest) = Name
+next_beginning symbols = beginning_of symbols
+
 -- a statement whose parts fit into a room
 abbrev pub statement_inside : ℕ → List Symbol → Reading StatementTree
-statement_inside room symbols = statement_by (expression room) (statement true room) (block_in room) (beginning_of symbols) symbols
+statement_inside room symbols = statement_by (expression room) (statement true room) (block_in room) (next_beginning symbols) symbols
 
 -- the trees of a block
 abbrev pub block_trees : Block → DeclarationTrees × StatementTrees

@@ -43,7 +43,7 @@ impl<'a> Reader<'a> {
 
     // Operators that may stand at a level, with what stands behind them, behind a left operand.
     #[cycle(expression)]
-    #[tactic(auto, using(crate::proofs::Operators::operators_more, crate::proofs::Operators::operators_fail, crate::proofs::Operators::operators_deep, crate::proofs::Operators::operators_end))]
+    #[tactic(auto, using(crate::proofs::Operators::operators_deep, crate::proofs::Operators::operators_end))]
     fn operators(
         &mut self,
         alloc: Global,

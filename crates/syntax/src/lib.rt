@@ -16,4 +16,6 @@ pub use parser::parse;
 #[cfg(test)]
 mod declaration_tests;
 #[cfg(test)]
+mod parser_tests;
+#[cfg(test)]
 mod tests;

@@ -5,14 +5,13 @@ ghost use Rattle.std.specs.Option.{option_map};
 ghost use Rattle.words.specs.Spelling.{lexeme_of};
 ghost use Rattle.trees.specs.Forms.{expr_level};
 ghost use Rattle.trees.specs.Symbols.{symbol_of};
-ghost use Rattle.trees.specs.Trees.{DeclarationTrees, StatementTrees};
 ghost use Rattle.trees.specs.Views.{expression_tree, reference_tree, argument_trees, statement_tree, statement_trees, declaration_tree, declaration_trees, iteration_tree};
 ghost use Rattle.syntax.specs.Expressions.{expression, reference, arguments};
 ghost use Rattle.syntax.specs.Giving.{cause_of, Gives, Leaves};
-ghost use Rattle.syntax.specs.Inside.{block_in, block_trees, condition, is_name_symbol, other_statement, statement_inside};
+ghost use Rattle.syntax.specs.Inside.{block_in, block_trees, condition, is_name_symbol, next_beginning, other_statement, statement_inside};
 ghost use Rattle.syntax.specs.Lists.{all_more_items};
 ghost use Rattle.syntax.specs.Looking.{Unexpected, next_name};
-ghost use Rattle.syntax.specs.Statements.{beginning_at, beginning_of, begins_procedure, ends_declarations, end_of_do, end_name, ending, assignment, call, return_value, halt, otherwise, conditional, step, iteration, body_of_do, do_statement, statements, declarations, procedure, statement, declaration};
+ghost use Rattle.syntax.specs.Statements.{beginning_at, begins_procedure, ends_declarations, end_of_do, end_name, ending, assignment, call, return_value, halt, conditional, step, iteration, body_of_do, do_statement, statements, declarations, procedure, statement, declaration};
 
 use crate::fault::Fault;
 use crate::measured::EXPRESSION_LEVEL;
@@ -60,13 +59,13 @@ fn is_name(word: &Word) -> bool
     word.kind == Kind::Name && Name::from_text(word.text).is_some()
 }
 
-// What a statement begins with at a word.
-#[tactic(auto, using(crate::proofs::Beginnings::beginning_of_reserved))]
+// What a statement begins with at a word. A word that is a name of other characters is found by whoever takes it.
+#[tactic(auto, using(crate::proofs::Beginnings::next_beginning_reserved, crate::proofs::Beginnings::next_beginning_name))]
 fn beginning_with(word: &Word) -> Beginning
-    ensures { result ≡ beginning_of (symbol_of (lexeme_of word.now) ∷ []) }
+    ensures { result ≡ next_beginning (symbol_of (lexeme_of word.now) ∷ []) }
 {
     match word.kind {
-        Kind::Name if is_name(word) => Beginning::Name,
+        Kind::Name => Beginning::Name,
         Kind::Mark(Mark::Semicolon) => Beginning::Semicolon,
         Kind::Reserved(reserved) => beginning_at(reserved, place_of(word)),
         _ => Beginning::Other,
@@ -76,7 +75,7 @@ fn beginning_with(word: &Word) -> Beginning
 impl<'a> Reader<'a> {
     // What a statement begins with here.
     fn beginning(&self) -> Beginning
-        ensures { result ≡ beginning_of self.now }
+        ensures { result ≡ next_beginning self.now }
     {
         match self.words() {
             [word, ..] => beginning_with(word),
@@ -201,6 +200,7 @@ impl<'a> Reader<'a> {
             let target = self.take_reference(alloc, room)?;
             targets.push(target)?;
         }
+        targets.shrink_to_fit();
         Ok(targets)
     }
 
@@ -421,6 +421,7 @@ impl<'a> Reader<'a> {
             let statement = self.take_statement(alloc, room)?;
             statements.push(statement)?;
         }
+        statements.shrink_to_fit();
         Ok(statements)
     }
 
@@ -451,6 +452,7 @@ impl<'a> Reader<'a> {
             let declaration = self.take_declaration(alloc, room)?;
             declarations.push(declaration)?;
         }
+        declarations.shrink_to_fit();
         Ok(declarations)
     }
 
