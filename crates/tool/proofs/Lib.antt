@@ -1,5 +1,6 @@
 pub mod ServedLemmas
 pub mod Service
+pub mod Readings
 pub mod Standing
 pub mod Ending
 pub mod SourceRuns

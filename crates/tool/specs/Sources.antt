@@ -1,15 +1,17 @@
 -- Sources: the program that they are, and why they are refused.
-use Rattle.std.specs.Prelude.{◌≡◌, ℕ, ◌+◌, ◌%◌, ◌<◌, ◌⊎◌, List, [], ◌∷◌, map, length, slice_index_or}
+use Rattle.std.specs.Prelude.{◌≡◌, ℕ, Bool, true, false, ◌+◌, ◌%◌, ◌<◌, ◌⊎◌, List, [], ◌∷◌, map, length, slice_index_or}
 use Rattle.source_meaning.specs.declared.program.Joined.{Joined}
 use Rattle.source_meaning.specs.declared.program.Statement.{Statement}
 use Rattle.tool.specs.declared.sources.Source as declared_source
 use Rattle.tool.specs.declared.sources.ToolFault.{ToolFault}
 use Rattle.tool.specs.declared.sources.ToolFault.TheVariants.{TooManySources, Source, CodeTooLong, NotServed, Join, Placement, Memory}
 use Rattle.tool.specs.declared.built.PlacementFault.{PlacementFault}
+use Rattle.trees.specs.Trees.{ModuleTree}
 use Rattle.tool.specs.declared.plan.Plan.{Plan}
+use Rattle.tool.specs.declared.read.ReadFault.TheVariants as read_faults
 use Rattle.tool.specs.Causes.{HasReadCause}
 use Rattle.tool.specs.Code.{code_bytes, program_code}
-use Rattle.tool.specs.Reading.{IsSourceOf}
+use Rattle.tool.specs.Reading.{IsSourceOf, IsText}
 use Rattle.tool.specs.Refusals.{HasPlacementCause}
 
 -- the texts of sources
@@ -19,6 +21,24 @@ texts_of sources = map (λ (source : declared_source.Source). source.text.now) s
 -- the text of one of them
 abbrev pub text_of : List (List ℕ) → ℕ → List ℕ
 text_of texts file = slice_index_or texts file []
+
+-- a text is a module, served or not
+pub record IsRead (text : List ℕ) : Type 0 where
+  pub tree : ModuleTree
+  pub read : IsText text tree
+
+-- so many texts are modules
+pub record AreReadUpTo (count : ℕ) (texts : List (List ℕ)) : Type 0 where
+  pub each : (file : ℕ) → file < count → IsRead (text_of texts file)
+
+abbrev pub AreRead : List (List ℕ) → Type 0
+AreRead texts = AreReadUpTo (length texts) texts
+
+-- whether a fault is that sources are right, but not served
+abbrev pub is_of_service : ToolFault → Bool
+is_of_service (Source file (read_faults.NotServed line)) = true
+is_of_service (NotServed file line) = true
+is_of_service fault = false
 
 -- the word just past the stack of a plan
 abbrev pub stack_end_of : Plan → ℕ

@@ -1,10 +1,10 @@
 //! From sources to a program at its places.
 
-ghost use Rattle.std.specs.Prelude.{◌≡◌, ◌<◌, ◌≤◌, [], ◌∷◌, length, Err, IfOk, IfErr};
+ghost use Rattle.std.specs.Prelude.{◌≡◌, ◌<◌, ◌≤◌, [], ◌∷◌, length, true, Err, IfOk, IfErr, IfSome, MatchOption, MatchResult};
 ghost use Rattle.tool.specs.Code.{code_bytes, program_code};
 ghost use Rattle.tool.specs.Headline.{DoesWhatItSays};
 ghost use Rattle.tool.specs.Reading.{IsSourceOf};
-ghost use Rattle.tool.specs.Sources.{texts_of, IsProgramOf, HasCause, HasCompileCause, stack_end_of};
+ghost use Rattle.tool.specs.Sources.{texts_of, AreRead, IsProgramOf, IsRead, HasCause, HasCompileCause, is_of_service, stack_end_of};
 
 use crate::built::{Built, PlacementFault, place};
 use crate::generate::{CodeFault, generate};
@@ -78,6 +78,7 @@ pub fn build(alloc: Global, sources: &[Source], plan: &Plan) -> Result<Built, To
     ensures plan { IfOk result (λ built. built.plan ≡ plan.now) }
     ensures headline { IfOk result (λ built. DoesWhatItSays built.program built.placement built.plan.stack_size built.image) }
     ensures refused { IfErr result (λ fault. HasCause fault (texts_of sources.now) plan.now) }
+    ensures last { IfErr result (λ fault. is_of_service fault ≡ true → AreRead (texts_of sources.now)) }
     ensures too_many { 64 < length sources.now → result ≡ Err ToolFault.TooManySources }
 {
     if sources.len() > MOST_SOURCES {
@@ -96,6 +97,7 @@ fn build_one(alloc: Global, text: &[u8], plan: &Plan) -> Result<Built, ToolFault
     ensures plan { IfOk result (λ built. built.plan ≡ plan.now) }
     ensures headline { IfOk result (λ built. DoesWhatItSays built.program built.placement built.plan.stack_size built.image) }
     ensures refused { IfErr result (λ fault. HasCause fault (text.now ∷ []) plan.now) }
+    ensures last { IfErr result (λ fault. is_of_service fault ≡ true → AreRead (text.now ∷ [])) }
 {
     let compiled = compile(alloc, 0, text, plan)?;
     let program = join(Statements::from_vec(compiled.statements)).map_err(ToolFault::Join)?;
@@ -106,31 +108,43 @@ fn build_one(alloc: Global, text: &[u8], plan: &Plan) -> Result<Built, ToolFault
 
 // Why several sources are refused: the first fault of one of them, where that something is not served comes behind all
 // others, or else that they are several.
+#[tactic(auto, using(crate::proofs::Readings::none_is_read, crate::proofs::Readings::one_more_is_read))]
 fn refusal_of_several(alloc: Global, sources: &[Source], plan: &Plan) -> ToolFault
     requires { 1 < length sources.now }
-    ensures { HasCause result (texts_of sources.now) plan.now }
+    ensures cause { HasCause result (texts_of sources.now) plan.now }
+    ensures last { is_of_service result ≡ true → AreRead (texts_of sources.now) }
 {
     let mut unserved = None;
     for (file, source) in sources.iter().enumerate() {
-        if let Err(fault) = compile(alloc, file, source.text, plan) {
-            if !is_of_service(&fault) {
-                return fault;
-            }
-            unserved = unserved.or(Some(fault));
+        match fault_of_source(alloc, file, source.text, plan) {
+            Some(fault) if is_of_service(&fault) => unserved = unserved.or(Some(fault)),
+            Some(fault) => return fault,
+            None => {}
         }
     }
     unserved.unwrap_or(ToolFault::NotServed { file: 1, line: 1 })
 }
 
+// Why a source alone is refused, if it is.
+fn fault_of_source(alloc: Global, file: usize, text: &[u8], plan: &Plan) -> Option<ToolFault>
+    ensures refused { IfSome result (λ fault. HasCompileCause fault file text.now plan.now) }
+    ensures read { MatchOption result (IsRead text.now) (λ fault. is_of_service fault ≡ true → IsRead text.now) }
+{
+    match compile(alloc, file, text, plan) {
+        Ok(_) => None,
+        Err(fault) => Some(fault),
+    }
+}
+
 // Whether a fault is that a source is right, but not served.
-fn is_of_service(fault: &ToolFault) -> bool {
-    matches!(
-        fault,
-        ToolFault::Source {
-            fault: ReadFault::NotServed { .. },
-            ..
-        }
-    )
+fn is_of_service(fault: &ToolFault) -> bool
+    ensures { result ≡ is_of_service fault.now }
+{
+    match fault {
+        ToolFault::Source { fault, .. } => matches!(fault, ReadFault::NotServed { .. }),
+        ToolFault::NotServed { .. } => true,
+        _ => false,
+    }
 }
 
 // The statements of a source, and their code.
@@ -146,6 +160,7 @@ fn compile(alloc: Global, file: usize, text: &[u8], plan: &Plan) -> Result<Compi
     ensures code { IfOk result (λ compiled. compiled.code.items ≡ code_bytes (program_code (stack_end_of plan.now) compiled.statements.items)) }
     ensures fits { IfOk result (λ compiled. length compiled.code.items ≤ 65535) }
     ensures refused { IfErr result (λ fault. HasCompileCause fault file text.now plan.now) }
+    ensures read { MatchResult result (λ _. IsRead text.now) (λ fault. is_of_service fault ≡ true → IsRead text.now) }
 {
     let statements = match read_source(alloc, text) {
         Ok(statements) => statements,

@@ -5,7 +5,7 @@ use std::alloc::Global;
 use std::test::Fail;
 
 // What stands before the levels, opens one, stands within, closes one and stands behind them, and how many there may be.
-static LEVELS: [(&str, &str, &str, &str, &str, usize); 13] = [
+static LEVELS: [(&str, &str, &str, &str, &str, u8); 13] = [
     ("M: DO; OUTPUT(0) = ", "(", "1", ")", "; END M;", 62),
     ("M: DO; ", "DO; ", "", "END; ", "END M;", 64),
     ("M: DO; ", "DO WHILE 1; ", "", "END; ", "END M;", 63),
@@ -24,7 +24,7 @@ static LEVELS: [(&str, &str, &str, &str, &str, usize); 13] = [
 // A text with so many levels.
 fn nested(
     alloc: Global,
-    row: &(&str, &str, &str, &str, &str, usize),
+    row: &(&str, &str, &str, &str, &str, u8),
     levels: usize,
 ) -> Result<String, Fail> {
     let mut text = String::from_str(alloc, row.0)?;
@@ -42,9 +42,10 @@ fn nested(
 #[test]
 fn levels_within_a_module(rt: HostRuntime) -> Result<(), Fail> {
     for row in &LEVELS {
-        let deepest = nested(rt.alloc(), row, row.5)?;
+        let levels = usize::from(row.5);
+        let deepest = nested(rt.alloc(), row, levels)?;
         check_refusal(&rt, deepest.as_str(), "N1 a.plm 1\n")?;
-        let too_deep = nested(rt.alloc(), row, row.5 + 1)?;
+        let too_deep = nested(rt.alloc(), row, levels + 1)?;
         check_refusal(&rt, too_deep.as_str(), "C8 a.plm 1\n")?;
     }
     Ok(())
@@ -81,10 +82,10 @@ fn sixteen_texts_deep(rt: HostRuntime) -> Result<(), Fail> {
 }
 
 // Definitions of B1 to B`count`, each of which stands for the next eight times, and a use of the first behind them.
-fn eights(alloc: Global, count: u32) -> Result<String, Fail> {
+fn eights(alloc: Global, count: u8) -> Result<String, Fail> {
     let mut text = String::from_str(alloc, "M: DO; DECLARE A LITERALLY ''")?;
-    for i in 1..count + 1 {
-        let next = i + 1;
+    for i in 1..=count {
+        let next = u32::from(i) + 1;
         let definition = format!(in alloc; ", B{i} LITERALLY '")?;
         text.push_str(definition.as_str())?;
         let word = format!(in alloc; "B{next} ")?;

@@ -1,6 +1,7 @@
 //! Reserved words where no module has them.
 
 use crate::runs::check_refusal;
+use std::process::Abort;
 use std::test::Fail;
 
 static RESERVED: [&str; 39] = [
@@ -45,24 +46,34 @@ static RESERVED: [&str; 39] = [
     "XOR",
 ];
 
+// A text with a reserved word on its second line, where no module has one, is refused there.
+fn check_word<R: Abort + AllocGlobal>(
+    rt: &R,
+    before: &str,
+    word: &str,
+    behind: &str,
+) -> Result<(), Fail> {
+    let text = format!(in rt.alloc(); "{before}{word}{behind}")?;
+    let fault = if word == "GOTO" {
+        "C10 a.plm 2\n"
+    } else {
+        "C7 a.plm 2\n"
+    };
+    check_refusal(rt, text.as_str(), fault)
+}
+
 #[test]
 fn reserved_words_as_values(rt: HostRuntime) -> Result<(), Fail> {
-    for word in RESERVED {
-        let fault = if word == "GOTO" { "C10" } else { "C7" };
-        let text = format!(in rt.alloc(); "M: DO; A =\n{word}; END M;")?;
-        let printed = format!(in rt.alloc(); "{fault} a.plm 2\n")?;
-        check_refusal(&rt, text.as_str(), printed.as_str())?;
+    for word in &RESERVED {
+        check_word(&rt, "M: DO; A =\n", word, "; END M;")?;
     }
     Ok(())
 }
 
 #[test]
 fn reserved_words_as_names_of_modules(rt: HostRuntime) -> Result<(), Fail> {
-    for word in RESERVED {
-        let fault = if word == "GOTO" { "C10" } else { "C7" };
-        let text = format!(in rt.alloc(); "\n{word}: DO; END;")?;
-        let printed = format!(in rt.alloc(); "{fault} a.plm 2\n")?;
-        check_refusal(&rt, text.as_str(), printed.as_str())?;
+    for word in &RESERVED {
+        check_word(&rt, "\n", word, ": DO; END;")?;
     }
     Ok(())
 }
