@@ -67,10 +67,7 @@ static STATEMENTS: [(&str, &str); 16] = [
         "M: DO; DO WHILE A < 3; CALL P; END; END;",
         "(M (WHILE (< A 3) (CALL P)) END)",
     ),
-    (
-        "M: DO; DO I = 1 TO N; END; END;",
-        "(M (FROM I 1 N) END)",
-    ),
+    ("M: DO; DO I = 1 TO N; END; END;", "(M (FROM I 1 N) END)"),
     (
         "M: DO; DO I = 1 TO N + 1 BY 2; A(I) = 0; END; END;",
         "(M (FROM I 1 (+ N 1) BY 2 (= A(I) 0)) END)",
@@ -83,7 +80,10 @@ static STATEMENTS: [(&str, &str); 16] = [
 
 static EXPRESSIONS: [(&str, &str); 17] = [
     ("M: DO; A = B - C - D; END;", "(M (= A (- (- B C) D)) END)"),
-    ("M: DO; A = B - (C - D); END;", "(M (= A (- B <(- C D)>)) END)"),
+    (
+        "M: DO; A = B - (C - D); END;",
+        "(M (= A (- B <(- C D)>)) END)",
+    ),
     ("M: DO; A = B + C * D; END;", "(M (= A (+ B (* C D))) END)"),
     (
         "M: DO; A = B / C MOD D * 2; END;",
@@ -104,13 +104,19 @@ static EXPRESSIONS: [(&str, &str); 17] = [
         "M: DO; A = B + 1 <= C - 1 AND D <> E; END;",
         "(M (= A (AND (<= (+ B 1) (- C 1)) (<> D E))) END)",
     ),
-    ("M: DO; A = (B := C) + 1; END;", "(M (= A (+ (:= B C) 1)) END)"),
+    (
+        "M: DO; A = (B := C) + 1; END;",
+        "(M (= A (+ (:= B C) 1)) END)",
+    ),
     (
         "M: DO; A = (B(1) := (C := 2)); END;",
         "(M (= A (:= B(1) (:= C 2))) END)",
     ),
     ("M: DO; A = ((B)); END;", "(M (= A <<B>>) END)"),
-    ("M: DO; P = .A; Q = .S(1).B; END;", "(M (= P .A) (= Q .S(1).B) END)"),
+    (
+        "M: DO; P = .A; Q = .S(1).B; END;",
+        "(M (= P .A) (= Q .S(1).B) END)",
+    ),
     (
         "M: DO; P = .(1, 'AB', 0FFH); END;",
         "(M (= P .(1 'AB' 255)) END)",

@@ -8,7 +8,8 @@ use std::alloc::Global;
 use std::test::Fail;
 use words::Word;
 
-const SOURCE: &[u8] = b"M: DO; DECLARE A(2) BYTE INITIAL (1, 'X'), N LITERALLY 'A(0) + 1'; P: PROCEDURE (X); DECLARE X BYTE; IF X THEN RETURN; END P; \
+const SOURCE: &[u8] =
+    b"M: DO; DECLARE A(2) BYTE INITIAL (1, 'X'), N LITERALLY 'A(0) + 1'; P: PROCEDURE (X); DECLARE X BYTE; IF X THEN RETURN; END P; \
 DO WHILE N < 3; A(0), A(1) = -(A(0) := N) * 2; CALL P(.(1, 'AB')); END; END M;";
 
 // The words of a source.

@@ -88,7 +88,8 @@ fn write_statement<W: fmt::Write>(
         }
         Statement::Return { value: None, .. } => f.write_str("(RETURN")?,
         Statement::Return {
-            value: Some(value), ..
+            value: Some(value),
+            ..
         } => {
             f.write_str("(RETURN ")?;
             write_expression(f, value, room - 1)?;
