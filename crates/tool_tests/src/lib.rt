@@ -17,8 +17,8 @@ mod reserved;
 #[cfg(test)]
 mod runs;
 #[cfg(test)]
+mod single_words;
+#[cfg(test)]
 mod texts;
 #[cfg(test)]
 mod unserved;
-#[cfg(test)]
-mod words;
