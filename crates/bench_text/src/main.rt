@@ -93,10 +93,12 @@ fn parse(rt: &HostRuntime, words: &[Word]) -> Result<()> {
 
 fn main(rt: HostRuntime) -> Result<()> {
     let args: Vec<String> = env::args(&rt)?.collect(rt.alloc())?;
-    let kind = args.get(1).map_or("page", |kind| kind.as_str());
-    let phase = args.get(2).map_or("all", |phase| phase.as_str());
-    let source = source_of(rt.alloc(), kind)?.context("no such kind of source")?;
-    read_up_to(&rt, source.as_slice(), phase)?;
+    let (Some(kind), Some(phase)) = (args.get(1), args.get(2)) else {
+        println!(rt; "bench_text KIND PHASE")?;
+        return Ok(());
+    };
+    let source = source_of(rt.alloc(), kind.as_str())?.context("no such kind of source")?;
+    read_up_to(&rt, source.as_slice(), phase.as_str())?;
     println!(rt; "{}", greatest_memory(&rt)?)?;
     Ok(())
 }
