@@ -1,20 +1,15 @@
 -- What follows from the definitions: each text has one reading.
-use Rattle.std.proofs.Common.{◌≡◌, ℕ, zero, suc, min, ◌+◌, ◌-◌, ◌<◌, ◌≤◌, ◌⊎◌, inl, inr, List, [], ◌∷◌, length, take, drop, map, refl, sym, ap, ◌∙◌, subst, arith, get_or}
-use Rattle.std.proofs.Math.Numerals.{add-one}
-use Rattle.std.proofs.lemmas.List.{length-take, length-drop, take_min}
-use Rattle.std.proofs.lemmas.List.Elements.{All-from_recursion}
-use Rattle.std.specs.List.{AllByRecursion, slice_range}
-use Rattle.std.specs.List.Sorted.{IsStrictlyIncreasing}
+use Rattle.std.proofs.Common.{◌≡◌, ℕ, zero, suc, ◌+◌, ◌<◌, ◌≤◌, ◌⊎◌, inl, inr, List, [], ◌∷◌, length, drop, refl, sym, ap, ◌∙◌, subst, arith}
+use Rattle.std.proofs.lemmas.List.{length-drop}
 use Rattle.words.specs.declared.fault.Fault.{Fault}
-use Rattle.words.specs.declared.fault.Fault.TheVariants as faults
 use Rattle.words.specs.declared.items.Cause.{Cause}
-use Rattle.words.specs.declared.items.Cause.TheVariants.{BadCharacter, NotClosed, BadNumber, LongName}
 use Rattle.words.specs.declared.items.Item.{Item}
 use Rattle.words.specs.declared.items.Item.TheVariants.{Ending, Blank, Spelled, Wrong}
 use Rattle.words.specs.declared.vocabulary.Kind.{Kind}
-use Rattle.words.specs.Items.{item_at, FitsIn}
-use Rattle.words.specs.Spelling.{Lexeme, lexeme_at, line_of, fault_of, SpellsFrom, at_end, after_blank, word_then, FaultFrom, fault_here, fault_after_blank, fault_after_word, Spells, HasOneReading, AreSlices, StartsRise}
-use Rattle.words.proofs.ItemLemmas.{item_fits}
+use Rattle.words.specs.Items.{item_at}
+use Rattle.words.specs.internal.Fits.{FitsIn}
+use Rattle.words.specs.Spelling.{Lexeme, lexeme_at, line_at, fault_of, SpellsFrom, at_end, after_blank, word_then, FaultFrom, fault_here, fault_after_blank, fault_after_word, HasOneReading}
+use Rattle.words.proofs.ItemsLemmas.{item_fits}
 
 -- what a reading goes on with after the item at its place
 module _ (source : List ℕ) where
@@ -43,10 +38,10 @@ module _ (source : List ℕ) where
   spells_no_fault cause (after_blank here rest) is = cc
   spells_no_fault cause (word_then here rest) is = cc
 
-  fault_at_once : {place : ℕ} {fault : Fault} (cause : Cause) → FaultFrom source place fault → item_at (drop place source) ≡ Wrong cause → fault ≡ fault_of cause (line_of source place)
+  fault_at_once : {place : ℕ} {fault : Fault} (cause : Cause) → FaultFrom source place fault → item_at (drop place source) ≡ Wrong cause → fault ≡ fault_of cause (line_at source place)
   fault_at_once cause (fault_here {place = place} {cause = other} here) is =
       let same : other ≡ cause = cc in
-      ap (λ c. fault_of c (line_of source place)) same
+      ap (λ c. fault_of c (line_at source place)) same
   fault_at_once cause (fault_after_blank here rest) is = absurd (cc)
   fault_at_once cause (fault_after_word here rest) is = absurd (cc)
 
@@ -100,7 +95,7 @@ reads_at : (source : List ℕ) (place : ℕ) (item : Item) → item_at (drop pla
 reads_at source place Ending is fits later = inl ([], at_end is)
 reads_at source place (Blank taken) is fits later = reads_past_blank source place taken is (later taken fits.0 fits.1)
 reads_at source place (Spelled kind taken) is fits later = reads_past_word source place taken kind is (later taken fits.0 fits.1)
-reads_at source place (Wrong cause) is fits later = inr (fault_of cause (line_of source place), fault_here is)
+reads_at source place (Wrong cause) is fits later = inr (fault_of cause (line_at source place), fault_here is)
 
 -- where there is fuel for each byte
 reads_on : (fuel : ℕ) (source : List ℕ) (place : ℕ) → length source ≤ place + fuel → Reads source place
@@ -109,18 +104,6 @@ reads_on zero source place enough =
 reads_on (suc fuel) source place enough =
     reads_at source place (item_at (drop place source)) refl (item_fits (drop place source)) (λ taken some most. reads_on fuel source (place + taken) (omega arith))
 
--- a fault has a line
-fault_of-memory : (cause : Cause) (line : ℕ) → fault_of cause line ≡ faults.Memory → ⊥
-fault_of-memory BadCharacter line is = cc
-fault_of-memory NotClosed line is = cc
-fault_of-memory BadNumber line is = cc
-fault_of-memory LongName line is = cc
-
-no_memory : (source : List ℕ) {place : ℕ} {fault : Fault} → FaultFrom source place fault → fault ≡ faults.Memory → ⊥
-no_memory source (fault_here {place = place} {cause = cause} here) is = fault_of-memory cause (line_of source place) is
-no_memory source (fault_after_blank here rest) is = no_memory source rest is
-no_memory source (fault_after_word here rest) is = no_memory source rest is
-
 -- a text has one reading
 pub one_reading : (source : List ℕ) → HasOneReading source
 one_reading source = record {
@@ -128,40 +111,4 @@ one_reading source = record {
   one_spelling = λ one other left right. one_spelling source left right;
   one_fault = λ one other left right. one_fault source left right;
   not_both = λ words fault left right. not_both source left right;
-  no_memory = λ fault. no_memory source fault refl;
 }
-
--- each text is the slice at its start
-slice_at : (source : List ℕ) (place taken : ℕ) → take taken (drop place source) ≡ slice_range source place (place + length (take taken (drop place source)))
-slice_at source place taken =
-    let text = take taken (drop place source) in
-    let same : place + length text - place ≡ min taken (length (drop place source)) = omega (arith, length-take taken (drop place source)) in
-    sym (ap (λ n. take n (drop place source)) same ∙ take_min taken (drop place source))
-
-slices_on : {source : List ℕ} {place : ℕ} {words : List Lexeme} → SpellsFrom source place words → AllByRecursion (λ word. word.text ≡ slice_range source word.start (word.start + length word.text)) words
-slices_on (at_end here) = tt
-slices_on (after_blank here rest) = slices_on rest
-slices_on {source} (word_then {place = place} {length = taken} here rest) = (slice_at source place taken, slices_on rest)
-
-pub slices : (source : List ℕ) (words : List Lexeme) → Spells source words → AreSlices source words
-slices source words spells = All-from_recursion (λ word. word.text ≡ slice_range source word.start (word.start + length word.text)) words (slices_on spells)
-
--- a number below the first of numbers that rise
-rising_more : (first : ℕ) (numbers : List ℕ) → (0 < length numbers → first < get_or numbers 0 0) → IsStrictlyIncreasing numbers → IsStrictlyIncreasing (first ∷ numbers)
-rising_more first numbers below rising zero within = below (omega arith)
-rising_more first numbers below rising (suc k) within = rw add-one (rw add-one at (rising k (omega arith)))
-
-starts_from : {source : List ℕ} {place : ℕ} {words : List Lexeme} → SpellsFrom source place words → 0 < length (map (λ word. word.start) words) → place ≤ get_or (map (λ word. word.start) words) 0 0
-starts_from (at_end here) some = absurd (omega arith)
-starts_from (after_blank here rest) some = omega (arith, starts_from rest some)
-starts_from (word_then here rest) some = omega arith
-
-rising_on : {source : List ℕ} {place : ℕ} {words : List Lexeme} → SpellsFrom source place words → StartsRise words
-rising_on (at_end here) = λ k within. absurd (omega arith)
-rising_on (after_blank here rest) = rising_on rest
-rising_on {source} (word_then {place = place} {length = taken} {kind = kind} {words = words} here rest) =
-    let fits : FitsIn (length (drop place source)) (Spelled kind taken) = subst (FitsIn (length (drop place source))) here (item_fits (drop place source)) in
-    rising_more place (map (λ word. word.start) words) (λ some. omega (arith, fits.0, starts_from rest some)) (rising_on rest)
-
-pub rising : (source : List ℕ) (words : List Lexeme) → Spells source words → StartsRise words
-rising source words spells = rising_on spells

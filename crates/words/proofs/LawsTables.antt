@@ -11,7 +11,7 @@ use Rattle.words.specs.declared.vocabulary.Mark.{Mark}
 use Rattle.words.specs.declared.vocabulary.ReservedWord.{ReservedWord}
 use Rattle.words.specs.Marks.{marks, mark_at}
 use Rattle.words.specs.Names.{reserved_words, reserved_of, word_in}
-use Rattle.words.proofs.ItemLemmas.{and_first, and_second}
+use Rattle.words.proofs.ItemsLemmas.{and_first, and_second}
 
 -- no mark is longer than one before it
 abbrev lengths_fall : List (List ℕ × Mark) → Bool

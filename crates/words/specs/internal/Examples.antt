@@ -1,4 +1,4 @@
--- Rows of the definitions, each computed.
+-- Examples of the definitions, each computed.
 use Rattle.std.specs.Prelude.{◌≡◌, [], ◌∷◌, ◌++◌, codes, refl}
 use Rattle.words.specs.declared.items.Item.TheVariants.{Ending, Blank, Spelled, Wrong}
 use Rattle.words.specs.declared.items.Cause.TheVariants.{BadCharacter, NotClosed, BadNumber, LongName}

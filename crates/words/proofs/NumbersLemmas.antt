@@ -3,9 +3,10 @@ use Rattle.std.proofs.Common.{◌≡◌, ◌≢◌, ℕ, ◌+◌, ◌-◌, ◌*�
 use Rattle.std.specs.Char.{to_ascii_uppercase}
 use Rattle.std.specs.List.{list_all}
 use Rattle.std.specs.Prelude.{nat_lt, nat_le}
+use Rattle.words.specs.declared.limits.TheConstants.{GREATEST_NUMBER}
 use Rattle.words.specs.Names.{name_of}
 use Rattle.words.specs.Numbers.{digit_value, value_of, number_in, number_of, number_with, base_of}
-use Rattle.words.proofs.NameLemmas.{name_of-append, name_of-character}
+use Rattle.words.proofs.NamesLemmas.{name_of-append, name_of-character}
 use Rattle.std.proofs.lemmas.List.{take_more, take_all, take_at, get_or_at, length_push}
 use Rattle.std.proofs.lemmas.Bool.Decides.{nat_tests}
 use Rattle.std.proofs.Math.Nat.{le-mul_of_pos_right}
@@ -23,10 +24,10 @@ and_fails : {X : Type 0} (a b : Bool) (x y : X) → b ≡ false → cond (a && b
 and_fails true b x y fails = ap (λ b. cond b x y) fails
 and_fails false b x y fails = refl
 
-pub number_in_too_great : (base : ℕ) (digits : List ℕ) → 65535 < value_of base digits → number_in base digits ≡ None
+pub number_in_too_great : (base : ℕ) (digits : List ℕ) → GREATEST_NUMBER < value_of base digits → number_in base digits ≡ None
 number_in_too_great base digits great =
-    let fails : nat_le (value_of base digits) 65535 ≡ false = grind (arith, nat_tests) in
-    and_fails (list_all (λ digit. nat_lt (digit_value digit) base) digits) (nat_le (value_of base digits) 65535) _ _ fails
+    let fails : nat_le (value_of base digits) GREATEST_NUMBER ≡ false = grind (arith, nat_tests) in
+    and_fails (list_all (λ digit. nat_lt (digit_value digit) base) digits) (nat_le (value_of base digits) GREATEST_NUMBER) _ _ fails
 
 -- the last of the characters says the base
 number_of-push : (front : List ℕ) (last : ℕ) → number_of (front ++ last ∷ []) ≡ number_with (base_of last) (front ++ last ∷ [])

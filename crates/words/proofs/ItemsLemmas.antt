@@ -15,11 +15,13 @@ use Rattle.std.proofs.lemmas.Bool.Decides.{nat_tests}
 use Rattle.words.specs.declared.vocabulary.Mark.{Mark}
 use Rattle.words.specs.declared.items.Item.{Item}
 use Rattle.words.specs.declared.items.Item.TheVariants.{Spelled, Wrong}
+use Rattle.words.specs.declared.limits.TheConstants.{LONGEST_NAME}
 use Rattle.words.specs.Characters.{is_word_byte, is_blank, is_printable, is_comment_byte}
-use Rattle.words.specs.Items.{item_at, comment_or_mark, FitsIn}
+use Rattle.words.specs.Items.{item_at, comment_or_mark}
 use Rattle.words.specs.Marks.{marks, mark_at, mark_item}
 use Rattle.words.specs.Names.{name_item, name_of, kind_of_name}
 use Rattle.words.specs.Numbers.{number_item, number_of}
+use Rattle.words.specs.internal.Fits.{FitsIn}
 use Rattle.words.specs.Strings.{further, string_end, string_item, comment_end, comment_item}
 
 -- either way of a test
@@ -38,7 +40,7 @@ run_fits p first text passes =
     (omega arith, omega (arith, prefix_len-le-length p text))
 
 name_fits : (size : ℕ) (text : List ℕ) → (0 < length text) × (length text ≤ size) → FitsIn size (name_item text)
-name_fits size text fits = fits_if size (nat_lt 31 (length (name_of text))) (Wrong LongName) (Spelled (kind_of_name (name_of text)) (length text)) (λ _. tt) (λ _. fits)
+name_fits size text fits = fits_if size (nat_lt LONGEST_NAME (length (name_of text))) (Wrong LongName) (Spelled (kind_of_name (name_of text)) (length text)) (λ _. tt) (λ _. fits)
 
 number_fits : (size : ℕ) (text : List ℕ) → (0 < length text) × (length text ≤ size) → FitsIn size (number_item text)
 number_fits size text fits = fits_option size (λ value. Spelled (Number value) (length text)) (number_of (name_of text)) (Wrong BadNumber) (λ _ _. fits) tt
