@@ -14,7 +14,7 @@ use crate::vocabulary::Kind;
 
 /// Why no word stands at a place.
 #[derive(Clone, Copy, Debug, PartialEq, Eq)]
-pub(crate) enum Cause {
+pub enum Cause {
     BadCharacter,
     NotClosed,
     BadNumber,
@@ -23,7 +23,7 @@ pub(crate) enum Cause {
 
 /// What stands at one place of a text, with how many bytes it takes.
 #[derive(Clone, Copy, Debug, PartialEq, Eq)]
-pub(crate) enum Item {
+pub enum Item {
     /// The text ends there.
     Ending,
     /// A run of blanks, or a comment.

@@ -55,6 +55,6 @@ two = spelled refl (end_of_text refl)
 number : Spells (codes "2") (at_first (Number 2) (codes "2") ∷ [])
 number = spelled refl (end_of_text refl)
 
--- ONE becomes 2, for which three words are taken up
+-- ONE becomes 2, for which three words are processed
 expansion : Becomes defined 0 (name (codes "ONE") ∷ []) (at_first (Number 2) (codes "2") ∷ []) 3
 expansion = replaced refl two (omega arith) (replaced refl number (omega arith) (stays refl no_words) no_words) no_words

@@ -4,7 +4,7 @@ use Rattle.std.specs.Str.{bytes_eq}
 use Rattle.std.specs.declared.vec.Vec.{Vec}
 use Rattle.std.specs.declared.alloc.Global.{Global}
 use Rattle.indexmap.specs.IndexMap.{IndexMap, get_by}
-use Rattle.words.specs.declared.scanner.Word.{Word}
+use Rattle.words.specs.declared.word.Word.{Word}
 use Rattle.words.specs.Names.{name_of}
 use Rattle.words.specs.Spelling.{Lexeme, lexemes_of, Spells}
 use Rattle.literally.specs.declared.names.Name.{Name}
@@ -25,10 +25,10 @@ Agree None (Some words) = ⊥
 Agree (Some text) None = ⊥
 Agree (Some text) (Some words) = IsTextOf text (lexemes_of words.items)
 
--- a map holds, for each name that is in force behind an output, the words of its text, and nothing for any other
+-- a map holds, for each name that is in force after an output, the words of its text, and nothing for any other
 abbrev pub AreHeld : {S : Type 0} → List Lexeme → IndexMap Name (Vec Word Global) S → Type 0
 AreHeld output map = (name : List ℕ) → Agree (text_in name (reverse output)) (words_for map name)
 
--- a word stands for these words behind an output
+-- a word stands for these words after an output
 abbrev pub StandsFor : List Lexeme → Lexeme → List Lexeme → Type 0
 StandsFor output word inner = (text : List ℕ) × (in_force output word ≡ Some text) × IsTextOf text inner

@@ -7,7 +7,7 @@ use Rattle.words.specs.declared.vocabulary.Kind.TheVariants.{Name, Reserved, Num
 use Rattle.words.specs.Names.{name_of}
 use Rattle.words.specs.Spelling.{Lexeme}
 use Rattle.literally.specs.Definitions.{is_name, is_string, text_of, name_before, definition_by, text_if, text_in, in_force}
-use Rattle.literally.proofs.NoStrings.{HasNoString}
+use Rattle.literally.proofs.DefinitionsNoStrings.{HasNoString}
 use Rattle.std.proofs.Common.{false}
 
 -- one more word
@@ -19,10 +19,10 @@ pub completes_none : (word : Lexeme) (before : List Lexeme) → is_string word.k
 completes_none word before other = ap (λ b. option_map (λ name. (name, text_of word)) (cond b (name_before before) None)) other
 
 -- words without a string define nothing
-pub text_in_behind : (name : List ℕ) (output now : List Lexeme) → HasNoString now → text_in name (reverse (output ++ now)) ≡ text_in name (reverse output)
-text_in_behind name output [] none = ap (λ words. text_in name (reverse words)) (append-nil output)
-text_in_behind name output (word ∷ now) none =
-    ap (λ words. text_in name (reverse words)) (sym (append_assoc output (word ∷ []) now)) ∙ text_in_behind name (output ++ word ∷ []) now none.1
+pub text_in_after : (name : List ℕ) (output now : List Lexeme) → HasNoString now → text_in name (reverse (output ++ now)) ≡ text_in name (reverse output)
+text_in_after name output [] none = ap (λ words. text_in name (reverse words)) (append-nil output)
+text_in_after name output (word ∷ now) none =
+    ap (λ words. text_in name (reverse words)) (sym (append_assoc output (word ∷ []) now)) ∙ text_in_after name (output ++ word ∷ []) now none.1
     ∙ text_in_push name output word ∙ ap (λ definition. text_if name definition (text_in name (reverse output))) (completes_none word (reverse output) none.0)
 
 -- a name that is in force is no string, and its text is that of its name

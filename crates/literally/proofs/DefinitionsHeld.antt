@@ -7,20 +7,19 @@ use Rattle.std.specs.Option.{option_map}
 use Rattle.std.specs.declared.vec.Vec.{Vec}
 use Rattle.std.specs.declared.alloc.Global.{Global}
 use Rattle.indexmap.specs.IndexMap.{IndexMap, insert_entry}
-use Rattle.words.specs.declared.scanner.Word.{Word}
+use Rattle.words.specs.declared.word.Word.{Word}
 use Rattle.words.specs.declared.vocabulary.Kind.TheVariants.{Name}
 use Rattle.words.specs.Names.{name_of}
 use Rattle.words.specs.declared.fault.Fault.{Fault as TextFault}
-use Rattle.words.specs.declared.fault.Fault.TheVariants as text_faults
 use Rattle.words.specs.Spelling.{Lexeme, lexemes_of, Spells, IsFirstFault}
-use Rattle.literally.specs.declared.fault.Fault.TheVariants.{Quote, Memory}
-use Rattle.literally.specs.Expansion.{FaultFrom, quote_in_text, bad_text, IsSound, is_defined_again, begins_with_literally}
-use Rattle.literally.specs.Steps.{text_fault, IsTaken}
+use Rattle.literally.specs.declared.fault.Fault.TheVariants.{Quote, Text}
+use Rattle.literally.specs.Expansion.{FaultFrom, quote_in_text, bad_text, IsSound, IsSoundText, is_defined_again, begins_with_literally, on_line}
+use Rattle.literally.specs.internal.Steps.{Adds}
 use Rattle.literally.specs.declared.names.Name.{Name as Key}
 use Rattle.literally.specs.Definitions.{has_quote, text_of, text_in, text_if, in_force, name_defined, definition_by}
-use Rattle.literally.proofs.Outputs.{text_in_push, text_in_behind, name_in_force, text_in_force}
-use Rattle.literally.proofs.NoStrings.{HasNoString, becomes_no_string}
-use Rattle.literally.specs.Held.{words_for, Agree, AreHeld, IsTextOf, StandsFor}
+use Rattle.literally.proofs.DefinitionsInForce.{text_in_push, text_in_after, name_in_force, text_in_force}
+use Rattle.literally.proofs.DefinitionsNoStrings.{HasNoString, becomes_no_string}
+use Rattle.literally.specs.internal.Held.{words_for, Agree, AreHeld, IsTextOf, StandsFor}
 
 -- what a name stands for, where the map holds words for it
 pub stands : (output : List Lexeme) (word : Lexeme) (words : Vec Word Global) → word.kind ≡ Name → (text : Option (List ℕ)) → text_in (name_of word.text) (reverse output) ≡ text → Agree text (Some words) → StandsFor output word (lexemes_of words.items)
@@ -54,9 +53,9 @@ module _ {X : Type 0} (name : List ℕ) (key other : List ℕ) (value was : X) (
       by false k one two later = later
 
 -- the words for a name after an insertion
-pub words_after : {X : Type 0} (entries : List (Key × X)) (key : Key) (value : X) (name : List ℕ) → lookup (λ k. bytes_eq name (name_of k.text.now)) (insert_entry (λ a b. bytes_eq (name_of a.text.now) (name_of b.text.now)) entries key value) ≡ cond (bytes_eq name (name_of key.text.now)) (Some value) (lookup (λ k. bytes_eq name (name_of k.text.now)) entries)
-words_after {X} [] key value name = refl
-words_after {X} (entry ∷ entries) key value name = by (bytes_eq (name_of key.text.now) (name_of entry.0.text.now)) refl (words_after entries key value name)
+pub words_for_inserted : {X : Type 0} (entries : List (Key × X)) (key : Key) (value : X) (name : List ℕ) → lookup (λ k. bytes_eq name (name_of k.text.now)) (insert_entry (λ a b. bytes_eq (name_of a.text.now) (name_of b.text.now)) entries key value) ≡ cond (bytes_eq name (name_of key.text.now)) (Some value) (lookup (λ k. bytes_eq name (name_of k.text.now)) entries)
+words_for_inserted {X} [] key value name = refl
+words_for_inserted {X} (entry ∷ entries) key value name = by (bytes_eq (name_of key.text.now) (name_of entry.0.text.now)) refl (words_for_inserted entries key value name)
   where
     found : List (Key × X) → Option X
     found entries = lookup (λ k. bytes_eq name (name_of k.text.now)) entries
@@ -86,19 +85,15 @@ held_then output word name words map after is text inserted held other =
     by false = held other
 
 -- where the text of the definition that a word completes holds a quote, or is no list of words, the list has that fault
-pub fault_of_quote : (output : List Lexeme) (taken : ℕ) (word : Lexeme) (words : List Lexeme) (name : List ℕ) → definition_by word (reverse output) ≡ Some (name, text_of word) → has_quote (text_of word) ≡ true → FaultFrom output taken (word ∷ words) (Quote word.line)
-fault_of_quote output taken word words name is holds = quote_in_text is holds
+pub fault_of_quote : (output : List Lexeme) (processed : ℕ) (word : Lexeme) (words : List Lexeme) (name : List ℕ) → definition_by word (reverse output) ≡ Some (name, text_of word) → has_quote (text_of word) ≡ true → FaultFrom output processed (word ∷ words) (Quote word.line)
+fault_of_quote output processed word words name is holds = quote_in_text is holds
 
-pub fault_of_text : (output : List Lexeme) (taken : ℕ) (word : Lexeme) (words : List Lexeme) (name : List ℕ) (fault : TextFault) → definition_by word (reverse output) ≡ Some (name, text_of word) → has_quote (text_of word) ≡ false → (fault ≢ text_faults.Memory → IsFirstFault (text_of word) fault) → text_fault word.line fault ≢ Memory → FaultFrom output taken (word ∷ words) (text_fault word.line fault)
-fault_of_text output taken word words name (text_faults.Character line) is holds first other = bad_text is holds (first (λ same. cc))
-fault_of_text output taken word words name (text_faults.Unclosed line) is holds first other = bad_text is holds (first (λ same. cc))
-fault_of_text output taken word words name (text_faults.Number line) is holds first other = bad_text is holds (first (λ same. cc))
-fault_of_text output taken word words name (text_faults.Name line) is holds first other = bad_text is holds (first (λ same. cc))
-fault_of_text output taken word words name text_faults.Memory is holds first other = absurd (other refl)
+pub fault_of_text : (output : List Lexeme) (processed : ℕ) (word : Lexeme) (words : List Lexeme) (name : List ℕ) (fault : TextFault) → definition_by word (reverse output) ≡ Some (name, text_of word) → has_quote (text_of word) ≡ false → IsFirstFault (text_of word) fault → FaultFrom output processed (word ∷ words) (Text (on_line word.line fault))
+fault_of_text output processed word words name fault is free first = bad_text is free first
 
 -- such a definition is sound otherwise
 pub sound_by : (output : List Lexeme) (word : Lexeme) (name : List ℕ) (words : List Lexeme) → definition_by word (reverse output) ≡ Some (name, text_of word) → IsTextOf (text_of word) words → IsSound output word
-sound_by output word name words is text = subst (λ definition. IfSome definition (λ d. (has_quote d.1 ≡ false) × ((inner : List Lexeme) × Spells d.1 inner))) (sym is) (text.0, (words, text.1))
+sound_by output word name words is text = subst (λ definition. IfSome definition (λ d. IsSoundText d.1)) (sym is) (text.0, (words, text.1))
 
 -- no text in force holds a quote
 pub free_in_force : {S : Type 0} (output : List Lexeme) (map : IndexMap Key (Vec Word Global) S) → AreHeld output map → (word : Lexeme) (text : List ℕ) → in_force output word ≡ Some text → has_quote text ≡ false
@@ -109,14 +104,14 @@ free_in_force output map held word text is = agree _ (subst (λ t. Agree t (word
     agree (Some words) fact = fact.0
 
 -- words without a string leave those that are held
-pub held_behind : {S : Type 0} (output now : List Lexeme) (map : IndexMap Key (Vec Word Global) S) → HasNoString now → AreHeld output map → AreHeld (output ++ now) map
-held_behind output now map none held name = subst (λ text. Agree text (words_for map name)) (sym (text_in_behind name output now none)) (held name)
+pub held_append : {S : Type 0} (output now : List Lexeme) (map : IndexMap Key (Vec Word Global) S) → HasNoString now → AreHeld output map → AreHeld (output ++ now) map
+held_append output now map none held name = subst (λ text. Agree text (words_for map name)) (sym (text_in_after name output now none)) (held name)
 
 -- what a name in force becomes leaves those that are held
-pub held_after : {S : Type 0} (output : List Lexeme) (taken : ℕ) (word : Lexeme) (inner : List Lexeme) (whole : List Lexeme) (count : ℕ) (map : IndexMap Key (Vec Word Global) S) → StandsFor output word inner → AreHeld output map → IsTaken output taken word whole count → AreHeld whole map
-held_after output taken word inner whole count map stands held taken_up =
-    let none = becomes_no_string (free_in_force output map held) (name_in_force output word stands.0 stands.1, tt) taken_up.2 in
-    subst (λ words. AreHeld words map) (sym taken_up.3) (held_behind output taken_up.0 map none held)
+pub held_after : {S : Type 0} (output : List Lexeme) (processed : ℕ) (word : Lexeme) (inner : List Lexeme) (whole : List Lexeme) (count : ℕ) (map : IndexMap Key (Vec Word Global) S) → StandsFor output word inner → AreHeld output map → Adds output processed word whole count → AreHeld whole map
+held_after output processed word inner whole count map stands held added =
+    let none = becomes_no_string (free_in_force output map held) (name_in_force output word stands.0 stands.1, tt) added.2 in
+    subst (λ words. AreHeld words map) (sym added.3) (held_append output added.0 map none held)
 
 -- a name in force before LITERALLY
 pub is_again : (output : List Lexeme) (word : Lexeme) (inner words : List Lexeme) → StandsFor output word inner → begins_with_literally words ≡ true → is_defined_again output word words ≡ true

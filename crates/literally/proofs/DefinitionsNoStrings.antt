@@ -68,11 +68,11 @@ no_string_at (first ∷ text) free =
     (λ _. either (eqb first 39) _ _ (λ quote. absurd (no_quote_first first text free quote))
     (λ _. either ((first == 47) && (slice_index text 0 == 42)) (comment_item (comment_end false (drop 1 text))) (mark_item (first ∷ text)) (λ _. no_string_of_comment (comment_end false (drop 1 text))) (λ _. no_string_of_mark (mark_at (first ∷ text)))))))
 
--- what is behind a place holds no quote either
-free_behind : (place : ℕ) (text : List ℕ) → has_quote text ≡ false → has_quote (drop place text) ≡ false
-free_behind zero text free = free
-free_behind (suc place) [] free = refl
-free_behind (suc place) (first ∷ text) free = free_behind place text (or_second (eqb first 39) (has_quote text) free)
+-- what follows a place holds no quote either
+free_after : (place : ℕ) (text : List ℕ) → has_quote text ≡ false → has_quote (drop place text) ≡ false
+free_after zero text free = free
+free_after (suc place) [] free = refl
+free_after (suc place) (first ∷ text) free = free_after place text (or_second (eqb first 39) (has_quote text) free)
 
 -- no word of a list is a string
 abbrev pub HasNoString : List Lexeme → Type 0
@@ -84,7 +84,7 @@ spells_no_string : {text : List ℕ} {place : ℕ} {words : List Lexeme} → has
 spells_no_string free (at_end here) = tt
 spells_no_string free (after_blank here rest) = spells_no_string free rest
 spells_no_string {text} free (word_then {place = place} {length = taken} {kind = kind} here rest) =
-    let item = subst IsNoString here (no_string_at (drop place text) (free_behind place text free)) in
+    let item = subst IsNoString here (no_string_at (drop place text) (free_after place text free)) in
     (item.other, spells_no_string free rest)
 
 no_string_at_use : (used : Lexeme) (words : List Lexeme) → HasNoString words → HasNoString (map (at_use used) words)
