@@ -1,5 +1,5 @@
 -- The map of definitions and the output.
-use Rattle.std.proofs.Common.{◌≡◌, is_some, ◌&&◌, ◌≢◌, IfSome, ℕ, List, [], ◌∷◌, ◌++◌, Bool, true, false, cond, Option, None, Some, reverse, refl, sym, ap, ◌∙◌, subst}
+use Rattle.std.proofs.Common.{◌≡◌, is_some, ◌&&◌, IfSome, ℕ, List, [], ◌∷◌, ◌++◌, Bool, true, false, cond, Option, None, Some, reverse, refl, sym, ap, ◌∙◌, subst}
 use Rattle.std.proofs.lemmas.Slice.Eq.{bytes_eq-Decides}
 use Rattle.std.specs.Str.{bytes_eq}
 use Rattle.std.specs.Map.{lookup}
@@ -10,7 +10,7 @@ use Rattle.indexmap.specs.IndexMap.{IndexMap, insert_entry}
 use Rattle.words.specs.declared.word.Word.{Word}
 use Rattle.words.specs.declared.vocabulary.Kind.TheVariants.{Name}
 use Rattle.words.specs.Names.{name_of}
-use Rattle.words.specs.Spelling.{Lexeme, lexemes_of, Spells, IsFirstFault}
+use Rattle.words.specs.Spelling.{Lexeme, lexemes_of}
 use Rattle.literally.specs.Expansion.{IsSound, IsSoundText, is_defined_again, begins_with_literally}
 use Rattle.literally.specs.internal.Steps.{Adds}
 use Rattle.literally.specs.declared.names.Name.{Name as Key}

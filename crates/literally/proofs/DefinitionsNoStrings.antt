@@ -10,6 +10,7 @@ use Rattle.words.specs.declared.items.Item.TheVariants.{Spelled, Wrong}
 use Rattle.words.specs.declared.vocabulary.Kind.TheVariants.{Name, Reserved, Number, Mark}
 use Rattle.words.specs.declared.vocabulary.Mark.{Mark as AMark}
 use Rattle.words.specs.declared.vocabulary.ReservedWord.{ReservedWord}
+use Rattle.words.specs.declared.limits.TheConstants.{LONGEST_NAME}
 use Rattle.words.specs.Characters.{is_blank, is_word_byte}
 use Rattle.words.specs.Items.{item_at}
 use Rattle.words.specs.Marks.{mark_at, mark_item}
@@ -43,7 +44,7 @@ no_string_of_reserved None = refl
 no_string_of_reserved (Some word) = refl
 
 no_string_of_name : (text : List ℕ) → IsNoString (name_item text)
-no_string_of_name text = either (nat_lt 31 (length (name_of text))) (Wrong LongName) (Spelled (kind_of_name (name_of text)) (length text)) (λ _. record { other = tt }) (λ _. record { other = no_string_of_reserved (reserved_of (name_of text)) })
+no_string_of_name text = either (nat_lt LONGEST_NAME (length (name_of text))) (Wrong LongName) (Spelled (kind_of_name (name_of text)) (length text)) (λ _. record { other = tt }) (λ _. record { other = no_string_of_reserved (reserved_of (name_of text)) })
 
 no_string_of_number : (found : Option ℕ) (taken : ℕ)
     → IsNoString (option_map_or (λ value. Spelled (Number value) taken) found (Wrong BadNumber))

@@ -4,10 +4,9 @@ use Rattle.std.proofs.lemmas.List.{append-nil, append_assoc, map-append, reverse
 use Rattle.words.specs.declared.word.Word.{Word}
 use Rattle.words.specs.Spelling.{Lexeme, lexeme_of, lexemes_of, Spells}
 use Rattle.literally.specs.declared.limits.TheConstants.{DEEPEST, MOST_WORDS}
-use Rattle.literally.specs.declared.fault.Fault.{Fault}
 use Rattle.literally.specs.declared.fault.Fault.TheVariants.{Count}
 use Rattle.literally.specs.Definitions.{in_force}
-use Rattle.literally.specs.Expansion.{at_use, Becomes, no_words, stays, replaced, IsTooDeep, too_deep, deeper, later_word, ProcessesAtLeast, none_yet, word_then, text_then, FaultFrom, count_passed}
+use Rattle.literally.specs.Expansion.{at_use, Becomes, no_words, stays, replaced, IsTooDeep, too_deep, deeper, later_word, ProcessesAtLeast, none_yet, word_then, text_then, count_passed}
 use Rattle.literally.specs.internal.Steps.{IsFaultAt}
 
 sums : (a b c : ℕ) → a + (1 + b + c) ≡ a + 1 + b + c

@@ -1,9 +1,9 @@
 -- One word of the list after another.
 use Rattle.std.proofs.Common.{◌≡◌, ℕ, ◌+◌, ◌-◌, ◌<◌, ◌≤◌, false, List, [], ◌∷◌, length, get_or, take, drop, refl, sym, ap, ◌∙◌, subst, arith, add-one}
 use Rattle.std.proofs.Math.Seq.{drop-cons}
-use Rattle.std.proofs.lemmas.List.{take_rest, get_or-map, length-map, length-take, length-drop, drop_all}
+use Rattle.std.proofs.lemmas.List.{take_rest, drop_all}
 use Rattle.words.specs.declared.word.Word.{Word}
-use Rattle.words.specs.Spelling.{Lexeme, lexeme_of, lexemes_of, AreSlices}
+use Rattle.words.specs.Spelling.{Lexeme, lexeme_of, lexemes_of}
 use Rattle.literally.specs.declared.limits.TheConstants.{MOST_WORDS}
 use Rattle.literally.specs.declared.fault.Fault.{Fault}
 use Rattle.literally.specs.Expansion.{IsSound, is_defined_again, ExpandsFrom, after_word, FaultFrom, fault_after_word}

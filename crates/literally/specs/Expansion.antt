@@ -104,7 +104,7 @@ pub data FaultFrom : List Lexeme → ℕ → List Lexeme → Fault → Type 0 wh
       → has_quote text ≡ true
       → FaultFrom output processed (word ∷ words) (Quote word.line)
   bad_text : {output words : List Lexeme} {processed : ℕ} {word : Lexeme}
-        {name text : List ℕ} {fault : TextFault}
+      {name text : List ℕ} {fault : TextFault}
       → definition_by word (reverse output) ≡ Some (name, text)
       → has_quote text ≡ false
       → IsFirstFault text fault

@@ -67,5 +67,5 @@ number = spelled refl (end_of_text refl)
 expansion : Becomes defined 0 (name (codes "ONE") ∷ []) (at_first (Number 2) (codes "2") ∷ []) 3
 expansion =
     replaced refl two (omega arith)
-        (replaced refl number (omega arith) (stays refl no_words) no_words)
-        no_words
+    (replaced refl number (omega arith) (stays refl no_words) no_words)
+    no_words

@@ -1,4 +1,4 @@
-use Rattle.std.proofs.Common.{◌≡◌, ◌≢◌, false, true, ◌∷◌, reverse, sym, ◌∙◌, ap, subst}
+use Rattle.std.proofs.Common.{◌≡◌, false, true, ◌∷◌, reverse, sym, ◌∙◌, ap, subst}
 use Rattle.words.specs.Names.{name_of}
 use Rattle.words.specs.Spelling.{lexeme_of, lexemes_of, Spells, IsFirstFault}
 use Rattle.literally.specs.Definitions.{has_quote, text_of}
