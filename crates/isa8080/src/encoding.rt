@@ -1,7 +1,7 @@
 //! From an instruction to its bytes (8080 Assembly Language Programming Manual, appendix "Instruction
 //! summary").
 
-ghost use Rattle.std.specs.Prelude.{◌≡◌, ℕ, ◌-◌, ◌<◌, Some, List, [], ◌∷◌, ◌++◌, length, replicate};
+ghost use Rattle.std.specs.Prelude.{◌≡◌, ℕ, ◌-◌, ◌<◌, ◌≤◌, Some, List, [], ◌∷◌, ◌++◌, length, replicate};
 ghost use Rattle.isa8080.specs.State.{high_byte, low_byte};
 ghost use Rattle.isa8080.specs.Code.{bytes_of, condition_code, first_instruction, index_code, operand_code, operation_code, pair_code, register_code, restart_number, stack_code};
 
@@ -15,6 +15,8 @@ use crate::instr::{
 pub fn encode(instr: Instr) -> ([u8; 3], u8)
     ensures bytes { result.0 ≡ bytes_of instr ++ replicate (3 - result.1) 0 }
     ensures size { result.1 ≡ length (bytes_of instr) }
+    ensures at_least { 1 ≤ result.1 }
+    ensures at_most { result.1 ≤ 3 }
     ensures read_back { (after : List ℕ)
         → first_instruction (bytes_of instr ++ after) ≡ Some (instr, result.1) }
 {
@@ -25,6 +27,8 @@ pub fn encode(instr: Instr) -> ([u8; 3], u8)
 fn encoded(instr: Instr) -> ([u8; 3], u8)
     ensures bytes { result.0 ≡ bytes_of instr ++ replicate (3 - result.1) 0 }
     ensures size { result.1 ≡ length (bytes_of instr) }
+    ensures at_least { 1 ≤ result.1 }
+    ensures at_most { result.1 ≤ 3 }
 {
     match instr {
         Instr::Nop => one(0x00),
