@@ -210,7 +210,8 @@ impl StatementKind {
         body: Statement,
         otherwise: Option<Statement>,
     ) -> Result<StatementKind, AllocError>
-        ensures view { MakesKind result (IfStatement place (expression_tree condition) (statement_tree body) (else_tree otherwise)) }
+        ensures view { MakesKind result
+            (IfStatement place (expression_tree condition) (statement_tree body) (else_tree otherwise)) }
     {
         let statement = IfThen {
             place,
