@@ -10,11 +10,11 @@ use Rattle.trees.specs.Symbols.{Symbol}
 use Rattle.trees.specs.Trees.{ConstantTree, OffsetTree, RestrictedTree, ElementTree, SubjectTree, SingleSubject, GroupSubject, ItemTree, ItemElement, LiterallyElement, StringTree}
 use Rattle.trees.specs.declared.declaration.Offset.{Offset}
 use Rattle.trees.specs.Views.{constant_tree, offset_tree}
-use Rattle.syntax.specs.Declarations.{next_sign, all_offsets, restricted, member, names, subject, base, item_behind, item, element_of, element, element_behind, group_element, subject_of}
-use Rattle.syntax.specs.Giving.{FailsBy}
-use Rattle.syntax.specs.Lists.{all_more_items, items, Keeps}
-use Rattle.syntax.specs.Looking.{Cause, Reading, ◌>>=◌, at_mark, at_word, name, next_name, constant, string}
-use Rattle.syntax.specs.Parts.{behind}
+use Rattle.syntax.specs.internal.Declarations.{next_sign, all_offsets, restricted, member, names, subject, base, item_behind, item, element_of, element, element_behind, group_element, subject_of}
+use Rattle.syntax.specs.internal.Giving.{FailsBy}
+use Rattle.syntax.specs.internal.Lists.{all_more_items, items, Keeps}
+use Rattle.syntax.specs.internal.Looking.{Cause, Reading, ◌>>=◌, at_mark, at_word, name, next_name, constant, string}
+use Rattle.syntax.specs.internal.Parts.{behind}
 use Rattle.syntax.proofs.RestrictedLaws.{all_offsets-step}
 use Rattle.syntax.proofs.ItemLaws.{name-keeps, member-keeps, restricted-keeps, element-keeps}
 use Rattle.syntax.proofs.LookingLemmas.{read}

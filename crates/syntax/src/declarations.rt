@@ -3,13 +3,14 @@
 ghost use Rattle.std.specs.Prelude.{◌≡◌, Ok, map};
 ghost use Rattle.std.specs.Option.{option_map};
 ghost use Rattle.trees.specs.Views.{origin_tree, restricted_tree, item_type_tree, at_tree, value_list_tree, subject_tree, item_tree, element_tree, heading_tree, offset_tree};
-ghost use Rattle.syntax.specs.Declarations.{origin, next_sign, all_offsets, restricted, next_scalar, scalar, result_type, count, dimension_inside, dimension, member, item_type, next_linkage, linkage, at, next_storage, value_list, base, names, item_behind, element_behind, element, elements, parameters, reentrant, heading};
-ghost use Rattle.syntax.specs.Giving.{Gives};
-ghost use Rattle.syntax.specs.Lists.{items};
-ghost use Rattle.syntax.specs.Looking.{name};
+ghost use Rattle.syntax.specs.internal.Declarations.{origin, next_sign, all_offsets, restricted, next_scalar, scalar, result_type, count, dimension_inside, dimension, member, item_type, next_linkage, linkage, at, next_storage, value_list, base, names, item_behind, element_behind, element, elements, parameters, reentrant, heading};
+ghost use Rattle.syntax.specs.internal.Giving.{Gives};
+ghost use Rattle.syntax.specs.internal.Lists.{items};
+ghost use Rattle.syntax.specs.internal.Looking.{name};
 
 use crate::fault::Fault;
 use crate::reader::Reader;
+use failure::Failure;
 use std::alloc::Global;
 use trees::{
     At, Dimension, Element, Heading, Identifier, Item, ItemType, Linkage, Member, Number, Offset,
@@ -19,7 +20,7 @@ use words::{Mark, ReservedWord};
 
 impl<'a> Reader<'a> {
     // constant | `.` name
-    fn take_origin(&mut self, alloc: Global) -> Result<Origin, Fault>
+    fn take_origin(&mut self, alloc: Global) -> Result<Origin, Failure<Fault>>
         ensures { Gives origin_tree result self.new (origin self.old) }
     {
         if self.at_mark(Mark::Period) {
@@ -56,7 +57,7 @@ impl<'a> Reader<'a> {
     }
 
     // BYTE | ADDRESS
-    fn take_scalar(&mut self) -> Result<ScalarType, Fault>
+    fn take_scalar(&mut self) -> Result<ScalarType, Failure<Fault>>
         ensures { Gives (λ found. found) result self.new (scalar self.old) }
     {
         match self.next_scalar() {
@@ -69,7 +70,7 @@ impl<'a> Reader<'a> {
     }
 
     // [`(` number `)`]
-    fn take_count(&mut self) -> Result<Option<Number>, Fault>
+    fn take_count(&mut self) -> Result<Option<Number>, Failure<Fault>>
         ensures { Gives (λ found. found) result self.new (count self.old) }
     {
         if !self.at_mark(Mark::LeftParenthesis) {
@@ -82,7 +83,7 @@ impl<'a> Reader<'a> {
     }
 
     // `*` | number
-    fn take_dimension_inside(&mut self) -> Result<Dimension, Fault>
+    fn take_dimension_inside(&mut self) -> Result<Dimension, Failure<Fault>>
         ensures { Gives (λ found. found) result self.new (dimension_inside self.old) }
     {
         if self.at_mark(Mark::Asterisk) {
@@ -93,7 +94,7 @@ impl<'a> Reader<'a> {
     }
 
     // [`(` number `)` | `(` `*` `)`]
-    fn take_dimension(&mut self) -> Result<Option<Dimension>, Fault>
+    fn take_dimension(&mut self) -> Result<Option<Dimension>, Failure<Fault>>
         ensures { Gives (λ found. found) result self.new (dimension self.old) }
     {
         if !self.at_mark(Mark::LeftParenthesis) {
@@ -106,8 +107,8 @@ impl<'a> Reader<'a> {
     }
 
     // name [`(` number `)`] (BYTE | ADDRESS)
-    #[tactic(auto, unfolding(crate::specs::Declarations::member))]
-    fn take_member(&mut self) -> Result<Member, Fault>
+    #[tactic(auto, unfolding(crate::specs::internal::Declarations::member))]
+    fn take_member(&mut self) -> Result<Member, Failure<Fault>>
         ensures { Gives (λ found. found) result self.new (member self.old) }
     {
         let name = self.take_name()?;
@@ -122,7 +123,7 @@ impl<'a> Reader<'a> {
 
     // {(`+` | `-`) constant}
     #[tactic(auto, using(crate::proofs::DeclarationLoops::offset_steps))]
-    fn take_offsets(&mut self, alloc: Global) -> Result<Vec<Offset>, Fault>
+    fn take_offsets(&mut self, alloc: Global) -> Result<Vec<Offset>, Failure<Fault>>
         ensures { Gives (λ found. map offset_tree found.items) result self.new (all_offsets self.old) }
     {
         let mut found = Vec::new(alloc);
@@ -136,8 +137,8 @@ impl<'a> Reader<'a> {
     }
 
     // constant {(`+` | `-`) constant} | `.` name {(`+` | `-`) constant}
-    #[tactic(auto, unfolding(crate::specs::Declarations::restricted))]
-    fn take_restricted(&mut self, alloc: Global) -> Result<Restricted, Fault>
+    #[tactic(auto, unfolding(crate::specs::internal::Declarations::restricted))]
+    fn take_restricted(&mut self, alloc: Global) -> Result<Restricted, Failure<Fault>>
         ensures { Gives restricted_tree result self.new (restricted self.old) }
     {
         let origin = self.take_origin(alloc)?;
@@ -147,7 +148,7 @@ impl<'a> Reader<'a> {
 
     // member {`,` member}
     #[tactic(auto, using(crate::proofs::DeclarationLoops::member_steps))]
-    fn take_members(&mut self, alloc: Global) -> Result<Vec<Member>, Fault>
+    fn take_members(&mut self, alloc: Global) -> Result<Vec<Member>, Failure<Fault>>
         ensures { Gives (λ found. found.items) result self.new (items member self.old) }
     {
         let first = self.take_member()?;
@@ -163,8 +164,8 @@ impl<'a> Reader<'a> {
     }
 
     // BYTE | ADDRESS | STRUCTURE `(` member {`,` member} `)`
-    #[tactic(auto, unfolding(crate::specs::Declarations::item_type))]
-    fn take_item_type(&mut self, alloc: Global) -> Result<ItemType, Fault>
+    #[tactic(auto, unfolding(crate::specs::internal::Declarations::item_type))]
+    fn take_item_type(&mut self, alloc: Global) -> Result<ItemType, Failure<Fault>>
         ensures { Gives item_type_tree result self.new (item_type self.old) }
     {
         if !self.at_word(ReservedWord::Structure) {
@@ -198,8 +199,8 @@ impl<'a> Reader<'a> {
     }
 
     // [AT `(` place `)`]
-    #[tactic(auto, unfolding(crate::specs::Declarations::at))]
-    fn take_at(&mut self, alloc: Global) -> Result<Option<At>, Fault>
+    #[tactic(auto, unfolding(crate::specs::internal::Declarations::at))]
+    fn take_at(&mut self, alloc: Global) -> Result<Option<At>, Failure<Fault>>
         ensures { Gives (option_map at_tree) result self.new (at self.old) }
     {
         let Some(place) = self.place_of_word(ReservedWord::At) else {
@@ -225,7 +226,7 @@ impl<'a> Reader<'a> {
 
     // place {`,` place}
     #[tactic(auto, using(crate::proofs::DeclarationLoops::values_first))]
-    fn take_values(&mut self, alloc: Global) -> Result<Vec<Restricted>, Fault>
+    fn take_values(&mut self, alloc: Global) -> Result<Vec<Restricted>, Failure<Fault>>
         ensures { Gives (λ found. map restricted_tree found.items) result self.new (items restricted self.old) }
     {
         let first = self.take_restricted(alloc)?;
@@ -241,8 +242,8 @@ impl<'a> Reader<'a> {
     }
 
     // [INITIAL `(` list `)` | DATA `(` list `)`]
-    #[tactic(auto, unfolding(crate::specs::Declarations::value_list))]
-    fn take_value_list(&mut self, alloc: Global) -> Result<Option<ValueList>, Fault>
+    #[tactic(auto, unfolding(crate::specs::internal::Declarations::value_list))]
+    fn take_value_list(&mut self, alloc: Global) -> Result<Option<ValueList>, Failure<Fault>>
         ensures { Gives (option_map value_list_tree) result self.new (value_list self.old) }
     {
         let Some(storage) = self.next_storage() else {
@@ -256,7 +257,7 @@ impl<'a> Reader<'a> {
     }
 
     // [BASED name]
-    fn take_base(&mut self) -> Result<Option<Identifier>, Fault>
+    fn take_base(&mut self) -> Result<Option<Identifier>, Failure<Fault>>
         ensures { Gives (λ found. found) result self.new (base self.old) }
     {
         if !self.at_word(ReservedWord::Based) {
@@ -268,7 +269,7 @@ impl<'a> Reader<'a> {
 
     // name {`,` name}
     #[tactic(auto, using(crate::proofs::DeclarationLoops::name_steps))]
-    fn take_name_list(&mut self, alloc: Global) -> Result<Vec<Identifier>, Fault>
+    fn take_name_list(&mut self, alloc: Global) -> Result<Vec<Identifier>, Failure<Fault>>
         ensures { Gives (λ found. found.items) result self.new (items name self.old) }
     {
         let first = self.take_name()?;
@@ -284,8 +285,8 @@ impl<'a> Reader<'a> {
     }
 
     // `(` name {`,` name} `)`
-    #[tactic(auto, unfolding(crate::specs::Declarations::names))]
-    fn take_names(&mut self, alloc: Global) -> Result<Vec<Identifier>, Fault>
+    #[tactic(auto, unfolding(crate::specs::internal::Declarations::names))]
+    fn take_names(&mut self, alloc: Global) -> Result<Vec<Identifier>, Failure<Fault>>
         ensures { Gives (λ found. found.items) result self.new (names self.old) }
     {
         self.take_mark(Mark::LeftParenthesis)?;
@@ -295,7 +296,7 @@ impl<'a> Reader<'a> {
     }
 
     // What stands behind the subject of an item.
-    fn take_item_behind(&mut self, alloc: Global, subject: Subject) -> Result<Item, Fault>
+    fn take_item_behind(&mut self, alloc: Global, subject: Subject) -> Result<Item, Failure<Fault>>
         ensures { Gives item_tree result self.new (item_behind (subject_tree subject) self.old) }
     {
         let dimension = self.take_dimension()?;
@@ -314,7 +315,11 @@ impl<'a> Reader<'a> {
     }
 
     // What stands behind the name with which an element begins.
-    fn take_element_behind(&mut self, alloc: Global, name: Identifier) -> Result<Element, Fault>
+    fn take_element_behind(
+        &mut self,
+        alloc: Global,
+        name: Identifier,
+    ) -> Result<Element, Failure<Fault>>
         ensures { Gives element_tree result self.new (element_behind name self.old) }
     {
         if self.at_word(ReservedWord::Literally) {
@@ -328,8 +333,8 @@ impl<'a> Reader<'a> {
     }
 
     // name LITERALLY string | item
-    #[tactic(auto, using(crate::proofs::DeclarationLoops::element_is), unfolding(crate::specs::Declarations::element, crate::specs::Declarations::item, crate::specs::Declarations::subject))]
-    fn take_element(&mut self, alloc: Global) -> Result<Element, Fault>
+    #[tactic(auto, using(crate::proofs::DeclarationLoops::element_is), unfolding(crate::specs::internal::Declarations::element, crate::specs::internal::Declarations::item, crate::specs::internal::Declarations::subject))]
+    fn take_element(&mut self, alloc: Global) -> Result<Element, Failure<Fault>>
         ensures { Gives element_tree result self.new (element self.old) }
     {
         if let Some(name) = self.next_name() {
@@ -343,7 +348,7 @@ impl<'a> Reader<'a> {
 
     // element {`,` element}
     #[tactic(auto, using(crate::proofs::DeclarationLoops::elements_first))]
-    fn take_element_list(&mut self, alloc: Global) -> Result<Vec<Element>, Fault>
+    fn take_element_list(&mut self, alloc: Global) -> Result<Vec<Element>, Failure<Fault>>
         ensures { Gives (λ found. map element_tree found.items) result self.new (items element self.old) }
     {
         let first = self.take_element(alloc)?;
@@ -359,8 +364,8 @@ impl<'a> Reader<'a> {
     }
 
     /// element {`,` element} `;`, behind DECLARE
-    #[tactic(auto, unfolding(crate::specs::Declarations::elements))]
-    pub(crate) fn take_elements(&mut self, alloc: Global) -> Result<Vec<Element>, Fault>
+    #[tactic(auto, unfolding(crate::specs::internal::Declarations::elements))]
+    pub(crate) fn take_elements(&mut self, alloc: Global) -> Result<Vec<Element>, Failure<Fault>>
         ensures { Gives (λ found. map element_tree found.items) result self.new (elements self.old) }
     {
         let found = self.take_element_list(alloc)?;
@@ -369,7 +374,7 @@ impl<'a> Reader<'a> {
     }
 
     // [`(` name {`,` name} `)`]
-    fn take_parameters(&mut self, alloc: Global) -> Result<Vec<Identifier>, Fault>
+    fn take_parameters(&mut self, alloc: Global) -> Result<Vec<Identifier>, Failure<Fault>>
         ensures { Gives (λ found. found.items) result self.new (parameters self.old) }
     {
         if self.at_mark(Mark::LeftParenthesis) {
@@ -398,8 +403,8 @@ impl<'a> Reader<'a> {
     }
 
     /// name `:` PROCEDURE [`(` name {`,` name} `)`] [BYTE | ADDRESS] [PUBLIC | EXTERNAL] [REENTRANT] `;`
-    #[tactic(auto, unfolding(crate::specs::Declarations::heading))]
-    pub(crate) fn take_heading(&mut self, alloc: Global) -> Result<Heading, Fault>
+    #[tactic(auto, unfolding(crate::specs::internal::Declarations::heading))]
+    pub(crate) fn take_heading(&mut self, alloc: Global) -> Result<Heading, Failure<Fault>>
         ensures { Gives heading_tree result self.new (heading self.old) }
     {
         let name = self.take_name()?;

@@ -2,13 +2,13 @@
 
 ghost use Rattle.std.specs.Prelude.{◌≡◌, ◌<◌, ◌≤◌, ◌+◌, suc, map, IfOk};
 ghost use Rattle.trees.specs.Views.{constant_tree, expression_tree, reference_tree, argument_trees};
-ghost use Rattle.syntax.specs.Expressions.{arguments, reference, location, assigned, closed, parenthesized, primary, operand, all_operators, expression, expression_less, next_operator};
+ghost use Rattle.syntax.specs.internal.Expressions.{arguments, reference, location, assigned, closed, parenthesized, primary, operand, all_operators, expression, expression_less, next_operator};
 ghost use Rattle.trees.specs.Forms.{expr_level};
 ghost use Rattle.trees.specs.Trees.{ReferenceLeaf};
-ghost use Rattle.syntax.specs.Giving.{Gives};
-ghost use Rattle.syntax.specs.Lists.{items};
-ghost use Rattle.syntax.specs.Looking.{constant, name};
-ghost use Rattle.syntax.specs.Parts.{reference_behind, operator_on};
+ghost use Rattle.syntax.specs.internal.Giving.{Gives};
+ghost use Rattle.syntax.specs.internal.Lists.{items};
+ghost use Rattle.syntax.specs.internal.Looking.{constant, name};
+ghost use Rattle.syntax.specs.internal.Parts.{reference_behind, operator_on};
 
 use crate::fault::Fault;
 use crate::measured::{
@@ -16,6 +16,7 @@ use crate::measured::{
     PRIMARY_LEVEL, SIGN_LEVEL, left_level, level_of,
 };
 use crate::reader::Reader;
+use failure::Failure;
 use std::alloc::Global;
 use trees::{BinaryOperator, Constant, Identifier, UnaryOperator};
 use words::{Mark, ReservedWord};
@@ -29,7 +30,7 @@ impl<'a> Reader<'a> {
         alloc: Global,
         level: u8,
         room: u8,
-    ) -> Result<Measured, Fault>
+    ) -> Result<Measured, Failure<Fault>>
         requires { room ≤ 64 }
         ensures gives { Gives (λ found. expression_tree found.expression) result self.new (expression room level self.old) }
         ensures fits { IfOk result (λ found. found.height ≤ room) }
@@ -50,7 +51,7 @@ impl<'a> Reader<'a> {
         level: u8,
         room: u8,
         left: Measured,
-    ) -> Result<Measured, Fault>
+    ) -> Result<Measured, Failure<Fault>>
         requires room { room < 64 }
         requires left { left.height ≤ room + 1 }
         ensures gives { Gives (λ found. expression_tree found.expression) result self.new (all_operators (expression room) (suc room) level (expression_tree left.expression) self.old) }
@@ -83,8 +84,8 @@ impl<'a> Reader<'a> {
 
     // An operator before its operand, or a primary, at a level.
     #[cycle(expression)]
-    #[tactic(auto, unfolding(crate::specs::Expressions::operand))]
-    fn operand(&mut self, alloc: Global, level: u8, room: u8) -> Result<Measured, Fault>
+    #[tactic(auto, unfolding(crate::specs::internal::Expressions::operand))]
+    fn operand(&mut self, alloc: Global, level: u8, room: u8) -> Result<Measured, Failure<Fault>>
         requires { room < 64 }
         ensures gives { Gives (λ found. expression_tree found.expression) result self.new (operand (expression room) (expression_less room) level self.old) }
         ensures fits { IfOk result (λ found. found.height ≤ room + 1) }
@@ -105,7 +106,7 @@ impl<'a> Reader<'a> {
     // A constant, a reference, a location or an expression in parentheses.
     #[cycle(expression)]
     #[tactic(auto, using(crate::proofs::Operators::primary_constant, crate::proofs::Operators::primary_parenthesized, crate::proofs::Operators::primary_location))]
-    fn primary(&mut self, alloc: Global, room: u8) -> Result<Measured, Fault>
+    fn primary(&mut self, alloc: Global, room: u8) -> Result<Measured, Failure<Fault>>
         requires { room < 64 }
         ensures gives { Gives (λ found. expression_tree found.expression) result self.new (primary (expression room) (expression_less room) self.old) }
         ensures fits { IfOk result (λ found. found.height ≤ room + 1) }
@@ -129,8 +130,8 @@ impl<'a> Reader<'a> {
 
     // What stands behind an opening parenthesis: an expression, or an assignment.
     #[cycle(expression)]
-    #[tactic(auto, unfolding(crate::specs::Expressions::parenthesized))]
-    fn parenthesized(&mut self, alloc: Global, room: u8) -> Result<Measured, Fault>
+    #[tactic(auto, unfolding(crate::specs::internal::Expressions::parenthesized))]
+    fn parenthesized(&mut self, alloc: Global, room: u8) -> Result<Measured, Failure<Fault>>
         requires { room < 64 }
         ensures gives { Gives (λ found. expression_tree found.expression) result self.new (parenthesized (expression room) (expression_less room) self.old) }
         ensures fits { IfOk result (λ found. found.height ≤ room + 1) }
@@ -154,7 +155,7 @@ impl<'a> Reader<'a> {
         alloc: Global,
         target: MeasuredReference,
         room: u8,
-    ) -> Result<Measured, Fault>
+    ) -> Result<Measured, Failure<Fault>>
         requires room { room < 64 }
         requires target { target.height < room }
         ensures gives { Gives (λ found. expression_tree found.expression) result self.new (assigned (expression_less room) (ReferenceLeaf (reference_tree target.reference)) self.old) }
@@ -168,8 +169,8 @@ impl<'a> Reader<'a> {
 
     // What stands behind a period: a reference, or constants in parentheses.
     #[cycle(expression)]
-    #[tactic(auto, unfolding(crate::specs::Expressions::location, crate::specs::Expressions::reference))]
-    fn location(&mut self, alloc: Global, room: u8) -> Result<Measured, Fault>
+    #[tactic(auto, unfolding(crate::specs::internal::Expressions::location, crate::specs::internal::Expressions::reference))]
+    fn location(&mut self, alloc: Global, room: u8) -> Result<Measured, Failure<Fault>>
         requires { room < 64 }
         ensures gives { Gives (λ found. expression_tree found.expression) result self.new (location (expression room) self.old) }
         ensures fits { IfOk result (λ found. found.height ≤ room + 1) }
@@ -186,8 +187,12 @@ impl<'a> Reader<'a> {
     }
 
     /// A reference whose arguments take no more levels than the room.
-    #[tactic(auto, unfolding(crate::specs::Expressions::reference))]
-    pub(crate) fn reference(&mut self, alloc: Global, room: u8) -> Result<MeasuredReference, Fault>
+    #[tactic(auto, unfolding(crate::specs::internal::Expressions::reference))]
+    pub(crate) fn reference(
+        &mut self,
+        alloc: Global,
+        room: u8,
+    ) -> Result<MeasuredReference, Failure<Fault>>
         requires { room ≤ 64 }
         ensures gives { Gives (λ found. reference_tree found.reference) result self.new (reference (expression room) self.old) }
         ensures fits { IfOk result (λ found. found.height ≤ room) }
@@ -203,7 +208,7 @@ impl<'a> Reader<'a> {
         alloc: Global,
         base: Identifier,
         room: u8,
-    ) -> Result<MeasuredReference, Fault>
+    ) -> Result<MeasuredReference, Failure<Fault>>
         requires { room ≤ 64 }
         ensures gives { Gives (λ found. reference_tree found.reference) result self.new (reference_behind (expression room) base self.old) }
         ensures fits { IfOk result (λ found. found.height ≤ room) }
@@ -221,7 +226,11 @@ impl<'a> Reader<'a> {
     /// Arguments in parentheses that take no more levels than the room, or none.
     #[cycle(expression)]
     #[tactic(auto, using(crate::proofs::Arguments::arguments_of_map))]
-    pub(crate) fn arguments(&mut self, alloc: Global, room: u8) -> Result<MeasuredArguments, Fault>
+    pub(crate) fn arguments(
+        &mut self,
+        alloc: Global,
+        room: u8,
+    ) -> Result<MeasuredArguments, Failure<Fault>>
         requires { room ≤ 64 }
         ensures gives { Gives (λ found. argument_trees found.items.items) result self.new (arguments (expression room) self.old) }
         ensures fits { IfOk result (λ found. found.height ≤ room) }
@@ -237,7 +246,7 @@ impl<'a> Reader<'a> {
 
     // Expressions between commas.
     #[cycle(expression)]
-    fn expressions(&mut self, alloc: Global, room: u8) -> Result<MeasuredArguments, Fault>
+    fn expressions(&mut self, alloc: Global, room: u8) -> Result<MeasuredArguments, Failure<Fault>>
         requires { room ≤ 64 }
         ensures gives { Gives (λ found. map expression_tree found.items.items) result self.new (items (expression room expr_level) self.old) }
         ensures fits { IfOk result (λ found. found.height ≤ room) }
@@ -254,7 +263,7 @@ impl<'a> Reader<'a> {
     }
 
     /// Constants between commas.
-    pub(crate) fn take_constants(&mut self, alloc: Global) -> Result<Vec<Constant>, Fault>
+    pub(crate) fn take_constants(&mut self, alloc: Global) -> Result<Vec<Constant>, Failure<Fault>>
         ensures { Gives (λ found. map constant_tree found.items) result self.new (items constant self.old) }
     {
         let first = self.take_constant(alloc)?;

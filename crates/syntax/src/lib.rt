@@ -12,10 +12,3 @@ mod statements;
 
 pub use fault::Fault;
 pub use parser::parse;
-
-#[cfg(test)]
-mod declaration_tests;
-#[cfg(test)]
-mod parser_tests;
-#[cfg(test)]
-mod tests;

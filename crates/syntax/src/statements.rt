@@ -6,16 +6,17 @@ ghost use Rattle.words.specs.Spelling.{lexeme_of};
 ghost use Rattle.trees.specs.Forms.{expr_level};
 ghost use Rattle.trees.specs.Symbols.{symbol_of};
 ghost use Rattle.trees.specs.Views.{expression_tree, reference_tree, argument_trees, statement_tree, statement_trees, declaration_tree, declaration_trees, iteration_tree};
-ghost use Rattle.syntax.specs.Expressions.{expression, reference, arguments};
-ghost use Rattle.syntax.specs.Giving.{cause_of, Gives, Leaves};
-ghost use Rattle.syntax.specs.Inside.{block_in, block_trees, condition, is_name_symbol, next_beginning, other_statement, statement_inside};
-ghost use Rattle.syntax.specs.Lists.{all_more_items};
-ghost use Rattle.syntax.specs.Looking.{Unexpected, next_name};
-ghost use Rattle.syntax.specs.Statements.{beginning_at, begins_procedure, ends_declarations, end_of_do, end_name, ending, assignment, call, return_value, halt, conditional, step, iteration, body_of_do, do_statement, statements, declarations, procedure, statement, declaration};
+ghost use Rattle.syntax.specs.internal.Expressions.{expression, reference, arguments};
+ghost use Rattle.syntax.specs.internal.Giving.{cause_of, Gives, Leaves};
+ghost use Rattle.syntax.specs.internal.Inside.{block_in, block_trees, condition, is_name_symbol, next_beginning, other_statement, statement_inside};
+ghost use Rattle.syntax.specs.internal.Lists.{all_more_items};
+ghost use Rattle.syntax.specs.internal.Looking.{Unexpected, next_name};
+ghost use Rattle.syntax.specs.internal.Statements.{beginning_at, begins_procedure, ends_declarations, end_of_do, end_name, ending, assignment, call, return_value, halt, conditional, step, iteration, body_of_do, do_statement, statements, declarations, procedure, statement, declaration};
 
 use crate::fault::Fault;
 use crate::measured::EXPRESSION_LEVEL;
 use crate::reader::{Reader, is_mark, is_reserved, place_of};
+use failure::Failure;
 use std::alloc::Global;
 use std::marker::Model;
 use trees::{
@@ -106,7 +107,7 @@ impl<'a> Reader<'a> {
 
     // END `;`
     #[tactic(auto, using(crate::proofs::Giving::fails_bind))]
-    fn take_end_of_do(&mut self) -> Result<(), Fault>
+    fn take_end_of_do(&mut self) -> Result<(), Failure<Fault>>
         ensures { Leaves result self.new (end_of_do self.old) }
     {
         self.take_word(ReservedWord::End)?;
@@ -115,8 +116,11 @@ impl<'a> Reader<'a> {
     }
 
     /// END [name] `;`, where what ends has a name of its own.
-    #[tactic(auto, using(crate::proofs::Giving::fails_bind), unfolding(crate::specs::Statements::ending))]
-    pub(crate) fn take_ending(&mut self, own: &Identifier) -> Result<Option<Identifier>, Fault>
+    #[tactic(auto, using(crate::proofs::Giving::fails_bind), unfolding(crate::specs::internal::Statements::ending))]
+    pub(crate) fn take_ending(
+        &mut self,
+        own: &Identifier,
+    ) -> Result<Option<Identifier>, Failure<Fault>>
         ensures { Gives (λ found. found) result self.new (ending true own.now self.old) }
     {
         self.take_word(ReservedWord::End)?;
@@ -126,7 +130,7 @@ impl<'a> Reader<'a> {
 
     // [name] `;`, behind END.
     #[tactic(auto, using(crate::proofs::Giving::fails_bind))]
-    fn take_end_name(&mut self, own: Identifier) -> Result<Option<Identifier>, Fault>
+    fn take_end_name(&mut self, own: Identifier) -> Result<Option<Identifier>, Failure<Fault>>
         ensures { Gives (λ found. found) result self.new (end_name true own (next_name self.old) self.old) }
     {
         match self.next_name() {
@@ -136,9 +140,9 @@ impl<'a> Reader<'a> {
             }
             Some(found) => {
                 if found.name != own.name {
-                    return Err(Fault::EndName {
+                    return Err(Failure::Fault(Fault::EndName {
                         line: found.place.line,
-                    });
+                    }));
                 }
                 self.skip();
                 self.take_mark(Mark::Semicolon)?;
@@ -148,7 +152,7 @@ impl<'a> Reader<'a> {
     }
 
     // expr
-    fn take_expression(&mut self, alloc: Global, room: u8) -> Result<Expression, Fault>
+    fn take_expression(&mut self, alloc: Global, room: u8) -> Result<Expression, Failure<Fault>>
         requires { room ≤ 64 }
         ensures { Gives expression_tree result self.new (expression room expr_level self.old) }
     {
@@ -157,7 +161,7 @@ impl<'a> Reader<'a> {
     }
 
     // reference
-    fn take_reference(&mut self, alloc: Global, room: u8) -> Result<Reference, Fault>
+    fn take_reference(&mut self, alloc: Global, room: u8) -> Result<Reference, Failure<Fault>>
         requires { room ≤ 64 }
         ensures { Gives reference_tree result self.new (reference (expression room) self.old) }
     {
@@ -166,7 +170,7 @@ impl<'a> Reader<'a> {
     }
 
     // [args]
-    fn take_arguments(&mut self, alloc: Global, room: u8) -> Result<Vec<Expression>, Fault>
+    fn take_arguments(&mut self, alloc: Global, room: u8) -> Result<Vec<Expression>, Failure<Fault>>
         requires { room ≤ 64 }
         ensures { Gives (λ found. argument_trees found.items) result self.new (arguments (expression room) self.old) }
     {
@@ -175,8 +179,8 @@ impl<'a> Reader<'a> {
     }
 
     // reference {`,` reference} `=` expr `;`
-    #[tactic(auto, using(crate::proofs::Giving::fails_bind), unfolding(crate::specs::Statements::assignment))]
-    fn take_assignment(&mut self, alloc: Global, room: u8) -> Result<Statement, Fault>
+    #[tactic(auto, using(crate::proofs::Giving::fails_bind), unfolding(crate::specs::internal::Statements::assignment))]
+    fn take_assignment(&mut self, alloc: Global, room: u8) -> Result<Statement, Failure<Fault>>
         requires { room ≤ 64 }
         ensures { Gives statement_tree result self.new (assignment (expression room) self.old) }
     {
@@ -190,7 +194,11 @@ impl<'a> Reader<'a> {
 
     // {`,` reference}
     #[tactic(auto, using(crate::proofs::TargetLoop::target_loop))]
-    fn take_more_targets(&mut self, alloc: Global, room: u8) -> Result<Vec<Reference>, Fault>
+    fn take_more_targets(
+        &mut self,
+        alloc: Global,
+        room: u8,
+    ) -> Result<Vec<Reference>, Failure<Fault>>
         requires { room ≤ 64 }
         ensures { Gives (λ found. map reference_tree found.items) result self.new (all_more_items (reference (expression room)) self.old) }
     {
@@ -205,8 +213,13 @@ impl<'a> Reader<'a> {
     }
 
     // name [args] `;`, behind CALL.
-    #[tactic(auto, using(crate::proofs::Giving::fails_bind), unfolding(crate::specs::Statements::call))]
-    fn take_call(&mut self, alloc: Global, place: Place, room: u8) -> Result<Statement, Fault>
+    #[tactic(auto, using(crate::proofs::Giving::fails_bind), unfolding(crate::specs::internal::Statements::call))]
+    fn take_call(
+        &mut self,
+        alloc: Global,
+        place: Place,
+        room: u8,
+    ) -> Result<Statement, Failure<Fault>>
         requires { room ≤ 64 }
         ensures { Gives statement_tree result self.new (call (expression room) place self.old) }
     {
@@ -218,8 +231,13 @@ impl<'a> Reader<'a> {
     }
 
     // [expr] `;`, behind RETURN.
-    #[tactic(auto, using(crate::proofs::Giving::fails_bind), unfolding(crate::specs::Statements::return_value))]
-    fn take_return(&mut self, alloc: Global, place: Place, room: u8) -> Result<Statement, Fault>
+    #[tactic(auto, using(crate::proofs::Giving::fails_bind), unfolding(crate::specs::internal::Statements::return_value))]
+    fn take_return(
+        &mut self,
+        alloc: Global,
+        place: Place,
+        room: u8,
+    ) -> Result<Statement, Failure<Fault>>
         requires { room ≤ 64 }
         ensures { Gives statement_tree result self.new (return_value (expression room) place self.old) }
     {
@@ -234,7 +252,7 @@ impl<'a> Reader<'a> {
 
     // `;`, behind HALT.
     #[tactic(auto, using(crate::proofs::Giving::fails_bind))]
-    fn take_halt(&mut self, place: Place) -> Result<Statement, Fault>
+    fn take_halt(&mut self, place: Place) -> Result<Statement, Failure<Fault>>
         ensures { Gives statement_tree result self.new (halt place self.old) }
     {
         self.take_mark(Mark::Semicolon)?;
@@ -242,8 +260,8 @@ impl<'a> Reader<'a> {
     }
 
     // name `=` expr TO expr [BY expr] `;`
-    #[tactic(auto, using(crate::proofs::Giving::fails_bind), unfolding(crate::specs::Statements::iteration))]
-    fn take_iteration(&mut self, alloc: Global, room: u8) -> Result<Iteration, Fault>
+    #[tactic(auto, using(crate::proofs::Giving::fails_bind), unfolding(crate::specs::internal::Statements::iteration))]
+    fn take_iteration(&mut self, alloc: Global, room: u8) -> Result<Iteration, Failure<Fault>>
         requires { room ≤ 64 }
         ensures { Gives iteration_tree result self.new (iteration (expression room) self.old) }
     {
@@ -264,7 +282,7 @@ impl<'a> Reader<'a> {
 
     // [BY expr]
     #[tactic(auto, using(crate::proofs::Giving::fails_bind))]
-    fn take_step(&mut self, alloc: Global, room: u8) -> Result<Option<Expression>, Fault>
+    fn take_step(&mut self, alloc: Global, room: u8) -> Result<Option<Expression>, Failure<Fault>>
         requires { room ≤ 64 }
         ensures { Gives (λ found. option_map expression_tree found) result self.new (step (expression room) self.old) }
     {
@@ -278,7 +296,7 @@ impl<'a> Reader<'a> {
 
     // expr `;`
     #[tactic(auto, using(crate::proofs::Giving::fails_bind))]
-    fn take_condition(&mut self, alloc: Global, room: u8) -> Result<Expression, Fault>
+    fn take_condition(&mut self, alloc: Global, room: u8) -> Result<Expression, Failure<Fault>>
         requires { room ≤ 64 }
         ensures { Gives expression_tree result self.new (condition (expression room) self.old) }
     {
@@ -288,7 +306,7 @@ impl<'a> Reader<'a> {
     }
 
     // A word where a statement must begin or END must stand.
-    fn expect_word(&self) -> Result<(), Fault>
+    fn expect_word(&self) -> Result<(), Failure<Fault>>
         ensures ok { OnOk result (0 < length self.now) }
         ensures err { IfErr result (λ fault. (cause_of fault ≡ Some Unexpected) × (self.now ≡ [])) }
     {
@@ -301,21 +319,20 @@ impl<'a> Reader<'a> {
     /// A statement of no more levels than the room.
     #[cycle(statement)]
     #[tactic(auto, using(crate::proofs::Giving::fails_bind, crate::proofs::Insides::statement_in))]
-    fn take_statement(&mut self, alloc: Global, room: u8) -> Result<Statement, Fault>
+    fn take_statement(&mut self, alloc: Global, room: u8) -> Result<Statement, Failure<Fault>>
         requires { room ≤ 64 }
         ensures { Gives statement_tree result self.new (statement true room self.old) }
     {
         if room == 0 {
             return Err(self.too_deep());
         }
-        self.begin_statement();
         self.take_inside(alloc, room - 1)
     }
 
     // A statement whose parts fit into a room.
     #[cycle(statement)]
     #[tactic(auto, using(crate::proofs::Giving::fails_bind))]
-    fn take_inside(&mut self, alloc: Global, room: u8) -> Result<Statement, Fault>
+    fn take_inside(&mut self, alloc: Global, room: u8) -> Result<Statement, Failure<Fault>>
         requires { room ≤ 64 }
         ensures { Gives statement_tree result self.new (statement_inside room self.old) }
     {
@@ -339,8 +356,13 @@ impl<'a> Reader<'a> {
 
     // expr THEN statement [ELSE statement], behind IF.
     #[cycle(statement)]
-    #[tactic(auto, using(crate::proofs::Giving::fails_bind), unfolding(crate::specs::Statements::conditional))]
-    fn take_if(&mut self, alloc: Global, place: Place, room: u8) -> Result<Statement, Fault>
+    #[tactic(auto, using(crate::proofs::Giving::fails_bind), unfolding(crate::specs::internal::Statements::conditional))]
+    fn take_if(
+        &mut self,
+        alloc: Global,
+        place: Place,
+        room: u8,
+    ) -> Result<Statement, Failure<Fault>>
         requires { room ≤ 64 }
         ensures { Gives statement_tree result self.new (conditional (expression room) (statement true room) place self.old) }
     {
@@ -354,7 +376,11 @@ impl<'a> Reader<'a> {
     // [ELSE statement]
     #[cycle(statement)]
     #[tactic(auto, using(crate::proofs::Giving::fails_bind))]
-    fn take_otherwise(&mut self, alloc: Global, room: u8) -> Result<Option<Statement>, Fault>
+    fn take_otherwise(
+        &mut self,
+        alloc: Global,
+        room: u8,
+    ) -> Result<Option<Statement>, Failure<Fault>>
         requires { room ≤ 64 }
         ensures { Gives (λ found. option_map statement_tree found) result self.new (other_statement (statement true room) self.old) }
     {
@@ -368,8 +394,13 @@ impl<'a> Reader<'a> {
 
     // What stands behind DO.
     #[cycle(statement)]
-    #[tactic(auto, using(crate::proofs::Giving::fails_bind), unfolding(crate::specs::Statements::do_statement, crate::specs::Statements::simple_do, crate::specs::Statements::while_do, crate::specs::Statements::case_do, crate::specs::Statements::iterative_do))]
-    fn take_do(&mut self, alloc: Global, place: Place, room: u8) -> Result<Statement, Fault>
+    #[tactic(auto, using(crate::proofs::Giving::fails_bind), unfolding(crate::specs::internal::Statements::do_statement, crate::specs::internal::Statements::simple_do, crate::specs::internal::Statements::while_do, crate::specs::internal::Statements::case_do, crate::specs::internal::Statements::iterative_do))]
+    fn take_do(
+        &mut self,
+        alloc: Global,
+        place: Place,
+        room: u8,
+    ) -> Result<Statement, Failure<Fault>>
         requires { room ≤ 64 }
         ensures { Gives statement_tree result self.new (do_statement (expression room) (statement true room) (block_in room) place self.old) }
     {
@@ -398,8 +429,8 @@ impl<'a> Reader<'a> {
 
     // {statement} END `;`
     #[cycle(statement)]
-    #[tactic(auto, using(crate::proofs::Giving::fails_bind), unfolding(crate::specs::Statements::body_of_do))]
-    fn take_body(&mut self, alloc: Global, room: u8) -> Result<Vec<Statement>, Fault>
+    #[tactic(auto, using(crate::proofs::Giving::fails_bind), unfolding(crate::specs::internal::Statements::body_of_do))]
+    fn take_body(&mut self, alloc: Global, room: u8) -> Result<Vec<Statement>, Failure<Fault>>
         requires { room ≤ 64 }
         ensures { Gives (λ found. statement_trees found.items) result self.new (body_of_do (statement true room) self.old) }
     {
@@ -411,7 +442,7 @@ impl<'a> Reader<'a> {
     // {statement}
     #[cycle(statement)]
     #[tactic(auto, using(crate::proofs::StatementLoops::statement_loop))]
-    fn take_statements(&mut self, alloc: Global, room: u8) -> Result<Vec<Statement>, Fault>
+    fn take_statements(&mut self, alloc: Global, room: u8) -> Result<Vec<Statement>, Failure<Fault>>
         requires { room ≤ 64 }
         ensures { Gives (λ found. statement_trees found.items) result self.new (statements (statement true room) self.old) }
     {
@@ -427,8 +458,8 @@ impl<'a> Reader<'a> {
 
     /// {declaration} {statement}
     #[cycle(statement)]
-    #[tactic(auto, using(crate::proofs::Giving::fails_bind), unfolding(crate::specs::Statements::block))]
-    pub(crate) fn take_block(&mut self, alloc: Global, room: u8) -> Result<Block, Fault>
+    #[tactic(auto, using(crate::proofs::Giving::fails_bind), unfolding(crate::specs::internal::Statements::block))]
+    pub(crate) fn take_block(&mut self, alloc: Global, room: u8) -> Result<Block, Failure<Fault>>
         requires { room ≤ 64 }
         ensures { Gives block_trees result self.new (block_in room self.old) }
     {
@@ -443,7 +474,11 @@ impl<'a> Reader<'a> {
     // {declaration}
     #[cycle(statement)]
     #[tactic(auto, using(crate::proofs::StatementLoops::declaration_loop))]
-    fn take_declarations(&mut self, alloc: Global, room: u8) -> Result<Vec<Declaration>, Fault>
+    fn take_declarations(
+        &mut self,
+        alloc: Global,
+        room: u8,
+    ) -> Result<Vec<Declaration>, Failure<Fault>>
         requires { room ≤ 64 }
         ensures { Gives (λ found. declaration_trees found.items) result self.new (declarations (declaration true room) self.old) }
     {
@@ -458,8 +493,8 @@ impl<'a> Reader<'a> {
 
     // A declaration of no more levels than the room.
     #[cycle(statement)]
-    #[tactic(auto, using(crate::proofs::Giving::fails_bind, crate::proofs::Insides::declaration_in), unfolding(crate::specs::Statements::declare_or))]
-    fn take_declaration(&mut self, alloc: Global, room: u8) -> Result<Declaration, Fault>
+    #[tactic(auto, using(crate::proofs::Giving::fails_bind, crate::proofs::Insides::declaration_in), unfolding(crate::specs::internal::Statements::declare_or))]
+    fn take_declaration(&mut self, alloc: Global, room: u8) -> Result<Declaration, Failure<Fault>>
         requires { room ≤ 64 }
         ensures { Gives declaration_tree result self.new (declaration true room self.old) }
     {
@@ -476,8 +511,8 @@ impl<'a> Reader<'a> {
 
     // A procedure whose inside fits into a room.
     #[cycle(statement)]
-    #[tactic(auto, using(crate::proofs::Giving::fails_bind), unfolding(crate::specs::Statements::procedure))]
-    fn take_procedure(&mut self, alloc: Global, room: u8) -> Result<Declaration, Fault>
+    #[tactic(auto, using(crate::proofs::Giving::fails_bind), unfolding(crate::specs::internal::Statements::procedure))]
+    fn take_procedure(&mut self, alloc: Global, room: u8) -> Result<Declaration, Failure<Fault>>
         requires { room ≤ 64 }
         ensures { Gives declaration_tree result self.new (procedure true (block_in room) self.old) }
     {

@@ -4,8 +4,8 @@ use Rattle.syntax.proofs.parser.parse.Goals as goal
 pub returns-clause-ok : goal.returns-clause-ok
 returns-clause-ok c = parsed-derives _ _ (made_of_words _ _ _ c.new-reader.ensures c.take_module.ensures)
 
-pub returns-clause-err : goal.returns-clause-err
-returns-clause-err c = refused-derives_none _ _ (made_of_words _ _ _ c.new-reader.ensures c.take_module.ensures)
+pub returns-clause-refused : goal.returns-clause-refused
+returns-clause-refused c = refused-derives_none _ _ (made_of_words _ _ _ c.new-reader.ensures c.take_module.ensures)
 
 pub returns-clause-depth : goal.returns-clause-depth
 returns-clause-depth c = deep-refused _ _ (made_of_words _ _ _ c.new-reader.ensures c.take_module.ensures)

@@ -1,6 +1,6 @@
 use Rattle.std.proofs.Common.{◌≡◌, true, ◌+◌, ◌*◌, length}
-use Rattle.syntax.specs.Inside.{behind_statements, behind_declarations}
-use Rattle.syntax.specs.Statements.{statements, declarations, statement, declaration}
+use Rattle.syntax.specs.internal.Inside.{behind_statements, behind_declarations}
+use Rattle.syntax.specs.internal.Statements.{statements, declarations, statement, declaration}
 use Rattle.syntax.proofs.reader.Reader.+statement.Given as goal
 
 abbrev pub decreases-take_block : goal.decreases-take_block

@@ -1,5 +1,5 @@
 use Rattle.trees.specs.Views.{constant_tree}
-use Rattle.syntax.specs.Looking.{constant}
+use Rattle.syntax.specs.internal.Looking.{constant}
 use Rattle.syntax.proofs.Loops.{constant-keeps, list_more, list_ends, list_fails, gives_exit}
 use Rattle.syntax.proofs.reader.Reader.take_constants.Goals as goal
 

@@ -1,8 +1,8 @@
 use Rattle.std.proofs.Common.{◌≡◌, map, length}
 use Rattle.trees.specs.Views.{constant_tree}
-use Rattle.syntax.specs.Lists.{items, all_more_items}
-use Rattle.syntax.specs.Looking.{constant}
-use Rattle.syntax.specs.Parts.{behind}
+use Rattle.syntax.specs.internal.Lists.{items, all_more_items}
+use Rattle.syntax.specs.internal.Looking.{constant}
+use Rattle.syntax.specs.internal.Parts.{behind}
 use Rattle.syntax.proofs.reader.Reader.take_constants.Given as goal
 
 abbrev pub invariant-more : goal.invariant-more

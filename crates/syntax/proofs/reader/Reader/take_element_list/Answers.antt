@@ -1,5 +1,5 @@
 use Rattle.trees.specs.Views.{element_tree}
-use Rattle.syntax.specs.Declarations.{element}
+use Rattle.syntax.specs.internal.Declarations.{element}
 use Rattle.syntax.proofs.ItemLaws.{element-keeps}
 use Rattle.syntax.proofs.Loops.{list_more, list_ends, list_fails, gives_exit}
 use Rattle.syntax.proofs.reader.Reader.take_element_list.Goals as goal

@@ -1,8 +1,8 @@
 use Rattle.std.proofs.Common.{◌≡◌, length, map}
 use Rattle.trees.specs.Views.{element_tree}
-use Rattle.syntax.specs.Declarations.{element}
-use Rattle.syntax.specs.Lists.{all_more_items, items}
-use Rattle.syntax.specs.Parts.{behind}
+use Rattle.syntax.specs.internal.Declarations.{element}
+use Rattle.syntax.specs.internal.Lists.{all_more_items, items}
+use Rattle.syntax.specs.internal.Parts.{behind}
 use Rattle.syntax.proofs.reader.Reader.take_element_list.Given as goal
 
 abbrev pub invariant-more : goal.invariant-more

@@ -1,4 +1,4 @@
-use Rattle.syntax.specs.Declarations.{member}
+use Rattle.syntax.specs.internal.Declarations.{member}
 use Rattle.syntax.proofs.ItemLaws.{member-keeps}
 use Rattle.syntax.proofs.DeclarationLoops.{plain_fails}
 use Rattle.syntax.proofs.Loops.{gives_exit}

@@ -1,8 +1,8 @@
 use Rattle.std.proofs.Common.{◌≡◌, length, map}
 use Rattle.trees.specs.Views.{reference_tree}
-use Rattle.syntax.specs.Expressions.{expression, reference}
-use Rattle.syntax.specs.Lists.{all_more_items}
-use Rattle.syntax.specs.Parts.{behind}
+use Rattle.syntax.specs.internal.Expressions.{expression, reference}
+use Rattle.syntax.specs.internal.Lists.{all_more_items}
+use Rattle.syntax.specs.internal.Parts.{behind}
 use Rattle.syntax.proofs.reader.Reader.take_more_targets.Given as goal
 
 abbrev pub invariant-loop-alloc : goal.invariant-loop-alloc

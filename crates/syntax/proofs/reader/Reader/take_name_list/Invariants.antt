@@ -1,7 +1,7 @@
 use Rattle.std.proofs.Common.{◌≡◌, length}
-use Rattle.syntax.specs.Lists.{all_more_items, items}
-use Rattle.syntax.specs.Looking.{name}
-use Rattle.syntax.specs.Parts.{behind}
+use Rattle.syntax.specs.internal.Lists.{all_more_items, items}
+use Rattle.syntax.specs.internal.Looking.{name}
+use Rattle.syntax.specs.internal.Parts.{behind}
 use Rattle.syntax.proofs.reader.Reader.take_name_list.Given as goal
 
 abbrev pub invariant-more : goal.invariant-more

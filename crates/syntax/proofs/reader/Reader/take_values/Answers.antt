@@ -1,5 +1,5 @@
 use Rattle.trees.specs.Views.{restricted_tree}
-use Rattle.syntax.specs.Declarations.{restricted}
+use Rattle.syntax.specs.internal.Declarations.{restricted}
 use Rattle.syntax.proofs.ItemLaws.{restricted-keeps}
 use Rattle.syntax.proofs.Loops.{list_more, list_ends, list_fails, gives_exit}
 use Rattle.syntax.proofs.reader.Reader.take_values.Goals as goal
