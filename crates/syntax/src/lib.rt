@@ -3,10 +3,9 @@
 
 mod declarations;
 mod expressions;
-pub mod fault;
-pub mod laws;
+mod fault;
 mod measured;
-pub mod parser;
+mod parser;
 mod reader;
 mod statements;
 

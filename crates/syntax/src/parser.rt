@@ -1,9 +1,9 @@
 //! The parser.
 
-ghost use Rattle.std.specs.Prelude.{◌≡◌, ◌≢◌, ◌≤◌, true, [], OnOk, IfOk, IfErr, Some};
+ghost use Rattle.std.specs.Prelude.{◌≡◌, ◌≢◌, ◌≤◌, true, List, [], OnOk, IfOk, IfErr, Some};
 ghost use Rattle.failure.specs.Failure.{IfFault};
-ghost use Rattle.words.specs.Spelling.{lexemes_of};
-ghost use Rattle.trees.specs.Derivation.{Derives, DerivesButForDepth, DerivesButForEndName};
+ghost use Rattle.words.specs.Spelling.{Lexeme, lexemes_of};
+ghost use Rattle.trees.specs.Derivation.{Derives, DerivesAtMostOne, DerivesButForDepth, DerivesButForEndName};
 ghost use Rattle.trees.specs.Trees.{ModuleTree};
 ghost use Rattle.trees.specs.Views.{declaration_trees, statement_trees, module_tree};
 ghost use Rattle.syntax.specs.Faults.{IsOfDepth, IsOfEndName, IsRefused};
@@ -26,12 +26,13 @@ const NESTING_LIMIT: u8 = 64;
 /// The module that the words derive. Takes time and memory in proportion to the words (which no clause says).
 pub fn parse(alloc: Global, words: &[Word]) -> Result<Module, Failure<Fault>>
     ensures ok { IfOk result (λ parsed. Derives (lexemes_of words.now) (module_tree parsed)) }
+    ensures one_tree { (all : List Lexeme) → DerivesAtMostOne all }
     ensures refused { IfFault result (λ fault. (tree : ModuleTree) → Derives (lexemes_of words.now) tree → ⊥) }
     ensures depth { DerivesButForDepth (lexemes_of words.now) → IsRefused result IsOfDepth }
     ensures end_name { DerivesButForEndName (lexemes_of words.now) → IsRefused result IsOfEndName }
 {
-    let mut reader = Reader::new(words);
-    reader.take_module(alloc, NESTING_LIMIT)
+    let mut reader = Reader::new(alloc, words);
+    reader.take_module(NESTING_LIMIT)
 }
 
 // A module of its parts.
@@ -49,7 +50,7 @@ fn module_of(name: Identifier, place: Place, body: Block, end_name: Option<Ident
 impl<'a> Reader<'a> {
     // name `:` DO `;` {declaration} {statement} END [name] `;`, and nothing behind it.
     #[tactic(auto, using(crate::proofs::Giving::fails_bind, crate::proofs::Giving::fails_behind), unfolding(crate::specs::internal::Statements::whole_module))]
-    fn take_module(&mut self, alloc: Global, room: u8) -> Result<Module, Failure<Fault>>
+    fn take_module(&mut self, room: u8) -> Result<Module, Failure<Fault>>
         requires { room ≤ 64 }
         ensures { Makes module_tree result (whole_module true room self.old) }
     {
@@ -57,7 +58,7 @@ impl<'a> Reader<'a> {
         self.take_mark(Mark::Colon)?;
         let place = self.take_placed(ReservedWord::Do)?;
         self.take_mark(Mark::Semicolon)?;
-        let body = self.take_block(alloc, room)?;
+        let body = self.take_block(room)?;
         let end_name = self.take_ending(&name)?;
         self.take_end()?;
         Ok(module_of(name, place, body, end_name))

@@ -20,6 +20,7 @@ use words::{Kind, Mark, ReservedWord, Word};
 /// The words that are left. Contracts see their symbols.
 #[derive(Drop)]
 pub(crate) struct Reader<'a> {
+    pub(crate) alloc: Global,
     rest: &'a [Word<'a>],
     // The line of the word before.
     line: u32,
@@ -48,10 +49,11 @@ pub(crate) fn place_of(word: &Word) -> Place
 
 impl<'a> Reader<'a> {
     /// The reader of words.
-    pub(crate) fn new(words: &'a [Word<'a>]) -> Reader<'a>
+    pub(crate) fn new(alloc: Global, words: &'a [Word<'a>]) -> Reader<'a>
         ensures { result ≡ left_of words.now }
     {
         Reader {
+            alloc,
             rest: words,
             line: 1,
         }
@@ -220,13 +222,13 @@ impl<'a> Reader<'a> {
     }
 
     /// A string.
-    pub(crate) fn take_string(&mut self, alloc: Global) -> Result<StringLiteral, Failure<Fault>>
+    pub(crate) fn take_string(&mut self) -> Result<StringLiteral, Failure<Fault>>
         ensures { Gives string_tree result self.new (string self.old) }
     {
         match self.next() {
             Some(word) if word.kind == Kind::String => {
                 let place = place_of(word);
-                let characters = characters_of(alloc, word.text)?;
+                let characters = characters_of(self.alloc, word.text)?;
                 self.skip();
                 Ok(StringLiteral { characters, place })
             }
@@ -235,12 +237,12 @@ impl<'a> Reader<'a> {
     }
 
     /// A number or a string.
-    pub(crate) fn take_constant(&mut self, alloc: Global) -> Result<Constant, Failure<Fault>>
+    pub(crate) fn take_constant(&mut self) -> Result<Constant, Failure<Fault>>
         ensures { Gives constant_tree result self.new (constant self.old) }
     {
         if self.at_string() {
-            let literal = self.take_string(alloc)?;
-            return Ok(Constant::string(alloc, literal)?);
+            let literal = self.take_string()?;
+            return Ok(Constant::string(self.alloc, literal)?);
         }
         let number = self.take_number()?;
         Ok(Constant::number(number))
