@@ -1,6 +1,6 @@
 -- How the loops of the parser go on.
 use Rattle.std.proofs.Common.{◌≡◌, ◌<◌, Bool, true, false, List, [], ◌∷◌, ◌++◌, drop, length, map, Option, Some, None, Result, Ok, Err, refl, sym, ◌∙◌, ap, arith, append_assoc, append-nil}
-use Rattle.std.proofs.lemmas.List.{map-append}
+use Rattle.std.proofs.lemmas.List.{map-append, map-id}
 use Rattle.words.specs.declared.vocabulary.Mark.TheVariants.{Comma}
 use Rattle.trees.specs.Symbols.{Symbol}
 use Rattle.syntax.specs.internal.Lists.{all_more_items, items, Keeps, Shrinks}
@@ -83,3 +83,7 @@ gives_exit view (Err given) failure rest read handed fails = rw handed fails
 -- what takes symbols away at once keeps no more than there were
 pub keeps_from_shrinks : {A : Type 0} (item : List Symbol → Reading A) → Shrinks item → Keeps item
 keeps_from_shrinks item shrinks symbols rest a e = let h : length rest < length symbols = shrinks symbols rest a e in omega arith
+
+-- values that are their own trees
+pub map_same : {A : Type 0} (values : List A) → map (λ (value : A). value) values ≡ values
+map_same values = map-id values

@@ -107,7 +107,7 @@ impl<'a> Reader<'a> {
 
     // name [`(` number `)`] (BYTE | ADDRESS)
     #[tactic(auto, unfolding(crate::specs::internal::Declarations::member))]
-    fn take_member(&mut self) -> Result<Member, Failure<Fault>>
+    pub(crate) fn take_member(&mut self) -> Result<Member, Failure<Fault>>
         ensures { Gives (λ found. found) result self.new (member self.old) }
     {
         let name = self.take_name()?;
@@ -137,7 +137,7 @@ impl<'a> Reader<'a> {
 
     // constant {(`+` | `-`) constant} | `.` name {(`+` | `-`) constant}
     #[tactic(auto, unfolding(crate::specs::internal::Declarations::restricted))]
-    fn take_restricted(&mut self) -> Result<Restricted, Failure<Fault>>
+    pub(crate) fn take_restricted(&mut self) -> Result<Restricted, Failure<Fault>>
         ensures { Gives restricted_tree result self.new (restricted self.old) }
     {
         let origin = self.take_origin()?;
@@ -145,25 +145,8 @@ impl<'a> Reader<'a> {
         Ok(Restricted { origin, offsets })
     }
 
-    // member {`,` member}
-    #[tactic(auto, using(crate::proofs::DeclarationLoops::member_steps))]
-    fn take_members(&mut self) -> Result<Vec<Member>, Failure<Fault>>
-        ensures { Gives (λ found. found.items) result self.new (items member self.old) }
-    {
-        let first = self.take_member()?;
-        let mut found = Vec::with_capacity(self.alloc, 1)?;
-        found.push(first)?;
-        'more: while self.at_mark(Mark::Comma) {
-            self.skip();
-            let next = self.take_member()?;
-            found.push(next)?;
-        }
-        found.shrink_to_fit();
-        Ok(found)
-    }
-
     // BYTE | ADDRESS | STRUCTURE `(` member {`,` member} `)`
-    #[tactic(auto, unfolding(crate::specs::internal::Declarations::item_type))]
+    #[tactic(auto, using(crate::proofs::ListedItems::listed), unfolding(crate::specs::internal::Declarations::item_type))]
     fn take_item_type(&mut self) -> Result<ItemType, Failure<Fault>>
         ensures { Gives item_type_tree result self.new (item_type self.old) }
     {
@@ -172,7 +155,7 @@ impl<'a> Reader<'a> {
         }
         self.skip();
         self.take_mark(Mark::LeftParenthesis)?;
-        let members = self.take_members()?;
+        let members = self.take_list::<Member>()?;
         self.take_mark(Mark::RightParenthesis)?;
         Ok(ItemType::Structure(members))
     }
@@ -223,25 +206,8 @@ impl<'a> Reader<'a> {
         Some(Storage::Data(place))
     }
 
-    // place {`,` place}
-    #[tactic(auto, using(crate::proofs::DeclarationLoops::values_first))]
-    fn take_values(&mut self) -> Result<Vec<Restricted>, Failure<Fault>>
-        ensures { Gives (λ found. map restricted_tree found.items) result self.new (items restricted self.old) }
-    {
-        let first = self.take_restricted()?;
-        let mut found = Vec::with_capacity(self.alloc, 1)?;
-        found.push(first)?;
-        'more: while self.at_mark(Mark::Comma) {
-            self.skip();
-            let next = self.take_restricted()?;
-            found.push(next)?;
-        }
-        found.shrink_to_fit();
-        Ok(found)
-    }
-
     // [INITIAL `(` list `)` | DATA `(` list `)`]
-    #[tactic(auto, unfolding(crate::specs::internal::Declarations::value_list))]
+    #[tactic(auto, using(crate::proofs::ListedItems::listed), unfolding(crate::specs::internal::Declarations::value_list))]
     fn take_value_list(&mut self) -> Result<Option<ValueList>, Failure<Fault>>
         ensures { Gives (option_map value_list_tree) result self.new (value_list self.old) }
     {
@@ -250,7 +216,7 @@ impl<'a> Reader<'a> {
         };
         self.skip();
         self.take_mark(Mark::LeftParenthesis)?;
-        let values = self.take_values()?;
+        let values = self.take_list::<Restricted>()?;
         self.take_mark(Mark::RightParenthesis)?;
         Ok(Some(ValueList { storage, values }))
     }
@@ -266,30 +232,13 @@ impl<'a> Reader<'a> {
         Ok(Some(self.take_name()?))
     }
 
-    // name {`,` name}
-    #[tactic(auto, using(crate::proofs::DeclarationLoops::name_steps))]
-    fn take_name_list(&mut self) -> Result<Vec<Identifier>, Failure<Fault>>
-        ensures { Gives (λ found. found.items) result self.new (items name self.old) }
-    {
-        let first = self.take_name()?;
-        let mut found = Vec::with_capacity(self.alloc, 1)?;
-        found.push(first)?;
-        'more: while self.at_mark(Mark::Comma) {
-            self.skip();
-            let next = self.take_name()?;
-            found.push(next)?;
-        }
-        found.shrink_to_fit();
-        Ok(found)
-    }
-
     // `(` name {`,` name} `)`
-    #[tactic(auto, unfolding(crate::specs::internal::Declarations::names))]
+    #[tactic(auto, using(crate::proofs::ListedItems::listed), unfolding(crate::specs::internal::Declarations::names))]
     fn take_names(&mut self) -> Result<Vec<Identifier>, Failure<Fault>>
         ensures { Gives (λ found. found.items) result self.new (names self.old) }
     {
         self.take_mark(Mark::LeftParenthesis)?;
-        let found = self.take_name_list()?;
+        let found = self.take_list::<Identifier>()?;
         self.take_mark(Mark::RightParenthesis)?;
         Ok(found)
     }
@@ -329,7 +278,7 @@ impl<'a> Reader<'a> {
 
     // name LITERALLY string | item
     #[tactic(auto, using(crate::proofs::DeclarationLoops::element_is), unfolding(crate::specs::internal::Declarations::element, crate::specs::internal::Declarations::item, crate::specs::internal::Declarations::subject))]
-    fn take_element(&mut self) -> Result<Element, Failure<Fault>>
+    pub(crate) fn take_element(&mut self) -> Result<Element, Failure<Fault>>
         ensures { Gives element_tree result self.new (element self.old) }
     {
         if let Some(name) = self.next_name() {
@@ -341,29 +290,12 @@ impl<'a> Reader<'a> {
         Ok(Element::item(self.alloc, found)?)
     }
 
-    // element {`,` element}
-    #[tactic(auto, using(crate::proofs::DeclarationLoops::elements_first))]
-    fn take_element_list(&mut self) -> Result<Vec<Element>, Failure<Fault>>
-        ensures { Gives (λ found. map element_tree found.items) result self.new (items element self.old) }
-    {
-        let first = self.take_element()?;
-        let mut found = Vec::with_capacity(self.alloc, 1)?;
-        found.push(first)?;
-        'more: while self.at_mark(Mark::Comma) {
-            self.skip();
-            let next = self.take_element()?;
-            found.push(next)?;
-        }
-        found.shrink_to_fit();
-        Ok(found)
-    }
-
     /// element {`,` element} `;`, behind DECLARE
-    #[tactic(auto, unfolding(crate::specs::internal::Declarations::elements))]
+    #[tactic(auto, using(crate::proofs::ListedItems::listed), unfolding(crate::specs::internal::Declarations::elements))]
     pub(crate) fn take_elements(&mut self) -> Result<Vec<Element>, Failure<Fault>>
         ensures { Gives (λ found. map element_tree found.items) result self.new (elements self.old) }
     {
-        let found = self.take_element_list()?;
+        let found = self.take_list::<Element>()?;
         self.take_mark(Mark::Semicolon)?;
         Ok(found)
     }

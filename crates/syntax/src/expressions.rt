@@ -152,7 +152,7 @@ impl<'a> Reader<'a> {
 
     // What stands behind a period: a reference, or constants in parentheses.
     #[cycle(expression)]
-    #[tactic(auto, unfolding(crate::specs::internal::Expressions::location, crate::specs::internal::Expressions::reference))]
+    #[tactic(auto, using(crate::proofs::ListedItems::listed), unfolding(crate::specs::internal::Expressions::location, crate::specs::internal::Expressions::reference))]
     fn location(&mut self, room: u8) -> Result<Measured, Failure<Fault>>
         requires { room < 64 }
         ensures gives { Gives (λ found. expression_tree found.expression) result self.new (location (expression room) self.old) }
@@ -160,7 +160,7 @@ impl<'a> Reader<'a> {
     {
         if self.at_mark(Mark::LeftParenthesis) {
             self.skip();
-            let constants = self.take_constants()?;
+            let constants = self.take_list::<Constant>()?;
             self.take_mark(Mark::RightParenthesis)?;
             return Ok(Measured::list(constants));
         }
@@ -233,22 +233,6 @@ impl<'a> Reader<'a> {
             found.push(next)?;
         }
         found.shrink();
-        Ok(found)
-    }
-
-    /// Constants between commas.
-    pub(crate) fn take_constants(&mut self) -> Result<Vec<Constant>, Failure<Fault>>
-        ensures { Gives (λ found. map constant_tree found.items) result self.new (items constant self.old) }
-    {
-        let first = self.take_constant()?;
-        let mut found = Vec::with_capacity(self.alloc, 1)?;
-        found.push(first)?;
-        'more: while self.at_mark(Mark::Comma) {
-            self.skip();
-            let next = self.take_constant()?;
-            found.push(next)?;
-        }
-        found.shrink_to_fit();
         Ok(found)
     }
 }

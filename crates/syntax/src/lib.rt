@@ -4,6 +4,7 @@
 mod declarations;
 mod expressions;
 mod fault;
+mod lists;
 mod measured;
 mod parser;
 mod reader;
