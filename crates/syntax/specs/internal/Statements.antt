@@ -11,10 +11,10 @@ use Rattle.trees.specs.Symbols.{Symbol, NameSymbol, MarkSymbol, PlacedSymbol}
 use Rattle.trees.specs.Trees.{ExpressionTree, IterationTree, StatementTree, NullStatement, AssignmentStatement, CallStatement, ReturnStatement, HaltStatement, IfStatement, IfElseStatement, DoStatement, WhileStatement, IterateStatement, CaseStatement, StatementTrees, NoStatements, MoreStatements, DeclarationTree, DeclareTree, ProcedureTree, DeclarationTrees, NoDeclarations, MoreDeclarations, ModuleTree}
 use Rattle.syntax.specs.declared.statements.Beginning.{Beginning}
 use Rattle.syntax.specs.declared.statements.Beginning.TheVariants as beginnings
-use Rattle.syntax.specs.Looking.{Reading, Cause, Unexpected, TooDeep, OtherEndName, ◌>>=◌, mark_number, at_mark, at_word, place_of_word, next_name, mark, word, name, taken}
-use Rattle.syntax.specs.Lists.{items, many}
-use Rattle.syntax.specs.Expressions.{expression, reference, arguments}
-use Rattle.syntax.specs.Declarations.{elements, heading}
+use Rattle.syntax.specs.internal.Looking.{Reading, Cause, Unexpected, TooDeep, OtherEndName, ◌>>=◌, mark_number, at_mark, at_word, place_of_word, next_name, mark, word, name, taken}
+use Rattle.syntax.specs.internal.Lists.{items, many}
+use Rattle.syntax.specs.internal.Expressions.{expression, reference, arguments}
+use Rattle.syntax.specs.internal.Declarations.{elements, heading}
 
 -- how expressions at a level, and how statements are read
 abbrev pub Expressions : Type 0

@@ -2,7 +2,7 @@
 use Rattle.std.specs.Prelude.{◌≡◌, ℕ, zero, suc, ◌≤◌, ◌<◌, Bool, List, [], ◌∷◌, drop, length, Ok, Err, if◌then◌else◌}
 use Rattle.words.specs.declared.vocabulary.Mark.TheVariants.{Comma}
 use Rattle.trees.specs.Symbols.{Symbol}
-use Rattle.syntax.specs.Looking.{Reading, Unexpected, ◌>>=◌, at_mark}
+use Rattle.syntax.specs.internal.Looking.{Reading, Unexpected, ◌>>=◌, at_mark}
 
 -- {`,` item}
 abbrev pub more_items : {A : Type 0} → (List Symbol → Reading A) → ℕ → List Symbol → Reading (List A)

@@ -4,8 +4,8 @@ use Rattle.trees.specs.Symbols.{Symbol}
 use Rattle.trees.specs.declared.expression.BinaryOperator.{BinaryOperator}
 use Rattle.trees.specs.declared.identifier.Identifier.{Identifier}
 use Rattle.trees.specs.Trees.{ConstantTree, NumberConstant, StringConstant, ExpressionTree, ReferenceTree}
-use Rattle.syntax.specs.Expressions.{arguments, member_of, goes_on}
-use Rattle.syntax.specs.Looking.{Reading, ◌>>=◌, number, string}
+use Rattle.syntax.specs.internal.Expressions.{arguments, member_of, goes_on}
+use Rattle.syntax.specs.internal.Looking.{Reading, ◌>>=◌, number, string}
 
 -- a number as a constant
 abbrev pub number_constant : List Symbol → Reading ConstantTree

@@ -9,13 +9,14 @@ use Rattle.trees.specs.Forms.{expr_level}
 use Rattle.trees.specs.Symbols.{Symbol, NameSymbol, UnknownSymbol}
 use Rattle.trees.specs.Trees.{ExpressionTree, StatementTree, StatementTrees, MoreStatements, DeclarationTrees, MoreDeclarations}
 use Rattle.trees.specs.Views.{statement_tree, statement_trees, declaration_tree, declaration_trees}
+use Rattle.failure.specs.declared.Failure.{Failure}
 use Rattle.syntax.specs.declared.fault.Fault.{Fault}
 use Rattle.syntax.specs.declared.statements.Beginning.{Beginning}
 use Rattle.syntax.specs.declared.statements.Beginning.TheVariants.{Name}
-use Rattle.syntax.specs.Expressions.{expression}
-use Rattle.syntax.specs.Giving.{Fails}
-use Rattle.syntax.specs.Looking.{Reading, Cause, ◌>>=◌, at_word, mark}
-use Rattle.syntax.specs.Statements.{Expressions, statement, declaration, statement_by, beginning_of, block}
+use Rattle.syntax.specs.internal.Expressions.{expression}
+use Rattle.syntax.specs.internal.Giving.{Fails}
+use Rattle.syntax.specs.internal.Looking.{Reading, Cause, ◌>>=◌, at_word, mark}
+use Rattle.syntax.specs.internal.Statements.{Expressions, statement, declaration, statement_by, beginning_of, block}
 
 -- {declaration} {statement}, in a room
 abbrev pub block_in : ℕ → List Symbol → Reading (DeclarationTrees × StatementTrees)
@@ -75,6 +76,6 @@ behind_declarations made (Ok found) = Ok (declarations_before made found.0, foun
 behind_declarations made (Err cause) = Err cause
 
 -- what was returned is what the whole is read as
-abbrev pub Makes : {X Y : Type 0} → (X → Y) → Result X Fault → Result Y Cause → Type 0
+abbrev pub Makes : {X Y : Type 0} → (X → Y) → Result X (Failure Fault) → Result Y Cause → Type 0
 Makes view (Ok x) read = read ≡ Ok (view x)
-Makes view (Err fault) read = Fails fault read
+Makes view (Err failure) read = Fails failure read

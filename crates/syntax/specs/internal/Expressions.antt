@@ -10,8 +10,8 @@ use Rattle.trees.specs.Forms.{expr_level, neg_level, sec_level, primary_level, l
 use Rattle.trees.specs.Nesting.{expression_height}
 use Rattle.trees.specs.Symbols.{Symbol, MarkSymbol, ReservedSymbol}
 use Rattle.trees.specs.Trees.{ExpressionTree, ConstantLeaf, ReferenceLeaf, LocationLeaf, ListLeaf, ParenthesizedNode, AssignmentNode, UnaryNode, BinaryNode, ReferenceTree, WholeReference, MemberReference, ArgumentTrees, NoArguments, MoreArguments}
-use Rattle.syntax.specs.Looking.{Reading, Unexpected, TooDeep, ◌>>=◌, at_mark, at_word, mark, name, next_name, constant}
-use Rattle.syntax.specs.Lists.{items}
+use Rattle.syntax.specs.internal.Looking.{Reading, Unexpected, TooDeep, ◌>>=◌, at_mark, at_word, mark, name, next_name, constant}
+use Rattle.syntax.specs.internal.Lists.{items}
 
 -- the operator of a symbol between operands
 abbrev pub operator_of : Symbol → Option BinaryOperator
