@@ -14,6 +14,7 @@ pub next_beginning_reserved : (word : ReservedWord) (place : Place) (rest : List
 next_beginning_reserved words.Call place rest = refl
 next_beginning_reserved words.Return place rest = refl
 next_beginning_reserved words.Halt place rest = refl
+next_beginning_reserved words.Goto place rest = refl
 next_beginning_reserved words.If place rest = refl
 next_beginning_reserved words.Do place rest = refl
 next_beginning_reserved word place rest = refl

@@ -3,6 +3,7 @@ use Rattle.std.proofs.Common.{◌≡◌, true, List, Result, Ok, Err, subst}
 use Rattle.std.specs.Prelude.{IfOk}
 use Rattle.words.specs.Spelling.{Lexeme}
 use Rattle.trees.specs.declared.module.Module.{Module}
+use Rattle.trees.specs.declared.module.TheConstants.{NESTING_LIMIT}
 use Rattle.trees.specs.Derivation.{Derives, DerivesButForDepth, DerivesButForEndName}
 use Rattle.trees.specs.Symbols.{Symbol, symbols_of}
 use Rattle.trees.specs.Trees.{ModuleTree}
@@ -21,7 +22,7 @@ use Rattle.syntax.proofs.ModuleLaws.{module_read-derives, module_derives-reads, 
 
 -- what was made of these words
 abbrev MadeOf : List Lexeme → Result Module (Failure Fault) → Type 0
-MadeOf words parsed = Makes module_tree parsed (whole_module true 64 (symbols_of words))
+MadeOf words parsed = Makes module_tree parsed (whole_module true NESTING_LIMIT (symbols_of words))
 
 pub parsed-derives : (words : List Lexeme) (parsed : Result Module (Failure Fault)) → MadeOf words parsed
     → IfOk parsed (λ found. Derives words (module_tree found))
@@ -71,5 +72,5 @@ end_name-refused words (Err failures.Memory) made other = tt
 
 -- what was made of symbols, where they are those of words
 pub made_of_words : (words : List Lexeme) (parsed : Result Module (Failure Fault)) (symbols : List Symbol)
-    → symbols ≡ symbols_of words → Makes module_tree parsed (whole_module true 64 symbols) → MadeOf words parsed
-made_of_words words parsed symbols same made = subst (λ s. Makes module_tree parsed (whole_module true 64 s)) same made
+    → symbols ≡ symbols_of words → Makes module_tree parsed (whole_module true NESTING_LIMIT symbols) → MadeOf words parsed
+made_of_words words parsed symbols same made = subst (λ s. Makes module_tree parsed (whole_module true NESTING_LIMIT s)) same made

@@ -7,7 +7,7 @@ use Rattle.trees.specs.Symbols.{Symbol}
 use Rattle.trees.specs.Trees.{StatementTree, StatementTrees, MoreStatements, DeclarationTree, DeclarationTrees, MoreDeclarations}
 use Rattle.trees.specs.Views.{statement_tree, statement_trees, declaration_tree, declaration_trees}
 use Rattle.syntax.specs.internal.Giving.{FailsBy}
-use Rattle.syntax.specs.internal.Inside.{statements_before, behind_statements, declarations_before, behind_declarations}
+use Rattle.syntax.specs.internal.Inside.{statements_before, after_statements, declarations_before, after_declarations}
 use Rattle.syntax.specs.internal.Lists.{many, many_items, Shrinks}
 use Rattle.syntax.specs.internal.Looking.{Cause, Unexpected, Reading, ◌>>=◌, at_word}
 use Rattle.syntax.specs.internal.Statements.{statement, declaration, statements, declarations, statements_of, declarations_of, ends_declarations}
@@ -32,7 +32,7 @@ statements_before-none [] = refl
 statements_before-none (m ∷ made) = ap (MoreStatements (statement_tree m)) (statements_before-none made)
 
 -- nothing before
-pub no_statements_before : (others : Reading StatementTrees) → others ≡ behind_statements [] others
+pub no_statements_before : (others : Reading StatementTrees) → others ≡ after_statements [] others
 no_statements_before (Ok found) = refl
 no_statements_before (Err cause) = refl
 
@@ -48,14 +48,14 @@ as_statements found = do
   Ok (statements_of all.0, all.1)
 
 more_statements : (made : List Statement) (x : Statement) (others : Reading (List StatementTree))
-    → behind_statements made (as_statements (after_statement (statement_tree x) others)) ≡ behind_statements (made ++ x ∷ []) (as_statements others)
+    → after_statements made (as_statements (after_statement (statement_tree x) others)) ≡ after_statements (made ++ x ∷ []) (as_statements others)
 more_statements made x (Ok o) = ap (λ t. read t o.1) (sym (statements_before-push made x (statements_of o.0)))
 more_statements made x (Err cause) = refl
 
 -- a statement
 pub statements-more : (room : ℕ) (made : List Statement) (x : Statement) (s r : List Symbol) → 0 < length s → at_word End s ≡ false
     → statement true room s ≡ Ok (statement_tree x, r)
-    → behind_statements made (statements (statement true room) s) ≡ behind_statements (made ++ x ∷ []) (statements (statement true room) r)
+    → after_statements made (statements (statement true room) s) ≡ after_statements (made ++ x ∷ []) (statements (statement true room) r)
 statements-more room made x s r long goes e =
     rw (many-step (at_word End) (statement true room) (statement-shrinks true room) (statement-starts room) s long, goes, e)
     (more_statements made x (many (at_word End) (statement true room) r))
@@ -63,17 +63,17 @@ statements-more room made x s r long goes e =
 -- no statement where one must be
 pub statements-fail : (room : ℕ) (made : List Statement) (s : List Symbol) (cause : Cause) → 0 < length s → at_word End s ≡ false
     → statement true room s ≡ Err cause
-    → behind_statements made (statements (statement true room) s) ≡ Err cause
+    → after_statements made (statements (statement true room) s) ≡ Err cause
 statements-fail room made s cause long goes e =
     rw (many-step (at_word End) (statement true room) (statement-shrinks true room) (statement-starts room) s long, goes, e) refl
 
 -- nothing where END must be
-pub statements-nothing : (room : ℕ) (made : List Statement) → behind_statements made (statements (statement true room) []) ≡ Err Unexpected
+pub statements-nothing : (room : ℕ) (made : List Statement) → after_statements made (statements (statement true room) []) ≡ Err Unexpected
 statements-nothing room made = rw (many-nothing (at_word End) (statement true room)) refl
 
 -- END
 pub statements-end : (room : ℕ) (made : List Statement) (s : List Symbol) → at_word End s ≡ true
-    → behind_statements made (statements (statement true room) s) ≡ Ok (statement_trees made, s)
+    → after_statements made (statements (statement true room) s) ≡ Ok (statement_trees made, s)
 statements-end room made s end =
     rw (many-end (at_word End) (statement true room) s end) (ap (λ t. read t s) (statements_before-none made))
 
@@ -125,7 +125,7 @@ declarations_before-none [] = refl
 declarations_before-none (m ∷ made) = ap (MoreDeclarations (declaration_tree m)) (declarations_before-none made)
 
 -- nothing before
-pub no_declarations_before : (others : Reading DeclarationTrees) → others ≡ behind_declarations [] others
+pub no_declarations_before : (others : Reading DeclarationTrees) → others ≡ after_declarations [] others
 no_declarations_before (Ok found) = refl
 no_declarations_before (Err cause) = refl
 
@@ -141,14 +141,14 @@ as_declarations found = do
   Ok (declarations_of all.0, all.1)
 
 more_declarations : (made : List Declaration) (x : Declaration) (others : Reading (List DeclarationTree))
-    → behind_declarations made (as_declarations (after_declaration (declaration_tree x) others)) ≡ behind_declarations (made ++ x ∷ []) (as_declarations others)
+    → after_declarations made (as_declarations (after_declaration (declaration_tree x) others)) ≡ after_declarations (made ++ x ∷ []) (as_declarations others)
 more_declarations made x (Ok o) = ap (λ t. read t o.1) (sym (declarations_before-push made x (declarations_of o.0)))
 more_declarations made x (Err cause) = refl
 
 -- a declaration
 pub declarations-more : (room : ℕ) (made : List Declaration) (x : Declaration) (s r : List Symbol) → ends_declarations s ≡ false
     → declaration true room s ≡ Ok (declaration_tree x, r)
-    → behind_declarations made (declarations (declaration true room) s) ≡ behind_declarations (made ++ x ∷ []) (declarations (declaration true room) r)
+    → after_declarations made (declarations (declaration true room) s) ≡ after_declarations (made ++ x ∷ []) (declarations (declaration true room) r)
 declarations-more room made x s r goes e =
     rw (many-ended ends_declarations (declaration true room) (declaration-shrinks true room) refl s goes, e)
     (more_declarations made x (many ends_declarations (declaration true room) r))
@@ -156,32 +156,32 @@ declarations-more room made x s r goes e =
 -- no declaration where one must be
 pub declarations-fail : (room : ℕ) (made : List Declaration) (s : List Symbol) (cause : Cause) → ends_declarations s ≡ false
     → declaration true room s ≡ Err cause
-    → behind_declarations made (declarations (declaration true room) s) ≡ Err cause
+    → after_declarations made (declarations (declaration true room) s) ≡ Err cause
 declarations-fail room made s cause goes e =
     rw (many-ended ends_declarations (declaration true room) (declaration-shrinks true room) refl s goes, e) refl
 
 -- the end of the declarations
 pub declarations-end : (room : ℕ) (made : List Declaration) (s : List Symbol) → ends_declarations s ≡ true
-    → behind_declarations made (declarations (declaration true room) s) ≡ Ok (declaration_trees made, s)
+    → after_declarations made (declarations (declaration true room) s) ≡ Ok (declaration_trees made, s)
 declarations-end room made s end =
     rw (many-end ends_declarations (declaration true room) s end) (ap (λ t. read t s) (declarations_before-none made))
 
 -- what fails where a statement must be, fails as a whole
 pub statements-fails : (cause : Option Cause) (room : ℕ) (made : List Statement) (start s : List Symbol)
-    → statements (statement true room) start ≡ behind_statements made (statements (statement true room) s) → 0 < length s → false ≡ at_word End s
+    → statements (statement true room) start ≡ after_statements made (statements (statement true room) s) → 0 < length s → false ≡ at_word End s
     → FailsBy cause (statement true room s) → FailsBy cause (statements (statement true room) start)
 statements-fails None room made start s so_far long goes fails = tt
 statements-fails (Some cause) room made start s so_far long goes fails = so_far ∙ statements-fail room made s cause long (sym goes) fails
 
 pub statements-fails_at_end : (cause : Option Cause) (room : ℕ) (made : List Statement) (start s : List Symbol)
-    → statements (statement true room) start ≡ behind_statements made (statements (statement true room) s) → s ≡ [] → cause ≡ Some Unexpected
+    → statements (statement true room) start ≡ after_statements made (statements (statement true room) s) → s ≡ [] → cause ≡ Some Unexpected
     → FailsBy cause (statements (statement true room) start)
 statements-fails_at_end cause room made start s so_far none unexpected =
     rw (unexpected, so_far, none) (statements-nothing room made)
 
 -- the same for declarations
 pub declarations-fails : (cause : Option Cause) (room : ℕ) (made : List Declaration) (start s : List Symbol)
-    → declarations (declaration true room) start ≡ behind_declarations made (declarations (declaration true room) s) → false ≡ ends_declarations s
+    → declarations (declaration true room) start ≡ after_declarations made (declarations (declaration true room) s) → false ≡ ends_declarations s
     → FailsBy cause (declaration true room s) → FailsBy cause (declarations (declaration true room) start)
 declarations-fails None room made start s so_far goes fails = tt
 declarations-fails (Some cause) room made start s so_far goes fails = so_far ∙ declarations-fail room made s cause (sym goes) fails

@@ -5,7 +5,7 @@ ghost use Rattle.failure.specs.Failure.{IfFault};
 ghost use Rattle.words.specs.Spelling.{Lexeme, lexemes_of};
 ghost use Rattle.trees.specs.Derivation.{Derives, DerivesAtMostOne, DerivesButForDepth, DerivesButForEndName};
 ghost use Rattle.trees.specs.Trees.{ModuleTree};
-ghost use Rattle.trees.specs.Views.{declaration_trees, statement_trees, module_tree};
+ghost use Rattle.trees.specs.Views.{block_declarations, block_statements, module_tree};
 ghost use Rattle.syntax.specs.Faults.{IsOfDepth, IsOfEndName, IsRefused};
 ghost use Rattle.syntax.specs.internal.Giving.{cause_of};
 ghost use Rattle.syntax.specs.internal.Inside.{Makes};
@@ -17,11 +17,8 @@ use crate::reader::Reader;
 use failure::Failure;
 use std::alloc::Global;
 use std::marker::Model;
-use trees::{Block, Identifier, Module, Place};
+use trees::{Block, Identifier, Module, NESTING_LIMIT, Place};
 use words::{Mark, ReservedWord, Word};
-
-/// How many levels may be nested.
-const NESTING_LIMIT: u8 = 64;
 
 /// The module that the words derive. Takes time and memory in proportion to the words (which no clause says).
 pub fn parse(alloc: Global, words: &[Word]) -> Result<Module, Failure<Fault>>
@@ -37,7 +34,7 @@ pub fn parse(alloc: Global, words: &[Word]) -> Result<Module, Failure<Fault>>
 
 // A module of its parts.
 fn module_of(name: Identifier, place: Place, body: Block, end_name: Option<Identifier>) -> Module
-    ensures { module_tree result ≡ record { name = name; place = place; declarations = declaration_trees body.declarations.items; statements = statement_trees body.statements.items; end_name = end_name } }
+    ensures { module_tree result ≡ record { name = name; place = place; declarations = block_declarations body; statements = block_statements body; end_name = end_name } }
 {
     Module {
         name,
@@ -48,8 +45,8 @@ fn module_of(name: Identifier, place: Place, body: Block, end_name: Option<Ident
 }
 
 impl<'a> Reader<'a> {
-    // name `:` DO `;` {declaration} {statement} END [name] `;`, and nothing behind it.
-    #[tactic(auto, using(crate::proofs::Giving::fails_bind, crate::proofs::Giving::fails_behind), unfolding(crate::specs::internal::Statements::whole_module))]
+    // name `:` DO `;` {declaration} {statement} END [name] `;`, and nothing after it.
+    #[tactic(auto, using(crate::proofs::Giving::fails_bind, crate::proofs::Giving::fails_after), unfolding(crate::specs::internal::Statements::whole_module))]
     fn take_module(&mut self, room: u8) -> Result<Module, Failure<Fault>>
         requires { room ≤ 64 }
         ensures { Makes module_tree result (whole_module true room self.old) }
@@ -57,7 +54,7 @@ impl<'a> Reader<'a> {
         let name = self.take_name()?;
         self.take_mark(Mark::Colon)?;
         let place = self.take_placed(ReservedWord::Do)?;
-        self.take_mark(Mark::Semicolon)?;
+        self.take_semicolon()?;
         let body = self.take_block(room)?;
         let end_name = self.take_ending(&name)?;
         self.take_end()?;
