@@ -7,12 +7,14 @@ use Rattle.trees.specs.declared.expression.BinaryOperator.{BinaryOperator}
 use Rattle.trees.specs.declared.expression.BinaryOperator.TheVariants.{Or, Xor, And, Equal, Less, Greater, LessOrEqual, GreaterOrEqual, Unequal, Add, Subtract, Multiply, Divide, Modulo}
 use Rattle.trees.specs.declared.expression.UnaryOperator.{UnaryOperator}
 use Rattle.trees.specs.declared.expression.UnaryOperator.TheVariants.{Not, Negate}
-use Rattle.trees.specs.Forms.{expr_level, neg_level, sec_level, primary_level, level_of, left_level, unary_level_of, operand_level_of, IsNotEmpty, IsExpression, IsReference, AreArguments}
-use Rattle.trees.specs.Nesting.{expression_height, reference_height, arguments_height, targets_height}
-use Rattle.trees.specs.Spelling.{more_after_commas, between_commas, constant_symbols, binary_symbol, expression_symbols, reference_symbols, arguments_symbols, more_arguments_symbols}
+use Rattle.trees.specs.Forms.{expr_level, neg_level, sec_level, primary_level, level_of, IsNotEmpty}
+use Rattle.trees.specs.internal.Forms.{left_level, unary_level_of, operand_level_of, IsExpression, IsReference, IsMember, AreArguments}
+use Rattle.trees.specs.Nesting.{expression_height, reference_height, member_height, arguments_height, targets_height}
+use Rattle.trees.specs.Spelling.{more_after_commas, between_commas, constant_symbols, binary_symbol}
+use Rattle.trees.specs.internal.Spelling.{expression_symbols, reference_symbols, member_of_symbols, arguments_symbols, more_arguments_symbols}
 use Rattle.trees.specs.Symbols.{Symbol, NameSymbol, MarkSymbol}
-use Rattle.trees.specs.Trees.{ConstantTree, NumberConstant, StringConstant, ExpressionTree, ConstantLeaf, ReferenceLeaf, LocationLeaf, ListLeaf, ParenthesizedNode, AssignmentNode, UnaryNode, BinaryNode, ReferenceTree, WholeReference, MemberReference, ArgumentTrees, NoArguments, MoreArguments}
-use Rattle.syntax.specs.internal.Expressions.{next_operator, top_level, goes_on, arguments_of, arguments, reference, location, parenthesized, primary, operand, operator_then, all_operators, expression, expression_less}
+use Rattle.trees.specs.Trees.{ConstantTree, NumberConstant, StringConstant, ExpressionTree, ConstantLeaf, ReferenceLeaf, LocationLeaf, ListLeaf, ParenthesizedNode, AssignmentNode, UnaryNode, BinaryNode, ReferenceTree, ReferenceTo, MemberTree, NoMember, MemberOf, ArgumentTrees, NoArguments, MoreArguments}
+use Rattle.syntax.specs.internal.Expressions.{next_operator, top_level, goes_on, arguments_of, arguments, member_of, reference, location, parenthesized, primary, operand, operator_then, all_operators, expression, expression_less}
 use Rattle.syntax.specs.internal.Lists.{items, Keeps}
 use Rattle.syntax.specs.internal.Looking.{Reading, Cause, TooDeep, ◌>>=◌, at_mark, constant}
 use Rattle.syntax.proofs.Depths.{depth_fault, depth_fault-within, depth_fault-over, depth_fault-same, depth_fault-suc, depth_fault-max, after, bind_gave, after-gave, after-read, after-deep}
@@ -110,23 +112,38 @@ arguments-read inner room keeps all (MoreArguments t others) r form ends =
     ∙ after-read (depth_fault (arguments_height (MoreArguments t others)) room) (arguments_of (t ∷ list_of others)) r
     ∙ ap (λ k. gave (depth_fault (arguments_height (MoreArguments t others)) room) (MoreArguments t k) r) (arguments_of-list others)
 
-reference-read : (inner : ℕ → List Symbol → Reading ExpressionTree) (room : ℕ) → Keeps (inner expr_level) → AllRead inner room → (t : ReferenceTree) (r : List Symbol)
-    → IsReference t → EndsReference r → reference inner (reference_symbols t r) ≡ gave (depth_fault (reference_height t) room) t r
+member-read : (inner : ℕ → List Symbol → Reading ExpressionTree) (room : ℕ) → Keeps (inner expr_level)
+    → AllRead inner room → (t : MemberTree) (r : List Symbol) → IsMember t → EndsReference r
+    → member_of inner (member_of_symbols t r) ≡ gave (depth_fault (member_height t) room) t r
+member-read inner room keeps all NoMember r form ends =
+    if_false (at_mark marks.Period r) _ _ ends.1
+    ∙ ap (λ f. gave f NoMember r) (sym (depth_fault-within 0 room (omega arith)))
+member-read inner room keeps all (MemberOf n a) r form ends =
+    let fault : Option Cause = depth_fault (arguments_height a) room in
+    bind_gave (arguments inner (arguments_symbols a r)) _ fault a r (arguments-read inner room keeps all a r form ends.0)
+    ∙ after-read fault (MemberOf n a) r
+
+-- no parenthesis opens where a member may stand
+member-opens_none : (t : MemberTree) (r : List Symbol) → EndsReference r
+    → at_mark marks.LeftParenthesis (member_of_symbols t r) ≡ false
+member-opens_none NoMember r ends = ends.0
+member-opens_none (MemberOf n a) r ends = refl
+
+reference-read : (inner : ℕ → List Symbol → Reading ExpressionTree) (room : ℕ) → Keeps (inner expr_level)
+    → AllRead inner room → (t : ReferenceTree) (r : List Symbol) → IsReference t → EndsReference r
+    → reference inner (reference_symbols t r) ≡ gave (depth_fault (reference_height t) room) t r
 unfolding reference
-reference-read inner room keeps all (WholeReference n a) r form ends =
-    bind_gave (arguments inner (arguments_symbols a r)) _ (depth_fault (arguments_height a) room) a r (arguments-read inner room keeps all a r form ends.0)
-    ∙ ap (after (depth_fault (arguments_height a) room)) (if_false (at_mark marks.Period r) _ _ ends.1)
-    ∙ after-read (depth_fault (arguments_height a) room) (WholeReference n a) r
-reference-read inner room keeps all (MemberReference n a m b) r form ends =
-    let behind : List Symbol = MarkSymbol marks.Period ∷ NameSymbol m ∷ arguments_symbols b r in
+reference-read inner room keeps all (ReferenceTo n a m) r form ends =
+    let others : List Symbol = member_of_symbols m r in
     let first : Option Cause = depth_fault (arguments_height a) room in
-    let second : Option Cause = depth_fault (arguments_height b) room in
-    bind_gave (arguments inner (arguments_symbols a behind)) _ first a behind (arguments-read inner room keeps all a behind form.0 refl)
+    let second : Option Cause = depth_fault (member_height m) room in
+    bind_gave (arguments inner (arguments_symbols a others)) _ first a others
+    (arguments-read inner room keeps all a others form.0 (member-opens_none m r ends))
     ∙ ap (after first)
-    (bind_gave (arguments inner (arguments_symbols b r)) _ second b r (arguments-read inner room keeps all b r form.1 ends.0)
-    ∙ after-read second (MemberReference n a m b) r)
-    ∙ after-gave first second (MemberReference n a m b) r
-    ∙ ap (λ f. gave f (MemberReference n a m b) r) (depth_fault-max (arguments_height a) (arguments_height b) room)
+    (bind_gave (member_of inner others) _ second m r (member-read inner room keeps all m r form.1 ends)
+    ∙ after-read second (ReferenceTo n a m) r)
+    ∙ after-gave first second (ReferenceTo n a m) r
+    ∙ ap (λ f. gave f (ReferenceTo n a m) r) (depth_fault-max (arguments_height a) (member_height m) room)
 
 -- what a tree of one level more than its part gives
 deeper_gave : (height room : ℕ) (t : ExpressionTree) (r : List Symbol) → after (depth_fault height room) (read t r) ≡ gave (depth_fault (suc height) (suc room)) t r
@@ -149,8 +166,7 @@ at_reference : (inner deeper : ℕ → List Symbol → Reading ExpressionTree) (
       found ← reference inner (reference_symbols f r)
       read (ReferenceLeaf found.0) found.1)
 unfolding operand primary
-at_reference inner deeper level (WholeReference n a) r = refl
-at_reference inner deeper level (MemberReference n a m b) r = refl
+at_reference inner deeper level (ReferenceTo n a m) r = refl
 
 reference-operand : (inner deeper : ℕ → List Symbol → Reading ExpressionTree) (room level : ℕ) → Keeps (inner expr_level) → AllRead inner room → (f : ReferenceTree) (r : List Symbol)
     → IsReference f → EndsReference r → OperandRead inner deeper room level (ReferenceLeaf f) r
@@ -164,8 +180,7 @@ at_location : (inner deeper : ℕ → List Symbol → Reading ExpressionTree) (l
       found ← reference inner (reference_symbols f r)
       read (LocationLeaf found.0) found.1)
 unfolding operand primary location
-at_location inner deeper level (WholeReference n a) r = refl
-at_location inner deeper level (MemberReference n a m b) r = refl
+at_location inner deeper level (ReferenceTo n a m) r = refl
 
 location-operand : (inner deeper : ℕ → List Symbol → Reading ExpressionTree) (room level : ℕ) → Keeps (inner expr_level) → AllRead inner room → (f : ReferenceTree) (r : List Symbol)
     → IsReference f → EndsReference r → OperandRead inner deeper room level (LocationLeaf f) r

@@ -8,11 +8,13 @@ use Rattle.trees.specs.declared.expression.BinaryOperator.{BinaryOperator}
 use Rattle.trees.specs.declared.expression.BinaryOperator.TheVariants.{Or, Xor, And, Equal, Less, Greater, LessOrEqual, GreaterOrEqual, Unequal, Add, Subtract, Multiply, Divide, Modulo}
 use Rattle.trees.specs.declared.expression.UnaryOperator.TheVariants.{Not, Negate}
 use Rattle.trees.specs.declared.identifier.Identifier.{Identifier}
-use Rattle.trees.specs.Forms.{expr_level, neg_level, sec_level, primary_level, level_of, left_level, IsNotEmpty, IsExpression, IsReference, AreArguments}
-use Rattle.trees.specs.Nesting.{expression_height, reference_height, arguments_height, targets_height}
-use Rattle.trees.specs.Spelling.{more_after_commas, between_commas, constant_symbols, binary_symbol, expression_symbols, reference_symbols, arguments_symbols, more_arguments_symbols}
+use Rattle.trees.specs.Forms.{expr_level, neg_level, sec_level, primary_level, level_of, IsNotEmpty}
+use Rattle.trees.specs.internal.Forms.{left_level, IsExpression, IsReference, IsMember, AreArguments}
+use Rattle.trees.specs.Nesting.{expression_height, reference_height, member_height, arguments_height, targets_height}
+use Rattle.trees.specs.Spelling.{more_after_commas, between_commas, constant_symbols, binary_symbol}
+use Rattle.trees.specs.internal.Spelling.{expression_symbols, reference_symbols, member_of_symbols, arguments_symbols, more_arguments_symbols}
 use Rattle.trees.specs.Symbols.{Symbol, NameSymbol, ReservedSymbol, MarkSymbol}
-use Rattle.trees.specs.Trees.{ConstantTree, NumberConstant, StringConstant, ExpressionTree, ConstantLeaf, ReferenceLeaf, LocationLeaf, ListLeaf, ParenthesizedNode, AssignmentNode, UnaryNode, BinaryNode, ReferenceTree, WholeReference, MemberReference, ArgumentTrees, NoArguments, MoreArguments}
+use Rattle.trees.specs.Trees.{ConstantTree, NumberConstant, StringConstant, ExpressionTree, ConstantLeaf, ReferenceLeaf, LocationLeaf, ListLeaf, ParenthesizedNode, AssignmentNode, UnaryNode, BinaryNode, ReferenceTree, ReferenceTo, MemberTree, NoMember, MemberOf, ArgumentTrees, NoArguments, MoreArguments}
 use Rattle.syntax.specs.internal.Expressions.{next_operator, top_level, goes_on, arguments_of, arguments, member_of, reference, location, assigned, closed, parenthesized, primary, operand, operator_then, operators, all_operators, expression, expression_less}
 use Rattle.syntax.specs.internal.Lists.{items, Keeps, Shrinks}
 use Rattle.syntax.specs.internal.Looking.{Reading, TooDeep, ◌>>=◌, at_mark, at_word, mark, name, next_name, constant}
@@ -58,11 +60,14 @@ mutual
       omega arith
 
   pub reference-long : (t : ReferenceTree) (r : List Symbol) → length r < length (reference_symbols t r)
-  reference-long (WholeReference n a) r = let h = arguments-long a r in omega arith
-  reference-long (MemberReference n a m b) r =
-      let its = arguments-long b r in
-      let h = arguments-long a (MarkSymbol marks.Period ∷ NameSymbol m ∷ arguments_symbols b r) in
+  reference-long (ReferenceTo n a m) r =
+      let its = member-long m r in
+      let h = arguments-long a (member_of_symbols m r) in
       omega arith
+
+  member-long : (t : MemberTree) (r : List Symbol) → length r ≤ length (member_of_symbols t r)
+  member-long NoMember r = omega arith
+  member-long (MemberOf n a) r = let h = arguments-long a r in omega arith
 
   pub arguments-long : (t : ArgumentTrees) (r : List Symbol) → length r ≤ length (arguments_symbols t r)
   arguments-long NoArguments r = omega arith
@@ -102,6 +107,9 @@ ExpressionFits room level s t r = (s ≡ expression_symbols t r) × (level ≤ p
 abbrev ReferenceFits : ℕ → List Symbol → ReferenceTree → List Symbol → Type 0
 ReferenceFits room s t r = (s ≡ reference_symbols t r) × IsReference t × (reference_height t ≤ room)
 
+abbrev MemberFits : ℕ → List Symbol → MemberTree → List Symbol → Type 0
+MemberFits room s t r = (s ≡ member_of_symbols t r) × IsMember t × (member_height t ≤ room)
+
 abbrev ArgumentsFit : ℕ → List Symbol → ArgumentTrees → List Symbol → Type 0
 ArgumentsFit room s t r = (s ≡ arguments_symbols t r) × AreArguments t × (arguments_height t ≤ room)
 
@@ -138,39 +146,44 @@ arguments-fit inner room fit s r t e = ⊎_elim some none (if_cases (at_mark mar
             ap (λ k. MarkSymbol marks.LeftParenthesis ∷ expression_symbols first k)
             (ap (more_after_commas expression_symbols all) is ∙ more_arguments-spelled all rest)
 
-member-fits : (inner : ℕ → List Symbol → Reading ExpressionTree) (room : ℕ) → AllFit inner room → (base : Identifier) (a : ArgumentTrees) (s r : List Symbol) (t : ReferenceTree)
-    → AreArguments a → arguments_height a ≤ room → member_of inner base a s ≡ read t r
-    → ReferenceFits room (NameSymbol base ∷ arguments_symbols a s) t r
-member-fits inner room fit base a s r t form height e = ⊎_elim some none (if_cases (at_mark marks.Period s) _ _ _ e)
+member-fits : (inner : ℕ → List Symbol → Reading ExpressionTree) (room : ℕ) → AllFit inner room
+    → (s r : List Symbol) (t : MemberTree) → member_of inner s ≡ read t r → MemberFits room s t r
+member-fits inner room fit s r t e = ⊎_elim some none (if_cases (at_mark marks.Period s) _ _ _ e)
   where
-    none : (at_mark marks.Period s ≡ false) × (read (WholeReference base a) s ≡ read t r) → ReferenceFits room (NameSymbol base ∷ arguments_symbols a s) t r
-    none h = moved (ReferenceFits room (NameSymbol base ∷ arguments_symbols a s)) (WholeReference base a) t s r h.1 (refl, form, height)
+    none : (at_mark marks.Period s ≡ false) × (read NoMember s ≡ read t r) → MemberFits room s t r
+    none h = moved (MemberFits room s) NoMember t s r h.1 (refl, tt, omega arith)
 
     some : (at_mark marks.Period s ≡ true) × ((do
       member ← name (drop 1 s)
-      behind ← arguments inner member.1
-      read (MemberReference base a member.0 behind.0) behind.1) ≡ read t r) → ReferenceFits room (NameSymbol base ∷ arguments_symbols a s) t r
+      found ← arguments inner member.1
+      read (MemberOf member.0 found.0) found.1) ≡ read t r) → MemberFits room s t r
     some h =
         let member = bind_ok (name (drop 1 s)) _ _ h.1 in
         let found = bind_ok (arguments inner member.0.1) _ _ member.2 in
         let period = at_mark-is marks.Period s h.0 in
         let its_name = name-ok (drop 1 s) member.0.1 member.0.0 member.1 in
         let its = arguments-fit inner room fit member.0.1 found.0.1 found.0.0 found.1 in
-        moved (ReferenceFits room (NameSymbol base ∷ arguments_symbols a s)) (MemberReference base a member.0.0 found.0.0) t found.0.1 r found.2 (
-          ap (λ k. NameSymbol base ∷ arguments_symbols a k) (period ∙ ap (λ k. MarkSymbol marks.Period ∷ k) (its_name ∙ ap (λ k. NameSymbol member.0.0 ∷ k) its.0)),
-          (form, its.1),
-          omega (arith, its.2, height),
+        moved (MemberFits room s) (MemberOf member.0.0 found.0.0) t found.0.1 r found.2 (
+          period ∙ ap (λ k. MarkSymbol marks.Period ∷ k) (its_name ∙ ap (λ k. NameSymbol member.0.0 ∷ k) its.0),
+          its.1,
+          omega (arith, its.2),
         )
 
-reference-fits : (inner : ℕ → List Symbol → Reading ExpressionTree) (room : ℕ) → AllFit inner room → (s r : List Symbol) (t : ReferenceTree) → reference inner s ≡ read t r → ReferenceFits room s t r
+reference-fits : (inner : ℕ → List Symbol → Reading ExpressionTree) (room : ℕ) → AllFit inner room
+    → (s r : List Symbol) (t : ReferenceTree) → reference inner s ≡ read t r → ReferenceFits room s t r
 unfolding reference
 reference-fits inner room fit s r t e =
     let base = bind_ok (name s) _ _ e in
     let found = bind_ok (arguments inner base.0.1) _ _ base.2 in
+    let member = bind_ok (member_of inner found.0.1) _ _ found.2 in
     let its_name = name-ok s base.0.1 base.0.0 base.1 in
     let its = arguments-fit inner room fit base.0.1 found.0.1 found.0.0 found.1 in
-    let whole = member-fits inner room fit base.0.0 found.0.0 found.0.1 r t its.1 its.2 found.2 in
-    (its_name ∙ ap (λ k. NameSymbol base.0.0 ∷ k) its.0 ∙ whole.0, whole.1, whole.2)
+    let last = member-fits inner room fit found.0.1 member.0.1 member.0.0 member.1 in
+    moved (ReferenceFits room s) (ReferenceTo base.0.0 found.0.0 member.0.0) t member.0.1 r member.2 (
+      its_name ∙ ap (λ k. NameSymbol base.0.0 ∷ k) (its.0 ∙ ap (arguments_symbols found.0.0) last.0),
+      (its.1, last.1),
+      omega (arith, its.2, last.2),
+    )
 
 -- what stands in one level less than the room
 abbrev AllFitBelow : (ℕ → List Symbol → Reading ExpressionTree) → ℕ → Type 0

@@ -2,13 +2,16 @@
 use Rattle.std.proofs.Common.{◌≡◌, ℕ, Bool, true, false, nat_le, List, ◌∷◌, Some, None, if◌then◌else◌, refl, ◌∙◌, ap, arith}
 use Rattle.std.proofs.lemmas.Bool.{leb-true, leb-false}
 use Rattle.std.specs.List.{AllByRecursion}
-use Rattle.words.specs.declared.vocabulary.Mark.TheVariants.{LeftParenthesis, Semicolon}
-use Rattle.trees.specs.Forms.{expr_level, IsExpression, IsReference, AreArguments, IsNotEmpty, IsElement}
+use Rattle.words.specs.declared.vocabulary.Mark.TheVariants.{LeftParenthesis}
+use Rattle.trees.specs.Forms.{expr_level, IsNotEmpty, IsElement}
+use Rattle.trees.specs.internal.Forms.{IsExpression, IsReference, AreArguments}
 use Rattle.trees.specs.Nesting.{expression_height, reference_height, arguments_height}
-use Rattle.trees.specs.Spelling.{expression_symbols, reference_symbols, arguments_symbols, between_commas, element_symbols, heading_symbols}
-use Rattle.trees.specs.Symbols.{Symbol, MarkSymbol}
+use Rattle.trees.specs.Spelling.{between_commas, element_symbols, heading_symbols}
+use Rattle.trees.specs.internal.Spelling.{expression_symbols, reference_symbols, arguments_symbols}
+use Rattle.trees.specs.Symbols.{Symbol}
 use Rattle.trees.specs.Trees.{ExpressionTree, ReferenceTree, ArgumentTrees, ElementTree}
-use Rattle.syntax.specs.internal.Declarations.{elements, heading}
+use Rattle.syntax.specs.internal.Declarations.{element, heading}
+use Rattle.syntax.specs.internal.Lists.{items}
 use Rattle.syntax.specs.internal.Expressions.{expression, reference, arguments}
 use Rattle.syntax.specs.internal.Looking.{TooDeep, Reading, at_mark}
 use Rattle.syntax.proofs.DeclarationLaws.{elements-sound, heading-sound}
@@ -26,11 +29,11 @@ reference-gets room s = record { holds = λ a e. let h = reference-sound room s 
 pub arguments-gets : (room : ℕ) → GetsSpelled arguments_symbols AreArguments (arguments (expression room))
 arguments-gets room s = record { holds = λ a e. let h = arguments-sound room s a.0 a.1 e in (h.0, h.1) }
 
--- the elements that DECLARE declares, with the semicolon behind them
+-- the elements that DECLARE declares
 abbrev pub elements_symbols : List ElementTree → List Symbol → List Symbol
-elements_symbols elements rest = between_commas element_symbols elements (MarkSymbol Semicolon ∷ rest)
+elements_symbols elements rest = between_commas element_symbols elements rest
 
-pub elements-gets : GetsSpelled elements_symbols (λ all. IsNotEmpty all × AllByRecursion IsElement all) elements
+pub elements-gets : GetsSpelled elements_symbols (λ all. IsNotEmpty all × AllByRecursion IsElement all) (items element)
 elements-gets s = record { holds = λ a e. let h = elements-sound s a.1 a.0 e in (h.0, (h.1, h.2)) }
 
 pub heading-gets : GetsSpelled heading_symbols (λ h. Unit {0}) heading

@@ -11,10 +11,10 @@ use Rattle.trees.specs.declared.identifier.Identifier.{Identifier}
 use Rattle.trees.specs.declared.identifier.Number.{Number}
 use Rattle.trees.specs.declared.identifier.Place.{Place}
 use Rattle.trees.specs.Spelling.{binary_symbol, constant_symbols}
-use Rattle.trees.specs.Symbols.{Symbol, NameSymbol, NumberSymbol, StringSymbol, ReservedSymbol, PlacedSymbol, MarkSymbol, UnknownSymbol}
+use Rattle.trees.specs.Symbols.{Symbol, NameSymbol, NumberSymbol, StringSymbol, ReservedSymbol, PlacedSymbol, MarkSymbol, SemicolonSymbol, UnknownSymbol}
 use Rattle.trees.specs.Trees.{StringTree, ConstantTree, NumberConstant, StringConstant}
 use Rattle.syntax.specs.internal.Expressions.{operator_of, next_operator}
-use Rattle.syntax.specs.internal.Looking.{Cause, Unexpected, Reading, ◌>>=◌, mark_number, word_number, at_mark, at_word, place_of_word, next_name, next_constant, mark, word, taken, name, constant, number, string}
+use Rattle.syntax.specs.internal.Looking.{Cause, Unexpected, Reading, ◌>>=◌, mark_number, word_number, at_mark, at_word, place_of_word, next_semicolon, next_name, next_constant, mark, word, taken, semicolon, name, constant, number, string}
 
 -- the marks in the order of their numbers
 marks_in_order : List Mark
@@ -184,6 +184,7 @@ at_mark-is m (NumberSymbol n ∷ rest) e = absurd cc
 at_mark-is m (StringSymbol t ∷ rest) e = absurd cc
 at_mark-is m (ReservedSymbol w ∷ rest) e = absurd cc
 at_mark-is m (PlacedSymbol w p ∷ rest) e = absurd cc
+at_mark-is m (SemicolonSymbol place ∷ rest) e = absurd cc
 at_mark-is m (UnknownSymbol ∷ rest) e = absurd cc
 
 pub at_word-is : (w : ReservedWord) (s : List Symbol) → at_word w s ≡ true → s ≡ ReservedSymbol w ∷ drop 1 s
@@ -194,6 +195,7 @@ at_word-is w (NumberSymbol n ∷ rest) e = absurd cc
 at_word-is w (StringSymbol t ∷ rest) e = absurd cc
 at_word-is w (MarkSymbol m ∷ rest) e = absurd cc
 at_word-is w (PlacedSymbol k p ∷ rest) e = absurd cc
+at_word-is w (SemicolonSymbol place ∷ rest) e = absurd cc
 at_word-is w (UnknownSymbol ∷ rest) e = absurd cc
 
 -- a value that is there only where a test holds
@@ -213,11 +215,23 @@ place_of_word-is w (NumberSymbol n ∷ rest) p e = absurd cc
 place_of_word-is w (StringSymbol t ∷ rest) p e = absurd cc
 place_of_word-is w (MarkSymbol m ∷ rest) p e = absurd cc
 place_of_word-is w (ReservedSymbol k ∷ rest) p e = absurd cc
+place_of_word-is w (SemicolonSymbol place ∷ rest) p e = absurd cc
 place_of_word-is w (UnknownSymbol ∷ rest) p e = absurd cc
 
 -- the symbol of this word, with its place, is seen
 pub place_of_word-at : (w : ReservedWord) (p : Place) (r : List Symbol) → place_of_word w (PlacedSymbol w p ∷ r) ≡ Some p
 place_of_word-at w p r = if_true (word_number w == word_number w) (Some p) None (same_word w)
+
+pub next_semicolon-is : (s : List Symbol) (p : Place) → next_semicolon s ≡ Some p → s ≡ SemicolonSymbol p ∷ drop 1 s
+next_semicolon-is [] p e = absurd cc
+next_semicolon-is (SemicolonSymbol found ∷ rest) p e = cc
+next_semicolon-is (NameSymbol n ∷ rest) p e = absurd cc
+next_semicolon-is (NumberSymbol k ∷ rest) p e = absurd cc
+next_semicolon-is (StringSymbol t ∷ rest) p e = absurd cc
+next_semicolon-is (ReservedSymbol w ∷ rest) p e = absurd cc
+next_semicolon-is (PlacedSymbol w q ∷ rest) p e = absurd cc
+next_semicolon-is (MarkSymbol m ∷ rest) p e = absurd cc
+next_semicolon-is (UnknownSymbol ∷ rest) p e = absurd cc
 
 pub next_name-is : (s : List Symbol) (n : Identifier) → next_name s ≡ Some n → s ≡ NameSymbol n ∷ drop 1 s
 next_name-is [] n e = absurd cc
@@ -227,6 +241,7 @@ next_name-is (NumberSymbol k ∷ rest) n e = absurd cc
 next_name-is (StringSymbol t ∷ rest) n e = absurd cc
 next_name-is (ReservedSymbol w ∷ rest) n e = absurd cc
 next_name-is (PlacedSymbol w p ∷ rest) n e = absurd cc
+next_name-is (SemicolonSymbol place ∷ rest) n e = absurd cc
 next_name-is (UnknownSymbol ∷ rest) n e = absurd cc
 
 pub next_constant-is : (s : List Symbol) (c : ConstantTree) → next_constant s ≡ Some c → s ≡ constant_symbols c (drop 1 s)
@@ -237,6 +252,7 @@ next_constant-is (NameSymbol n ∷ rest) c e = absurd cc
 next_constant-is (MarkSymbol m ∷ rest) c e = absurd cc
 next_constant-is (ReservedSymbol w ∷ rest) c e = absurd cc
 next_constant-is (PlacedSymbol w p ∷ rest) c e = absurd cc
+next_constant-is (SemicolonSymbol place ∷ rest) c e = absurd cc
 next_constant-is (UnknownSymbol ∷ rest) c e = absurd cc
 
 pub next_constant-at : (c : ConstantTree) (r : List Symbol) → next_constant (constant_symbols c r) ≡ Some c
@@ -320,6 +336,11 @@ name-ok s r n e =
     let parts = taken-ok (next_name s) s r n e in
     next_name-is s n parts.0 ∙ ap (λ k. NameSymbol n ∷ k) parts.1
 
+pub semicolon-ok : (s r : List Symbol) (p : Place) → semicolon s ≡ Ok (p, r) → s ≡ SemicolonSymbol p ∷ r
+semicolon-ok s r p e =
+    let parts = taken-ok (next_semicolon s) s r p e in
+    next_semicolon-is s p parts.0 ∙ ap (λ k. SemicolonSymbol p ∷ k) parts.1
+
 pub constant-ok : (s r : List Symbol) (c : ConstantTree) → constant s ≡ Ok (c, r) → s ≡ constant_symbols c r
 constant-ok s r c e =
     let parts = taken-ok (next_constant s) s r c e in
@@ -341,6 +362,7 @@ number-ok (StringSymbol t ∷ rest) r n e = absurd cc
 number-ok (MarkSymbol m ∷ rest) r n e = absurd cc
 number-ok (ReservedSymbol w ∷ rest) r n e = absurd cc
 number-ok (PlacedSymbol w p ∷ rest) r n e = absurd cc
+number-ok (SemicolonSymbol place ∷ rest) r n e = absurd cc
 number-ok (UnknownSymbol ∷ rest) r n e = absurd cc
 
 pub string-ok : (s r : List Symbol) (t : StringTree) → string s ≡ Ok (t, r) → s ≡ StringSymbol t ∷ r
@@ -355,4 +377,5 @@ string-ok (NumberSymbol n ∷ rest) r t e = absurd cc
 string-ok (MarkSymbol m ∷ rest) r t e = absurd cc
 string-ok (ReservedSymbol w ∷ rest) r t e = absurd cc
 string-ok (PlacedSymbol w p ∷ rest) r t e = absurd cc
+string-ok (SemicolonSymbol place ∷ rest) r t e = absurd cc
 string-ok (UnknownSymbol ∷ rest) r t e = absurd cc

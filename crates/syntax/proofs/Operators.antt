@@ -5,12 +5,12 @@ use Rattle.trees.specs.declared.expression.BinaryOperator.{BinaryOperator}
 use Rattle.trees.specs.declared.identifier.Identifier.{Identifier}
 use Rattle.trees.specs.Forms.{level_of}
 use Rattle.trees.specs.Nesting.{expression_height}
-use Rattle.trees.specs.Symbols.{Symbol, NameSymbol, NumberSymbol, StringSymbol, ReservedSymbol, PlacedSymbol, MarkSymbol, UnknownSymbol}
+use Rattle.trees.specs.Symbols.{Symbol, NameSymbol, NumberSymbol, StringSymbol, ReservedSymbol, PlacedSymbol, MarkSymbol, SemicolonSymbol, UnknownSymbol}
 use Rattle.trees.specs.Trees.{ExpressionTree, ConstantLeaf, ReferenceLeaf, BinaryNode, ReferenceTree}
-use Rattle.syntax.specs.internal.Expressions.{expression, operand, primary, parenthesized, location, reference, expression_less, all_operators, operator_then, next_operator, goes_on, top_level}
+use Rattle.syntax.specs.internal.Expressions.{expression, operand, primary, parenthesized, location, reference_after, reference, expression_less, all_operators, operator_then, next_operator, goes_on, top_level}
 use Rattle.syntax.specs.internal.Looking.{Cause, TooDeep, Reading, ◌>>=◌, at_mark, next_name, constant}
 use Rattle.syntax.specs.internal.Giving.{FailsBy}
-use Rattle.syntax.specs.internal.Parts.{operator_on, reference_behind}
+use Rattle.syntax.specs.internal.Parts.{operator_on}
 use Rattle.syntax.proofs.LookingLemmas.{bind_at, bind_fails}
 use Rattle.syntax.proofs.ExpressionSound.{expression-keeps, expression-shrinks}
 use Rattle.syntax.proofs.OperatorLaws.{all_operators-step}
@@ -108,20 +108,21 @@ reference_leaf found = Ok (ReferenceLeaf found.0, found.1)
 
 -- a name
 pub primary_name : (inner deeper : ℕ → List Symbol → Reading ExpressionTree) (s : List Symbol) (base : Identifier) → next_name s ≡ Some base
-    → primary inner deeper s ≡ (reference_behind inner base (drop 1 s) >>= reference_leaf)
+    → primary inner deeper s ≡ (reference_after inner base (drop 1 s) >>= reference_leaf)
 unfolding primary reference
 primary_name inner deeper [] base e = absurd cc
 primary_name inner deeper (NameSymbol name ∷ s) base e = let same : name ≡ base = cc in rw same (go inner base s)
   where
     go : (inner : ℕ → List Symbol → Reading ExpressionTree) (base : Identifier) (s : List Symbol)
         → (reference inner (NameSymbol base ∷ s) >>= reference_leaf)
-        ≡ (reference_behind inner base s >>= reference_leaf)
+        ≡ (reference_after inner base s >>= reference_leaf)
     go inner base s = refl
 primary_name inner deeper (NumberSymbol _ ∷ s) base e = absurd cc
 primary_name inner deeper (StringSymbol _ ∷ s) base e = absurd cc
 primary_name inner deeper (ReservedSymbol _ ∷ s) base e = absurd cc
 primary_name inner deeper (PlacedSymbol _ _ ∷ s) base e = absurd cc
 primary_name inner deeper (MarkSymbol _ ∷ s) base e = absurd cc
+primary_name inner deeper (SemicolonSymbol _ ∷ s) base e = absurd cc
 primary_name inner deeper (UnknownSymbol ∷ s) base e = absurd cc
 
 -- a constant
@@ -182,16 +183,16 @@ operators_do_not_go_on room level lower height top whole left operator s after (
 
 -- a reference
 pub primary_reads : (inner deeper : ℕ → List Symbol → Reading ExpressionTree) (s after r : List Symbol) (base : Identifier) (found : ReferenceTree) (made : ExpressionTree)
-    → Some base ≡ next_name s → after ≡ drop 1 s → reference_behind inner base after ≡ Ok (found, r) → made ≡ ReferenceLeaf found
+    → Some base ≡ next_name s → after ≡ drop 1 s → reference_after inner base after ≡ Ok (found, r) → made ≡ ReferenceLeaf found
     → primary inner deeper s ≡ Ok (made, r)
 primary_reads inner deeper s after r base found made named skipped e leaf =
-    let e' : reference_behind inner base (drop 1 s) ≡ Ok (found, r) = ap (reference_behind inner base) (sym skipped) ∙ e in
-    primary_name inner deeper s base (sym named) ∙ bind_at (reference_behind inner base (drop 1 s)) reference_leaf (found, r) e' ∙ ap (λ t. Ok (t, r)) (sym leaf)
+    let e' : reference_after inner base (drop 1 s) ≡ Ok (found, r) = ap (reference_after inner base) (sym skipped) ∙ e in
+    primary_name inner deeper s base (sym named) ∙ bind_at (reference_after inner base (drop 1 s)) reference_leaf (found, r) e' ∙ ap (λ t. Ok (t, r)) (sym leaf)
 
 -- no reference behind a name
 pub primary_fails : (inner deeper : ℕ → List Symbol → Reading ExpressionTree) (s after : List Symbol) (base : Identifier) (cause : Option Cause)
-    → Some base ≡ next_name s → after ≡ drop 1 s → FailsBy cause (reference_behind inner base after) → FailsBy cause (primary inner deeper s)
+    → Some base ≡ next_name s → after ≡ drop 1 s → FailsBy cause (reference_after inner base after) → FailsBy cause (primary inner deeper s)
 primary_fails inner deeper s after base None named skipped e = tt
 primary_fails inner deeper s after base (Some cause) named skipped e =
-    let e' : reference_behind inner base (drop 1 s) ≡ Err cause = ap (reference_behind inner base) (sym skipped) ∙ e in
-    primary_name inner deeper s base (sym named) ∙ bind_fails (reference_behind inner base (drop 1 s)) reference_leaf cause e'
+    let e' : reference_after inner base (drop 1 s) ≡ Err cause = ap (reference_after inner base) (sym skipped) ∙ e in
+    primary_name inner deeper s base (sym named) ∙ bind_fails (reference_after inner base (drop 1 s)) reference_leaf cause e'

@@ -4,7 +4,8 @@ use Rattle.words.specs.declared.vocabulary.Mark.TheVariants.{Semicolon, EqualSig
 use Rattle.words.specs.declared.vocabulary.ReservedWord.TheVariants as words
 use Rattle.trees.specs.declared.identifier.Identifier.{Identifier}
 use Rattle.trees.specs.Forms.{IsStatement, AreStatements, IsDeclaration, AreDeclarations}
-use Rattle.trees.specs.Spelling.{more_after_commas, between_commas, expression_symbols, reference_symbols, ending_symbols, optional, step_symbols, iteration_symbols, statement_symbols, statements_symbols, declaration_symbols, declarations_symbols}
+use Rattle.trees.specs.Spelling.{more_after_commas, between_commas, ending_symbols, optional, step_symbols, iteration_symbols, statement_symbols, statements_symbols, declaration_symbols, declarations_symbols}
+use Rattle.trees.specs.internal.Spelling.{expression_symbols, reference_symbols}
 use Rattle.trees.specs.Symbols.{Symbol, MarkSymbol, ReservedSymbol}
 use Rattle.trees.specs.Trees.{ExpressionTree, ReferenceTree, IterationTree, StatementTree, NullStatement, AssignmentStatement, CallStatement, ReturnStatement, HaltStatement, IfStatement, IfElseStatement, DoStatement, WhileStatement, IterateStatement, CaseStatement, StatementTrees, NoStatements, MoreStatements, DeclarationTree, DeclareTree, ProcedureTree, DeclarationTrees, NoDeclarations, MoreDeclarations}
 use Rattle.syntax.proofs.DeclarationLaws.{elements-reads, elements-shrinks, heading-reads, heading-shrinks}

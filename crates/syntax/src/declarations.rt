@@ -3,7 +3,7 @@
 ghost use Rattle.std.specs.Prelude.{◌≡◌, Ok, map};
 ghost use Rattle.std.specs.Option.{option_map};
 ghost use Rattle.trees.specs.Views.{origin_tree, restricted_tree, item_type_tree, at_tree, value_list_tree, subject_tree, item_tree, element_tree, heading_tree, offset_tree};
-ghost use Rattle.syntax.specs.internal.Declarations.{origin, next_sign, all_offsets, restricted, next_scalar, scalar, result_type, count, dimension_inside, dimension, member, item_type, next_linkage, linkage, at, next_storage, value_list, base, names, item_behind, element_behind, element, elements, parameters, reentrant, heading};
+ghost use Rattle.syntax.specs.internal.Declarations.{origin, next_sign, all_offsets, restricted, next_scalar, scalar, result_type, count, dimension_inside, dimension, member, item_type, next_linkage, linkage, at, next_storage, value_list, base, names, item_behind, element_behind, element, parameters, reentrant, heading};
 ghost use Rattle.syntax.specs.internal.Giving.{Gives};
 ghost use Rattle.syntax.specs.internal.Lists.{items};
 ghost use Rattle.syntax.specs.internal.Looking.{name};
@@ -290,16 +290,6 @@ impl<'a> Reader<'a> {
         Ok(Element::item(self.alloc, found)?)
     }
 
-    /// element {`,` element} `;`, behind DECLARE
-    #[tactic(auto, using(crate::proofs::ListedItems::listed), unfolding(crate::specs::internal::Declarations::elements))]
-    pub(crate) fn take_elements(&mut self) -> Result<Vec<Element>, Failure<Fault>>
-        ensures { Gives (λ found. map element_tree found.items) result self.new (elements self.old) }
-    {
-        let found = self.take_list::<Element>()?;
-        self.take_mark(Mark::Semicolon)?;
-        Ok(found)
-    }
-
     // [`(` name {`,` name} `)`]
     fn take_parameters(&mut self) -> Result<Vec<Identifier>, Failure<Fault>>
         ensures { Gives (λ found. found.items) result self.new (parameters self.old) }
@@ -329,7 +319,7 @@ impl<'a> Reader<'a> {
         Some(place)
     }
 
-    /// name `:` PROCEDURE [`(` name {`,` name} `)`] [BYTE | ADDRESS] [PUBLIC | EXTERNAL] [REENTRANT] `;`
+    /// name `:` PROCEDURE [`(` name {`,` name} `)`] [BYTE | ADDRESS] [PUBLIC | EXTERNAL] [REENTRANT]
     #[tactic(auto, unfolding(crate::specs::internal::Declarations::heading))]
     pub(crate) fn take_heading(&mut self) -> Result<Heading, Failure<Fault>>
         ensures { Gives heading_tree result self.new (heading self.old) }
@@ -341,7 +331,6 @@ impl<'a> Reader<'a> {
         let result = self.take_result_type();
         let linkage = self.take_linkage();
         let reentrant = self.take_reentrant();
-        self.take_mark(Mark::Semicolon)?;
         Ok(Heading {
             name,
             parameters,

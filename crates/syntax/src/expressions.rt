@@ -2,13 +2,13 @@
 
 ghost use Rattle.std.specs.Prelude.{◌≡◌, ◌<◌, ◌≤◌, ◌+◌, suc, map, IfOk};
 ghost use Rattle.trees.specs.Views.{constant_tree, expression_tree, reference_tree, argument_trees};
-ghost use Rattle.syntax.specs.internal.Expressions.{arguments, reference, location, assigned, closed, parenthesized, primary, operand, all_operators, expression, expression_less, next_operator};
+ghost use Rattle.syntax.specs.internal.Expressions.{arguments, reference_after, reference, location, assigned, closed, parenthesized, primary, operand, all_operators, expression, expression_less, next_operator};
 ghost use Rattle.trees.specs.Forms.{expr_level};
 ghost use Rattle.trees.specs.Trees.{ReferenceLeaf};
 ghost use Rattle.syntax.specs.internal.Giving.{Gives};
 ghost use Rattle.syntax.specs.internal.Lists.{items};
 ghost use Rattle.syntax.specs.internal.Looking.{constant, name};
-ghost use Rattle.syntax.specs.internal.Parts.{reference_behind, operator_on};
+ghost use Rattle.syntax.specs.internal.Parts.{operator_on};
 
 use crate::fault::Fault;
 use crate::measured::{
@@ -112,7 +112,7 @@ impl<'a> Reader<'a> {
             return Ok(Measured::constant(found));
         };
         self.skip();
-        let found = self.reference_behind(base, room)?;
+        let found = self.reference_after(base, room)?;
         Ok(Measured::reference(self.alloc, found)?)
     }
 
@@ -165,7 +165,7 @@ impl<'a> Reader<'a> {
             return Ok(Measured::list(constants));
         }
         let base = self.take_name()?;
-        let found = self.reference_behind(base, room)?;
+        let found = self.reference_after(base, room)?;
         Ok(Measured::location(self.alloc, found)?)
     }
 
@@ -177,28 +177,28 @@ impl<'a> Reader<'a> {
         ensures fits { IfOk result (λ found. found.height ≤ room) }
     {
         let base = self.take_name()?;
-        self.reference_behind(base, room)
+        self.reference_after(base, room)
     }
 
-    // What stands behind the name of a reference: arguments, and perhaps a member with its own.
+    // [args] [`.` name [args]], after the name of a reference.
     #[cycle(expression)]
-    fn reference_behind(
+    fn reference_after(
         &mut self,
-        base: Identifier,
+        name: Identifier,
         room: u8,
     ) -> Result<MeasuredReference, Failure<Fault>>
         requires { room ≤ 64 }
-        ensures gives { Gives (λ found. reference_tree found.reference) result self.new (reference_behind (expression room) base self.old) }
+        ensures gives { Gives (λ found. reference_tree found.reference) result self.new (reference_after (expression room) name self.old) }
         ensures fits { IfOk result (λ found. found.height ≤ room) }
     {
-        let its_arguments = self.arguments(room)?;
+        let arguments = self.arguments(room)?;
         if !self.at_mark(Mark::Period) {
-            return Ok(MeasuredReference::whole(self.alloc, base, its_arguments)?);
+            return Ok(MeasuredReference::whole(self.alloc, name, arguments)?);
         }
         self.skip();
         let member = self.take_name()?;
-        let behind = self.arguments(room)?;
-        Ok(MeasuredReference::member(self.alloc, base, its_arguments, member, behind)?)
+        let its_arguments = self.arguments(room)?;
+        Ok(MeasuredReference::member(self.alloc, name, arguments, member, its_arguments)?)
     }
 
     /// Arguments in parentheses that take no more levels than the room, or none.

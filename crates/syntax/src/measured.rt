@@ -1,9 +1,10 @@
 //! Expressions with what their reader asks of them again and again: how high they are, and where they may stand.
 
 ghost use Rattle.std.specs.Prelude.{◌≡◌, ◌<◌, ◌+◌, suc, max, [], ◌∷◌, ◌++◌, IfOk, OnOk, IfSome, IsNone, false, map};
-ghost use Rattle.trees.specs.Forms.{expr_level, neg_level, rel_level, sec_level, primary_level, level_of, left_level, unary_level_of};
+ghost use Rattle.trees.specs.Forms.{expr_level, neg_level, rel_level, sec_level, primary_level, level_of};
+ghost use Rattle.trees.specs.internal.Forms.{left_level, unary_level_of};
 ghost use Rattle.trees.specs.Nesting.{expression_height, reference_height, arguments_height};
-ghost use Rattle.trees.specs.Trees.{ConstantLeaf, ReferenceLeaf, LocationLeaf, ListLeaf, ParenthesizedNode, AssignmentNode, UnaryNode, BinaryNode, WholeReference, MemberReference, NoArguments};
+ghost use Rattle.trees.specs.Trees.{ConstantLeaf, ReferenceLeaf, LocationLeaf, ListLeaf, ParenthesizedNode, AssignmentNode, UnaryNode, BinaryNode, ReferenceTo, NoMember, MemberOf, NoArguments};
 ghost use Rattle.trees.specs.Views.{constant_tree, expression_tree, reference_tree, argument_trees, reference_of, is_reference_leaf};
 ghost use Rattle.syntax.specs.internal.Expressions.{top_level};
 
@@ -226,7 +227,7 @@ impl MeasuredReference {
         name: Identifier,
         arguments: MeasuredArguments,
     ) -> Result<MeasuredReference, AllocError>
-        ensures view { IfOk result (λ made. reference_tree made.reference ≡ WholeReference name (argument_trees arguments.items.items)) }
+        ensures view { IfOk result (λ made. reference_tree made.reference ≡ ReferenceTo name (argument_trees arguments.items.items) NoMember) }
         ensures height { IfOk result (λ made. made.height ≡ arguments.height) }
     {
         let MeasuredArguments { items, height } = arguments;
@@ -248,7 +249,7 @@ impl MeasuredReference {
         member: Identifier,
         its_arguments: MeasuredArguments,
     ) -> Result<MeasuredReference, AllocError>
-        ensures view { IfOk result (λ made. reference_tree made.reference ≡ MemberReference name (argument_trees arguments.items.items) member (argument_trees its_arguments.items.items)) }
+        ensures view { IfOk result (λ made. reference_tree made.reference ≡ ReferenceTo name (argument_trees arguments.items.items) (MemberOf member (argument_trees its_arguments.items.items))) }
         ensures height { IfOk result (λ made. made.height ≡ max arguments.height its_arguments.height) }
     {
         let height = arguments.height.max(its_arguments.height);

@@ -7,7 +7,7 @@ ghost use Rattle.words.specs.Strings.{characters_of, unquoted};
 ghost use Rattle.trees.specs.Views.{constant_tree, string_tree};
 ghost use Rattle.syntax.specs.internal.Expressions.{operator_of, next_operator};
 ghost use Rattle.syntax.specs.internal.Giving.{left_of, cause_of, Gives, Leaves};
-ghost use Rattle.syntax.specs.internal.Looking.{Cause, Unexpected, TooDeep, at_mark, at_word, keeps_place, place_of_word, next_name, mark, word, taken, name, number, string, constant};
+ghost use Rattle.syntax.specs.internal.Looking.{Cause, Unexpected, TooDeep, at_mark, at_word, is_semicolon, keeps_place, place_of_word, next_semicolon, next_name, mark, word, semicolon, taken, name, number, string, constant};
 ghost use Rattle.syntax.specs.internal.Parts.{string_constant, number_constant};
 
 use crate::fault::Fault;
@@ -80,8 +80,9 @@ impl<'a> Reader<'a> {
         self.rest.first()
     }
 
-    /// Whether the next word is a mark.
+    /// Whether the next word is a mark other than a semicolon.
     pub(crate) fn at_mark(&self, mark: Mark) -> bool
+        requires { is_semicolon mark ≡ false }
         ensures { result ≡ at_mark mark self.now }
     {
         match self.next() {
@@ -123,6 +124,16 @@ impl<'a> Reader<'a> {
         }
     }
 
+    /// The place of a semicolon, if it is the next word.
+    pub(crate) fn next_semicolon(&self) -> Option<Place>
+        ensures { result ≡ next_semicolon self.now }
+    {
+        match self.next() {
+            Some(word) if is_mark(word.kind, Mark::Semicolon) => Some(place_of(word)),
+            _ => None,
+        }
+    }
+
     /// The next word, if it is a name.
     pub(crate) fn next_name(&self) -> Option<Identifier>
         ensures { result ≡ next_name self.now }
@@ -144,8 +155,9 @@ impl<'a> Reader<'a> {
         }
     }
 
-    /// A mark.
+    /// A mark other than a semicolon.
     pub(crate) fn take_mark(&mut self, wanted: Mark) -> Result<(), Failure<Fault>>
+        requires { is_semicolon wanted ≡ false }
         ensures { Leaves result self.new (mark wanted self.old) }
     {
         if !self.at_mark(wanted) {
@@ -153,6 +165,19 @@ impl<'a> Reader<'a> {
         }
         self.skip();
         Ok(())
+    }
+
+    /// A semicolon.
+    pub(crate) fn take_semicolon(&mut self) -> Result<Place, Failure<Fault>>
+        ensures { Gives (λ place. place) result self.new (semicolon self.old) }
+    {
+        match self.next_semicolon() {
+            Some(place) => {
+                self.skip();
+                Ok(place)
+            }
+            None => Err(self.unexpected()),
+        }
     }
 
     /// A reserved word whose place is not kept.

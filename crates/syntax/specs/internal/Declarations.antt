@@ -264,13 +264,6 @@ group_element symbols = do
   found ← item_behind (GroupSubject its_names.0) its_names.1
   Ok (ItemElement found.0, found.1)
 
--- element {`,` element} `;`, behind DECLARE
-unfoldable pub elements : List Symbol → Reading (List ElementTree)
-elements symbols = do
-  found ← items element symbols
-  rest ← mark marks.Semicolon found.1
-  Ok (found.0, rest)
-
 -- [`(` name {`,` name} `)`]
 abbrev pub parameters : List Symbol → Reading (List Identifier)
 parameters symbols = if at_mark marks.LeftParenthesis symbols then names symbols else Ok ([], symbols)
@@ -283,7 +276,7 @@ reentrant_of (Some place) symbols = Ok (Some place, drop 1 symbols)
 abbrev pub reentrant : List Symbol → Reading (Option Place)
 reentrant symbols = reentrant_of (place_of_word words.Reentrant symbols) symbols
 
--- name `:` PROCEDURE [`(` name {`,` name} `)`] [BYTE | ADDRESS] [PUBLIC | EXTERNAL] [REENTRANT] `;`
+-- name `:` PROCEDURE [`(` name {`,` name} `)`] [BYTE | ADDRESS] [PUBLIC | EXTERNAL] [REENTRANT]
 unfoldable pub heading : List Symbol → Reading HeadingTree
 heading symbols = do
   own ← name symbols
@@ -293,5 +286,4 @@ heading symbols = do
   its_result ← result_type its_parameters.1
   its_linkage ← linkage its_result.1
   its_reentrant ← reentrant its_linkage.1
-  rest ← mark marks.Semicolon its_reentrant.1
-  Ok (record { name = own.0; parameters = its_parameters.0; result = its_result.0; linkage = its_linkage.0; reentrant = its_reentrant.0 }, rest)
+  Ok (record { name = own.0; parameters = its_parameters.0; result = its_result.0; linkage = its_linkage.0; reentrant = its_reentrant.0 }, its_reentrant.1)

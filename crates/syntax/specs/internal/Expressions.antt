@@ -6,10 +6,11 @@ use Rattle.trees.specs.declared.expression.BinaryOperator.{BinaryOperator}
 use Rattle.trees.specs.declared.expression.BinaryOperator.TheVariants.{Or, Xor, And, Equal, Less, Greater, LessOrEqual, GreaterOrEqual, Unequal, Add, Subtract, Multiply, Divide, Modulo}
 use Rattle.trees.specs.declared.expression.UnaryOperator.TheVariants.{Not, Negate}
 use Rattle.trees.specs.declared.identifier.Identifier.{Identifier}
-use Rattle.trees.specs.Forms.{expr_level, neg_level, sec_level, primary_level, level_of, left_level, unary_level_of}
+use Rattle.trees.specs.Forms.{expr_level, neg_level, sec_level, primary_level, level_of}
+use Rattle.trees.specs.internal.Forms.{left_level, unary_level_of}
 use Rattle.trees.specs.Nesting.{expression_height}
 use Rattle.trees.specs.Symbols.{Symbol, MarkSymbol, ReservedSymbol}
-use Rattle.trees.specs.Trees.{ExpressionTree, ConstantLeaf, ReferenceLeaf, LocationLeaf, ListLeaf, ParenthesizedNode, AssignmentNode, UnaryNode, BinaryNode, ReferenceTree, WholeReference, MemberReference, ArgumentTrees, NoArguments, MoreArguments}
+use Rattle.trees.specs.Trees.{ExpressionTree, ConstantLeaf, ReferenceLeaf, LocationLeaf, ListLeaf, ParenthesizedNode, AssignmentNode, UnaryNode, BinaryNode, ReferenceTree, ReferenceTo, MemberTree, NoMember, MemberOf, ArgumentTrees, NoArguments, MoreArguments}
 use Rattle.syntax.specs.internal.Looking.{Reading, Unexpected, TooDeep, ◌>>=◌, at_mark, at_word, mark, name, next_name, constant}
 use Rattle.syntax.specs.internal.Lists.{items}
 
@@ -60,21 +61,27 @@ arguments inner symbols =
       Ok (arguments_of found.0, rest))
     else Ok (NoArguments, symbols)
 
--- [`.` name [args]], behind a name with its arguments
-abbrev pub member_of : (ℕ → List Symbol → Reading ExpressionTree) → Identifier → ArgumentTrees → List Symbol → Reading ReferenceTree
-member_of inner base its_arguments symbols =
+-- [`.` name [args]]
+abbrev pub member_of : (ℕ → List Symbol → Reading ExpressionTree) → List Symbol → Reading MemberTree
+member_of inner symbols =
     if at_mark marks.Period symbols then (do
       member ← name (drop 1 symbols)
-      behind ← arguments inner member.1
-      Ok (MemberReference base its_arguments member.0 behind.0, behind.1))
-    else Ok (WholeReference base its_arguments, symbols)
+      found ← arguments inner member.1
+      Ok (MemberOf member.0 found.0, found.1))
+    else Ok (NoMember, symbols)
+
+-- [args] [`.` name [args]], after the name of a reference
+abbrev pub reference_after : (ℕ → List Symbol → Reading ExpressionTree) → Identifier → List Symbol → Reading ReferenceTree
+reference_after inner base symbols = do
+  its_arguments ← arguments inner symbols
+  its_member ← member_of inner its_arguments.1
+  Ok (ReferenceTo base its_arguments.0 its_member.0, its_member.1)
 
 -- reference: name [args] [`.` name [args]]
 unfoldable pub reference : (ℕ → List Symbol → Reading ExpressionTree) → List Symbol → Reading ReferenceTree
 reference inner symbols = do
   base ← name symbols
-  found ← arguments inner base.1
-  member_of inner base.0 found.0 found.1
+  reference_after inner base.0 base.1
 
 -- what stands behind a period: a reference, or constants in parentheses
 unfoldable pub location : (ℕ → List Symbol → Reading ExpressionTree) → List Symbol → Reading ExpressionTree

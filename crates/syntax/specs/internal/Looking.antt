@@ -7,7 +7,7 @@ use Rattle.words.specs.declared.vocabulary.ReservedWord.TheVariants as words
 use Rattle.trees.specs.declared.identifier.Identifier.{Identifier}
 use Rattle.trees.specs.declared.identifier.Number.{Number}
 use Rattle.trees.specs.declared.identifier.Place.{Place}
-use Rattle.trees.specs.Symbols.{Symbol, NameSymbol, NumberSymbol, StringSymbol, ReservedSymbol, PlacedSymbol, MarkSymbol}
+use Rattle.trees.specs.Symbols.{Symbol, NameSymbol, NumberSymbol, StringSymbol, ReservedSymbol, PlacedSymbol, MarkSymbol, SemicolonSymbol}
 use Rattle.trees.specs.Trees.{StringTree, ConstantTree, NumberConstant, StringConstant}
 
 -- why there is nothing to read: a symbol that can't stand there, too many levels, or another name behind END
@@ -94,6 +94,7 @@ keeps_place words.Call = true
 keeps_place words.Data = true
 keeps_place words.Do = true
 keeps_place words.External = true
+keeps_place words.Goto = true
 keeps_place words.Halt = true
 keeps_place words.If = true
 keeps_place words.Initial = true
@@ -102,7 +103,12 @@ keeps_place words.Reentrant = true
 keeps_place words.Return = true
 keeps_place word = false
 
--- whether the next symbol is this mark
+-- whether a mark is a semicolon, of which the tree keeps the place
+abbrev pub is_semicolon : Mark → Bool
+is_semicolon marks.Semicolon = true
+is_semicolon mark = false
+
+-- whether the next symbol is this mark, other than a semicolon
 abbrev pub at_mark : Mark → List Symbol → Bool
 at_mark mark (MarkSymbol found ∷ rest) = mark_number found == mark_number mark
 at_mark mark symbols = false
@@ -116,6 +122,11 @@ at_word word symbols = false
 abbrev pub place_of_word : ReservedWord → List Symbol → Option Place
 place_of_word word (PlacedSymbol found place ∷ rest) = if word_number found == word_number word then Some place else None
 place_of_word word symbols = None
+
+-- where a semicolon stands, if it is the next symbol
+abbrev pub next_semicolon : List Symbol → Option Place
+next_semicolon (SemicolonSymbol place ∷ rest) = Some place
+next_semicolon symbols = None
 
 -- the next symbol, if it is a name
 abbrev pub next_name : List Symbol → Option Identifier
@@ -140,6 +151,10 @@ word wanted symbols = if at_word wanted symbols then Ok (drop 1 symbols) else Er
 abbrev pub taken : {A : Type 0} → Option A → List Symbol → Reading A
 taken (Some found) symbols = Ok (found, drop 1 symbols)
 taken None symbols = Err Unexpected
+
+-- a semicolon, of which the place is read
+abbrev pub semicolon : List Symbol → Reading Place
+semicolon symbols = taken (next_semicolon symbols) symbols
 
 -- a name
 abbrev pub name : List Symbol → Reading Identifier

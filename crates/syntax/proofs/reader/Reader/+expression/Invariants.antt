@@ -27,8 +27,8 @@ decreases-assigned l = 10 * l.room + 6
 abbrev pub decreases-location : goal.decreases-location
 decreases-location l = 10 * l.room + 5
 
-abbrev pub decreases-reference_behind : goal.decreases-reference_behind
-decreases-reference_behind l = 10 * l.room + 4
+abbrev pub decreases-reference_after : goal.decreases-reference_after
+decreases-reference_after l = 10 * l.room + 4
 
 abbrev pub decreases-arguments : goal.decreases-arguments
 decreases-arguments l = 10 * l.room + 3
