@@ -64,11 +64,11 @@ reentrant-reads None r ends = ap (λ g. reentrant_of g r) ends
 reentrant-reads (Some p) r ends = refl
 
 -- the symbols of the head of a procedure, from those of its parts
-heading-parts : (h : HeadingTree) (s colon procedure behind type link again r : List Symbol)
-    → s ≡ NameSymbol h.name ∷ colon → colon ≡ MarkSymbol marks.Colon ∷ procedure → procedure ≡ ReservedSymbol words.Procedure ∷ behind
-    → behind ≡ parameters_symbols h.parameters type → type ≡ optional scalar_symbols h.result link → link ≡ optional linkage_symbols h.linkage again
+heading-parts : (h : HeadingTree) (s colon procedure later type link again r : List Symbol)
+    → s ≡ NameSymbol h.name ∷ colon → colon ≡ MarkSymbol marks.Colon ∷ procedure → procedure ≡ ReservedSymbol words.Procedure ∷ later
+    → later ≡ parameters_symbols h.parameters type → type ≡ optional scalar_symbols h.result link → link ≡ optional linkage_symbols h.linkage again
     → again ≡ optional reentrant_symbols h.reentrant r → s ≡ heading_symbols h r
-heading-parts h s colon procedure behind type link again r first second third fourth fifth sixth seventh =
+heading-parts h s colon procedure later type link again r first second third fourth fifth sixth seventh =
     first
     ∙ ap (λ k. NameSymbol h.name ∷ k) (second
     ∙ ap (λ k. MarkSymbol marks.Colon ∷ k) (third
@@ -94,25 +94,25 @@ heading-sound s r h e =
     (word-ok words.Procedure b.0 c.0 c.1) (parameters-spelled c.0 d.0.1 d.0.0 d.1) (result_type-spelled d.0.1 f.0.1 f.0.0 f.1)
     (linkage-spelled f.0.1 g.0.1 g.0.0 g.1) (reentrant-spelled g.0.1 i.0.1 i.0.0 i.1))
 
--- what may stand behind the parameters, the result and the linkage of a procedure
-behind_parameters : (t : Option ScalarType) (l : Option Linkage) (p : Option Place) (q : Place) (r : List Symbol)
+-- what may stand after the parameters, the result and the linkage of a procedure
+after_parameters : (t : Option ScalarType) (l : Option Linkage) (p : Option Place) (q : Place) (r : List Symbol)
     → at_mark marks.LeftParenthesis (optional scalar_symbols t (optional linkage_symbols l (optional reentrant_symbols p (SemicolonSymbol q ∷ r)))) ≡ false
-behind_parameters (Some Byte) l p q r = refl
-behind_parameters (Some Address) l p q r = refl
-behind_parameters None (Some (Public at)) p q r = refl
-behind_parameters None (Some (External at)) p q r = refl
-behind_parameters None None (Some at) q r = refl
-behind_parameters None None None q r = refl
+after_parameters (Some Byte) l p q r = refl
+after_parameters (Some Address) l p q r = refl
+after_parameters None (Some (Public at)) p q r = refl
+after_parameters None (Some (External at)) p q r = refl
+after_parameters None None (Some at) q r = refl
+after_parameters None None None q r = refl
 
-behind_result : (l : Option Linkage) (p : Option Place) (q : Place) (r : List Symbol) → next_scalar (optional linkage_symbols l (optional reentrant_symbols p (SemicolonSymbol q ∷ r))) ≡ None
-behind_result (Some (Public at)) p q r = refl
-behind_result (Some (External at)) p q r = refl
-behind_result None (Some at) q r = refl
-behind_result None None q r = refl
+after_result : (l : Option Linkage) (p : Option Place) (q : Place) (r : List Symbol) → next_scalar (optional linkage_symbols l (optional reentrant_symbols p (SemicolonSymbol q ∷ r))) ≡ None
+after_result (Some (Public at)) p q r = refl
+after_result (Some (External at)) p q r = refl
+after_result None (Some at) q r = refl
+after_result None None q r = refl
 
-behind_linkage : (p : Option Place) (q : Place) (r : List Symbol) → next_linkage (optional reentrant_symbols p (SemicolonSymbol q ∷ r)) ≡ None
-behind_linkage (Some at) q r = refl
-behind_linkage None q r = refl
+after_linkage : (p : Option Place) (q : Place) (r : List Symbol) → next_linkage (optional reentrant_symbols p (SemicolonSymbol q ∷ r)) ≡ None
+after_linkage (Some at) q r = refl
+after_linkage None q r = refl
 
 pub heading-reads : (h : HeadingTree) (q : Place) (r : List Symbol) → heading (heading_symbols h (SemicolonSymbol q ∷ r)) ≡ Ok (h, SemicolonSymbol q ∷ r)
 unfolding heading
@@ -121,9 +121,9 @@ heading-reads h q r =
     let again : List Symbol = optional reentrant_symbols h.reentrant end in
     let link : List Symbol = optional linkage_symbols h.linkage again in
     let type : List Symbol = optional scalar_symbols h.result link in
-    bind_at (parameters (parameters_symbols h.parameters type)) _ _ (parameters-reads h.parameters type (behind_parameters h.result h.linkage h.reentrant q r))
-    ∙ bind_at (result_type type) _ _ (result_type-reads h.result link (behind_result h.linkage h.reentrant q r))
-    ∙ bind_at (linkage link) _ _ (linkage-reads h.linkage again (behind_linkage h.reentrant q r))
+    bind_at (parameters (parameters_symbols h.parameters type)) _ _ (parameters-reads h.parameters type (after_parameters h.result h.linkage h.reentrant q r))
+    ∙ bind_at (result_type type) _ _ (result_type-reads h.result link (after_result h.linkage h.reentrant q r))
+    ∙ bind_at (linkage link) _ _ (linkage-reads h.linkage again (after_linkage h.reentrant q r))
     ∙ bind_at (reentrant again) _ _ (reentrant-reads h.reentrant end refl)
 
 parameters-lengthens : Lengthens parameters_symbols

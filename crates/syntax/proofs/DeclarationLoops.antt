@@ -8,23 +8,23 @@ use Rattle.trees.specs.Symbols.{Symbol}
 use Rattle.trees.specs.Trees.{ConstantTree, OffsetTree, ElementTree, SubjectTree, SingleSubject, GroupSubject, ItemTree, ItemElement, LiterallyElement, StringTree}
 use Rattle.trees.specs.declared.declaration.Offset.{Offset}
 use Rattle.trees.specs.Views.{constant_tree, offset_tree}
-use Rattle.syntax.specs.internal.Declarations.{next_sign, all_offsets, names, subject, base, item_behind, item, element_of, element, element_behind, group_element, subject_of}
+use Rattle.syntax.specs.internal.Declarations.{next_sign, all_offsets, names, subject, base, item_after, item, element_of, element, element_after, group_element, subject_of}
 use Rattle.syntax.specs.internal.Looking.{Cause, Reading, ◌>>=◌, at_word, next_name, constant, string}
 use Rattle.syntax.specs.internal.Parts.{behind}
 use Rattle.syntax.proofs.RestrictedLaws.{all_offsets-step}
 use Rattle.syntax.proofs.LookingLemmas.{read}
 
 -- one more offset, and then others
-behind-offset : (before : List OffsetTree) (o : OffsetTree) (others : Reading (List OffsetTree))
+after_items-offset : (before : List OffsetTree) (o : OffsetTree) (others : Reading (List OffsetTree))
     → behind before (others >>= (λ found. Ok (o ∷ found.0, found.1))) ≡ behind (before ++ o ∷ []) others
-behind-offset before o (Ok found) = ap (λ l. Ok (l, found.1)) (sym (append_assoc before (o ∷ []) found.0))
-behind-offset before o (Err cause) = refl
+after_items-offset before o (Ok found) = ap (λ l. Ok (l, found.1)) (sym (append_assoc before (o ∷ []) found.0))
+after_items-offset before o (Err cause) = refl
 
 -- a sign and a constant
 pub offsets-more : (before : List OffsetTree) (g : Sign) (c : ConstantTree) (s r : List Symbol)
     → next_sign s ≡ Some g → constant (drop 1 s) ≡ Ok (c, r) → behind before (all_offsets s) ≡ behind (before ++ record { sign = g; constant = c } ∷ []) (all_offsets r)
 offsets-more before g c s r sign e =
-    ap (behind before) (all_offsets-step s) ∙ rw (sign, e) (behind-offset before (record { sign = g; constant = c }) (all_offsets r))
+    ap (behind before) (all_offsets-step s) ∙ rw (sign, e) (after_items-offset before (record { sign = g; constant = c }) (all_offsets r))
 
 -- a sign and no constant
 pub offsets-fail : (before : List OffsetTree) (g : Sign) (s : List Symbol) (cause : Cause)
@@ -35,19 +35,19 @@ offsets-fail before g s cause sign e = ap (behind before) (all_offsets-step s) �
 pub offsets-end : (before : List OffsetTree) (s : List Symbol) → next_sign s ≡ None → behind before (all_offsets s) ≡ Ok (before, s)
 offsets-end before s none = ap (behind before) (all_offsets-step s) ∙ rw none (simp append-nil)
 
-pub behind-nothing : {A : Type 0} (others : Reading (List A)) → behind [] others ≡ others
-behind-nothing (Ok found) = refl
-behind-nothing (Err cause) = refl
+pub after_items-nothing : {A : Type 0} (others : Reading (List A)) → behind [] others ≡ others
+after_items-nothing (Ok found) = refl
+after_items-nothing (Err cause) = refl
 
-pub ruleset offset_steps = (offsets-more, offsets-fail, offsets-end, behind-nothing)
+pub ruleset offset_steps = (offsets-more, offsets-fail, offsets-end, after_items-nothing)
 
--- an item as an element, behind what is read of its subject
+-- an item as an element, after what is read of its subject
 as_element : {A : Type 0} → Reading A → (A → SubjectTree) → Reading ElementTree
-as_element {A} found its = found >>= λ (u : A × List Symbol). item_behind (its u.0) u.1 >>= λ (f : ItemTree × List Symbol). read (ItemElement f.0) f.1
+as_element {A} found its = found >>= λ (u : A × List Symbol). item_after (its u.0) u.1 >>= λ (f : ItemTree × List Symbol). read (ItemElement f.0) f.1
 
 whole_element : Reading SubjectTree → Reading ElementTree
 whole_element found =
-    (found >>= λ (u : SubjectTree × List Symbol). item_behind u.0 u.1) >>= λ (f : ItemTree × List Symbol). read (ItemElement f.0) f.1
+    (found >>= λ (u : SubjectTree × List Symbol). item_after u.0 u.1) >>= λ (f : ItemTree × List Symbol). read (ItemElement f.0) f.1
 
 whole_element-is : {A : Type 0} (found : Reading A) (its : A → SubjectTree) → whole_element (found >>= λ (u : A × List Symbol). read (its u.0) u.1) ≡ as_element found its
 unfolding whole_element as_element
@@ -55,7 +55,7 @@ whole_element-is (Ok u) its = refl
 whole_element-is (Err cause) its = refl
 
 -- an element by its first symbol
-pub element-named : (s : List Symbol) (own : Identifier) → next_name s ≡ Some own → element s ≡ element_behind own (drop 1 s)
+pub element-named : (s : List Symbol) (own : Identifier) → next_name s ≡ Some own → element s ≡ element_after own (drop 1 s)
 unfolding element item subject whole_element as_element
 element-named s own e =
     ap (λ g. element_of g s) e

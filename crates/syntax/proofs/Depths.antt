@@ -1,4 +1,4 @@
--- When a tree is too deep for the room, and what goes on behind it.
+-- When a tree is too deep for the room, and what goes on after it.
 use Rattle.std.proofs.Common.{◌≡◌, ◌⊎◌, inl, inr, ⊎_elim, ℕ, suc, ◌≤◌, ◌<◌, max, nat_le, List, Option, Some, None, Result, Err, if◌then◌else◌, refl, sym, ◌∙◌, ap, arith, le-leb}
 use Rattle.std.proofs.lemmas.Bool.{cases_lt, lt-leb}
 use Rattle.trees.specs.Symbols.{Symbol}
@@ -50,7 +50,7 @@ abbrev pub after : {A : Type 0} → Option Cause → Result A Cause → Result A
 after None next = next
 after (Some cause) next = Err cause
 
--- what goes on behind what is read or not
+-- what goes on after what is read or not
 pub bind_gave : {A B : Type 0} (r : Reading A) (next : A × List Symbol → Result B Cause) (fault : Option Cause) (a : A) (rest : List Symbol)
     → r ≡ gave fault a rest → (r >>= next) ≡ after fault (next (a, rest))
 bind_gave r next None a rest e = ap (λ t. t >>= next) e

@@ -15,7 +15,7 @@ use Rattle.trees.specs.Spelling.{more_after_commas, between_commas, constant_sym
 use Rattle.trees.specs.internal.Spelling.{expression_symbols, reference_symbols, member_of_symbols, arguments_symbols, more_arguments_symbols}
 use Rattle.trees.specs.Symbols.{Symbol, NameSymbol, ReservedSymbol, MarkSymbol}
 use Rattle.trees.specs.Trees.{ConstantTree, NumberConstant, StringConstant, ExpressionTree, ConstantLeaf, ReferenceLeaf, LocationLeaf, ListLeaf, ParenthesizedNode, AssignmentNode, UnaryNode, BinaryNode, ReferenceTree, ReferenceTo, MemberTree, NoMember, MemberOf, ArgumentTrees, NoArguments, MoreArguments}
-use Rattle.syntax.specs.internal.Expressions.{next_operator, top_level, goes_on, arguments_of, arguments, member_of, reference, location, assigned, closed, parenthesized, primary, operand, operator_then, operators, all_operators, expression, expression_less}
+use Rattle.syntax.specs.internal.Expressions.{ExpressionReader, next_operator, top_level, goes_on, arguments_of, arguments, member_of, reference, location, assigned, closed, parenthesized, primary, operand, operator_then, operators, all_operators, expression, expression_less}
 use Rattle.syntax.specs.internal.Lists.{items, Keeps, Shrinks}
 use Rattle.syntax.specs.internal.Looking.{Reading, TooDeep, ◌>>=◌, at_mark, at_word, mark, name, next_name, constant}
 use Rattle.syntax.proofs.ListLaws.{IsSound, items-sound}
@@ -25,7 +25,7 @@ use Rattle.syntax.proofs.LookingLemmas.{at_mark-is, at_word-is, next_operator-is
 moved : {A : Type 0} (P : A → List Symbol → Type 0) (a b : A) (r q : List Symbol) → read a r ≡ read b q → P a r → P b q
 moved P a b r q e h = let same = same_reading a b r q e in subst (λ k. P b k) same.1 (subst (λ x. P x r) same.0 h)
 
--- constants between commas are no fewer symbols than what stands behind them
+-- constants between commas are no fewer symbols than what stands after them
 more_constants-long : (all : List ConstantTree) (r : List Symbol) → length r ≤ length (more_after_commas constant_symbols all r)
 more_constants-long [] r = omega arith
 more_constants-long (NumberConstant n ∷ all) r = let h = more_constants-long all r in omega arith
@@ -49,9 +49,9 @@ mutual
   expression-long (ListLeaf cs) r = let h = constants-long cs (MarkSymbol marks.RightParenthesis ∷ r) in omega arith
   expression-long (ParenthesizedNode e) r = let h = expression-long e (MarkSymbol marks.RightParenthesis ∷ r) in omega arith
   expression-long (AssignmentNode f e) r =
-      let behind : List Symbol = MarkSymbol marks.RightParenthesis ∷ r in
-      let value = expression-long e behind in
-      let target = reference-long f (MarkSymbol marks.AssignSign ∷ expression_symbols e behind) in
+      let later : List Symbol = MarkSymbol marks.RightParenthesis ∷ r in
+      let value = expression-long e later in
+      let target = reference-long f (MarkSymbol marks.AssignSign ∷ expression_symbols e later) in
       omega arith
   expression-long (UnaryNode o e) r = let h = expression-long e r in omega arith
   expression-long (BinaryNode o l e) r =
@@ -113,10 +113,10 @@ MemberFits room s t r = (s ≡ member_of_symbols t r) × IsMember t × (member_h
 abbrev ArgumentsFit : ℕ → List Symbol → ArgumentTrees → List Symbol → Type 0
 ArgumentsFit room s t r = (s ≡ arguments_symbols t r) × AreArguments t × (arguments_height t ≤ room)
 
-abbrev AllFit : (ℕ → List Symbol → Reading ExpressionTree) → ℕ → Type 0
+abbrev AllFit : ExpressionReader → ℕ → Type 0
 AllFit inner room = (level : ℕ) (s r : List Symbol) (t : ExpressionTree) → inner level s ≡ read t r → ExpressionFits room level s t r
 
-arguments-fit : (inner : ℕ → List Symbol → Reading ExpressionTree) (room : ℕ) → AllFit inner room → (s r : List Symbol) (t : ArgumentTrees) → arguments inner s ≡ read t r → ArgumentsFit room s t r
+arguments-fit : (inner : ExpressionReader) (room : ℕ) → AllFit inner room → (s r : List Symbol) (t : ArgumentTrees) → arguments inner s ≡ read t r → ArgumentsFit room s t r
 arguments-fit inner room fit s r t e = ⊎_elim some none (if_cases (at_mark marks.LeftParenthesis s) _ _ _ e)
   where
     sound : IsSound (inner expr_level) expression_symbols (FitsFirst room)
@@ -135,9 +135,9 @@ arguments-fit inner room fit s r t e = ⊎_elim some none (if_cases (at_mark mar
         let listed = items-sound (inner expr_level) expression_symbols (FitsFirst room) sound (drop 1 s) found.0.1 found.0.0 found.1 in
         let parts = arguments_fit room found.0.0 listed.2 in
         let opening = at_mark-is marks.LeftParenthesis s h.0 in
-        let behind = mark-ok marks.RightParenthesis found.0.1 closing.0 closing.1 in
+        let later = mark-ok marks.RightParenthesis found.0.1 closing.0 closing.1 in
         moved (ArgumentsFit room s) (arguments_of found.0.0) t closing.0 r closing.2
-        (opening ∙ ap (λ k. MarkSymbol marks.LeftParenthesis ∷ k) listed.0 ∙ spelled found.0.0 found.0.1 closing.0 listed.1 behind, parts.0, parts.1)
+        (opening ∙ ap (λ k. MarkSymbol marks.LeftParenthesis ∷ k) listed.0 ∙ spelled found.0.0 found.0.1 closing.0 listed.1 later, parts.0, parts.1)
       where
         spelled : (all : List ExpressionTree) (q rest : List Symbol) → IsNotEmpty all → q ≡ MarkSymbol marks.RightParenthesis ∷ rest
             → MarkSymbol marks.LeftParenthesis ∷ between_commas expression_symbols all q ≡ arguments_symbols (arguments_of all) rest
@@ -146,7 +146,7 @@ arguments-fit inner room fit s r t e = ⊎_elim some none (if_cases (at_mark mar
             ap (λ k. MarkSymbol marks.LeftParenthesis ∷ expression_symbols first k)
             (ap (more_after_commas expression_symbols all) is ∙ more_arguments-spelled all rest)
 
-member-fits : (inner : ℕ → List Symbol → Reading ExpressionTree) (room : ℕ) → AllFit inner room
+member-fits : (inner : ExpressionReader) (room : ℕ) → AllFit inner room
     → (s r : List Symbol) (t : MemberTree) → member_of inner s ≡ read t r → MemberFits room s t r
 member-fits inner room fit s r t e = ⊎_elim some none (if_cases (at_mark marks.Period s) _ _ _ e)
   where
@@ -169,7 +169,7 @@ member-fits inner room fit s r t e = ⊎_elim some none (if_cases (at_mark marks
           omega (arith, its.2),
         )
 
-reference-fits : (inner : ℕ → List Symbol → Reading ExpressionTree) (room : ℕ) → AllFit inner room
+reference-fits : (inner : ExpressionReader) (room : ℕ) → AllFit inner room
     → (s r : List Symbol) (t : ReferenceTree) → reference inner s ≡ read t r → ReferenceFits room s t r
 unfolding reference
 reference-fits inner room fit s r t e =
@@ -186,14 +186,14 @@ reference-fits inner room fit s r t e =
     )
 
 -- what stands in one level less than the room
-abbrev AllFitBelow : (ℕ → List Symbol → Reading ExpressionTree) → ℕ → Type 0
+abbrev AllFitBelow : ExpressionReader → ℕ → Type 0
 AllFitBelow deeper room = (level : ℕ) (s r : List Symbol) (t : ExpressionTree) → deeper level s ≡ read t r → (s ≡ expression_symbols t r) × (level ≤ primary_level → IsExpression level t) × (suc (expression_height t) ≤ room)
 
 -- a primary at any level
 abbrev PrimaryFits : ℕ → List Symbol → ExpressionTree → List Symbol → Type 0
 PrimaryFits room s t r = (s ≡ expression_symbols t r) × ((level : ℕ) → level ≤ primary_level → IsExpression level t) × (expression_height t ≤ suc room)
 
-location-fits : (inner : ℕ → List Symbol → Reading ExpressionTree) (room : ℕ) → AllFit inner room → (s r : List Symbol) (t : ExpressionTree) → location inner s ≡ read t r
+location-fits : (inner : ExpressionReader) (room : ℕ) → AllFit inner room → (s r : List Symbol) (t : ExpressionTree) → location inner s ≡ read t r
     → PrimaryFits room (MarkSymbol marks.Period ∷ s) t r
 unfolding location
 location-fits inner room fit s r t e = ⊎_elim some none (if_cases (at_mark marks.LeftParenthesis s) _ _ _ e)
@@ -219,22 +219,22 @@ location-fits inner room fit s r t e = ⊎_elim some none (if_cases (at_mark mar
         let closing = bind_ok (mark marks.RightParenthesis found.0.1) _ _ found.2 in
         let listed = items-sound constant constant_symbols (λ c. Unit {0}) sound (drop 1 s) found.0.1 found.0.0 found.1 in
         let opening = at_mark-is marks.LeftParenthesis s h.0 in
-        let behind = mark-ok marks.RightParenthesis found.0.1 closing.0 closing.1 in
+        let later = mark-ok marks.RightParenthesis found.0.1 closing.0 closing.1 in
         moved (PrimaryFits room (MarkSymbol marks.Period ∷ s)) (ListLeaf found.0.0) t closing.0 r closing.2 (
-          ap (λ k. MarkSymbol marks.Period ∷ k) (opening ∙ ap (λ k. MarkSymbol marks.LeftParenthesis ∷ k) (listed.0 ∙ ap (between_commas constant_symbols found.0.0) behind)),
+          ap (λ k. MarkSymbol marks.Period ∷ k) (opening ∙ ap (λ k. MarkSymbol marks.LeftParenthesis ∷ k) (listed.0 ∙ ap (between_commas constant_symbols found.0.0) later)),
           λ level l. (l, listed.1),
           omega arith,
         )
 
-assigned-fits : (deeper : ℕ → List Symbol → Reading ExpressionTree) (room : ℕ) → AllFitBelow deeper room → (left : ExpressionTree) (s r : List Symbol) (t : ExpressionTree)
+assigned-fits : (deeper : ExpressionReader) (room : ℕ) → AllFitBelow deeper room → (left : ExpressionTree) (s r : List Symbol) (t : ExpressionTree)
     → IsExpression expr_level left → expression_height left ≤ room → assigned deeper left s ≡ read t r
     → PrimaryFits room (MarkSymbol marks.LeftParenthesis ∷ expression_symbols left s) t r
 assigned-fits deeper room fit (ReferenceLeaf target) s r t form height e =
-    let behind = bind_ok (mark marks.AssignSign s) _ _ e in
-    let value = bind_ok (deeper expr_level behind.0) _ _ behind.2 in
+    let later = bind_ok (mark marks.AssignSign s) _ _ e in
+    let value = bind_ok (deeper expr_level later.0) _ _ later.2 in
     let closing = bind_ok (mark marks.RightParenthesis value.0.1) _ _ value.2 in
-    let sign = mark-ok marks.AssignSign s behind.0 behind.1 in
-    let its = fit expr_level behind.0 value.0.1 value.0.0 value.1 in
+    let sign = mark-ok marks.AssignSign s later.0 later.1 in
+    let its = fit expr_level later.0 value.0.1 value.0.0 value.1 in
     let last = mark-ok marks.RightParenthesis value.0.1 closing.0 closing.1 in
     moved (PrimaryFits room (MarkSymbol marks.LeftParenthesis ∷ reference_symbols target s)) (AssignmentNode target value.0.0) t closing.0 r closing.2 (
       ap (λ k. MarkSymbol marks.LeftParenthesis ∷ reference_symbols target k) (sign ∙ ap (λ k. MarkSymbol marks.AssignSign ∷ k) (its.0 ∙ ap (expression_symbols value.0.0) last)),
@@ -249,7 +249,7 @@ assigned-fits deeper room fit (AssignmentNode f x) s r t form height e = absurd 
 assigned-fits deeper room fit (UnaryNode o x) s r t form height e = absurd cc
 assigned-fits deeper room fit (BinaryNode o x y) s r t form height e = absurd cc
 
-closed-fits : (deeper : ℕ → List Symbol → Reading ExpressionTree) (room : ℕ) → AllFitBelow deeper room → (left : ExpressionTree) (s r : List Symbol) (t : ExpressionTree)
+closed-fits : (deeper : ExpressionReader) (room : ℕ) → AllFitBelow deeper room → (left : ExpressionTree) (s r : List Symbol) (t : ExpressionTree)
     → IsExpression expr_level left → expression_height left ≤ room → closed deeper left s ≡ read t r
     → PrimaryFits room (MarkSymbol marks.LeftParenthesis ∷ expression_symbols left s) t r
 closed-fits deeper room fit left s r t form height e =
@@ -259,7 +259,7 @@ closed-fits deeper room fit left s r t form height e =
     (λ h. assigned-fits deeper room fit left s r t form height h.1)
     (if_cases (at_mark marks.RightParenthesis s) _ _ _ e)
 
-parenthesized-fits : (inner deeper : ℕ → List Symbol → Reading ExpressionTree) (room : ℕ) → AllFit inner room → AllFitBelow deeper room → (s r : List Symbol) (t : ExpressionTree)
+parenthesized-fits : (inner deeper : ExpressionReader) (room : ℕ) → AllFit inner room → AllFitBelow deeper room → (s r : List Symbol) (t : ExpressionTree)
     → parenthesized inner deeper s ≡ read t r → PrimaryFits room (MarkSymbol marks.LeftParenthesis ∷ s) t r
 unfolding parenthesized
 parenthesized-fits inner deeper room fit below s r t e =
@@ -269,7 +269,7 @@ parenthesized-fits inner deeper room fit below s r t e =
     (ap (λ k. MarkSymbol marks.LeftParenthesis ∷ k) its.0 ∙ whole.0, whole.1, whole.2)
 
 -- a reference where a name stands, and a constant elsewhere
-pub leaf_of : (ℕ → List Symbol → Reading ExpressionTree) → Option Identifier → List Symbol → Reading ExpressionTree
+pub leaf_of : ExpressionReader → Option Identifier → List Symbol → Reading ExpressionTree
 leaf_of inner (Some base) s = do
   found ← reference inner s
   Ok (ReferenceLeaf found.0, found.1)
@@ -277,14 +277,14 @@ leaf_of inner None s = do
   found ← constant s
   Ok (ConstantLeaf found.0, found.1)
 
-primary-is : (inner deeper : ℕ → List Symbol → Reading ExpressionTree) (s : List Symbol)
+primary-is : (inner deeper : ExpressionReader) (s : List Symbol)
     → primary inner deeper s ≡ (if at_mark marks.LeftParenthesis s then parenthesized inner deeper (drop 1 s)
     else (if at_mark marks.Period s then location inner (drop 1 s) else leaf_of inner (next_name s) s))
 unfolding primary leaf_of
 primary-is inner deeper (NameSymbol n ∷ s) = refl
 primary-is inner deeper s = refl
 
-leaf-fits : (inner : ℕ → List Symbol → Reading ExpressionTree) (room : ℕ) → AllFit inner room → (found : Option Identifier) (s r : List Symbol) (t : ExpressionTree)
+leaf-fits : (inner : ExpressionReader) (room : ℕ) → AllFit inner room → (found : Option Identifier) (s r : List Symbol) (t : ExpressionTree)
     → leaf_of inner found s ≡ read t r → PrimaryFits room s t r
 unfolding leaf_of
 leaf-fits inner room fit (Some base) s r t e =
@@ -295,7 +295,7 @@ leaf-fits inner room fit None s r t e =
     let found = bind_ok (constant s) _ _ e in
     moved (PrimaryFits room s) (ConstantLeaf found.0.0) t found.0.1 r found.2 (constant-ok s found.0.1 found.0.0 found.1, λ level l. l, omega arith)
 
-primary-fits : (inner deeper : ℕ → List Symbol → Reading ExpressionTree) (room : ℕ) → AllFit inner room → AllFitBelow deeper room → (s r : List Symbol) (t : ExpressionTree)
+primary-fits : (inner deeper : ExpressionReader) (room : ℕ) → AllFit inner room → AllFitBelow deeper room → (s r : List Symbol) (t : ExpressionTree)
     → primary inner deeper s ≡ read t r → PrimaryFits room s t r
 primary-fits inner deeper room fit below s r t e =
     ⊎_elim
@@ -309,7 +309,7 @@ primary-fits inner deeper room fit below s r t e =
     at : {q : List Symbol} → s ≡ q → PrimaryFits room q t r → PrimaryFits room s t r
     at is h = (is ∙ h.0, h.1, h.2)
 
-operand-fits : (inner deeper : ℕ → List Symbol → Reading ExpressionTree) (room : ℕ) → AllFit inner room → AllFitBelow deeper room → (level : ℕ) (s r : List Symbol) (t : ExpressionTree)
+operand-fits : (inner deeper : ExpressionReader) (room : ℕ) → AllFit inner room → AllFitBelow deeper room → (level : ℕ) (s r : List Symbol) (t : ExpressionTree)
     → operand inner deeper level s ≡ read t r → ExpressionFits (suc room) level s t r
 unfolding operand
 operand-fits inner deeper room fit below level s r t e =
@@ -376,7 +376,7 @@ right_level Multiply = omega arith
 right_level Divide = omega arith
 right_level Modulo = omega arith
 
-operator_then-fits : (inner : ℕ → List Symbol → Reading ExpressionTree) (room : ℕ) → AllFit inner room → (level : ℕ) (left : ExpressionTree) (s r : List Symbol) (t : ExpressionTree)
+operator_then-fits : (inner : ExpressionReader) (room : ℕ) → AllFit inner room → (level : ℕ) (left : ExpressionTree) (s r : List Symbol) (t : ExpressionTree)
     → (again : ExpressionTree → List Symbol → Reading ExpressionTree)
     → ((other : ExpressionTree) (q : List Symbol) → (level ≤ primary_level → IsExpression level other) → expression_height other ≤ suc room → again other q ≡ read t r
     → ExpressionFits (suc room) level (expression_symbols other q) t r)
@@ -407,8 +407,8 @@ operator_then-fits inner room fit level left s r t again later form height (Some
         (λ l. (here, expression-at level (left_level (level_of o)) left (form l) its_left, its.1 (right_level o))) (omega (arith, its.2)) right.2 in
         (spelled ∙ whole.0, whole.1, whole.2)
 
--- a left operand that is read, with operators behind it
-operators-fit : (inner : ℕ → List Symbol → Reading ExpressionTree) (room : ℕ) → AllFit inner room → (level : ℕ) (r : List Symbol) (t : ExpressionTree)
+-- a left operand that is read, with operators after it
+operators-fit : (inner : ExpressionReader) (room : ℕ) → AllFit inner room → (level : ℕ) (r : List Symbol) (t : ExpressionTree)
     → (count : ℕ) (left : ExpressionTree) (s : List Symbol) → (level ≤ primary_level → IsExpression level left) → expression_height left ≤ suc room
     → operators inner (suc room) level count left s ≡ read t r
     → ExpressionFits (suc room) level (expression_symbols left s) t r
@@ -417,13 +417,13 @@ operators-fit inner room fit level r t (suc count) left s form height e =
     operator_then-fits inner room fit level left s r t (operators inner (suc room) level count)
     (λ other q f h k. operators-fit inner room fit level r t count other q f h k) form height (next_operator s) refl e
 
-all_operators-fit : (inner : ℕ → List Symbol → Reading ExpressionTree) (room : ℕ) → AllFit inner room → (level : ℕ) (left : ExpressionTree) (s r : List Symbol) (t : ExpressionTree)
+all_operators-fit : (inner : ExpressionReader) (room : ℕ) → AllFit inner room → (level : ℕ) (left : ExpressionTree) (s r : List Symbol) (t : ExpressionTree)
     → (level ≤ primary_level → IsExpression level left) → expression_height left ≤ suc room → all_operators inner (suc room) level left s ≡ read t r
     → ExpressionFits (suc room) level (expression_symbols left s) t r
 unfolding all_operators
 all_operators-fit inner room fit level left s r t form height e = operators-fit inner room fit level r t (length s) left s form height e
 
-expression-step : (inner deeper : ℕ → List Symbol → Reading ExpressionTree) (room : ℕ) → AllFit inner room → AllFitBelow deeper room → (level : ℕ) (s r : List Symbol) (t : ExpressionTree)
+expression-step : (inner deeper : ExpressionReader) (room : ℕ) → AllFit inner room → AllFitBelow deeper room → (level : ℕ) (s r : List Symbol) (t : ExpressionTree)
     → (do
       left ← operand inner deeper level s
       all_operators inner (suc room) level left.0 left.1) ≡ read t r → ExpressionFits (suc room) level s t r

@@ -33,8 +33,8 @@ pub list-reads : {A : Type 0} (item : List Symbol → Reading A) (spell : A → 
     → Keeps item → ((a : A) (rest : List Symbol) → P a → Behind rest → item (spell a rest) ≡ Ok (a, rest)) → ((rest : List Symbol) → Behind (MarkSymbol marks.Comma ∷ rest))
     → (all : List A) (r : List Symbol) → IsNotEmpty all → AllByRecursion P all → Behind r → at_mark marks.Comma r ≡ false
     → items item (between_commas spell all r) ≡ Ok (all, r)
-list-reads item spell P Behind keeps reads comma all r some h behind ends =
-    items-reads item spell P Behind (λ _. None) keeps reads comma all r some h behind ends ∙ ap (λ k. gave k all r) (no_fault all)
+list-reads item spell P Behind keeps reads comma all r some h later ends =
+    items-reads item spell P Behind (λ _. None) keeps reads comma all r some h later ends ∙ ap (λ k. gave k all r) (no_fault all)
 
 -- where nothing is asked of the items
 abbrev Anything : {A : Type 0} → A → Type 0
@@ -44,14 +44,14 @@ all_anything : {A : Type 0} (all : List A) → AllByRecursion Anything all
 all_anything [] = tt
 all_anything (a ∷ all) = (tt, all_anything all)
 
--- a list in parentheses, behind the opening one
+-- a list in parentheses, after the opening one
 list-spelled : {A : Type 0} (item : List Symbol → Reading A) (spell : A → List Symbol → List Symbol) → Spelled item spell
     → (s r : List Symbol) (all : List A) → items item s ≡ Ok (all, r) → (s ≡ between_commas spell all r) × IsNotEmpty all
 list-spelled item spell spelled s r all e =
     let h = items-sound item spell Anything (λ s r a e. (spelled s r a e, tt)) s r all e in
     (h.0, h.1)
 
--- what is spelled lies before what stands behind it
+-- what is spelled lies before what stands after it
 keeps_of : {A : Type 0} (item : List Symbol → Reading A) (spell : A → List Symbol → List Symbol) → Spelled item spell → Lengthens spell → Keeps item
 keeps_of item spell spelled lengthens s r a e = omega (arith, ap length (spelled s r a e), lengthens a r)
 
@@ -123,9 +123,9 @@ names-sound s r ns e =
 pub names-reads : (ns : List Identifier) (r : List Symbol) → IsNotEmpty ns → names (names_symbols ns r) ≡ Ok (ns, r)
 unfolding names
 names-reads ns r some =
-    let behind : List Symbol = MarkSymbol marks.RightParenthesis ∷ r in
-    bind_at (items name (between_commas name_symbols ns behind)) _ _
-    (list-reads name name_symbols Anything Anything name-keeps (λ n rest h k. refl) (λ rest. tt) ns behind some (all_anything ns) tt refl)
+    let later : List Symbol = MarkSymbol marks.RightParenthesis ∷ r in
+    bind_at (items name (between_commas name_symbols ns later)) _ _
+    (list-reads name name_symbols Anything Anything name-keeps (λ n rest h k. refl) (λ rest. tt) ns later some (all_anything ns) tt refl)
 
 pub item_type-sound : (s r : List Symbol) (t : ItemTypeTree) → item_type s ≡ Ok (t, r) → (s ≡ item_type_symbols t r) × IsItemType t
 unfolding item_type
@@ -154,9 +154,9 @@ unfolding item_type
 item_type-reads (ScalarItem Byte) r h = refl
 item_type-reads (ScalarItem Address) r h = refl
 item_type-reads (StructureItem ms) r h =
-    let behind : List Symbol = MarkSymbol marks.RightParenthesis ∷ r in
-    bind_at (items member (between_commas member_symbols ms behind)) _ _
-    (list-reads member member_symbols Anything Anything member-keeps (λ m rest h k. member-reads m rest) (λ rest. tt) ms behind h (all_anything ms) tt refl)
+    let later : List Symbol = MarkSymbol marks.RightParenthesis ∷ r in
+    bind_at (items member (between_commas member_symbols ms later)) _ _
+    (list-reads member member_symbols Anything Anything member-keeps (λ m rest h k. member-reads m rest) (λ rest. tt) ms later h (all_anything ms) tt refl)
 
 linkage_of-is : (s : List Symbol) (one other : Option Place) → place_of_word words.Public s ≡ one → place_of_word words.External s ≡ other → (l : Linkage) → linkage_of one other ≡ Some l → s ≡ linkage_symbols l (drop 1 s)
 linkage_of-is s (Some p) other is _ l e = place_of_word-is words.Public s p is ∙ ap (λ k. linkage_symbols k (drop 1 s)) {x = Public p} {y = l} (cc e)
@@ -199,8 +199,8 @@ pub at-reads : (t : Option AtTree) (r : List Symbol) → place_of_word words.At 
 unfolding at
 at-reads None r ends = ap (λ g. at_of g r) ends
 at-reads (Some t) r ends =
-    let behind : List Symbol = MarkSymbol marks.RightParenthesis ∷ r in
-    bind_at (restricted (restricted_symbols t.address behind)) _ _ (restricted-reads t.address behind refl)
+    let later : List Symbol = MarkSymbol marks.RightParenthesis ∷ r in
+    bind_at (restricted (restricted_symbols t.address later)) _ _ (restricted-reads t.address later refl)
 
 storage_of-is : (s : List Symbol) (one other : Option Place) → place_of_word words.Initial s ≡ one → place_of_word words.Data s ≡ other → (g : Storage) → storage_of one other ≡ Some g → s ≡ storage_symbol g ∷ drop 1 s
 storage_of-is s (Some p) other is _ g e = place_of_word-is words.Initial s p is ∙ ap (λ k. storage_symbol k ∷ drop 1 s) {x = Initial p} {y = g} (cc e)
@@ -241,11 +241,11 @@ pub value_list-reads : (t : Option ValueListTree) (r : List Symbol) → IfSome t
 unfolding value_list
 value_list-reads None r h ends = ap (λ g. values_of g r) ends
 value_list-reads (Some t) r h ends =
-    let behind : List Symbol = MarkSymbol marks.RightParenthesis ∷ r in
+    let later : List Symbol = MarkSymbol marks.RightParenthesis ∷ r in
     ap (λ g. values_of g (value_list_symbols t r)) (next_storage-at t.storage _)
-    ∙ bind_at (items restricted (between_commas restricted_symbols t.values behind)) _ _
+    ∙ bind_at (items restricted (between_commas restricted_symbols t.values later)) _ _
     (list-reads restricted restricted_symbols Anything (λ rest. next_sign rest ≡ None) restricted-keeps
-    (λ a rest h k. restricted-reads a rest k) (λ rest. refl) t.values behind h (all_anything t.values) refl refl)
+    (λ a rest h k. restricted-reads a rest k) (λ rest. refl) t.values later h (all_anything t.values) refl refl)
 
 pub base-spelled : Spelled base (optional base_symbols)
 base-spelled s r b e = elim (if_cases (at_word words.Based s) _ _ _ e) [

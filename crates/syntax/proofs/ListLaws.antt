@@ -115,7 +115,7 @@ item_then-ok item again s r all e =
 abbrev pub IsSound : {A : Type 0} → (List Symbol → Reading A) → (A → List Symbol → List Symbol) → (A → Type 0) → Type 0
 IsSound {A} item spell P = (symbols rest : List Symbol) (a : A) → item symbols ≡ Ok (a, rest) → (symbols ≡ spell a rest) × P a
 
--- what items behind commas are spelled by
+-- what items after commas are spelled by
 abbrev IsRest : {A : Type 0} → (A → List Symbol → List Symbol) → (A → Type 0) → List Symbol → List Symbol → List A → Type 0
 IsRest spell P s r all = (s ≡ more_after_commas spell all r) × AllByRecursion P all
 
@@ -131,11 +131,11 @@ more_items-sound item spell P sound (suc count) s r all e =
     (λ yes_comma.
     let parts = item_then-ok item (more_items item count) (drop 1 s) r all yes_comma.1 in
     let first = sound (drop 1 s) parts.1 parts.0 parts.3 in
-    let behind = more_items-sound item spell P sound count parts.1 r parts.2 parts.4 in
+    let later = more_items-sound item spell P sound count parts.1 r parts.2 parts.4 in
     let comma : s ≡ MarkSymbol Comma ∷ drop 1 s = at_mark-is Comma s yes_comma.0 in
     let spelled : s ≡ more_after_commas spell (parts.0 ∷ parts.2) r =
-    comma ∙ ap (λ k. MarkSymbol Comma ∷ k) (first.0 ∙ ap (spell parts.0) behind.0) in
-    subst (IsRest spell P s r) (sym parts.5) (spelled, (first.1, behind.1)))
+    comma ∙ ap (λ k. MarkSymbol Comma ∷ k) (first.0 ∙ ap (spell parts.0) later.0) in
+    subst (IsRest spell P s r) (sym parts.5) (spelled, (first.1, later.1)))
     (λ no_comma. no_rest spell P s r all no_comma.1)
     (if_cases (at_mark Comma s) _ _ _ e)
 
@@ -146,9 +146,9 @@ unfolding all_more_items
 items-sound item spell P sound s r all e =
     let parts = item_then-ok item (all_more_items item) s r all e in
     let first = sound s parts.1 parts.0 parts.3 in
-    let behind = more_items-sound item spell P sound (length parts.1) parts.1 r parts.2 parts.4 in
-    let spelled : s ≡ between_commas spell (parts.0 ∷ parts.2) r = first.0 ∙ ap (spell parts.0) behind.0 in
-    subst (λ l. (s ≡ between_commas spell l r) × IsNotEmpty l × AllByRecursion P l) (sym parts.5) (spelled, tt, (first.1, behind.1))
+    let later = more_items-sound item spell P sound (length parts.1) parts.1 r parts.2 parts.4 in
+    let spelled : s ≡ between_commas spell (parts.0 ∷ parts.2) r = first.0 ∙ ap (spell parts.0) later.0 in
+    subst (λ l. (s ≡ between_commas spell l r) × IsNotEmpty l × AllByRecursion P l) (sym parts.5) (spelled, tt, (first.1, later.1))
 
 -- {..}
 abbrev pub one_after_another : {A : Type 0} → (A → List Symbol → List Symbol) → List A → List Symbol → List Symbol
@@ -176,9 +176,9 @@ many_items-sound ends item spell P sound (suc count) s r all e =
     (λ goes_on.
     let parts = item_then-ok item (many_items ends item count) s r all goes_on.1 in
     let first = sound s parts.1 parts.0 parts.3 in
-    let behind = many_items-sound ends item spell P sound count parts.1 r parts.2 parts.4 in
-    let spelled : s ≡ one_after_another spell (parts.0 ∷ parts.2) r = first.0 ∙ ap (spell parts.0) behind.0 in
-    subst (AreMany ends spell P s r) (sym parts.5) (spelled, behind.1, (first.1, behind.2)))
+    let later = many_items-sound ends item spell P sound count parts.1 r parts.2 parts.4 in
+    let spelled : s ≡ one_after_another spell (parts.0 ∷ parts.2) r = first.0 ∙ ap (spell parts.0) later.0 in
+    subst (AreMany ends spell P s r) (sym parts.5) (spelled, later.1, (first.1, later.2)))
     (if_cases (ends s) _ _ _ e)
 
 -- what one after another is spelled by, up to where the list ends
@@ -213,7 +213,7 @@ item_then-gave item again s rest r a others (Some cause) other e h = bind_fails 
 item_then-gave item again s rest r a others None (Some cause) e h = bind_at (item s) _ (a, rest) e ∙ bind_fails (again rest) _ cause h
 item_then-gave item again s rest r a others None None e h = bind_at (item s) _ (a, rest) e ∙ bind_at (again rest) _ (others, r) h
 
--- each value that has the form is read again, or has a fault, where what stands behind it may stand there
+-- each value that has the form is read again, or has a fault, where what stands after it may stand there
 abbrev pub Reads : {A : Type 0} → (List Symbol → Reading A) → (A → List Symbol → List Symbol) → (A → Type 0) → (List Symbol → Type 0) → (A → Option Cause) → Type 0
 Reads {A} item spell P Behind fault = (a : A) (rest : List Symbol) → P a → Behind rest → item (spell a rest) ≡ gave (fault a) a rest
 
@@ -221,33 +221,33 @@ more_items-reads : {A : Type 0} (item : List Symbol → Reading A) (spell : A �
     → Keeps item → Reads item spell P Behind fault → ((rest : List Symbol) → Behind (MarkSymbol Comma ∷ rest))
     → (all : List A) (r : List Symbol) → AllByRecursion P all → Behind r → at_mark Comma r ≡ false
     → all_more_items item (more_after_commas spell all r) ≡ gave (first_fault fault all) all r
-more_items-reads item spell P Behind fault keeps reads comma [] r h behind ends =
+more_items-reads item spell P Behind fault keeps reads comma [] r h later ends =
     all_more_items-step item keeps r ∙ if_false (at_mark Comma r) _ _ ends
-more_items-reads item spell P Behind fault keeps reads comma (a ∷ []) r h behind ends =
+more_items-reads item spell P Behind fault keeps reads comma (a ∷ []) r h later ends =
     all_more_items-step item keeps (more_after_commas spell (a ∷ []) r)
-    ∙ item_then-gave item (all_more_items item) (spell a r) r r a [] (fault a) None (reads a r h.0 behind)
-    (more_items-reads item spell P Behind fault keeps reads comma [] r h.1 behind ends)
-more_items-reads item spell P Behind fault keeps reads comma (a ∷ b ∷ all) r h behind ends =
+    ∙ item_then-gave item (all_more_items item) (spell a r) r r a [] (fault a) None (reads a r h.0 later)
+    (more_items-reads item spell P Behind fault keeps reads comma [] r h.1 later ends)
+more_items-reads item spell P Behind fault keeps reads comma (a ∷ b ∷ all) r h later ends =
     let others : List Symbol = more_after_commas spell (b ∷ all) r in
     all_more_items-step item keeps (more_after_commas spell (a ∷ b ∷ all) r)
     ∙ item_then-gave item (all_more_items item) (spell a others) others r a (b ∷ all) (fault a) (first_fault fault (b ∷ all))
     (reads a others h.0 (comma _))
-    (more_items-reads item spell P Behind fault keeps reads comma (b ∷ all) r h.1 behind ends)
+    (more_items-reads item spell P Behind fault keeps reads comma (b ∷ all) r h.1 later ends)
 
 -- items that are spelled are read again
 pub items-reads : {A : Type 0} (item : List Symbol → Reading A) (spell : A → List Symbol → List Symbol) (P : A → Type 0) (Behind : List Symbol → Type 0) (fault : A → Option Cause)
     → Keeps item → Reads item spell P Behind fault → ((rest : List Symbol) → Behind (MarkSymbol Comma ∷ rest))
     → (all : List A) (r : List Symbol) → IsNotEmpty all → AllByRecursion P all → Behind r → at_mark Comma r ≡ false
     → items item (between_commas spell all r) ≡ gave (first_fault fault all) all r
-items-reads item spell P Behind fault keeps reads comma [] r some h behind ends = absurd some
-items-reads item spell P Behind fault keeps reads comma (a ∷ []) r some h behind ends =
-    item_then-gave item (all_more_items item) (spell a r) r r a [] (fault a) None (reads a r h.0 behind)
-    (more_items-reads item spell P Behind fault keeps reads comma [] r tt behind ends)
-items-reads item spell P Behind fault keeps reads comma (a ∷ b ∷ all) r some h behind ends =
+items-reads item spell P Behind fault keeps reads comma [] r some h later ends = absurd some
+items-reads item spell P Behind fault keeps reads comma (a ∷ []) r some h later ends =
+    item_then-gave item (all_more_items item) (spell a r) r r a [] (fault a) None (reads a r h.0 later)
+    (more_items-reads item spell P Behind fault keeps reads comma [] r tt later ends)
+items-reads item spell P Behind fault keeps reads comma (a ∷ b ∷ all) r some h later ends =
     let others : List Symbol = more_after_commas spell (b ∷ all) r in
     item_then-gave item (all_more_items item) (spell a others) others r a (b ∷ all) (fault a) (first_fault fault (b ∷ all))
     (reads a others h.0 (comma _))
-    (more_items-reads item spell P Behind fault keeps reads comma (b ∷ all) r h.1 behind ends)
+    (more_items-reads item spell P Behind fault keeps reads comma (b ∷ all) r h.1 later ends)
 
 -- one after another that are spelled are read again, up to where the list ends
 pub many-reads : {A : Type 0} (ends : List Symbol → Bool) (item : List Symbol → Reading A) (spell : A → List Symbol → List Symbol) (P : A → Type 0) (Behind : List Symbol → Type 0) (fault : A → Option Cause)
@@ -255,14 +255,14 @@ pub many-reads : {A : Type 0} (ends : List Symbol → Bool) (item : List Symbol 
     → ((a : A) (rest : List Symbol) → P a → Behind (spell a rest) × (ends (spell a rest) ≡ false) × (0 < length (spell a rest)))
     → (all : List A) (r : List Symbol) → AllByRecursion P all → Behind r → ends r ≡ true
     → many ends item (one_after_another spell all r) ≡ gave (first_fault fault all) all r
-many-reads ends item spell P Behind fault shrinks starts reads begins [] r h behind end = many-end ends item r end
-many-reads ends item spell P Behind fault shrinks starts reads begins (a ∷ []) r h behind end =
+many-reads ends item spell P Behind fault shrinks starts reads begins [] r h later end = many-end ends item r end
+many-reads ends item spell P Behind fault shrinks starts reads begins (a ∷ []) r h later end =
     let head = begins a r h.0 in
     many-step ends item shrinks starts (spell a r) head.2
     ∙ if_false (ends (spell a r)) _ _ head.1
-    ∙ item_then-gave item (many ends item) (spell a r) r r a [] (fault a) None (reads a r h.0 behind)
-    (many-reads ends item spell P Behind fault shrinks starts reads begins [] r tt behind end)
-many-reads ends item spell P Behind fault shrinks starts reads begins (a ∷ b ∷ all) r h behind end =
+    ∙ item_then-gave item (many ends item) (spell a r) r r a [] (fault a) None (reads a r h.0 later)
+    (many-reads ends item spell P Behind fault shrinks starts reads begins [] r tt later end)
+many-reads ends item spell P Behind fault shrinks starts reads begins (a ∷ b ∷ all) r h later end =
     let others : List Symbol = one_after_another spell (b ∷ all) r in
     let head = begins a others h.0 in
     let next = begins b (one_after_another spell all r) h.1.0 in
@@ -270,9 +270,9 @@ many-reads ends item spell P Behind fault shrinks starts reads begins (a ∷ b �
     ∙ if_false (ends (spell a others)) _ _ head.1
     ∙ item_then-gave item (many ends item) (spell a others) others r a (b ∷ all) (fault a) (first_fault fault (b ∷ all))
     (reads a others h.0 next.0)
-    (many-reads ends item spell P Behind fault shrinks starts reads begins (b ∷ all) r h.1 behind end)
+    (many-reads ends item spell P Behind fault shrinks starts reads begins (b ∷ all) r h.1 later end)
 
--- lists take no symbols away from behind them
+-- lists take no symbols away from after them
 more_items-keeps : {A : Type 0} (item : List Symbol → Reading A) → Keeps item → (count : ℕ) → Keeps (more_items item count)
 more_items-keeps item keeps zero s r all e = let same : s ≡ r = (same_reading [] all s r e).1 in omega (arith, ap length same)
 more_items-keeps item keeps (suc count) s r all e =
@@ -280,7 +280,7 @@ more_items-keeps item keeps (suc count) s r all e =
     (λ yes_comma.
     let parts = item_then-ok item (more_items item count) (drop 1 s) r all yes_comma.1 in
     let first : length parts.1 ≤ length (drop 1 s) = keeps (drop 1 s) parts.1 parts.0 parts.3 in
-    let behind : length r ≤ length parts.1 = more_items-keeps item keeps count parts.1 r parts.2 parts.4 in
+    let later : length r ≤ length parts.1 = more_items-keeps item keeps count parts.1 r parts.2 parts.4 in
     omega (arith, length-drop 1 s))
     (λ no_comma. let same : s ≡ r = (same_reading [] all s r no_comma.1).1 in omega (arith, ap length same))
     (if_cases (at_mark Comma s) _ _ _ e)
@@ -293,7 +293,7 @@ pub items-keeps : {A : Type 0} (item : List Symbol → Reading A) → Keeps item
 items-keeps item keeps s r all e =
     let parts = item_then-ok item (all_more_items item) s r all e in
     let first : length parts.1 ≤ length s = keeps s parts.1 parts.0 parts.3 in
-    let behind : length r ≤ length parts.1 = all_more_items-keeps item keeps parts.1 r parts.2 parts.4 in
+    let later : length r ≤ length parts.1 = all_more_items-keeps item keeps parts.1 r parts.2 parts.4 in
     omega arith
 
 pub items-shrinks : {A : Type 0} (item : List Symbol → Reading A) → Shrinks item → Shrinks (items item)
@@ -301,7 +301,7 @@ items-shrinks item shrinks s r all e =
     let keeps : Keeps item = λ s r a e. let short : length r < length s = shrinks s r a e in omega arith in
     let parts = item_then-ok item (all_more_items item) s r all e in
     let first : length parts.1 < length s = shrinks s parts.1 parts.0 parts.3 in
-    let behind : length r ≤ length parts.1 = all_more_items-keeps item keeps parts.1 r parts.2 parts.4 in
+    let later : length r ≤ length parts.1 = all_more_items-keeps item keeps parts.1 r parts.2 parts.4 in
     omega arith
 
 many_items-keeps : {A : Type 0} (ends : List Symbol → Bool) (item : List Symbol → Reading A) → Keeps item → (count : ℕ) → Keeps (many_items ends item count)
@@ -315,7 +315,7 @@ many_items-keeps ends item keeps (suc count) s r all e =
     (λ goes_on.
     let parts = item_then-ok item (many_items ends item count) s r all goes_on.1 in
     let first : length parts.1 ≤ length s = keeps s parts.1 parts.0 parts.3 in
-    let behind : length r ≤ length parts.1 = many_items-keeps ends item keeps count parts.1 r parts.2 parts.4 in
+    let later : length r ≤ length parts.1 = many_items-keeps ends item keeps count parts.1 r parts.2 parts.4 in
     omega arith)
     (if_cases (ends s) _ _ _ e)
 

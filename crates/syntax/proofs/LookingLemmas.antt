@@ -150,7 +150,7 @@ pub bind_ok : {A B : Type 0} (r : Result A Cause) (f : A → Result B Cause) (y 
 bind_ok (Ok x) f y e = (x, refl, e)
 bind_ok (Err c) f y e = absurd cc
 
--- what goes on the same way behind what is read
+-- what goes on the same way after what is read
 pub bind_same : {A B : Type 0} (r : Result A Cause) (f g : A → Result B Cause) → ((x : A) → r ≡ Ok x → f x ≡ g x) → (r >>= f) ≡ (r >>= g)
 bind_same (Ok x) f g same = same x refl
 bind_same (Err c) f g same = refl
@@ -158,7 +158,7 @@ bind_same (Err c) f g same = refl
 abbrev pair_of : {A : Type 0} → A → List Symbol → A × List Symbol
 pair_of a r = (a, r)
 
--- what was read, with the symbols behind it
+-- what was read, with the symbols after it
 abbrev pub read : {A : Type 0} → A → List Symbol → Reading A
 read a r = Ok (a, r)
 
@@ -168,7 +168,7 @@ same_reading {A} a b r s e =
     let pair : pair_of a r ≡ pair_of b s = cc in
     (ap (λ (t : A × List Symbol). t.0) pair, ap (λ (t : A × List Symbol). t.1) pair)
 
--- what goes on behind what is read, and what fails with it
+-- what goes on after what is read, and what fails with it
 pub bind_at : {A B : Type 0} (r : Result A Cause) (f : A → Result B Cause) (x : A) → r ≡ Ok x → (r >>= f) ≡ f x
 bind_at r f x e = ap (λ t. t >>= f) e
 
@@ -355,7 +355,7 @@ number-ok [] r n e = absurd cc
 number-ok (NumberSymbol k ∷ rest) r n e =
     let same = same_reading k n rest r e in
     let number : k ≡ n = same.0 in
-    let behind : rest ≡ r = same.1 in
+    let later : rest ≡ r = same.1 in
     cc
 number-ok (NameSymbol m ∷ rest) r n e = absurd cc
 number-ok (StringSymbol t ∷ rest) r n e = absurd cc
@@ -370,7 +370,7 @@ string-ok [] r t e = absurd cc
 string-ok (StringSymbol k ∷ rest) r t e =
     let same = same_reading k t rest r e in
     let string : k ≡ t = same.0 in
-    let behind : rest ≡ r = same.1 in
+    let later : rest ≡ r = same.1 in
     cc
 string-ok (NameSymbol m ∷ rest) r t e = absurd cc
 string-ok (NumberSymbol n ∷ rest) r t e = absurd cc

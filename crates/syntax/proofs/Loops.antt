@@ -14,16 +14,16 @@ use Rattle.syntax.specs.internal.Parts.{behind}
 use Rattle.syntax.proofs.ListLaws.{all_more_items-step}
 
 -- one more item, and then others
-behind-more : {A : Type 0} (before : List A) (a : A) (others : Reading (List A))
+after_items-more : {A : Type 0} (before : List A) (a : A) (others : Reading (List A))
     → behind before (others >>= (λ o. Ok (a ∷ o.0, o.1))) ≡ behind (before ++ a ∷ []) others
-behind-more before a (Ok o) = ap (λ l. Ok (l, o.1)) (sym (append_assoc before (a ∷ []) o.0))
-behind-more before a (Err cause) = refl
+after_items-more before a (Ok o) = ap (λ l. Ok (l, o.1)) (sym (append_assoc before (a ∷ []) o.0))
+after_items-more before a (Err cause) = refl
 
 -- a comma and an item
 pub more-step : {A : Type 0} (item : List Symbol → Reading A) → Keeps item → (before : List A) (a : A) (s r : List Symbol)
     → at_mark Comma s ≡ true → item (drop 1 s) ≡ Ok (a, r) → behind before (all_more_items item s) ≡ behind (before ++ a ∷ []) (all_more_items item r)
 more-step item keeps before a s r comma e =
-    ap (behind before) (all_more_items-step item keeps s) ∙ rw (comma, e) (behind-more before a (all_more_items item r))
+    ap (behind before) (all_more_items-step item keeps s) ∙ rw (comma, e) (after_items-more before a (all_more_items item r))
 
 -- a comma and no item
 pub more-fails : {A : Type 0} (item : List Symbol → Reading A) → Keeps item → (before : List A) (s : List Symbol) (cause : Cause)
@@ -66,7 +66,7 @@ pub list_ends : {A X : Type 0} (item : List Symbol → Reading A) → Keeps item
 list_ends item keeps view whole found kept s comma is at false_is same =
     is ∙ more-ends item keeps (map view found) s (sym at ∙ false_is) ∙ ap (λ l. Ok (map view l, s)) (sym same)
 
--- a list fails where no item is behind a comma
+-- a list fails where no item is after a comma
 pub list_fails : {A X : Type 0} (item : List Symbol → Reading A) → Keeps item → (view : X → A) (whole : Reading (List A)) (found : List X) (s after : List Symbol) (comma : Bool) (cause : Option Cause)
     → whole ≡ behind (map view found) (all_more_items item s) → comma ≡ at_mark Comma s → comma ≡ true → after ≡ drop 1 s → FailsBy cause (item after)
     → FailsBy cause whole

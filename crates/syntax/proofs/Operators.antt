@@ -7,7 +7,7 @@ use Rattle.trees.specs.Forms.{level_of}
 use Rattle.trees.specs.Nesting.{expression_height}
 use Rattle.trees.specs.Symbols.{Symbol, NameSymbol, NumberSymbol, StringSymbol, ReservedSymbol, PlacedSymbol, MarkSymbol, SemicolonSymbol, UnknownSymbol}
 use Rattle.trees.specs.Trees.{ExpressionTree, ConstantLeaf, ReferenceLeaf, BinaryNode, ReferenceTree}
-use Rattle.syntax.specs.internal.Expressions.{expression, operand, primary, parenthesized, location, reference_after, reference, expression_less, all_operators, operator_then, next_operator, goes_on, top_level}
+use Rattle.syntax.specs.internal.Expressions.{ExpressionReader, expression, operand, primary, parenthesized, location, reference_after, reference, expression_less, all_operators, operator_then, next_operator, goes_on, top_level}
 use Rattle.syntax.specs.internal.Looking.{Cause, TooDeep, Reading, ◌>>=◌, at_mark, next_name, constant}
 use Rattle.syntax.specs.internal.Giving.{FailsBy}
 use Rattle.syntax.specs.internal.Parts.{operator_on}
@@ -16,7 +16,7 @@ use Rattle.syntax.proofs.ExpressionSound.{expression-keeps, expression-shrinks}
 use Rattle.syntax.proofs.OperatorLaws.{all_operators-step}
 
 -- an operator that goes on
-then-on : (inner : ℕ → List Symbol → Reading ExpressionTree) (again : ExpressionTree → List Symbol → Reading ExpressionTree) (room level : ℕ) (left : ExpressionTree) (next : Option BinaryOperator) (operator : BinaryOperator) (s : List Symbol)
+then-on : (inner : ExpressionReader) (again : ExpressionTree → List Symbol → Reading ExpressionTree) (room level : ℕ) (left : ExpressionTree) (next : Option BinaryOperator) (operator : BinaryOperator) (s : List Symbol)
     → operator_on level (top_level left) next ≡ Some operator
     → operator_then inner again room level left next s ≡
     (if nat_lt (expression_height left) room then (inner (suc (level_of operator)) (drop 1 s) >>= (λ right. again (BinaryNode operator left right.0) right.1)) else Err TooDeep)
@@ -30,7 +30,7 @@ then-on inner again room level left (Some found) operator s e = go (goes_on leve
     go false e = absurd cc
 
 -- no operator that goes on
-then-ends : (inner : ℕ → List Symbol → Reading ExpressionTree) (again : ExpressionTree → List Symbol → Reading ExpressionTree) (room level : ℕ) (left : ExpressionTree) (next : Option BinaryOperator) (s : List Symbol)
+then-ends : (inner : ExpressionReader) (again : ExpressionTree → List Symbol → Reading ExpressionTree) (room level : ℕ) (left : ExpressionTree) (next : Option BinaryOperator) (s : List Symbol)
     → operator_on level (top_level left) next ≡ None
     → operator_then inner again room level left next s ≡ Ok (left, s)
 then-ends inner again room level left None s e = refl
@@ -64,7 +64,7 @@ operators_fail room level left operator s cause on low e =
     ∙ then-on (expression room) (all_operators (expression room) (suc room) level) (suc room) level left (next_operator s) operator s on
     ∙ rw (fits, e) refl
 
--- an operator behind what is too high
+-- an operator after what is too high
 pub operators_deep : (room level : ℕ) (left : ExpressionTree) (operator : BinaryOperator) (s : List Symbol)
     → operator_on level (top_level left) (next_operator s) ≡ Some operator → room < expression_height left
     → all_operators (expression room) (suc room) level left s ≡ Err TooDeep
@@ -107,13 +107,13 @@ abbrev pub reference_leaf : ReferenceTree × List Symbol → Reading ExpressionT
 reference_leaf found = Ok (ReferenceLeaf found.0, found.1)
 
 -- a name
-pub primary_name : (inner deeper : ℕ → List Symbol → Reading ExpressionTree) (s : List Symbol) (base : Identifier) → next_name s ≡ Some base
+pub primary_name : (inner deeper : ExpressionReader) (s : List Symbol) (base : Identifier) → next_name s ≡ Some base
     → primary inner deeper s ≡ (reference_after inner base (drop 1 s) >>= reference_leaf)
 unfolding primary reference
 primary_name inner deeper [] base e = absurd cc
 primary_name inner deeper (NameSymbol name ∷ s) base e = let same : name ≡ base = cc in rw same (go inner base s)
   where
-    go : (inner : ℕ → List Symbol → Reading ExpressionTree) (base : Identifier) (s : List Symbol)
+    go : (inner : ExpressionReader) (base : Identifier) (s : List Symbol)
         → (reference inner (NameSymbol base ∷ s) >>= reference_leaf)
         ≡ (reference_after inner base s >>= reference_leaf)
     go inner base s = refl
@@ -126,29 +126,29 @@ primary_name inner deeper (SemicolonSymbol _ ∷ s) base e = absurd cc
 primary_name inner deeper (UnknownSymbol ∷ s) base e = absurd cc
 
 -- a constant
-pub primary_constant : (inner deeper : ℕ → List Symbol → Reading ExpressionTree) (s : List Symbol)
+pub primary_constant : (inner deeper : ExpressionReader) (s : List Symbol)
     → at_mark LeftParenthesis s ≡ false → at_mark Period s ≡ false → next_name s ≡ None
     → primary inner deeper s ≡ (constant s >>= (λ found. Ok (ConstantLeaf found.0, found.1)))
 unfolding primary
 primary_constant inner deeper s left dot e = rw (left, dot, e) refl
 
 -- what stands in parentheses
-pub primary_parenthesized : (inner deeper : ℕ → List Symbol → Reading ExpressionTree) (s : List Symbol)
+pub primary_parenthesized : (inner deeper : ExpressionReader) (s : List Symbol)
     → at_mark LeftParenthesis s ≡ true → primary inner deeper s ≡ parenthesized inner deeper (drop 1 s)
 unfolding primary
 primary_parenthesized inner deeper s left = rw left refl
 
--- what stands behind a period
-pub primary_location : (inner deeper : ℕ → List Symbol → Reading ExpressionTree) (s : List Symbol)
+-- what stands after a period
+pub primary_location : (inner deeper : ExpressionReader) (s : List Symbol)
     → at_mark LeftParenthesis s ≡ false → at_mark Period s ≡ true → primary inner deeper s ≡ location inner (drop 1 s)
 unfolding primary
 primary_location inner deeper s left dot = rw (left, dot) refl
 
 -- a symbol and an expression take symbols away
-pub shorter_behind : (room level : ℕ) (s after r : List Symbol) (found : ExpressionTree)
+pub shorter_after : (room level : ℕ) (s after r : List Symbol) (found : ExpressionTree)
     → after ≡ drop 1 s → expression room level after ≡ Ok (found, r) → length r < length s
-shorter_behind room level s after r found skipped e =
-    let behind : length r < length after = expression-shrinks room level after r found e in
+shorter_after room level s after r found skipped e =
+    let later : length r < length after = expression-shrinks room level after r found e in
     let less : length after ≡ length s - 1 = ap length skipped ∙ length-drop 1 s in
     omega arith
 
@@ -167,7 +167,7 @@ operators_go_on room level lower height top whole left right made operator s aft
     is ∙ operators_more room level left right operator s r next fits (ap (λ a. expression room (suc (level_of operator)) a) (sym skipped) ∙ ap (λ l. expression room l after) (sym at) ∙ e)
     ∙ ap (λ t. all_operators (expression room) (suc room) level t r) (sym node)
 
--- the loop fails where no operand is behind an operator
+-- the loop fails where no operand is after an operator
 pub operators_do_not_go_on : (room level lower height top : ℕ) (whole : Reading ExpressionTree) (left : ExpressionTree) (operator : BinaryOperator) (s after : List Symbol) (cause : Option Cause)
     → whole ≡ all_operators (expression room) (suc room) level left s
     → Some operator ≡ operator_on level top (next_operator s) → top ≡ top_level left
@@ -182,15 +182,15 @@ operators_do_not_go_on room level lower height top whole left operator s after (
     is ∙ operators_fail room level left operator s cause next fits (ap (λ a. expression room (suc (level_of operator)) a) (sym skipped) ∙ ap (λ l. expression room l after) (sym at) ∙ e)
 
 -- a reference
-pub primary_reads : (inner deeper : ℕ → List Symbol → Reading ExpressionTree) (s after r : List Symbol) (base : Identifier) (found : ReferenceTree) (made : ExpressionTree)
+pub primary_reads : (inner deeper : ExpressionReader) (s after r : List Symbol) (base : Identifier) (found : ReferenceTree) (made : ExpressionTree)
     → Some base ≡ next_name s → after ≡ drop 1 s → reference_after inner base after ≡ Ok (found, r) → made ≡ ReferenceLeaf found
     → primary inner deeper s ≡ Ok (made, r)
 primary_reads inner deeper s after r base found made named skipped e leaf =
     let e' : reference_after inner base (drop 1 s) ≡ Ok (found, r) = ap (reference_after inner base) (sym skipped) ∙ e in
     primary_name inner deeper s base (sym named) ∙ bind_at (reference_after inner base (drop 1 s)) reference_leaf (found, r) e' ∙ ap (λ t. Ok (t, r)) (sym leaf)
 
--- no reference behind a name
-pub primary_fails : (inner deeper : ℕ → List Symbol → Reading ExpressionTree) (s after : List Symbol) (base : Identifier) (cause : Option Cause)
+-- no reference after a name
+pub primary_fails : (inner deeper : ExpressionReader) (s after : List Symbol) (base : Identifier) (cause : Option Cause)
     → Some base ≡ next_name s → after ≡ drop 1 s → FailsBy cause (reference_after inner base after) → FailsBy cause (primary inner deeper s)
 primary_fails inner deeper s after base None named skipped e = tt
 primary_fails inner deeper s after base (Some cause) named skipped e =

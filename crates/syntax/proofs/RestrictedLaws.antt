@@ -75,7 +75,7 @@ pub all_offsets-spelled : Spelled all_offsets offsets_symbols
 unfolding all_offsets
 all_offsets-spelled s r os e = offsets-spelled (length s) s r os e
 
--- what is spelled lies behind its own symbols
+-- what is spelled lies after its own symbols
 abbrev pub Lengthens : {A : Type 0} → (A → List Symbol → List Symbol) → Type 0
 Lengthens {A} spell = (a : A) (r : List Symbol) → length r ≤ length (spell a r)
 
@@ -87,17 +87,17 @@ pub offsets-lengthens : (os : List OffsetTree) (r : List Symbol) → length r + 
 offsets-lengthens [] r = omega arith
 offsets-lengthens (o ∷ os) r = omega (arith, constant-lengthens o.constant (offsets_symbols os r), offsets-lengthens os r)
 
--- offsets matter only behind a constant
+-- offsets matter only after a constant
 offset_then-same : (again other : List Symbol → Reading (List OffsetTree)) (g : Option Sign) (s : List Symbol)
     → ((r : List Symbol) (c : ConstantTree) → constant (drop 1 s) ≡ Ok (c, r) → again r ≡ other r)
     → offset_then again g s ≡ offset_then other g s
 offset_then-same again other None s same = refl
 offset_then-same again other (Some g) s same = go (constant (drop 1 s)) same
   where
-    behind : (List Symbol → Reading (List OffsetTree)) → Reading ConstantTree → Reading (List OffsetTree)
-    behind again found = found >>= λ (found : ConstantTree × List Symbol). again found.1 >>= λ (others : List OffsetTree × List Symbol). read (record { sign = g; constant = found.0 } ∷ others.0) others.1
+    later : (List Symbol → Reading (List OffsetTree)) → Reading ConstantTree → Reading (List OffsetTree)
+    later again found = found >>= λ (found : ConstantTree × List Symbol). again found.1 >>= λ (others : List OffsetTree × List Symbol). read (record { sign = g; constant = found.0 } ∷ others.0) others.1
 
-    go : (found : Reading ConstantTree) → ((r : List Symbol) (c : ConstantTree) → found ≡ Ok (c, r) → again r ≡ other r) → behind again found ≡ behind other found
+    go : (found : Reading ConstantTree) → ((r : List Symbol) (c : ConstantTree) → found ≡ Ok (c, r) → again r ≡ other r) → later again found ≡ later other found
     go (Ok found) h = ap (λ t. t >>= λ (others : List OffsetTree × List Symbol). read (record { sign = g; constant = found.0 } ∷ others.0) others.1) (h found.1 found.0 refl)
     go (Err cause) h = refl
 

@@ -37,7 +37,7 @@ next_sign symbols =
     if at_mark marks.PlusSign symbols then Some Plus
     else (if at_mark marks.MinusSign symbols then Some Minus else None)
 
--- a constant behind a sign, and what goes on behind it
+-- a constant after a sign, and what goes on after it
 abbrev pub offset_then : (List Symbol → Reading (List OffsetTree)) → Option Sign → List Symbol → Reading (List OffsetTree)
 offset_then again None symbols = Ok ([], symbols)
 offset_then again (Some sign) symbols = do
@@ -121,8 +121,8 @@ member symbols = do
 unfoldable pub item_type : List Symbol → Reading ItemTypeTree
 item_type symbols =
     if at_word words.Structure symbols then (do
-      behind ← mark marks.LeftParenthesis (drop 1 symbols)
-      found ← items member behind
+      later ← mark marks.LeftParenthesis (drop 1 symbols)
+      found ← items member later
       rest ← mark marks.RightParenthesis found.1
       Ok (StructureItem found.0, rest))
     else (do
@@ -153,8 +153,8 @@ linkage symbols = linkage_then (next_linkage symbols) symbols
 abbrev pub at_of : Option Place → List Symbol → Reading (Option AtTree)
 at_of None symbols = Ok (None, symbols)
 at_of (Some place) symbols = do
-  behind ← mark marks.LeftParenthesis (drop 1 symbols)
-  found ← restricted behind
+  later ← mark marks.LeftParenthesis (drop 1 symbols)
+  found ← restricted later
   rest ← mark marks.RightParenthesis found.1
   Ok (Some (record { place = place; address = found.0 }), rest)
 
@@ -177,8 +177,8 @@ next_storage symbols = storage_of (place_of_word words.Initial symbols) (place_o
 abbrev pub values_of : Option Storage → List Symbol → Reading (Option ValueListTree)
 values_of None symbols = Ok (None, symbols)
 values_of (Some storage) symbols = do
-  behind ← mark marks.LeftParenthesis (drop 1 symbols)
-  found ← items restricted behind
+  later ← mark marks.LeftParenthesis (drop 1 symbols)
+  found ← items restricted later
   rest ← mark marks.RightParenthesis found.1
   Ok (Some (record { storage = storage; values = found.0 }), rest)
 
@@ -196,8 +196,8 @@ base symbols =
 -- `(` name {`,` name} `)`
 unfoldable pub names : List Symbol → Reading (List Identifier)
 names symbols = do
-  behind ← mark marks.LeftParenthesis symbols
-  found ← items name behind
+  later ← mark marks.LeftParenthesis symbols
+  found ← items name later
   rest ← mark marks.RightParenthesis found.1
   Ok (found.0, rest)
 
@@ -213,9 +213,9 @@ subject_of None symbols = do
 unfoldable pub subject : List Symbol → Reading SubjectTree
 subject symbols = subject_of (next_name symbols) symbols
 
--- what stands behind the subject of an item
-abbrev pub item_behind : SubjectTree → List Symbol → Reading ItemTree
-item_behind its_subject symbols = do
+-- what stands after the subject of an item
+abbrev pub item_after : SubjectTree → List Symbol → Reading ItemTree
+item_after its_subject symbols = do
   its_dimension ← dimension symbols
   its_type ← item_type its_dimension.1
   its_linkage ← linkage its_type.1
@@ -227,7 +227,7 @@ item_behind its_subject symbols = do
 unfoldable pub item : List Symbol → Reading ItemTree
 item symbols = do
   its_subject ← subject symbols
-  item_behind its_subject.0 its_subject.1
+  item_after its_subject.0 its_subject.1
 
 -- name LITERALLY string | item
 abbrev pub item_element : List Symbol → Reading ElementTree
@@ -246,22 +246,22 @@ element_of (Some own) symbols =
 unfoldable pub element : List Symbol → Reading ElementTree
 element symbols = element_of (next_name symbols) symbols
 
--- an element behind the name with which it begins
-abbrev pub element_behind : Identifier → List Symbol → Reading ElementTree
-element_behind own symbols =
+-- an element after the name with which it begins
+abbrev pub element_after : Identifier → List Symbol → Reading ElementTree
+element_after own symbols =
     if at_word words.Literally symbols then (do
       text ← string (drop 1 symbols)
       Ok (LiterallyElement own text.0, text.1))
     else (do
       its_base ← base symbols
-      found ← item_behind (SingleSubject own its_base.0) its_base.1
+      found ← item_after (SingleSubject own its_base.0) its_base.1
       Ok (ItemElement found.0, found.1))
 
 -- an element that begins with no name
 abbrev pub group_element : List Symbol → Reading ElementTree
 group_element symbols = do
   its_names ← names symbols
-  found ← item_behind (GroupSubject its_names.0) its_names.1
+  found ← item_after (GroupSubject its_names.0) its_names.1
   Ok (ItemElement found.0, found.1)
 
 -- [`(` name {`,` name} `)`]
@@ -281,8 +281,8 @@ unfoldable pub heading : List Symbol → Reading HeadingTree
 heading symbols = do
   own ← name symbols
   colon ← mark marks.Colon own.1
-  behind ← word words.Procedure colon
-  its_parameters ← parameters behind
+  later ← word words.Procedure colon
+  its_parameters ← parameters later
   its_result ← result_type its_parameters.1
   its_linkage ← linkage its_result.1
   its_reentrant ← reentrant its_linkage.1

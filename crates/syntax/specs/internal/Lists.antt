@@ -38,7 +38,7 @@ many_items ends item (suc count) symbols =
 unfoldable pub many : {A : Type 0} → (List Symbol → Bool) → (List Symbol → Reading A) → List Symbol → Reading (List A)
 many ends item symbols = many_items ends item (length symbols) symbols
 
--- what is read takes no symbols away from behind it, or at least one
+-- what is read takes no symbols away from after it, or at least one
 abbrev pub Keeps : {A : Type 0} → (List Symbol → Reading A) → Type 0
 Keeps {A} item = (symbols rest : List Symbol) (a : A) → item symbols ≡ Ok (a, rest) → length rest ≤ length symbols
 

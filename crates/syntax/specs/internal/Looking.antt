@@ -10,13 +10,13 @@ use Rattle.trees.specs.declared.identifier.Place.{Place}
 use Rattle.trees.specs.Symbols.{Symbol, NameSymbol, NumberSymbol, StringSymbol, ReservedSymbol, PlacedSymbol, MarkSymbol, SemicolonSymbol}
 use Rattle.trees.specs.Trees.{StringTree, ConstantTree, NumberConstant, StringConstant}
 
--- why there is nothing to read: a symbol that can't stand there, too many levels, or another name behind END
+-- why there is nothing to read: a symbol that can't stand there, too many levels, or another name after END
 pub data Cause : Type 0 where
   Unexpected : Cause
   TooDeep : Cause
   OtherEndName : Cause
 
--- what is read, with the symbols behind it, or why there is nothing
+-- what is read, with the symbols after it, or why there is nothing
 abbrev pub Reading : Type 0 → Type 0
 Reading A = Result (A × List Symbol) Cause
 

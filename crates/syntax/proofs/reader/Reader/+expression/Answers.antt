@@ -4,7 +4,7 @@ use Rattle.trees.specs.Views.{expression_tree}
 use Rattle.syntax.specs.internal.Expressions.{expression}
 use Rattle.syntax.proofs.ExpressionSound.{expression-keeps}
 use Rattle.syntax.proofs.Loops.{list_more, list_ends, list_fails, gives_exit}
-use Rattle.syntax.proofs.Operators.{shorter_behind, operators_go_on, operators_do_not_go_on, primary_reads, primary_fails}
+use Rattle.syntax.proofs.Operators.{shorter_after, operators_go_on, operators_do_not_go_on, primary_reads, primary_fails}
 use Rattle.syntax.proofs.reader.Reader.+expression.Goals as goal
 
 pub expressions-returns-in_err-next-clause-gives : goal.expressions-returns-in_err-next-clause-gives
@@ -14,7 +14,7 @@ expressions-returns-in_err-next-clause-gives t c =
     (list_fails (expression c.args.room expr_level) keeps expression_tree _ _ _ _ _ _ c.more.invariant.all c.at_mark.ensures c.more-test.true c.skip.ensures c.in_err-next.ensures.gives)
 
 pub expressions-more-smaller : goal.expressions-more-smaller
-expressions-more-smaller t c = shorter_behind c.args.room expr_level _ _ _ _ c.skip.ensures c.in_ok-next.ensures.gives
+expressions-more-smaller t c = shorter_after c.args.room expr_level _ _ _ _ c.skip.ensures c.in_ok-next.ensures.gives
 
 pub expressions-more-preserved : goal.expressions-more-preserved
 expressions-more-preserved t c =
@@ -35,7 +35,7 @@ operators-returns-in_err-right-clause-gives t c =
     (operators_do_not_go_on c.args.room c.args.level c.level_of.result c.more.left.height c.more.left.level _ _ _ _ _ _ c.more.invariant.all c.in-Some.ensures c.more.left.leveled c.more.left.measured (omega arith) c.skip.ensures c.level_of.ensures.level c.in_err-right.ensures.gives)
 
 pub operators-more-smaller : goal.operators-more-smaller
-operators-more-smaller t c = shorter_behind c.args.room _ _ _ _ _ c.skip.ensures c.in_ok-right.ensures.gives
+operators-more-smaller t c = shorter_after c.args.room _ _ _ _ _ c.skip.ensures c.in_ok-right.ensures.gives
 
 pub operators-more-preserved : goal.operators-more-preserved
 operators-more-preserved t c =
