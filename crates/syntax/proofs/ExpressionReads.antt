@@ -14,7 +14,7 @@ use Rattle.trees.specs.Spelling.{more_after_commas, between_commas, constant_sym
 use Rattle.trees.specs.internal.Spelling.{expression_symbols, reference_symbols, member_of_symbols, arguments_symbols, more_arguments_symbols}
 use Rattle.trees.specs.Symbols.{Symbol, NameSymbol, MarkSymbol}
 use Rattle.trees.specs.Trees.{ConstantTree, NumberConstant, StringConstant, ExpressionTree, ConstantLeaf, ReferenceLeaf, LocationLeaf, ListLeaf, ParenthesizedNode, AssignmentNode, UnaryNode, BinaryNode, ReferenceTree, ReferenceTo, MemberTree, NoMember, MemberOf, ArgumentTrees, NoArguments, MoreArguments}
-use Rattle.syntax.specs.internal.Expressions.{ExpressionReader, next_operator, top_level, goes_on, arguments_of, arguments, member_of, reference, location, parenthesized, primary, operand, operator_then, all_operators, expression, expression_less}
+use Rattle.syntax.specs.internal.Expressions.{ExpressionParser, next_operator, top_level, goes_on, arguments_of, arguments, member_of, reference, location, parenthesized, primary, operand, operator_then, all_operators, expression, expression_less}
 use Rattle.syntax.specs.internal.Lists.{items, Keeps}
 use Rattle.syntax.specs.internal.Looking.{Reading, Cause, TooDeep, ◌>>=◌, at_mark, constant}
 use Rattle.syntax.proofs.Depths.{depth_fault, depth_fault-within, depth_fault-over, depth_fault-same, depth_fault-suc, depth_fault-max, after, bind_gave, after-gave, after-read, after-deep}
@@ -40,12 +40,12 @@ abbrev MayFollow : ExpressionTree → List Symbol → Type 0
 MayFollow t r = (o : BinaryOperator) → next_operator r ≡ Some o → left_level (level_of o) ≤ top_level t
 
 -- expressions are read by their levels in a room
-abbrev AllRead : ExpressionReader → ℕ → Type 0
+abbrev AllRead : ExpressionParser → ℕ → Type 0
 AllRead inner room = (level : ℕ) (t : ExpressionTree) (r : List Symbol) → IsExpression level t → EndsReference r → Stops level r
     → inner level (expression_symbols t r) ≡ gave (depth_fault (expression_height t) room) t r
 
 -- the same for one level less than the room
-abbrev AllReadBelow : ExpressionReader → ℕ → Type 0
+abbrev AllReadBelow : ExpressionParser → ℕ → Type 0
 AllReadBelow deeper room = (level : ℕ) (t : ExpressionTree) (r : List Symbol) → IsExpression level t → EndsReference r → Stops level r
     → deeper level (expression_symbols t r) ≡ gave (depth_fault (suc (expression_height t)) room) t r
 
@@ -84,7 +84,7 @@ list_of-fault room (MoreArguments t others) =
     ap (earlier (depth_fault (expression_height t) room)) (list_of-fault room others) ∙ depth_fault-max (expression_height t) (arguments_height others) room
 
 -- arguments that are spelled
-some_arguments-read : (inner : ExpressionReader) (room : ℕ) → Keeps (inner expr_level) → AllRead inner room → (t : ExpressionTree) (others : ArgumentTrees) (r : List Symbol)
+some_arguments-read : (inner : ExpressionParser) (room : ℕ) → Keeps (inner expr_level) → AllRead inner room → (t : ExpressionTree) (others : ArgumentTrees) (r : List Symbol)
     → AreArguments (MoreArguments t others)
     → items (inner expr_level) (expression_symbols t (more_arguments_symbols others r))
     ≡ gave (depth_fault (arguments_height (MoreArguments t others)) room) (t ∷ list_of others) (MarkSymbol marks.RightParenthesis ∷ r)
@@ -101,7 +101,7 @@ some_arguments-read inner room keeps all t others r form =
     fault =
         ap (earlier (depth_fault (expression_height t) room)) (list_of-fault room others) ∙ depth_fault-max (expression_height t) (arguments_height others) room
 
-arguments-read : (inner : ExpressionReader) (room : ℕ) → Keeps (inner expr_level) → AllRead inner room → (t : ArgumentTrees) (r : List Symbol)
+arguments-read : (inner : ExpressionParser) (room : ℕ) → Keeps (inner expr_level) → AllRead inner room → (t : ArgumentTrees) (r : List Symbol)
     → AreArguments t → at_mark marks.LeftParenthesis r ≡ false
     → arguments inner (arguments_symbols t r) ≡ gave (depth_fault (arguments_height t) room) t r
 arguments-read inner room keeps all NoArguments r form ends =
@@ -112,7 +112,7 @@ arguments-read inner room keeps all (MoreArguments t others) r form ends =
     ∙ after-read (depth_fault (arguments_height (MoreArguments t others)) room) (arguments_of (t ∷ list_of others)) r
     ∙ ap (λ k. gave (depth_fault (arguments_height (MoreArguments t others)) room) (MoreArguments t k) r) (arguments_of-list others)
 
-member-read : (inner : ExpressionReader) (room : ℕ) → Keeps (inner expr_level)
+member-read : (inner : ExpressionParser) (room : ℕ) → Keeps (inner expr_level)
     → AllRead inner room → (t : MemberTree) (r : List Symbol) → IsMember t → EndsReference r
     → member_of inner (member_of_symbols t r) ≡ gave (depth_fault (member_height t) room) t r
 member-read inner room keeps all NoMember r form ends =
@@ -129,7 +129,7 @@ member-opens_none : (t : MemberTree) (r : List Symbol) → EndsReference r
 member-opens_none NoMember r ends = ends.0
 member-opens_none (MemberOf n a) r ends = refl
 
-reference-read : (inner : ExpressionReader) (room : ℕ) → Keeps (inner expr_level)
+reference-read : (inner : ExpressionParser) (room : ℕ) → Keeps (inner expr_level)
     → AllRead inner room → (t : ReferenceTree) (r : List Symbol) → IsReference t → EndsReference r
     → reference inner (reference_symbols t r) ≡ gave (depth_fault (reference_height t) room) t r
 unfolding reference
@@ -153,36 +153,36 @@ flat_gave : (room : ℕ) (t : ExpressionTree) (r : List Symbol) → read t r ≡
 flat_gave room t r = ap (λ f. gave f t r) (sym (depth_fault-within 1 (suc room) (omega arith)))
 
 -- each operand, but for an operator between operands
-abbrev OperandRead : ExpressionReader → ExpressionReader → ℕ → ℕ → ExpressionTree → List Symbol → Type 0
+abbrev OperandRead : ExpressionParser → ExpressionParser → ℕ → ℕ → ExpressionTree → List Symbol → Type 0
 OperandRead inner deeper room level t r = operand inner deeper level (expression_symbols t r) ≡ gave (depth_fault (expression_height t) (suc room)) t r
 
-constant-operand : (inner deeper : ExpressionReader) (room level : ℕ) (c : ConstantTree) (r : List Symbol) → OperandRead inner deeper room level (ConstantLeaf c) r
+constant-operand : (inner deeper : ExpressionParser) (room level : ℕ) (c : ConstantTree) (r : List Symbol) → OperandRead inner deeper room level (ConstantLeaf c) r
 unfolding operand primary
 constant-operand inner deeper room level (NumberConstant n) r = flat_gave room (ConstantLeaf (NumberConstant n)) r
 constant-operand inner deeper room level (StringConstant t) r = flat_gave room (ConstantLeaf (StringConstant t)) r
 
-at_reference : (inner deeper : ExpressionReader) (level : ℕ) (f : ReferenceTree) (r : List Symbol)
+at_reference : (inner deeper : ExpressionParser) (level : ℕ) (f : ReferenceTree) (r : List Symbol)
     → operand inner deeper level (reference_symbols f r) ≡ (do
       found ← reference inner (reference_symbols f r)
       read (ReferenceLeaf found.0) found.1)
 unfolding operand primary
 at_reference inner deeper level (ReferenceTo n a m) r = refl
 
-reference-operand : (inner deeper : ExpressionReader) (room level : ℕ) → Keeps (inner expr_level) → AllRead inner room → (f : ReferenceTree) (r : List Symbol)
+reference-operand : (inner deeper : ExpressionParser) (room level : ℕ) → Keeps (inner expr_level) → AllRead inner room → (f : ReferenceTree) (r : List Symbol)
     → IsReference f → EndsReference r → OperandRead inner deeper room level (ReferenceLeaf f) r
 reference-operand inner deeper room level keeps all f r form ends =
     at_reference inner deeper level f r
     ∙ bind_gave (reference inner (reference_symbols f r)) _ (depth_fault (reference_height f) room) f r (reference-read inner room keeps all f r form ends)
     ∙ deeper_gave (reference_height f) room (ReferenceLeaf f) r
 
-at_location : (inner deeper : ExpressionReader) (level : ℕ) (f : ReferenceTree) (r : List Symbol)
+at_location : (inner deeper : ExpressionParser) (level : ℕ) (f : ReferenceTree) (r : List Symbol)
     → operand inner deeper level (MarkSymbol marks.Period ∷ reference_symbols f r) ≡ (do
       found ← reference inner (reference_symbols f r)
       read (LocationLeaf found.0) found.1)
 unfolding operand primary location
 at_location inner deeper level (ReferenceTo n a m) r = refl
 
-location-operand : (inner deeper : ExpressionReader) (room level : ℕ) → Keeps (inner expr_level) → AllRead inner room → (f : ReferenceTree) (r : List Symbol)
+location-operand : (inner deeper : ExpressionParser) (room level : ℕ) → Keeps (inner expr_level) → AllRead inner room → (f : ReferenceTree) (r : List Symbol)
     → IsReference f → EndsReference r → OperandRead inner deeper room level (LocationLeaf f) r
 location-operand inner deeper room level keeps all f r form ends =
     at_location inner deeper level f r
@@ -212,13 +212,13 @@ constants-read cs r some =
     cs (MarkSymbol marks.RightParenthesis ∷ r) some (constants-forms cs) tt refl
     ∙ ap (λ f. gave f cs (MarkSymbol marks.RightParenthesis ∷ r)) (no_fault-first cs)
 
-list-operand : (inner deeper : ExpressionReader) (room level : ℕ) (cs : List ConstantTree) (r : List Symbol) → IsNotEmpty cs → OperandRead inner deeper room level (ListLeaf cs) r
+list-operand : (inner deeper : ExpressionParser) (room level : ℕ) (cs : List ConstantTree) (r : List Symbol) → IsNotEmpty cs → OperandRead inner deeper room level (ListLeaf cs) r
 unfolding operand primary location
 list-operand inner deeper room level cs r some =
     bind_gave (items constant (between_commas constant_symbols cs (MarkSymbol marks.RightParenthesis ∷ r))) _ None cs (MarkSymbol marks.RightParenthesis ∷ r) (constants-read cs r some)
     ∙ flat_gave room (ListLeaf cs) r
 
-parenthesized-operand : (inner deeper : ExpressionReader) (room level : ℕ) → AllRead inner room → (x : ExpressionTree) (r : List Symbol)
+parenthesized-operand : (inner deeper : ExpressionParser) (room level : ℕ) → AllRead inner room → (x : ExpressionTree) (r : List Symbol)
     → IsExpression expr_level x → OperandRead inner deeper room level (ParenthesizedNode x) r
 unfolding operand primary parenthesized
 parenthesized-operand inner deeper room level all x r form =
@@ -226,7 +226,7 @@ parenthesized-operand inner deeper room level all x r form =
     bind_gave (inner expr_level (expression_symbols x later)) _ (depth_fault (expression_height x) room) x later (all expr_level x later form (refl, refl) (no_operator expr_level later refl))
     ∙ deeper_gave (expression_height x) room (ParenthesizedNode x) r
 
-assignment-operand : (inner deeper : ExpressionReader) (room level : ℕ) → AllRead inner room → AllReadBelow deeper room → (f : ReferenceTree) (x : ExpressionTree) (r : List Symbol)
+assignment-operand : (inner deeper : ExpressionParser) (room level : ℕ) → AllRead inner room → AllReadBelow deeper room → (f : ReferenceTree) (x : ExpressionTree) (r : List Symbol)
     → IsReference f → IsExpression expr_level x → OperandRead inner deeper room level (AssignmentNode f x) r
 unfolding operand primary parenthesized
 assignment-operand inner deeper room level all below f x r target value =
@@ -261,7 +261,7 @@ follow_not Multiply h = absurd (omega arith)
 follow_not Divide h = absurd (omega arith)
 follow_not Modulo h = absurd (omega arith)
 
-unary-operand : (inner deeper : ExpressionReader) (room level : ℕ) → AllRead inner room → (o : UnaryOperator) (x : ExpressionTree) (r : List Symbol)
+unary-operand : (inner deeper : ExpressionParser) (room level : ℕ) → AllRead inner room → (o : UnaryOperator) (x : ExpressionTree) (r : List Symbol)
     → level ≤ unary_level_of o → IsExpression (operand_level_of o) x → EndsReference r → MayFollow (UnaryNode o x) r → OperandRead inner deeper room level (UnaryNode o x) r
 unfolding operand
 unary-operand inner deeper room level all Not x r l form ends may =
@@ -309,21 +309,21 @@ left_level-le Divide = omega arith
 left_level-le Modulo = omega arith
 
 -- an operand with the operators after it
-abbrev with_operators : ExpressionReader → ExpressionReader → ℕ → ℕ → List Symbol → Reading ExpressionTree
+abbrev with_operators : ExpressionParser → ExpressionParser → ℕ → ℕ → List Symbol → Reading ExpressionTree
 with_operators inner deeper room level symbols = do
   left ← operand inner deeper level symbols
   all_operators inner (suc room) level left.0 left.1
 
 -- a tree is read as a left operand, unless it is too deep
-abbrev LeftRead : ExpressionReader → ExpressionReader → ℕ → ℕ → ExpressionTree → List Symbol → Type 0
+abbrev LeftRead : ExpressionParser → ExpressionParser → ℕ → ℕ → ExpressionTree → List Symbol → Type 0
 LeftRead inner deeper room level t r =
     with_operators inner deeper room level (expression_symbols t r) ≡ after (depth_fault (expression_height t) (suc room)) (all_operators inner (suc room) level t r)
 
-by_operand : (inner deeper : ExpressionReader) (room level : ℕ) (t : ExpressionTree) (r : List Symbol) → OperandRead inner deeper room level t r → LeftRead inner deeper room level t r
+by_operand : (inner deeper : ExpressionParser) (room level : ℕ) (t : ExpressionTree) (r : List Symbol) → OperandRead inner deeper room level t r → LeftRead inner deeper room level t r
 by_operand inner deeper room level t r e = bind_gave (operand inner deeper level (expression_symbols t r)) _ (depth_fault (expression_height t) (suc room)) t r e
 
 -- an operator that may stand here, with what stands after it
-operator-read : (inner : ExpressionReader) (room level : ℕ) → ((at : ℕ) → Keeps (inner at)) → AllRead inner room
+operator-read : (inner : ExpressionParser) (room level : ℕ) → ((at : ℕ) → Keeps (inner at)) → AllRead inner room
     → (o : BinaryOperator) (left right : ExpressionTree) (r : List Symbol)
     → level ≤ level_of o → left_level (level_of o) ≤ top_level left → IsExpression (suc (level_of o)) right → EndsReference r → Stops (suc (level_of o)) r
     → after (depth_fault (expression_height left) (suc room)) (all_operators inner (suc room) level left (binary_symbol o ∷ expression_symbols right r))
@@ -366,7 +366,7 @@ operator-read inner room level keeps all o left right r here its_left form ends 
         ∙ ap (λ f. after f (all_operators inner (suc room) level whole r))
         (depth_fault-same (expression_height right) room (expression_height whole) (suc room) (λ h. omega arith) (λ h. omega arith))
 
-left-read : (inner deeper : ExpressionReader) (room level : ℕ) → ((at : ℕ) → Keeps (inner at)) → AllRead inner room → AllReadBelow deeper room → (t : ExpressionTree) (r : List Symbol)
+left-read : (inner deeper : ExpressionParser) (room level : ℕ) → ((at : ℕ) → Keeps (inner at)) → AllRead inner room → AllReadBelow deeper room → (t : ExpressionTree) (r : List Symbol)
     → IsExpression level t → EndsReference r → MayFollow t r → LeftRead inner deeper room level t r
 left-read inner deeper room level keeps all below (ConstantLeaf c) r h ends may =
     by_operand inner deeper room level (ConstantLeaf c) r (constant-operand inner deeper room level c r)
@@ -395,7 +395,7 @@ left-read inner deeper room level keeps all below (BinaryNode o left right) r h 
     same_operator one other e = cc
 
 -- operators stop where none may be taken
-operators-stop : (inner : ExpressionReader) (room level : ℕ) → ((at : ℕ) → Keeps (inner at)) → (t : ExpressionTree) (r : List Symbol) → Stops level r
+operators-stop : (inner : ExpressionParser) (room level : ℕ) → ((at : ℕ) → Keeps (inner at)) → (t : ExpressionTree) (r : List Symbol) → Stops level r
     → all_operators inner room level t r ≡ read t r
 operators-stop inner room level keeps t r stops = all_operators-step inner keeps room level t r ∙ none (next_operator r) stops
   where
@@ -416,7 +416,7 @@ expression-positive (AssignmentNode f x) = omega arith
 expression-positive (UnaryNode o x) = omega arith
 expression-positive (BinaryNode o x y) = omega arith
 
-expression-step : (inner deeper : ExpressionReader) (room : ℕ) → ((at : ℕ) → Keeps (inner at)) → AllRead inner room → AllReadBelow deeper room → AllRead (with_operators inner deeper room) (suc room)
+expression-step : (inner deeper : ExpressionParser) (room : ℕ) → ((at : ℕ) → Keeps (inner at)) → AllRead inner room → AllReadBelow deeper room → AllRead (with_operators inner deeper room) (suc room)
 expression-step inner deeper room keeps all below level t r h ends stops =
     left-read inner deeper room level keeps all below t r h ends
     (λ o is. let low : left_level (level_of o) < level = stops o is in let top : level ≤ top_level t = expression-top level t h in omega arith)

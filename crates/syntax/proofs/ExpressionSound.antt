@@ -15,7 +15,7 @@ use Rattle.trees.specs.Spelling.{more_after_commas, between_commas, constant_sym
 use Rattle.trees.specs.internal.Spelling.{expression_symbols, reference_symbols, member_of_symbols, arguments_symbols, more_arguments_symbols}
 use Rattle.trees.specs.Symbols.{Symbol, NameSymbol, ReservedSymbol, MarkSymbol}
 use Rattle.trees.specs.Trees.{ConstantTree, NumberConstant, StringConstant, ExpressionTree, ConstantLeaf, ReferenceLeaf, LocationLeaf, ListLeaf, ParenthesizedNode, AssignmentNode, UnaryNode, BinaryNode, ReferenceTree, ReferenceTo, MemberTree, NoMember, MemberOf, ArgumentTrees, NoArguments, MoreArguments}
-use Rattle.syntax.specs.internal.Expressions.{ExpressionReader, next_operator, top_level, goes_on, arguments_of, arguments, member_of, reference, location, assigned, closed, parenthesized, primary, operand, operator_then, operators, all_operators, expression, expression_less}
+use Rattle.syntax.specs.internal.Expressions.{ExpressionParser, next_operator, top_level, goes_on, arguments_of, arguments, member_of, reference, location, assigned, closed, parenthesized, primary, operand, operator_then, operators, all_operators, expression, expression_less}
 use Rattle.syntax.specs.internal.Lists.{items, Keeps, Shrinks}
 use Rattle.syntax.specs.internal.Looking.{Reading, TooDeep, ◌>>=◌, at_mark, at_word, mark, name, next_name, constant}
 use Rattle.syntax.proofs.ListLaws.{IsSound, items-sound}
@@ -113,10 +113,10 @@ MemberFits room s t r = (s ≡ member_of_symbols t r) × IsMember t × (member_h
 abbrev ArgumentsFit : ℕ → List Symbol → ArgumentTrees → List Symbol → Type 0
 ArgumentsFit room s t r = (s ≡ arguments_symbols t r) × AreArguments t × (arguments_height t ≤ room)
 
-abbrev AllFit : ExpressionReader → ℕ → Type 0
+abbrev AllFit : ExpressionParser → ℕ → Type 0
 AllFit inner room = (level : ℕ) (s r : List Symbol) (t : ExpressionTree) → inner level s ≡ read t r → ExpressionFits room level s t r
 
-arguments-fit : (inner : ExpressionReader) (room : ℕ) → AllFit inner room → (s r : List Symbol) (t : ArgumentTrees) → arguments inner s ≡ read t r → ArgumentsFit room s t r
+arguments-fit : (inner : ExpressionParser) (room : ℕ) → AllFit inner room → (s r : List Symbol) (t : ArgumentTrees) → arguments inner s ≡ read t r → ArgumentsFit room s t r
 arguments-fit inner room fit s r t e = ⊎_elim some none (if_cases (at_mark marks.LeftParenthesis s) _ _ _ e)
   where
     sound : IsSound (inner expr_level) expression_symbols (FitsFirst room)
@@ -146,7 +146,7 @@ arguments-fit inner room fit s r t e = ⊎_elim some none (if_cases (at_mark mar
             ap (λ k. MarkSymbol marks.LeftParenthesis ∷ expression_symbols first k)
             (ap (more_after_commas expression_symbols all) is ∙ more_arguments-spelled all rest)
 
-member-fits : (inner : ExpressionReader) (room : ℕ) → AllFit inner room
+member-fits : (inner : ExpressionParser) (room : ℕ) → AllFit inner room
     → (s r : List Symbol) (t : MemberTree) → member_of inner s ≡ read t r → MemberFits room s t r
 member-fits inner room fit s r t e = ⊎_elim some none (if_cases (at_mark marks.Period s) _ _ _ e)
   where
@@ -169,7 +169,7 @@ member-fits inner room fit s r t e = ⊎_elim some none (if_cases (at_mark marks
           omega (arith, its.2),
         )
 
-reference-fits : (inner : ExpressionReader) (room : ℕ) → AllFit inner room
+reference-fits : (inner : ExpressionParser) (room : ℕ) → AllFit inner room
     → (s r : List Symbol) (t : ReferenceTree) → reference inner s ≡ read t r → ReferenceFits room s t r
 unfolding reference
 reference-fits inner room fit s r t e =
@@ -186,14 +186,14 @@ reference-fits inner room fit s r t e =
     )
 
 -- what stands in one level less than the room
-abbrev AllFitBelow : ExpressionReader → ℕ → Type 0
+abbrev AllFitBelow : ExpressionParser → ℕ → Type 0
 AllFitBelow deeper room = (level : ℕ) (s r : List Symbol) (t : ExpressionTree) → deeper level s ≡ read t r → (s ≡ expression_symbols t r) × (level ≤ primary_level → IsExpression level t) × (suc (expression_height t) ≤ room)
 
 -- a primary at any level
 abbrev PrimaryFits : ℕ → List Symbol → ExpressionTree → List Symbol → Type 0
 PrimaryFits room s t r = (s ≡ expression_symbols t r) × ((level : ℕ) → level ≤ primary_level → IsExpression level t) × (expression_height t ≤ suc room)
 
-location-fits : (inner : ExpressionReader) (room : ℕ) → AllFit inner room → (s r : List Symbol) (t : ExpressionTree) → location inner s ≡ read t r
+location-fits : (inner : ExpressionParser) (room : ℕ) → AllFit inner room → (s r : List Symbol) (t : ExpressionTree) → location inner s ≡ read t r
     → PrimaryFits room (MarkSymbol marks.Period ∷ s) t r
 unfolding location
 location-fits inner room fit s r t e = ⊎_elim some none (if_cases (at_mark marks.LeftParenthesis s) _ _ _ e)
@@ -226,7 +226,7 @@ location-fits inner room fit s r t e = ⊎_elim some none (if_cases (at_mark mar
           omega arith,
         )
 
-assigned-fits : (deeper : ExpressionReader) (room : ℕ) → AllFitBelow deeper room → (left : ExpressionTree) (s r : List Symbol) (t : ExpressionTree)
+assigned-fits : (deeper : ExpressionParser) (room : ℕ) → AllFitBelow deeper room → (left : ExpressionTree) (s r : List Symbol) (t : ExpressionTree)
     → IsExpression expr_level left → expression_height left ≤ room → assigned deeper left s ≡ read t r
     → PrimaryFits room (MarkSymbol marks.LeftParenthesis ∷ expression_symbols left s) t r
 assigned-fits deeper room fit (ReferenceLeaf target) s r t form height e =
@@ -249,7 +249,7 @@ assigned-fits deeper room fit (AssignmentNode f x) s r t form height e = absurd 
 assigned-fits deeper room fit (UnaryNode o x) s r t form height e = absurd cc
 assigned-fits deeper room fit (BinaryNode o x y) s r t form height e = absurd cc
 
-closed-fits : (deeper : ExpressionReader) (room : ℕ) → AllFitBelow deeper room → (left : ExpressionTree) (s r : List Symbol) (t : ExpressionTree)
+closed-fits : (deeper : ExpressionParser) (room : ℕ) → AllFitBelow deeper room → (left : ExpressionTree) (s r : List Symbol) (t : ExpressionTree)
     → IsExpression expr_level left → expression_height left ≤ room → closed deeper left s ≡ read t r
     → PrimaryFits room (MarkSymbol marks.LeftParenthesis ∷ expression_symbols left s) t r
 closed-fits deeper room fit left s r t form height e =
@@ -259,7 +259,7 @@ closed-fits deeper room fit left s r t form height e =
     (λ h. assigned-fits deeper room fit left s r t form height h.1)
     (if_cases (at_mark marks.RightParenthesis s) _ _ _ e)
 
-parenthesized-fits : (inner deeper : ExpressionReader) (room : ℕ) → AllFit inner room → AllFitBelow deeper room → (s r : List Symbol) (t : ExpressionTree)
+parenthesized-fits : (inner deeper : ExpressionParser) (room : ℕ) → AllFit inner room → AllFitBelow deeper room → (s r : List Symbol) (t : ExpressionTree)
     → parenthesized inner deeper s ≡ read t r → PrimaryFits room (MarkSymbol marks.LeftParenthesis ∷ s) t r
 unfolding parenthesized
 parenthesized-fits inner deeper room fit below s r t e =
@@ -269,7 +269,7 @@ parenthesized-fits inner deeper room fit below s r t e =
     (ap (λ k. MarkSymbol marks.LeftParenthesis ∷ k) its.0 ∙ whole.0, whole.1, whole.2)
 
 -- a reference where a name stands, and a constant elsewhere
-pub leaf_of : ExpressionReader → Option Identifier → List Symbol → Reading ExpressionTree
+pub leaf_of : ExpressionParser → Option Identifier → List Symbol → Reading ExpressionTree
 leaf_of inner (Some base) s = do
   found ← reference inner s
   Ok (ReferenceLeaf found.0, found.1)
@@ -277,14 +277,14 @@ leaf_of inner None s = do
   found ← constant s
   Ok (ConstantLeaf found.0, found.1)
 
-primary-is : (inner deeper : ExpressionReader) (s : List Symbol)
+primary-is : (inner deeper : ExpressionParser) (s : List Symbol)
     → primary inner deeper s ≡ (if at_mark marks.LeftParenthesis s then parenthesized inner deeper (drop 1 s)
     else (if at_mark marks.Period s then location inner (drop 1 s) else leaf_of inner (next_name s) s))
 unfolding primary leaf_of
 primary-is inner deeper (NameSymbol n ∷ s) = refl
 primary-is inner deeper s = refl
 
-leaf-fits : (inner : ExpressionReader) (room : ℕ) → AllFit inner room → (found : Option Identifier) (s r : List Symbol) (t : ExpressionTree)
+leaf-fits : (inner : ExpressionParser) (room : ℕ) → AllFit inner room → (found : Option Identifier) (s r : List Symbol) (t : ExpressionTree)
     → leaf_of inner found s ≡ read t r → PrimaryFits room s t r
 unfolding leaf_of
 leaf-fits inner room fit (Some base) s r t e =
@@ -295,7 +295,7 @@ leaf-fits inner room fit None s r t e =
     let found = bind_ok (constant s) _ _ e in
     moved (PrimaryFits room s) (ConstantLeaf found.0.0) t found.0.1 r found.2 (constant-ok s found.0.1 found.0.0 found.1, λ level l. l, omega arith)
 
-primary-fits : (inner deeper : ExpressionReader) (room : ℕ) → AllFit inner room → AllFitBelow deeper room → (s r : List Symbol) (t : ExpressionTree)
+primary-fits : (inner deeper : ExpressionParser) (room : ℕ) → AllFit inner room → AllFitBelow deeper room → (s r : List Symbol) (t : ExpressionTree)
     → primary inner deeper s ≡ read t r → PrimaryFits room s t r
 primary-fits inner deeper room fit below s r t e =
     ⊎_elim
@@ -309,7 +309,7 @@ primary-fits inner deeper room fit below s r t e =
     at : {q : List Symbol} → s ≡ q → PrimaryFits room q t r → PrimaryFits room s t r
     at is h = (is ∙ h.0, h.1, h.2)
 
-operand-fits : (inner deeper : ExpressionReader) (room : ℕ) → AllFit inner room → AllFitBelow deeper room → (level : ℕ) (s r : List Symbol) (t : ExpressionTree)
+operand-fits : (inner deeper : ExpressionParser) (room : ℕ) → AllFit inner room → AllFitBelow deeper room → (level : ℕ) (s r : List Symbol) (t : ExpressionTree)
     → operand inner deeper level s ≡ read t r → ExpressionFits (suc room) level s t r
 unfolding operand
 operand-fits inner deeper room fit below level s r t e =
@@ -376,7 +376,7 @@ right_level Multiply = omega arith
 right_level Divide = omega arith
 right_level Modulo = omega arith
 
-operator_then-fits : (inner : ExpressionReader) (room : ℕ) → AllFit inner room → (level : ℕ) (left : ExpressionTree) (s r : List Symbol) (t : ExpressionTree)
+operator_then-fits : (inner : ExpressionParser) (room : ℕ) → AllFit inner room → (level : ℕ) (left : ExpressionTree) (s r : List Symbol) (t : ExpressionTree)
     → (again : ExpressionTree → List Symbol → Reading ExpressionTree)
     → ((other : ExpressionTree) (q : List Symbol) → (level ≤ primary_level → IsExpression level other) → expression_height other ≤ suc room → again other q ≡ read t r
     → ExpressionFits (suc room) level (expression_symbols other q) t r)
@@ -408,7 +408,7 @@ operator_then-fits inner room fit level left s r t again later form height (Some
         (spelled ∙ whole.0, whole.1, whole.2)
 
 -- a left operand that is read, with operators after it
-operators-fit : (inner : ExpressionReader) (room : ℕ) → AllFit inner room → (level : ℕ) (r : List Symbol) (t : ExpressionTree)
+operators-fit : (inner : ExpressionParser) (room : ℕ) → AllFit inner room → (level : ℕ) (r : List Symbol) (t : ExpressionTree)
     → (count : ℕ) (left : ExpressionTree) (s : List Symbol) → (level ≤ primary_level → IsExpression level left) → expression_height left ≤ suc room
     → operators inner (suc room) level count left s ≡ read t r
     → ExpressionFits (suc room) level (expression_symbols left s) t r
@@ -417,13 +417,13 @@ operators-fit inner room fit level r t (suc count) left s form height e =
     operator_then-fits inner room fit level left s r t (operators inner (suc room) level count)
     (λ other q f h k. operators-fit inner room fit level r t count other q f h k) form height (next_operator s) refl e
 
-all_operators-fit : (inner : ExpressionReader) (room : ℕ) → AllFit inner room → (level : ℕ) (left : ExpressionTree) (s r : List Symbol) (t : ExpressionTree)
+all_operators-fit : (inner : ExpressionParser) (room : ℕ) → AllFit inner room → (level : ℕ) (left : ExpressionTree) (s r : List Symbol) (t : ExpressionTree)
     → (level ≤ primary_level → IsExpression level left) → expression_height left ≤ suc room → all_operators inner (suc room) level left s ≡ read t r
     → ExpressionFits (suc room) level (expression_symbols left s) t r
 unfolding all_operators
 all_operators-fit inner room fit level left s r t form height e = operators-fit inner room fit level r t (length s) left s form height e
 
-expression-step : (inner deeper : ExpressionReader) (room : ℕ) → AllFit inner room → AllFitBelow deeper room → (level : ℕ) (s r : List Symbol) (t : ExpressionTree)
+expression-step : (inner deeper : ExpressionParser) (room : ℕ) → AllFit inner room → AllFitBelow deeper room → (level : ℕ) (s r : List Symbol) (t : ExpressionTree)
     → (do
       left ← operand inner deeper level s
       all_operators inner (suc room) level left.0 left.1) ≡ read t r → ExpressionFits (suc room) level s t r

@@ -7,7 +7,7 @@ use Rattle.trees.specs.Forms.{level_of}
 use Rattle.trees.specs.Nesting.{expression_height}
 use Rattle.trees.specs.Symbols.{Symbol, NameSymbol, NumberSymbol, StringSymbol, ReservedSymbol, PlacedSymbol, MarkSymbol, SemicolonSymbol, UnknownSymbol}
 use Rattle.trees.specs.Trees.{ExpressionTree, ConstantLeaf, ReferenceLeaf, BinaryNode, ReferenceTree}
-use Rattle.syntax.specs.internal.Expressions.{ExpressionReader, expression, operand, primary, parenthesized, location, reference_after, reference, expression_less, all_operators, operator_then, next_operator, goes_on, top_level}
+use Rattle.syntax.specs.internal.Expressions.{ExpressionParser, expression, operand, primary, parenthesized, location, reference_after, reference, expression_less, all_operators, operator_then, next_operator, goes_on, top_level}
 use Rattle.syntax.specs.internal.Looking.{Cause, TooDeep, Reading, ◌>>=◌, at_mark, next_name, constant}
 use Rattle.syntax.specs.internal.Giving.{FailsBy}
 use Rattle.syntax.specs.internal.Parts.{operator_on}
@@ -16,7 +16,7 @@ use Rattle.syntax.proofs.ExpressionSound.{expression-keeps, expression-shrinks}
 use Rattle.syntax.proofs.OperatorLaws.{all_operators-step}
 
 -- an operator that goes on
-then-on : (inner : ExpressionReader) (again : ExpressionTree → List Symbol → Reading ExpressionTree) (room level : ℕ) (left : ExpressionTree) (next : Option BinaryOperator) (operator : BinaryOperator) (s : List Symbol)
+then-on : (inner : ExpressionParser) (again : ExpressionTree → List Symbol → Reading ExpressionTree) (room level : ℕ) (left : ExpressionTree) (next : Option BinaryOperator) (operator : BinaryOperator) (s : List Symbol)
     → operator_on level (top_level left) next ≡ Some operator
     → operator_then inner again room level left next s ≡
     (if nat_lt (expression_height left) room then (inner (suc (level_of operator)) (drop 1 s) >>= (λ right. again (BinaryNode operator left right.0) right.1)) else Err TooDeep)
@@ -30,7 +30,7 @@ then-on inner again room level left (Some found) operator s e = go (goes_on leve
     go false e = absurd cc
 
 -- no operator that goes on
-then-ends : (inner : ExpressionReader) (again : ExpressionTree → List Symbol → Reading ExpressionTree) (room level : ℕ) (left : ExpressionTree) (next : Option BinaryOperator) (s : List Symbol)
+then-ends : (inner : ExpressionParser) (again : ExpressionTree → List Symbol → Reading ExpressionTree) (room level : ℕ) (left : ExpressionTree) (next : Option BinaryOperator) (s : List Symbol)
     → operator_on level (top_level left) next ≡ None
     → operator_then inner again room level left next s ≡ Ok (left, s)
 then-ends inner again room level left None s e = refl
@@ -107,13 +107,13 @@ abbrev pub reference_leaf : ReferenceTree × List Symbol → Reading ExpressionT
 reference_leaf found = Ok (ReferenceLeaf found.0, found.1)
 
 -- a name
-pub primary_name : (inner deeper : ExpressionReader) (s : List Symbol) (base : Identifier) → next_name s ≡ Some base
+pub primary_name : (inner deeper : ExpressionParser) (s : List Symbol) (base : Identifier) → next_name s ≡ Some base
     → primary inner deeper s ≡ (reference_after inner base (drop 1 s) >>= reference_leaf)
 unfolding primary reference
 primary_name inner deeper [] base e = absurd cc
 primary_name inner deeper (NameSymbol name ∷ s) base e = let same : name ≡ base = cc in rw same (go inner base s)
   where
-    go : (inner : ExpressionReader) (base : Identifier) (s : List Symbol)
+    go : (inner : ExpressionParser) (base : Identifier) (s : List Symbol)
         → (reference inner (NameSymbol base ∷ s) >>= reference_leaf)
         ≡ (reference_after inner base s >>= reference_leaf)
     go inner base s = refl
@@ -126,20 +126,20 @@ primary_name inner deeper (SemicolonSymbol _ ∷ s) base e = absurd cc
 primary_name inner deeper (UnknownSymbol ∷ s) base e = absurd cc
 
 -- a constant
-pub primary_constant : (inner deeper : ExpressionReader) (s : List Symbol)
+pub primary_constant : (inner deeper : ExpressionParser) (s : List Symbol)
     → at_mark LeftParenthesis s ≡ false → at_mark Period s ≡ false → next_name s ≡ None
     → primary inner deeper s ≡ (constant s >>= (λ found. Ok (ConstantLeaf found.0, found.1)))
 unfolding primary
 primary_constant inner deeper s left dot e = rw (left, dot, e) refl
 
 -- what stands in parentheses
-pub primary_parenthesized : (inner deeper : ExpressionReader) (s : List Symbol)
+pub primary_parenthesized : (inner deeper : ExpressionParser) (s : List Symbol)
     → at_mark LeftParenthesis s ≡ true → primary inner deeper s ≡ parenthesized inner deeper (drop 1 s)
 unfolding primary
 primary_parenthesized inner deeper s left = rw left refl
 
 -- what stands after a period
-pub primary_location : (inner deeper : ExpressionReader) (s : List Symbol)
+pub primary_location : (inner deeper : ExpressionParser) (s : List Symbol)
     → at_mark LeftParenthesis s ≡ false → at_mark Period s ≡ true → primary inner deeper s ≡ location inner (drop 1 s)
 unfolding primary
 primary_location inner deeper s left dot = rw (left, dot) refl
@@ -182,7 +182,7 @@ operators_do_not_go_on room level lower height top whole left operator s after (
     is ∙ operators_fail room level left operator s cause next fits (ap (λ a. expression room (suc (level_of operator)) a) (sym skipped) ∙ ap (λ l. expression room l after) (sym at) ∙ e)
 
 -- a reference
-pub primary_reads : (inner deeper : ExpressionReader) (s after r : List Symbol) (base : Identifier) (found : ReferenceTree) (made : ExpressionTree)
+pub primary_reads : (inner deeper : ExpressionParser) (s after r : List Symbol) (base : Identifier) (found : ReferenceTree) (made : ExpressionTree)
     → Some base ≡ next_name s → after ≡ drop 1 s → reference_after inner base after ≡ Ok (found, r) → made ≡ ReferenceLeaf found
     → primary inner deeper s ≡ Ok (made, r)
 primary_reads inner deeper s after r base found made named skipped e leaf =
@@ -190,7 +190,7 @@ primary_reads inner deeper s after r base found made named skipped e leaf =
     primary_name inner deeper s base (sym named) ∙ bind_at (reference_after inner base (drop 1 s)) reference_leaf (found, r) e' ∙ ap (λ t. Ok (t, r)) (sym leaf)
 
 -- no reference after a name
-pub primary_fails : (inner deeper : ExpressionReader) (s after : List Symbol) (base : Identifier) (cause : Option Cause)
+pub primary_fails : (inner deeper : ExpressionParser) (s after : List Symbol) (base : Identifier) (cause : Option Cause)
     → Some base ≡ next_name s → after ≡ drop 1 s → FailsBy cause (reference_after inner base after) → FailsBy cause (primary inner deeper s)
 primary_fails inner deeper s after base None named skipped e = tt
 primary_fails inner deeper s after base (Some cause) named skipped e =

@@ -180,7 +180,7 @@ impl<'a> Reader<'a> {
         Some(found)
     }
 
-    // [AT `(` place `)`]
+    // [AT `(` restricted `)`]
     #[tactic(auto, unfolding(crate::specs::internal::Declarations::at))]
     fn take_at(&mut self) -> Result<Option<At>, Failure<Fault>>
         ensures { Gives (option_map at_tree) result self.new (at self.old) }
@@ -206,7 +206,7 @@ impl<'a> Reader<'a> {
         Some(Storage::Data(place))
     }
 
-    // [INITIAL `(` list `)` | DATA `(` list `)`]
+    // [INITIAL `(` restricted {`,` restricted} `)` | DATA `(` restricted {`,` restricted} `)`]
     #[tactic(auto, using(crate::proofs::ListedItems::listed), unfolding(crate::specs::internal::Declarations::value_list))]
     fn take_value_list(&mut self) -> Result<Option<ValueList>, Failure<Fault>>
         ensures { Gives (option_map value_list_tree) result self.new (value_list self.old) }

@@ -59,7 +59,7 @@ impl<'a> Reader<'a> {
         Ok(left)
     }
 
-    // The next word, if it is an operator that goes on with an expression of level `top`, where what comes out must
+    // The next word, if it is an operator that goes on with an expression of level `top`, where the whole must
     // stand at `level`.
     fn operator_on(&self, level: u8, top: u8) -> Option<BinaryOperator>
         ensures { result ≡ operator_on level top (next_operator self.now) }
@@ -187,7 +187,7 @@ impl<'a> Reader<'a> {
         self.reference_after(base, room)
     }
 
-    // [args] [`.` name [args]], after the name of a reference.
+    // [arguments] [`.` name [arguments]], after the name of a reference.
     #[cycle(expression)]
     fn reference_after(
         &mut self,

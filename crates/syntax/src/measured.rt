@@ -1,4 +1,4 @@
-//! Expressions with what their reader needs to know of them: how many levels they take, and where they may stand.
+//! Expressions with how many levels they take, and at which levels of the grammar they may stand.
 
 ghost use Rattle.std.specs.Prelude.{◌≡◌, ◌<◌, ◌+◌, suc, max, [], ◌∷◌, ◌++◌, IfOk, OnOk, IfSome, IsNone, false, map};
 ghost use Rattle.trees.specs.Forms.{expr_level, neg_level, rel_level, sec_level, primary_level, level_of};
