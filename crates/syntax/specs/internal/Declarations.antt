@@ -221,14 +221,17 @@ item_after its_subject symbols = do
   its_linkage ← linkage its_type.1
   its_place ← at its_linkage.1
   its_values ← value_list its_place.1
-  Ok (record {
-    subject = its_subject;
-    dimension = its_dimension.0;
-    item_type = its_type.0;
-    linkage = its_linkage.0;
-    at = its_place.0;
-    value_list = its_values.0;
-  }, its_values.1)
+  Ok (
+    record {
+      subject = its_subject;
+      dimension = its_dimension.0;
+      item_type = its_type.0;
+      linkage = its_linkage.0;
+      at = its_place.0;
+      value_list = its_values.0;
+    },
+    its_values.1,
+  )
 
 -- an item
 unfoldable pub item : Parser ItemTree
@@ -293,10 +296,13 @@ heading symbols = do
   its_result ← result_type its_parameters.1
   its_linkage ← linkage its_result.1
   its_reentrant ← reentrant its_linkage.1
-  Ok (record {
-    name = own.0;
-    parameters = its_parameters.0;
-    result = its_result.0;
-    linkage = its_linkage.0;
-    reentrant = its_reentrant.0;
-  }, its_reentrant.1)
+  Ok (
+    record {
+      name = own.0;
+      parameters = its_parameters.0;
+      result = its_result.0;
+      linkage = its_linkage.0;
+      reentrant = its_reentrant.0;
+    },
+    its_reentrant.1,
+  )
