@@ -75,7 +75,8 @@ impl<'a> Reader<'a> {
 
     // The next word.
     fn next(&self) -> Option<&'a Word<'a>>
-        ensures { MatchOption result (self.now ≡ []) (λ word. self.now ≡ symbol_of (lexeme_of word.now) ∷ drop 1 self.now) }
+        ensures { MatchOption result (self.now ≡ [])
+            (λ word. self.now ≡ symbol_of (lexeme_of word.now) ∷ drop 1 self.now) }
     {
         self.rest.first()
     }
@@ -102,7 +103,7 @@ impl<'a> Reader<'a> {
         }
     }
 
-    /// The next word is left behind.
+    /// The next word is left after.
     pub(crate) fn skip(&mut self)
         requires { self.old ≢ [] }
         ensures { self.new ≡ drop 1 self.old }
@@ -275,7 +276,8 @@ impl<'a> Reader<'a> {
 
     // Whether the next word is a string.
     fn at_string(&self) -> bool
-        ensures { MatchBool result (constant self.now ≡ string_constant self.now) (constant self.now ≡ number_constant self.now) }
+        ensures { MatchBool result (constant self.now ≡ string_constant self.now)
+            (constant self.now ≡ number_constant self.now) }
     {
         match self.next() {
             Some(word) => word.kind == Kind::String,
@@ -334,7 +336,7 @@ fn characters_of(alloc: Global, text: &[u8]) -> Result<Vec<u8>, AllocError>
     }
 }
 
-// The bytes that a string stands for, from the bytes behind its opening quote: of two quotes one stays.
+// The bytes that a string stands for, from the bytes after its opening quote: of two quotes one stays.
 fn unquoted(alloc: Global, text: &[u8]) -> Result<Vec<u8>, AllocError>
     ensures { IfOk result (λ made. made.items ≡ unquoted false text.now) }
 {

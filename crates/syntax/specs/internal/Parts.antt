@@ -4,16 +4,16 @@ use Rattle.trees.specs.Symbols.{Symbol}
 use Rattle.trees.specs.declared.expression.BinaryOperator.{BinaryOperator}
 use Rattle.trees.specs.Trees.{ConstantTree, NumberConstant, StringConstant}
 use Rattle.syntax.specs.internal.Expressions.{goes_on}
-use Rattle.syntax.specs.internal.Looking.{Reading, ◌>>=◌, number, string}
+use Rattle.syntax.specs.internal.Looking.{Parser, Reading, ◌>>=◌, number, string}
 
 -- a number as a constant
-abbrev pub number_constant : List Symbol → Reading ConstantTree
+abbrev pub number_constant : Parser ConstantTree
 number_constant symbols = do
   found ← number symbols
   Ok (NumberConstant found.0, found.1)
 
 -- a string as a constant
-abbrev pub string_constant : List Symbol → Reading ConstantTree
+abbrev pub string_constant : Parser ConstantTree
 string_constant symbols = do
   found ← string symbols
   Ok (StringConstant found.0, found.1)
