@@ -9,13 +9,15 @@ use Rattle.syntax.specs.internal.Looking.{Cause, Unexpected, TooDeep, Reading, �
 use Rattle.syntax.specs.internal.Statements.{assignment, beginning_of, labels_before, after_labels, labelled, statement, kind_by, declaration, declare, declare_or, procedure}
 
 -- a symbol that the grammar doesn't have is no target of an assignment
-unknown_target : (room : ℕ) (rest : List Symbol) → Err Unexpected ≡ assignment (expression room) (UnknownSymbol ∷ rest)
+unknown_target : (room : ℕ) (rest : List Symbol)
+    → Err Unexpected ≡ assignment (expression room) (UnknownSymbol ∷ rest)
 unfolding assignment reference
 unknown_target room rest = refl
 
 -- what a statement begins with, where a symbol that the grammar doesn't have is taken for a name
 by_beginning : (room : ℕ) (symbols : List Symbol)
-    → kind_by (expression room) (statement true room) (block_in room) (beginning_of symbols) symbols ≡ kind_inside room symbols
+    → kind_by (expression room) (statement true room) (block_in room) (beginning_of symbols) symbols ≡
+    kind_inside room symbols
 by_beginning room [] = refl
 by_beginning room (NameSymbol name ∷ rest) = refl
 by_beginning room (NumberSymbol number ∷ rest) = refl
@@ -26,7 +28,9 @@ by_beginning room (MarkSymbol mark ∷ rest) = refl
 by_beginning room (SemicolonSymbol place ∷ rest) = refl
 by_beginning room (UnknownSymbol ∷ rest) = unknown_target room rest
 
-pub statement_in : (room : ℕ) (symbols : List Symbol) → 0 < room → statement true room symbols ≡ statement_inside (room - 1) symbols
+pub statement_in : (room : ℕ) (symbols : List Symbol)
+    → 0 < room
+    → statement true room symbols ≡ statement_inside (room - 1) symbols
 unfolding statement
 statement_in zero symbols more = absurd (omega arith)
 statement_in (suc room) symbols more =
@@ -34,7 +38,9 @@ statement_in (suc room) symbols more =
     ap (labelled (labels_before symbols)) (by_beginning room (after_labels symbols))
     ∙ ap (λ inner. statement_inside inner symbols) same
 
-pub declaration_in : (room : ℕ) (symbols : List Symbol) → 0 < room → declaration true room symbols ≡ declare_or (procedure true (block_in (room - 1))) symbols
+pub declaration_in : (room : ℕ) (symbols : List Symbol)
+    → 0 < room
+    → declaration true room symbols ≡ declare_or (procedure true (block_in (room - 1))) symbols
 unfolding declaration
 declaration_in zero symbols more = absurd (omega arith)
 declaration_in (suc room) symbols more =
@@ -42,11 +48,17 @@ declaration_in (suc room) symbols more =
     ap (λ inner. declare_or (procedure true (block_in inner)) symbols) same
 
 -- no room
-pub statement-deep : (cause : Option Cause) (room : ℕ) (s : List Symbol) → room ≡ 0 → cause ≡ Some TooDeep → FailsBy cause (statement true room s)
+pub statement-deep : (cause : Option Cause) (room : ℕ) (s : List Symbol)
+    → room ≡ 0
+    → cause ≡ Some TooDeep
+    → FailsBy cause (statement true room s)
 unfolding statement
 statement-deep cause room s none deep = rw (deep, none) refl
 
-pub declaration-deep : (cause : Option Cause) (room : ℕ) (s : List Symbol) → room ≡ 0 → false ≡ at_word Declare s → cause ≡ Some TooDeep
+pub declaration-deep : (cause : Option Cause) (room : ℕ) (s : List Symbol)
+    → room ≡ 0
+    → false ≡ at_word Declare s
+    → cause ≡ Some TooDeep
     → FailsBy cause (declaration true room s)
 unfolding declaration declare_or
 declaration-deep cause room s none other deep = rw (deep, none, ← other) refl

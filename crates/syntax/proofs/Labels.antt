@@ -79,4 +79,13 @@ after_labels-end (NameSymbol m ∷ []) e = refl
 after_labels-end [] e = refl
 after_labels-end (x ∷ rest) e = refl
 
-pub ruleset label_rules = (labels-more, after_labels-more, labels-first, labels-second, labels-smaller, labels-end, after_labels-end, append_assoc)
+pub ruleset label_rules = (
+  labels-more,
+  after_labels-more,
+  labels-first,
+  labels-second,
+  labels-smaller,
+  labels-end,
+  after_labels-end,
+  append_assoc,
+)

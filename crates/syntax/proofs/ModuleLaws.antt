@@ -10,7 +10,7 @@ use Rattle.trees.specs.Spelling.{optional, name_symbols, ending_symbols}
 use Rattle.trees.specs.Symbols.{Symbol, NameSymbol, PlacedSymbol, MarkSymbol, SemicolonSymbol, symbols_of}
 use Rattle.trees.specs.Trees.{ModuleTree}
 use Rattle.syntax.specs.internal.Looking.{TooDeep, OtherEndName, place_of_word, taken}
-use Rattle.syntax.specs.internal.Statements.{at_the_end, whole_module}
+use Rattle.syntax.specs.internal.Statements.{at_the_end, module_of, whole_module}
 use Rattle.syntax.proofs.LookingLemmas.{taken-ok, place_of_word-is}
 use Rattle.syntax.proofs.StatementLaws.{body-gets, body-verdict}
 use Rattle.syntax.proofs.StatementSoundness.{mark-gets, semicolon-gets, name-gets, ending-gets, statements-left}
@@ -25,12 +25,15 @@ place-gets s = record {
       place_of_word-is words.Do s found.0 parts.0 ∙ ap (λ k. PlacedSymbol words.Do found.0 ∷ k) parts.1;
 }
 
-at_the_end-gets : (t : ModuleTree) (s r : List Symbol) → (r ≡ [] → DerivesModule s t) → Gets (DerivesModule s) (at_the_end t r)
+at_the_end-gets : (t : ModuleTree) (s r : List Symbol)
+    → (r ≡ [] → DerivesModule s t)
+    → Gets (DerivesModule s) (at_the_end t r)
 at_the_end-gets t s [] derived = gets_ok (derived refl)
 at_the_end-gets t s (symbol ∷ rest) derived = gets_nothing
 
 -- what is read as a module is derived
-whole_module-gets : (strict : Bool) (room : ℕ) (s : List Symbol) → Gets (DerivesModule s) (whole_module strict room s)
+whole_module-gets : (strict : Bool) (room : ℕ) (s : List Symbol)
+    → Gets (DerivesModule s) (whole_module strict room s)
 unfolding whole_module
 whole_module-gets strict room s =
     gets_bind (name-gets s) λ own e₁.
@@ -40,8 +43,9 @@ whole_module-gets strict room s =
     gets_bind (body-gets strict room start.1) λ inside h.
     gets_bind (ending-gets strict own.0 inside.1) λ its_end e₅.
     at_the_end-gets _ s its_end.1 λ none.
-    let e : s ≡ NameSymbol own.0 ∷ MarkSymbol marks.Colon ∷ PlacedSymbol words.Do its_place.0 ∷ SemicolonSymbol start.0 ∷ start.1 = cc in
-    subst (λ (k : List Symbol). DerivesModule k (record { name = own.0; place = its_place.0; declarations = inside.0.0; statements = inside.0.1; end_name = its_end.0 })) (sym e)
+    let e : s ≡ NameSymbol own.0 ∷ MarkSymbol marks.Colon ∷ PlacedSymbol words.Do its_place.0 ∷
+    SemicolonSymbol start.0 ∷ start.1 = cc in
+    subst (λ (k : List Symbol). DerivesModule k (module_of own.0 its_place.0 inside.0 its_end.0)) (sym e)
     (module_line e₅.0 h.1
     (statements-left (e₅.1 ∙ ap (λ k. ending_symbols its_end.0 (SemicolonSymbol e₅.0 ∷ k)) none) h.2))
 
@@ -49,14 +53,18 @@ whole_module-gets strict room s =
 derived-verdict : (strict : Bool) (room : ℕ) (s : List Symbol) (t : ModuleTree) → DerivesModule s t
     → Verdict (whole_module strict room s) t strict room (module_height t) (ModuleEndsMatch t)
 unfolding whole_module
-derived-verdict strict room s t (module_line end {name} {symbols = symbols} {middle = middle} {declared = declared} {body = body} {end_name = end_name} d₁ d₂) =
+derived-verdict strict room s t
+    (module_line end {name} {symbols = symbols} {middle = middle} {declared = declared} {body = body}
+    {end_name = end_name} d₁ d₂) =
     verdict_as
-    (verdict_bind _ (body-verdict strict room symbols middle declared body (optional name_symbols end_name (SemicolonSymbol end ∷ [])) d₁ d₂)
+    (verdict_bind _ (body-verdict strict room symbols middle declared body
+    (optional name_symbols end_name (SemicolonSymbol end ∷ [])) d₁ d₂)
     (verdict_last _ (ending-verdict strict room name end_name end []) refl))
     (omega arith) ends_of_block block_of_ends
 
 -- what is read is derived
-pub module_read-derives : (words : List Lexeme) (t : ModuleTree) → whole_module true NESTING_LIMIT (symbols_of words) ≡ Ok t
+pub module_read-derives : (words : List Lexeme) (t : ModuleTree)
+    → whole_module true NESTING_LIMIT (symbols_of words) ≡ Ok t
     → Derives words t
 module_read-derives words t e =
     let d = (whole_module-gets true NESTING_LIMIT (symbols_of words)).holds t e in
@@ -72,12 +80,14 @@ module_derives-reads words t d =
 pub module_deep-reads : (words : List Lexeme) → DerivesButForDepth words
     → whole_module true NESTING_LIMIT (symbols_of words) ≡ Err TooDeep
 module_deep-reads words d =
-    verdict_deep (derived-verdict true NESTING_LIMIT (symbols_of words) d.tree d.grammar) d.too_deep (λ _. d.ends)
+    verdict_deep (derived-verdict true NESTING_LIMIT (symbols_of words) d.tree d.grammar) d.too_deep
+    (λ _. d.ends)
 
 pub module_end_name-reads : (words : List Lexeme) → DerivesButForEndName words
     → whole_module true NESTING_LIMIT (symbols_of words) ≡ Err OtherEndName
 module_end_name-reads words d =
-    verdict_other_name (derived-verdict true NESTING_LIMIT (symbols_of words) d.tree d.grammar) d.nested refl d.other
+    verdict_other_name (derived-verdict true NESTING_LIMIT (symbols_of words) d.tree d.grammar) d.nested refl
+    d.other
 
 -- words derive one module at most
 pub derives_at_most_one : (words : List Lexeme) → DerivesAtMostOne words

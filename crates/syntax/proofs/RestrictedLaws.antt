@@ -55,7 +55,7 @@ next_sign-is s g e = elim (if_cases (at_mark marks.PlusSign s) _ _ _ e) [
   | inl h ↦ at_mark-is marks.PlusSign s h.0 ∙ ap (λ k. sign_symbol k ∷ drop 1 s) {x = Plus} {y = g} (cc h.1)
   | inr h ↦ elim (if_cases (at_mark marks.MinusSign s) _ _ _ h.1) [
     | inl k ↦ at_mark-is marks.MinusSign s k.0
-    ∙ ap (λ k. sign_symbol k ∷ drop 1 s) {x = Minus} {y = g} (cc k.1)
+        ∙ ap (λ k. sign_symbol k ∷ drop 1 s) {x = Minus} {y = g} (cc k.1)
     | inr k ↦ absurd (cc k.1)
   ]
 ]
@@ -186,7 +186,7 @@ next_scalar-is s t e = elim (if_cases (at_word words.Byte s) _ _ _ e) [
   | inl h ↦ at_word-is words.Byte s h.0 ∙ ap (λ k. scalar_symbols k (drop 1 s)) {x = Byte} {y = t} (cc h.1)
   | inr h ↦ elim (if_cases (at_word words.Address s) _ _ _ h.1) [
     | inl k ↦ at_word-is words.Address s k.0
-    ∙ ap (λ k. scalar_symbols k (drop 1 s)) {x = Address} {y = t} (cc k.1)
+        ∙ ap (λ k. scalar_symbols k (drop 1 s)) {x = Address} {y = t} (cc k.1)
     | inr k ↦ absurd (cc k.1)
   ]
 ]

@@ -12,12 +12,15 @@ pub statement-shrinks : (strict : Bool) (room : ℕ) → Shrinks (statement stri
 statement-shrinks strict room s r t e = statement-shorter ((statement-gets strict room s).holds (t, r) e).0
 
 pub declaration-shrinks : (strict : Bool) (room : ℕ) → Shrinks (declaration strict room)
-declaration-shrinks strict room s r t e = declaration-shorter ((declaration-gets strict room s).holds (t, r) e)
+declaration-shrinks strict room s r t e =
+    declaration-shorter ((declaration-gets strict room s).holds (t, r) e)
 
 -- declarations and then statements
-pub body-gets : (strict : Bool) (room : ℕ) → GetsBlocks (block (declaration strict room) (statement strict room))
+pub body-gets : (strict : Bool) (room : ℕ)
+    → GetsBlocks (block (declaration strict room) (statement strict room))
 body-gets strict room =
-    block-gets (declaration strict room) (statement strict room) (declaration-gets strict room) (statement-gets strict room)
+    block-gets (declaration strict room) (statement strict room) (declaration-gets strict room)
+    (statement-gets strict room)
 
 pub body-verdict : (strict : Bool) (room : ℕ)
     → HasBlockVerdicts strict room (block (declaration strict room) (statement strict room))

@@ -15,8 +15,11 @@ ending_symbols-long : (n : Option Identifier) (r : List Symbol) → length r < l
 ending_symbols-long None r = omega arith
 ending_symbols-long (Some n) r = omega arith
 
-expression-shorter : {level : ℕ} {s r : List Symbol} {t : ExpressionTree} → DerivesExpression level s t r → length r < length s
-expression-shorter {level} {s} {r} {t} d = omega (arith, expression-long t r, ap length (expression-spelled d).0)
+expression-shorter : {level : ℕ} {s r : List Symbol} {t : ExpressionTree}
+    → DerivesExpression level s t r
+    → length r < length s
+expression-shorter {level} {s} {r} {t} d =
+    omega (arith, expression-long t r, ap length (expression-spelled d).0)
 
 reference-shorter : {s r : List Symbol} {t : ReferenceTree} → DerivesReference s t r → length r < length s
 reference-shorter {s} {r} {t} d = omega (arith, reference-long t r, ap length (reference-spelled d).0)
@@ -29,7 +32,9 @@ targets-shorter (last_target d) = reference-shorter d
 targets-shorter (next_target d ds) = omega (arith, reference-shorter d, targets-shorter ds)
 
 mutual
-  pub statement-shorter : {s r : List Symbol} {t : StatementTree} → DerivesStatement s t r → length r < length s
+  pub statement-shorter : {s r : List Symbol} {t : StatementTree}
+      → DerivesStatement s t r
+      → length r < length s
   statement-shorter (labelled d) = omega (arith, statement-shorter d)
   statement-shorter (unlabelled d) = kind-shorter d
 
@@ -49,17 +54,33 @@ mutual
   kind-shorter (iterative_do d₁ d₂ d₃) =
       omega (arith, expression-shorter d₁, expression-shorter d₂, statements-shorter d₃)
   kind-shorter (iterative_do_by d₁ d₂ d₃ d₄) =
-      omega (arith, expression-shorter d₁, expression-shorter d₂, expression-shorter d₃, statements-shorter d₄)
+      omega (
+        arith,
+        expression-shorter d₁,
+        expression-shorter d₂,
+        expression-shorter d₃,
+        statements-shorter
+            d₄,
+      )
   kind-shorter (do_case d₁ d₂) = omega (arith, expression-shorter d₁, statements-shorter d₂)
 
-  statements-shorter : {s r : List Symbol} {t : StatementTrees} → DerivesStatements s t r → length r ≤ length s
+  statements-shorter : {s r : List Symbol} {t : StatementTrees}
+      → DerivesStatements s t r
+      → length r ≤ length s
   statements-shorter no_statement = omega arith
   statements-shorter (next_statement d ds) = omega (arith, statement-shorter d, statements-shorter ds)
 
-  pub declaration-shorter : {s r : List Symbol} {t : DeclarationTree} → DerivesDeclaration s t r → length r < length s
+  pub declaration-shorter : {s r : List Symbol} {t : DeclarationTree}
+      → DerivesDeclaration s t r
+      → length r < length s
   declaration-shorter {s} {r} (declare end {elements} some all) =
-      omega (arith, between_commas-lengthens element_symbols element-lengthens elements (SemicolonSymbol end ∷ r))
-  declaration-shorter {s} {r} (procedure start end {heading} {symbols} {middle} {rest} {declared} {body} {end_name} d₁ d₂) =
+      omega (
+        arith,
+        between_commas-lengthens element_symbols element-lengthens elements
+            (SemicolonSymbol end ∷ r),
+      )
+  declaration-shorter {s} {r} (procedure start end {heading} {symbols} {middle} {rest} {declared} {body}
+      {end_name} d₁ d₂) =
       omega (
         arith,
         declarations-shorter d₁,
@@ -68,6 +89,8 @@ mutual
         heading-shrinks _ _ heading (heading-reads heading start symbols),
       )
 
-  declarations-shorter : {s r : List Symbol} {t : DeclarationTrees} → DerivesDeclarations s t r → length r ≤ length s
+  declarations-shorter : {s r : List Symbol} {t : DeclarationTrees}
+      → DerivesDeclarations s t r
+      → length r ≤ length s
   declarations-shorter no_declaration = omega arith
   declarations-shorter (next_declaration d ds) = omega (arith, declaration-shorter d, declarations-shorter ds)

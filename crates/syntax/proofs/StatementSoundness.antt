@@ -18,8 +18,8 @@ use Rattle.trees.proofs.Derivations.{expression-derived, arguments-derived, targ
 use Rattle.syntax.specs.declared.statements.Beginning.TheVariants as beginnings
 use Rattle.syntax.specs.internal.Expressions.{expression, reference, arguments}
 use Rattle.syntax.specs.internal.Lists.{items, many, many_items}
-use Rattle.syntax.specs.internal.Looking.{TooDeep, Reading, at_mark, at_word, next_name, mark, semicolon, word, name}
-use Rattle.syntax.specs.internal.Statements.{at_semicolon, labels_before, after_labels, statements_of, declarations_of, ends_declarations, statements, declarations, block, end_of_do, body_of_do, end_name, ending, assignment, call, return_value, otherwise, conditional, step, iteration, simple_do, while_do, case_do, iterative_do, do_statement, halt, goto, beginning_of, kind_by, statement_by, procedure, declare, declare_or, statement, declaration}
+use Rattle.syntax.specs.internal.Looking.{Parser, TooDeep, Reading, at_mark, at_word, next_name, mark, semicolon, word, name}
+use Rattle.syntax.specs.internal.Statements.{BlockParser, at_semicolon, labels_before, after_labels, statements_of, declarations_of, ends_declarations, statements, declarations, block, end_of_do, body_of_do, end_name, ending, assignment, call, return_value, otherwise, conditional, step, iteration, simple_do, while_do, case_do, iterative_do, do_statement, halt, goto, beginning_of, kind_by, statement_by, procedure, declare, declare_or, statement, declaration}
 use Rattle.syntax.proofs.ExpressionVerdicts.{expression-gets, reference-gets, arguments-gets, elements-gets, heading-gets}
 use Rattle.syntax.proofs.LookingLemmas.{at_mark-is, at_word-is, mark-ok, semicolon-ok, word-ok, name-ok, next_name-is}
 use Rattle.syntax.proofs.VerdictLists.{items-gets}
@@ -38,7 +38,9 @@ word-gets w s = record { holds = λ r e. word-ok w s r e }
 pub name-gets : (s : List Symbol) → Gets (λ found. s ≡ NameSymbol found.0 ∷ found.1) (name s)
 name-gets s = record { holds = λ found e. name-ok s found.1 found.0 e }
 
-at_semicolon-is : (s : List Symbol) → at_semicolon s ≡ true → (place : Place) × (s ≡ SemicolonSymbol place ∷ drop 1 s)
+at_semicolon-is : (s : List Symbol)
+    → at_semicolon s ≡ true
+    → (place : Place) × (s ≡ SemicolonSymbol place ∷ drop 1 s)
 at_semicolon-is (SemicolonSymbol place ∷ rest) e = (place, refl)
 at_semicolon-is [] e = absurd cc
 at_semicolon-is (x ∷ rest) e = absurd cc
@@ -55,7 +57,8 @@ arguments-derives : (room : ℕ) (s : List Symbol)
     → Gets (λ found. DerivesArguments s found.0 found.1) (arguments (expression room) s)
 arguments-derives room s =
     gets_more (arguments-gets room s) λ found h.
-    subst (λ (k : List Symbol). DerivesArguments k found.0 found.1) (sym h.0) (arguments-derived found.0 found.1 h.1)
+    subst (λ (k : List Symbol). DerivesArguments k found.0 found.1) (sym h.0)
+    (arguments-derived found.0 found.1 h.1)
 
 all_targets-derived : (targets : List ReferenceTree) (rest : List Symbol)
     → IsNotEmpty targets
@@ -67,14 +70,16 @@ all_targets-derived (first ∷ others) rest some h = targets-derived first other
 targets-derives : (room : ℕ) (s : List Symbol)
     → Gets (λ found. DerivesTargets s found.0 found.1) (items (reference (expression room)) s)
 targets-derives room s =
-    gets_more (items-gets reference_symbols IsReference (reference (expression room)) (reference-gets room) s) λ found h.
+    gets_more (items-gets reference_symbols IsReference (reference (expression room)) (reference-gets room)
+    s) λ found h.
     subst (λ (k : List Symbol). DerivesTargets k found.0 found.1) (sym h.0)
     (all_targets-derived found.0 found.1 h.1.0 h.1.1)
 
 -- the same, where what is left is known
 expression-left : {level : ℕ} {s rest left : List Symbol} {t : ExpressionTree} → rest ≡ left
     → DerivesExpression level s t rest → DerivesExpression level s t left
-expression-left {level} {s} {rest} {left} {t} e d = subst (λ (k : List Symbol). DerivesExpression level s t k) e d
+expression-left {level} {s} {rest} {left} {t} e d =
+    subst (λ (k : List Symbol). DerivesExpression level s t k) e d
 
 arguments-left : {s rest left : List Symbol} {t : ArgumentTrees} → rest ≡ left
     → DerivesArguments s t rest → DerivesArguments s t left
@@ -93,7 +98,10 @@ pub statements-left : {s rest left : List Symbol} {t : StatementTrees} → rest 
 statements-left {s} {rest} {left} {t} e d = subst (λ (k : List Symbol). DerivesStatements s t k) e d
 
 -- the same, where the first symbols are known
-kind-from : {s other rest : List Symbol} {t : StatementKindTree} → s ≡ other → DerivesKind other t rest → DerivesKind s t rest
+kind-from : {s other rest : List Symbol} {t : StatementKindTree}
+    → s ≡ other
+    → DerivesKind other t rest
+    → DerivesKind s t rest
 kind-from {s} {other} {rest} {t} e d = subst (λ (k : List Symbol). DerivesKind k t rest) (sym e) d
 
 -- what is read of a statement: no ELSE stands after an IF without one
@@ -107,10 +115,10 @@ IsKindRead s found =
     DerivesKind s found.0 found.1
     × (is_open_if found.0 ≡ true → at_word words.Else found.1 ≡ false)
 
-abbrev pub GetsStatements : (List Symbol → Reading StatementTree) → Type 0
+abbrev pub GetsStatements : Parser StatementTree → Type 0
 GetsStatements inner = (s : List Symbol) → Gets (IsStatementRead s) (inner s)
 
-abbrev pub GetsDeclarations : (List Symbol → Reading DeclarationTree) → Type 0
+abbrev pub GetsDeclarations : Parser DeclarationTree → Type 0
 GetsDeclarations inner = (s : List Symbol) → Gets (λ found. DerivesDeclaration s found.0 found.1) (inner s)
 
 -- what is read of declarations and statements
@@ -120,12 +128,13 @@ IsBlockRead s found =
     × DerivesDeclarations s found.0.0 middle
     × DerivesStatements middle found.0.1 found.1
 
-abbrev pub GetsBlocks : (List Symbol → Reading (DeclarationTrees × StatementTrees)) → Type 0
+abbrev pub GetsBlocks : BlockParser → Type 0
 GetsBlocks inside = (s : List Symbol) → Gets (IsBlockRead s) (inside s)
 
 -- lists
-many_statements-gets : (inner : List Symbol → Reading StatementTree) → GetsStatements inner → (count : ℕ) (s : List Symbol)
-    → Gets (λ found. DerivesStatements s (statements_of found.0) found.1) (many_items (at_word words.End) inner count s)
+many_statements-gets : (inner : Parser StatementTree) → GetsStatements inner → (count : ℕ) (s : List Symbol)
+    → Gets (λ found. DerivesStatements s (statements_of found.0) found.1)
+    (many_items (at_word words.End) inner count s)
 many_statements-gets inner sound zero s = gets_if (λ e. gets_ok no_statement) (λ _. gets_nothing)
 many_statements-gets inner sound (suc count) s =
     gets_if (λ e. gets_ok no_statement) λ _.
@@ -133,13 +142,16 @@ many_statements-gets inner sound (suc count) s =
     gets_bind (many_statements-gets inner sound count first.1) λ others hs.
     gets_ok (next_statement h.0 hs)
 
-statements-gets : (inner : List Symbol → Reading StatementTree) → GetsStatements inner → (s : List Symbol)
+statements-gets : (inner : Parser StatementTree) → GetsStatements inner → (s : List Symbol)
     → Gets (λ found. DerivesStatements s found.0 found.1) (statements inner s)
 unfolding many
 statements-gets inner sound s = gets_bind (many_statements-gets inner sound (length s) s) λ found h. gets_ok h
 
-many_declarations-gets : (inner : List Symbol → Reading DeclarationTree) → GetsDeclarations inner → (count : ℕ) (s : List Symbol)
-    → Gets (λ found. DerivesDeclarations s (declarations_of found.0) found.1) (many_items ends_declarations inner count s)
+many_declarations-gets : (inner : Parser DeclarationTree)
+    → GetsDeclarations inner
+    → (count : ℕ) (s : List Symbol)
+    → Gets (λ found. DerivesDeclarations s (declarations_of found.0) found.1)
+    (many_items ends_declarations inner count s)
 many_declarations-gets inner sound zero s = gets_if (λ e. gets_ok no_declaration) (λ _. gets_nothing)
 many_declarations-gets inner sound (suc count) s =
     gets_if (λ e. gets_ok no_declaration) λ _.
@@ -147,12 +159,13 @@ many_declarations-gets inner sound (suc count) s =
     gets_bind (many_declarations-gets inner sound count first.1) λ others hs.
     gets_ok (next_declaration h hs)
 
-declarations-gets : (inner : List Symbol → Reading DeclarationTree) → GetsDeclarations inner → (s : List Symbol)
+declarations-gets : (inner : Parser DeclarationTree) → GetsDeclarations inner → (s : List Symbol)
     → Gets (λ found. DerivesDeclarations s found.0 found.1) (declarations inner s)
 unfolding many
-declarations-gets inner sound s = gets_bind (many_declarations-gets inner sound (length s) s) λ found h. gets_ok h
+declarations-gets inner sound s =
+    gets_bind (many_declarations-gets inner sound (length s) s) λ found h. gets_ok h
 
-pub block-gets : (declared : List Symbol → Reading DeclarationTree) (inner : List Symbol → Reading StatementTree)
+pub block-gets : (declared : Parser DeclarationTree) (inner : Parser StatementTree)
     → GetsDeclarations declared
     → GetsStatements inner
     → GetsBlocks (block declared inner)
@@ -175,7 +188,7 @@ abbrev IsBodyRead : List Symbol → StatementTrees × List Symbol → Type 0
 IsBodyRead s found =
     (end : Place) × DerivesStatements s found.0 (ReservedSymbol words.End ∷ SemicolonSymbol end ∷ found.1)
 
-body_of_do-gets : (inner : List Symbol → Reading StatementTree) → GetsStatements inner → (s : List Symbol)
+body_of_do-gets : (inner : Parser StatementTree) → GetsStatements inner → (s : List Symbol)
     → Gets (IsBodyRead s) (body_of_do inner s)
 unfolding body_of_do
 body_of_do-gets inner sound s =
@@ -187,7 +200,8 @@ body_of_do-gets inner sound s =
 abbrev IsEndRead : List Symbol → Option Identifier × List Symbol → Type 0
 IsEndRead s got = (end : Place) × (s ≡ optional name_symbols got.0 (SemicolonSymbol end ∷ got.1))
 
-end_name-gets : (strict : Bool) (own : Identifier) (found : Option Identifier) (s : List Symbol) → next_name s ≡ found
+end_name-gets : (strict : Bool) (own : Identifier) (found : Option Identifier) (s : List Symbol)
+    → next_name s ≡ found
     → Gets (IsEndRead s) (end_name strict own found s)
 end_name-gets strict own None s e = gets_bind (semicolon-gets s) λ end e₁. gets_ok (end.0, e₁)
 end_name-gets strict own (Some found) s e =
@@ -197,7 +211,8 @@ end_name-gets strict own (Some found) s e =
     gets_ok {a = (Some found, end.1)} (end.0, cc)
 
 pub ending-gets : (strict : Bool) (own : Identifier) (s : List Symbol)
-    → Gets (λ got. (end : Place) × (s ≡ ending_symbols got.0 (SemicolonSymbol end ∷ got.1))) (ending strict own s)
+    → Gets (λ got. (end : Place) × (s ≡ ending_symbols got.0 (SemicolonSymbol end ∷ got.1)))
+    (ending strict own s)
 unfolding ending
 ending-gets strict own s =
     gets_bind (word-gets words.End s) λ after e₁.
@@ -217,7 +232,8 @@ assignment-gets room s =
 abbrev IsReadAfter : ReservedWord → Place → List Symbol → StatementKindTree × List Symbol → Type 0
 IsReadAfter w place s found = IsKindRead (PlacedSymbol w place ∷ s) found
 
-after-same : {w : ReservedWord} {place : Place} {s other rest : List Symbol} {t : StatementKindTree} → s ≡ other
+after-same : {w : ReservedWord} {place : Place} {s other rest : List Symbol} {t : StatementKindTree}
+    → s ≡ other
     → DerivesKind (PlacedSymbol w place ∷ other) t rest → DerivesKind (PlacedSymbol w place ∷ s) t rest
 after-same {w} {place} e d = kind-from (ap (λ k. PlacedSymbol w place ∷ k) e) d
 
@@ -263,7 +279,7 @@ data ElseRead (s : List Symbol) : ElseTree × List Symbol → Type 0 where
       → (ends_in_open_if t ≡ true → at_word words.Else rest ≡ false)
       → ElseRead s (ElseStatement t, rest)
 
-otherwise-gets : (inner : List Symbol → Reading StatementTree) → GetsStatements inner → (s : List Symbol)
+otherwise-gets : (inner : Parser StatementTree) → GetsStatements inner → (s : List Symbol)
     → Gets (ElseRead s) (otherwise inner s)
 otherwise-gets inner sound s =
     gets_if
@@ -287,7 +303,9 @@ if-read {left = left} {body = body} found d₁ d₂ open_if (some_else e more d�
     closed true h = let none = h refl in absurd cc
     closed false h = refl
 
-conditional-gets : (room : ℕ) (inner : List Symbol → Reading StatementTree) → GetsStatements inner → (place : Place) (s : List Symbol)
+conditional-gets : (room : ℕ) (inner : Parser StatementTree)
+    → GetsStatements inner
+    → (place : Place) (s : List Symbol)
     → Gets (IsReadAfter words.If place s) (conditional (expression room) inner place s)
 unfolding conditional
 conditional-gets room inner sound place s =
@@ -320,7 +338,8 @@ IsHeadRead s found =
     → DerivesStatements found.1 body (ReservedSymbol words.End ∷ SemicolonSymbol end ∷ rest)
     → DerivesKind (PlacedSymbol words.Do place ∷ s) (IterateStatement place found.0 body) rest
 
-head-read : {variable : Identifier} {first last : ExpressionTree} {s symbols to left rest : List Symbol} {start : Place}
+head-read : {variable : Identifier} {first last : ExpressionTree} {s symbols to left rest : List Symbol}
+    {start : Place}
     → (found : Option ExpressionTree × List Symbol)
     → s ≡ NameSymbol variable ∷ MarkSymbol marks.EqualSign ∷ symbols
     → DerivesExpression expr_level symbols first (ReservedSymbol words.To ∷ to)
@@ -328,7 +347,8 @@ head-read : {variable : Identifier} {first last : ExpressionTree} {s symbols to 
     → StepRead left found
     → found.1 ≡ SemicolonSymbol start ∷ rest
     → IsHeadRead s (record { variable = variable; first = first; last = last; step = found.0 }, rest)
-head-read found e d₁ d₂ no_step e₂ place end body rest d = after-same e (iterative_do_line d₁ (expression-left e₂ d₂) d)
+head-read found e d₁ d₂ no_step e₂ place end body rest d =
+    after-same e (iterative_do_line d₁ (expression-left e₂ d₂) d)
 head-read found e d₁ d₂ (some_step e₁ d₃) e₂ place end body rest d =
     after-same e (iterative_do_by d₁ (expression-left e₁ d₂) (expression-left e₂ d₃) d)
 
@@ -342,9 +362,10 @@ iteration-gets room s =
     gets_bind (expression-derives room to) λ its_last h₂.
     gets_bind (step-gets room its_last.1) λ its_step h₃.
     gets_bind (semicolon-gets its_step.1) λ start e₄.
-    gets_ok (head-read its_step (e₁ ∙ ap (λ k. NameSymbol its_variable.0 ∷ k) e₂) (expression-left e₃ h₁) h₂ h₃ e₄)
+    gets_ok (head-read its_step (e₁ ∙ ap (λ k. NameSymbol its_variable.0 ∷ k) e₂) (expression-left e₃ h₁) h₂
+    h₃ e₄)
 
-simple_do-gets : (inside : List Symbol → Reading (DeclarationTrees × StatementTrees)) → GetsBlocks inside
+simple_do-gets : (inside : BlockParser) → GetsBlocks inside
     → (place start : Place) (s : List Symbol)
     → Gets (IsReadAfter words.Do place (SemicolonSymbol start ∷ s)) (simple_do inside place s)
 unfolding simple_do
@@ -353,8 +374,11 @@ simple_do-gets inside sound place start s =
     gets_bind (end_of_do-gets found.1) λ rest e.
     gets_ok (simple_do_line h.1 (statements-left e.1 h.2), λ open_if. absurd cc)
 
-while_do-gets : (room : ℕ) (inner : List Symbol → Reading StatementTree) → GetsStatements inner → (place : Place) (s : List Symbol)
-    → Gets (IsReadAfter words.Do place (ReservedSymbol words.While ∷ s)) (while_do (expression room) inner place s)
+while_do-gets : (room : ℕ) (inner : Parser StatementTree)
+    → GetsStatements inner
+    → (place : Place) (s : List Symbol)
+    → Gets (IsReadAfter words.Do place (ReservedSymbol words.While ∷ s))
+    (while_do (expression room) inner place s)
 unfolding while_do
 while_do-gets room inner sound place s =
     gets_bind (expression-derives room s) λ condition h.
@@ -362,8 +386,11 @@ while_do-gets room inner sound place s =
     gets_bind (body_of_do-gets inner sound start.1) λ body hs.
     gets_ok (do_while (expression-left e₁ h) hs.1, λ open_if. absurd cc)
 
-case_do-gets : (room : ℕ) (inner : List Symbol → Reading StatementTree) → GetsStatements inner → (place : Place) (s : List Symbol)
-    → Gets (IsReadAfter words.Do place (ReservedSymbol words.Case ∷ s)) (case_do (expression room) inner place s)
+case_do-gets : (room : ℕ) (inner : Parser StatementTree)
+    → GetsStatements inner
+    → (place : Place) (s : List Symbol)
+    → Gets (IsReadAfter words.Do place (ReservedSymbol words.Case ∷ s))
+    (case_do (expression room) inner place s)
 unfolding case_do
 case_do-gets room inner sound place s =
     gets_bind (expression-derives room s) λ choice h.
@@ -371,7 +398,9 @@ case_do-gets room inner sound place s =
     gets_bind (body_of_do-gets inner sound start.1) λ body hs.
     gets_ok (do_case (expression-left e₁ h) hs.1, λ open_if. absurd cc)
 
-iterative_do-gets : (room : ℕ) (inner : List Symbol → Reading StatementTree) → GetsStatements inner → (place : Place) (s : List Symbol)
+iterative_do-gets : (room : ℕ) (inner : Parser StatementTree)
+    → GetsStatements inner
+    → (place : Place) (s : List Symbol)
     → Gets (IsReadAfter words.Do place s) (iterative_do (expression room) inner place s)
 unfolding iterative_do
 iterative_do-gets room inner sound place s =
@@ -380,11 +409,12 @@ iterative_do-gets room inner sound place s =
     gets_ok (h place hs.0 body.0 body.1 hs.1, λ open_if. absurd cc)
 
 -- what was read after symbols that are the same
-after_same : {w : ReservedWord} {place : Place} {r : Reading StatementKindTree} (s other : List Symbol) → s ≡ other
+after_same : {w : ReservedWord} {place : Place} {r : Reading StatementKindTree} (s other : List Symbol)
+    → s ≡ other
     → Gets (IsReadAfter w place other) r → Gets (IsReadAfter w place s) r
 after_same {w} {place} {r} s other e h = subst (λ (k : List Symbol). Gets (IsReadAfter w place k) r) (sym e) h
 
-do_statement-gets : (room : ℕ) (inner : List Symbol → Reading StatementTree) (inside : List Symbol → Reading (DeclarationTrees × StatementTrees))
+do_statement-gets : (room : ℕ) (inner : Parser StatementTree) (inside : BlockParser)
     → GetsStatements inner
     → GetsBlocks inside
     → (place : Place) (s : List Symbol)
@@ -392,7 +422,8 @@ do_statement-gets : (room : ℕ) (inner : List Symbol → Reading StatementTree)
 unfolding do_statement
 do_statement-gets room inner inside sound also place s =
     gets_if
-    (λ e. let found = at_semicolon-is s e in after_same s _ found.1 (simple_do-gets inside also place found.0 (drop 1 s)))
+    (λ e. let found = at_semicolon-is s e in after_same s _ found.1
+    (simple_do-gets inside also place found.0 (drop 1 s)))
     λ _. gets_if
     (λ e. after_same s _ (at_word-is words.While s e) (while_do-gets room inner sound place (drop 1 s)))
     λ _. gets_if
@@ -400,7 +431,7 @@ do_statement-gets room inner inside sound also place s =
     (λ _. iterative_do-gets room inner sound place s)
 
 -- a statement without labels, by its first symbol
-kind_by-gets : (room : ℕ) (inner : List Symbol → Reading StatementTree) (inside : List Symbol → Reading (DeclarationTrees × StatementTrees))
+kind_by-gets : (room : ℕ) (inner : Parser StatementTree) (inside : BlockParser)
     → GetsStatements inner
     → GetsBlocks inside
     → (s : List Symbol)
@@ -414,10 +445,12 @@ kind_by-gets room inner inside sound also (UnknownSymbol ∷ s) = gets_nothing
 kind_by-gets room inner inside sound also (MarkSymbol m ∷ s) = gets_nothing
 kind_by-gets room inner inside sound also (SemicolonSymbol place ∷ s) = gets_ok (null, λ open_if. absurd cc)
 kind_by-gets room inner inside sound also (PlacedSymbol words.Call place ∷ s) = call-gets room place s
-kind_by-gets room inner inside sound also (PlacedSymbol words.Return place ∷ s) = return_value-gets room place s
+kind_by-gets room inner inside sound also (PlacedSymbol words.Return place ∷ s) =
+    return_value-gets room place s
 kind_by-gets room inner inside sound also (PlacedSymbol words.Halt place ∷ s) = halt-gets place s
 kind_by-gets room inner inside sound also (PlacedSymbol words.Goto place ∷ s) = goto-gets place s
-kind_by-gets room inner inside sound also (PlacedSymbol words.If place ∷ s) = conditional-gets room inner sound place s
+kind_by-gets room inner inside sound also (PlacedSymbol words.If place ∷ s) =
+    conditional-gets room inner sound place s
 kind_by-gets room inner inside sound also (PlacedSymbol words.Do place ∷ s) =
     do_statement-gets room inner inside sound also place s
 kind_by-gets room inner inside sound also (PlacedSymbol w place ∷ s) = gets_nothing
@@ -429,15 +462,19 @@ labels-derive : (s : List Symbol) {t : StatementKindTree} {rest : List Symbol}
 labels-derive (NameSymbol n ∷ second ∷ more) {t} {rest} d =
     go (at_mark marks.Colon (second ∷ more)) refl (λ later. labels-derive more later) d
   where
-    colon : at_mark marks.Colon (second ∷ more) ≡ true → NameSymbol n ∷ MarkSymbol marks.Colon ∷ more ≡ NameSymbol n ∷ second ∷ more
+    colon : at_mark marks.Colon (second ∷ more) ≡ true
+        → NameSymbol n ∷ MarkSymbol marks.Colon ∷ more ≡ NameSymbol n ∷ second ∷ more
     colon e = ap (λ k. NameSymbol n ∷ k) (sym (at_mark-is marks.Colon (second ∷ more) e))
 
     go : (b : Bool) → at_mark marks.Colon (second ∷ more) ≡ b
-        → (DerivesKind (after_labels more) t rest → DerivesStatement more (LabelledStatement (labels_before more) t) rest)
+        → (DerivesKind (after_labels more) t rest → DerivesStatement more
+        (LabelledStatement (labels_before more) t) rest)
         → DerivesKind (if b then after_labels more else NameSymbol n ∷ second ∷ more) t rest
-        → DerivesStatement (NameSymbol n ∷ second ∷ more) (LabelledStatement (if b then n ∷ labels_before more else []) t) rest
+        → DerivesStatement (NameSymbol n ∷ second ∷ more)
+        (LabelledStatement (if b then n ∷ labels_before more else []) t) rest
     go true e others d =
-        subst (λ (k : List Symbol). DerivesStatement k (LabelledStatement (n ∷ labels_before more) t) rest) (colon e)
+        subst (λ (k : List Symbol). DerivesStatement k (LabelledStatement (n ∷ labels_before more) t) rest)
+        (colon e)
         (labelled (others d))
     go false e others d = unlabelled d
 labels-derive (NameSymbol n ∷ []) d = unlabelled d
@@ -445,7 +482,7 @@ labels-derive [] d = unlabelled d
 labels-derive (x ∷ more) d = unlabelled d
 
 -- a statement with its labels
-statement_by-gets : (room : ℕ) (inner : List Symbol → Reading StatementTree) (inside : List Symbol → Reading (DeclarationTrees × StatementTrees))
+statement_by-gets : (room : ℕ) (inner : Parser StatementTree) (inside : BlockParser)
     → GetsStatements inner
     → GetsBlocks inside
     → (s : List Symbol)
@@ -454,7 +491,7 @@ statement_by-gets room inner inside sound also s =
     gets_bind (kind_by-gets room inner inside sound also (after_labels s)) λ found h.
     gets_ok (labels-derive s h.0, h.1)
 
-procedure-gets : (strict : Bool) (inside : List Symbol → Reading (DeclarationTrees × StatementTrees)) → GetsBlocks inside
+procedure-gets : (strict : Bool) (inside : BlockParser) → GetsBlocks inside
     → GetsDeclarations (procedure strict inside)
 unfolding procedure
 procedure-gets strict inside sound s =
@@ -463,7 +500,8 @@ procedure-gets strict inside sound s =
     gets_bind (sound start.1) λ found hs.
     gets_bind (ending-gets strict head.0.name found.1) λ its_end e₂.
     gets_ok
-    (subst (λ (k : List Symbol). DerivesDeclaration k (ProcedureTree head.0 found.0.0 found.0.1 its_end.0) its_end.1)
+    (subst (λ (k : List Symbol). DerivesDeclaration k (ProcedureTree head.0 found.0.0 found.0.1 its_end.0)
+    its_end.1)
     (sym (h.0 ∙ ap (heading_symbols head.0) e₁))
     (procedure_line start.0 e₂.0 hs.1 (statements-left e₂.1 hs.2)))
 
@@ -474,11 +512,12 @@ declare-gets s =
     gets_bind (elements-gets s) λ found h.
     gets_bind (semicolon-gets found.1) λ end e.
     gets_ok
-    (subst (λ (k : List Symbol). DerivesDeclaration (ReservedSymbol words.Declare ∷ k) (DeclareTree found.0) end.1)
+    (subst (λ (k : List Symbol). DerivesDeclaration (ReservedSymbol words.Declare ∷ k) (DeclareTree found.0)
+    end.1)
     (sym (h.0 ∙ ap (between_commas element_symbols found.0) e))
     (declare_line end.0 h.1.0 h.1.1))
 
-declare_or-gets : (procedures : List Symbol → Reading DeclarationTree) → GetsDeclarations procedures
+declare_or-gets : (procedures : Parser DeclarationTree) → GetsDeclarations procedures
     → GetsDeclarations (declare_or procedures)
 unfolding declare_or
 declare_or-gets procedures sound s =
@@ -494,12 +533,15 @@ mutual
   pub statement-gets : (strict : Bool) (room : ℕ) → GetsStatements (statement strict room)
   statement-gets strict zero s = gets_nothing
   statement-gets strict (suc room) s =
-      statement_by-gets room (statement strict room) (block (declaration strict room) (statement strict room)) (statement-gets strict room)
-      (block-gets (declaration strict room) (statement strict room) (declaration-gets strict room) (statement-gets strict room)) s
+      statement_by-gets room (statement strict room)
+      (block (declaration strict room) (statement strict room)) (statement-gets strict room)
+      (block-gets (declaration strict room) (statement strict room) (declaration-gets strict room)
+      (statement-gets strict room)) s
 
   pub declaration-gets : (strict : Bool) (room : ℕ) → GetsDeclarations (declaration strict room)
   declaration-gets strict zero s = declare_or-gets (λ others. Err TooDeep) (λ q. gets_nothing) s
   declaration-gets strict (suc room) s =
       declare_or-gets (procedure strict (block (declaration strict room) (statement strict room)))
       (procedure-gets strict (block (declaration strict room) (statement strict room))
-      (block-gets (declaration strict room) (statement strict room) (declaration-gets strict room) (statement-gets strict room))) s
+      (block-gets (declaration strict room) (statement strict room) (declaration-gets strict room)
+      (statement-gets strict room))) s

@@ -21,8 +21,8 @@ use Rattle.trees.proofs.Derivations.{expression-spelled, arguments-spelled, targ
 use Rattle.syntax.specs.declared.statements.Beginning.TheVariants as beginnings
 use Rattle.syntax.specs.internal.Expressions.{expression, reference, arguments}
 use Rattle.syntax.specs.internal.Lists.{items, many, many_items}
-use Rattle.syntax.specs.internal.Looking.{TooDeep, OtherEndName, Reading, at_mark, at_word}
-use Rattle.syntax.specs.internal.Statements.{at_semicolon, labels_before, after_labels, statements_of, beginning_of, declarations_of, ends_declarations, statements, declarations, block, body_of_do, ending, assignment, return_value, conditional, iteration, simple_do, while_do, case_do, iterative_do, do_statement, call, goto, kind_by, statement_by, procedure, declare, declare_or, statement, declaration}
+use Rattle.syntax.specs.internal.Looking.{Parser, TooDeep, OtherEndName, Reading, at_mark, at_word}
+use Rattle.syntax.specs.internal.Statements.{BlockParser, at_semicolon, labels_before, after_labels, statements_of, beginning_of, declarations_of, ends_declarations, statements, declarations, block, body_of_do, ending, assignment, return_value, conditional, iteration, simple_do, while_do, case_do, iterative_do, do_statement, call, goto, kind_by, statement_by, procedure, declare, declare_or, statement, declaration}
 use Rattle.syntax.proofs.DeclarationLaws.{elements-reads, heading-reads}
 use Rattle.syntax.proofs.ExpressionLaws.{EndsReference, EndsExpression, reference-long}
 use Rattle.syntax.proofs.ExpressionVerdicts.{expression-verdict, reference-verdict, arguments-verdict}
@@ -32,27 +32,27 @@ use Rattle.syntax.proofs.VerdictLists.{greatest, items-verdict}
 use Rattle.syntax.proofs.Verdicts.{Verdict, fits, too_deep, other_name, verdict_ok, verdict_bind, verdict_then, verdict_last, verdict_same, verdict_as, verdict_inside}
 
 -- how statements end, where no ELSE stands after an IF without one, and how declarations end
-abbrev pub HasStatementVerdicts : Bool → ℕ → (List Symbol → Reading StatementTree) → Type 0
+abbrev pub HasStatementVerdicts : Bool → ℕ → Parser StatementTree → Type 0
 HasStatementVerdicts strict room inner =
     (s : List Symbol) (t : StatementTree) (r : List Symbol)
     → DerivesStatement s t r
     → (ends_in_open_if t ≡ true → at_word words.Else r ≡ false)
     → Verdict (inner s) (t, r) strict room (statement_height t) (StatementEndsMatch t)
 
-abbrev pub HasKindVerdicts : Bool → ℕ → (List Symbol → Reading StatementKindTree) → Type 0
+abbrev pub HasKindVerdicts : Bool → ℕ → Parser StatementKindTree → Type 0
 HasKindVerdicts strict room inner =
     (s : List Symbol) (t : StatementKindTree) (r : List Symbol)
     → DerivesKind s t r
     → (is_open_if t ≡ true → at_word words.Else r ≡ false)
     → Verdict (inner s) (t, r) strict room (kind_height t) (KindEndsMatch t)
 
-abbrev pub HasDeclarationVerdicts : Bool → ℕ → (List Symbol → Reading DeclarationTree) → Type 0
+abbrev pub HasDeclarationVerdicts : Bool → ℕ → Parser DeclarationTree → Type 0
 HasDeclarationVerdicts strict room inner =
     (s : List Symbol) (t : DeclarationTree) (r : List Symbol)
     → DerivesDeclaration s t r
     → Verdict (inner s) (t, r) strict room (declaration_height t) (DeclarationEndsMatch t)
 
-abbrev pub HasBlockVerdicts : Bool → ℕ → (List Symbol → Reading (DeclarationTrees × StatementTrees)) → Type 0
+abbrev pub HasBlockVerdicts : Bool → ℕ → BlockParser → Type 0
 HasBlockVerdicts strict room inside =
     (s middle : List Symbol) (declared : DeclarationTrees) (body : StatementTrees) (r : List Symbol)
     → DerivesDeclarations s declared middle
@@ -81,11 +81,13 @@ begins_kind null = (refl, refl, refl, refl)
 begins_kind (assignment_line (last_target (whole no_arguments)) d) = (refl, refl, refl, refl)
 begins_kind (assignment_line (last_target (whole (some_arguments d₁ d₂))) d) = (refl, refl, refl, refl)
 begins_kind (assignment_line (last_target (with_member no_arguments d₂)) d) = (refl, refl, refl, refl)
-begins_kind (assignment_line (last_target (with_member (some_arguments d₁ d₃) d₂)) d) = (refl, refl, refl, refl)
+begins_kind (assignment_line (last_target (with_member (some_arguments d₁ d₃) d₂)) d) =
+    (refl, refl, refl, refl)
 begins_kind (assignment_line (next_target (whole no_arguments) ds) d) = (refl, refl, refl, refl)
 begins_kind (assignment_line (next_target (whole (some_arguments d₁ d₂)) ds) d) = (refl, refl, refl, refl)
 begins_kind (assignment_line (next_target (with_member no_arguments d₂) ds) d) = (refl, refl, refl, refl)
-begins_kind (assignment_line (next_target (with_member (some_arguments d₁ d₃) d₂) ds) d) = (refl, refl, refl, refl)
+begins_kind (assignment_line (next_target (with_member (some_arguments d₁ d₃) d₂) ds) d) =
+    (refl, refl, refl, refl)
 begins_kind (call_line d) = (refl, refl, refl, refl)
 begins_kind return = (refl, refl, refl, refl)
 begins_kind (return_value_line d) = (refl, refl, refl, refl)
@@ -104,22 +106,28 @@ begins_no_word : {s r : List Symbol} {t : StatementTree} → DerivesStatement s 
 begins_no_word (labelled d) = refl
 begins_no_word (unlabelled d) = (begins_kind d).0
 
-begins_no_declaration : {s r : List Symbol} {t : StatementTree} → DerivesStatement s t r → ends_declarations s ≡ true
+begins_no_declaration : {s r : List Symbol} {t : StatementTree}
+    → DerivesStatement s t r
+    → ends_declarations s ≡ true
 begins_no_declaration (labelled {symbols = symbols} d) =
     ap not (no_word words.Procedure symbols (begins_no_word d))
 begins_no_declaration (unlabelled d) = (begins_kind d).1
 
-body_is_no_declaration : {s r : List Symbol} {body : StatementTrees} → DerivesStatements s body (ReservedSymbol words.End ∷ r)
+body_is_no_declaration : {s r : List Symbol} {body : StatementTrees}
+    → DerivesStatements s body (ReservedSymbol words.End ∷ r)
     → ends_declarations s ≡ true
 body_is_no_declaration no_statement = refl
 body_is_no_declaration (next_statement d ds) = begins_no_declaration d
 
-body_is_no_else : {s r : List Symbol} {body : StatementTrees} → DerivesStatements s body (ReservedSymbol words.End ∷ r)
+body_is_no_else : {s r : List Symbol} {body : StatementTrees}
+    → DerivesStatements s body (ReservedSymbol words.End ∷ r)
     → at_word words.Else s ≡ false
 body_is_no_else no_statement = refl
 body_is_no_else (next_statement {symbols = symbols} d ds) = no_word words.Else symbols (begins_no_word d)
 
-begins_as_declaration : {s r : List Symbol} {t : DeclarationTree} → DerivesDeclaration s t r → ends_declarations s ≡ false
+begins_as_declaration : {s r : List Symbol} {t : DeclarationTree}
+    → DerivesDeclaration s t r
+    → ends_declarations s ≡ false
 begins_as_declaration (declare_line end some all) = refl
 begins_as_declaration (procedure_line start end d₁ d₂) = refl
 
@@ -151,34 +159,43 @@ declarations_listed (MoreDeclarations first others) = first ∷ declarations_lis
 
 declarations_of-listed : (t : DeclarationTrees) → declarations_of (declarations_listed t) ≡ t
 declarations_of-listed NoDeclarations = refl
-declarations_of-listed (MoreDeclarations first others) = ap (MoreDeclarations first) (declarations_of-listed others)
+declarations_of-listed (MoreDeclarations first others) =
+    ap (MoreDeclarations first) (declarations_of-listed others)
 
 -- lists of statements and declarations
-many_statements-verdict : (strict : Bool) (room : ℕ) (inner : List Symbol → Reading StatementTree) → HasStatementVerdicts strict room inner
+many_statements-verdict : (strict : Bool) (room : ℕ) (inner : Parser StatementTree)
+    → HasStatementVerdicts strict room inner
     → (count : ℕ) (s : List Symbol) (body : StatementTrees) (r : List Symbol)
     → DerivesStatements s body (ReservedSymbol words.End ∷ r)
     → length s ≤ count
-    → Verdict (many_items (at_word words.End) inner count s) (statements_listed body, ReservedSymbol words.End ∷ r) strict room
+    → Verdict (many_items (at_word words.End) inner count s)
+    (statements_listed body, ReservedSymbol words.End ∷ r) strict room
     (statements_height body) (StatementsEndsMatch body)
 many_statements-verdict strict room inner sound zero s NoStatements r no_statement l = verdict_ok
 many_statements-verdict strict room inner sound (suc count) s NoStatements r no_statement l = verdict_ok
-many_statements-verdict strict room inner sound zero s (MoreStatements first others) r (next_statement d ds) l =
+many_statements-verdict strict room inner sound zero s (MoreStatements first others) r (next_statement d ds)
+    l =
     absurd (omega (arith, l, statement-shorter d))
-many_statements-verdict strict room inner sound (suc count) s (MoreStatements first others) r (next_statement {middle = middle} d ds) l =
+many_statements-verdict strict room inner sound (suc count) s (MoreStatements first others) r
+    (next_statement {middle = middle} d ds) l =
     verdict_same (if_false (at_word words.End s) _ _ (no_word words.End s (begins_no_word d)))
     (verdict_bind _ (sound s first middle d (λ _. body_is_no_else ds))
-    (verdict_last _ (many_statements-verdict strict room inner sound count middle others r ds (omega (arith, l, statement-shorter d))) refl))
+    (verdict_last _ (many_statements-verdict strict room inner sound count middle others r ds
+    (omega (arith, l, statement-shorter d))) refl))
 
-statements-verdict : (strict : Bool) (room : ℕ) (inner : List Symbol → Reading StatementTree) → HasStatementVerdicts strict room inner
+statements-verdict : (strict : Bool) (room : ℕ) (inner : Parser StatementTree)
+    → HasStatementVerdicts strict room inner
     → (s : List Symbol) (body : StatementTrees) (r : List Symbol)
     → DerivesStatements s body (ReservedSymbol words.End ∷ r)
-    → Verdict (statements inner s) (body, ReservedSymbol words.End ∷ r) strict room (statements_height body) (StatementsEndsMatch body)
+    → Verdict (statements inner s) (body, ReservedSymbol words.End ∷ r) strict room (statements_height body)
+    (StatementsEndsMatch body)
 unfolding many
 statements-verdict strict room inner sound s body r d =
     verdict_last _ (many_statements-verdict strict room inner sound (length s) s body r d (omega arith))
     (ap (λ t. Ok (t, ReservedSymbol words.End ∷ r)) (statements_of-listed body))
 
-many_declarations-verdict : (strict : Bool) (room : ℕ) (inner : List Symbol → Reading DeclarationTree) → HasDeclarationVerdicts strict room inner
+many_declarations-verdict : (strict : Bool) (room : ℕ) (inner : Parser DeclarationTree)
+    → HasDeclarationVerdicts strict room inner
     → (count : ℕ) (s : List Symbol) (declared : DeclarationTrees) (r : List Symbol)
     → DerivesDeclarations s declared r
     → ends_declarations r ≡ true
@@ -189,40 +206,52 @@ many_declarations-verdict strict room inner sound zero s NoDeclarations r no_dec
     verdict_same (if_true (ends_declarations r) _ _ e) verdict_ok
 many_declarations-verdict strict room inner sound (suc count) s NoDeclarations r no_declaration e l =
     verdict_same (if_true (ends_declarations r) _ _ e) verdict_ok
-many_declarations-verdict strict room inner sound zero s (MoreDeclarations first others) r (next_declaration d ds) e l =
+many_declarations-verdict strict room inner sound zero s (MoreDeclarations first others) r
+    (next_declaration d ds) e l =
     absurd (omega (arith, l, declaration-shorter d))
-many_declarations-verdict strict room inner sound (suc count) s (MoreDeclarations first others) r (next_declaration {middle = middle} d ds) e l =
+many_declarations-verdict strict room inner sound (suc count) s (MoreDeclarations first others) r
+    (next_declaration {middle = middle} d ds) e l =
     verdict_same (if_false (ends_declarations s) _ _ (begins_as_declaration d))
     (verdict_bind _ (sound s first middle d)
-    (verdict_last _ (many_declarations-verdict strict room inner sound count middle others r ds e (omega (arith, l, declaration-shorter d))) refl))
+    (verdict_last _ (many_declarations-verdict strict room inner sound count middle others r ds e
+    (omega (arith, l, declaration-shorter d))) refl))
 
-declarations-verdict : (strict : Bool) (room : ℕ) (inner : List Symbol → Reading DeclarationTree) → HasDeclarationVerdicts strict room inner
+declarations-verdict : (strict : Bool) (room : ℕ) (inner : Parser DeclarationTree)
+    → HasDeclarationVerdicts strict room inner
     → (s : List Symbol) (declared : DeclarationTrees) (r : List Symbol)
     → DerivesDeclarations s declared r
     → ends_declarations r ≡ true
-    → Verdict (declarations inner s) (declared, r) strict room (declarations_height declared) (DeclarationsEndsMatch declared)
+    → Verdict (declarations inner s) (declared, r) strict room (declarations_height declared)
+    (DeclarationsEndsMatch declared)
 unfolding many
 declarations-verdict strict room inner sound s declared r d e =
-    verdict_last _ (many_declarations-verdict strict room inner sound (length s) s declared r d e (omega arith))
+    verdict_last _ (many_declarations-verdict strict room inner sound (length s) s declared r d e
+    (omega arith))
     (ap (λ t. Ok (t, r)) (declarations_of-listed declared))
 
-pub block-verdict : (strict : Bool) (room : ℕ) (declared : List Symbol → Reading DeclarationTree) (inner : List Symbol → Reading StatementTree)
+pub block-verdict : (strict : Bool) (room : ℕ) (declared : Parser DeclarationTree)
+    (inner : Parser StatementTree)
     → HasDeclarationVerdicts strict room declared
     → HasStatementVerdicts strict room inner
     → HasBlockVerdicts strict room (block declared inner)
 unfolding block
 block-verdict strict room declared inner sound also s middle d b r ds dss =
-    verdict_bind _ (declarations-verdict strict room declared sound s d middle ds (body_is_no_declaration dss))
+    verdict_bind _ (declarations-verdict strict room declared sound s d middle ds
+    (body_is_no_declaration dss))
     (verdict_last _ (statements-verdict strict room inner also middle b r dss) refl)
 
 -- expressions, arguments and targets that are derived
-derived_expression : (strict : Bool) (room : ℕ) {s r : List Symbol} {t : ExpressionTree} → DerivesExpression expr_level s t r → EndsExpression r
+derived_expression : (strict : Bool) (room : ℕ) {s r : List Symbol} {t : ExpressionTree}
+    → DerivesExpression expr_level s t r
+    → EndsExpression r
     → Verdict (expression room expr_level s) (t, r) strict room (expression_height t) (Unit {0})
 derived_expression strict room {s} {r} {t} d ends =
     let h = expression-spelled d in
-    verdict_same (ap (expression room expr_level) h.0) (expression-verdict strict room expr_level t r h.1 ends)
+    verdict_same (ap (expression room expr_level) h.0)
+    (expression-verdict strict room expr_level t r h.1 ends)
 
-derived_arguments : (strict : Bool) (room : ℕ) {s r : List Symbol} {t : ArgumentTrees} → DerivesArguments s t r
+derived_arguments : (strict : Bool) (room : ℕ) {s r : List Symbol} {t : ArgumentTrees}
+    → DerivesArguments s t r
     → at_mark marks.LeftParenthesis r ≡ false
     → Verdict (arguments (expression room) s) (t, r) strict room (arguments_height t) (Unit {0})
 derived_arguments strict room {s} {r} {t} d ends =
@@ -237,23 +266,32 @@ targets_greatest : (all : List ReferenceTree) → greatest reference_height all 
 targets_greatest [] = refl
 targets_greatest (first ∷ others) = ap (max (reference_height first)) (targets_greatest others)
 
-spelled_targets : (strict : Bool) (room : ℕ) (targets : List ReferenceTree) (r : List Symbol) → IsNotEmpty targets → AllByRecursion IsReference targets
-    → Verdict (items (reference (expression room)) (between_commas reference_symbols targets (MarkSymbol marks.EqualSign ∷ r)))
+spelled_targets : (strict : Bool) (room : ℕ) (targets : List ReferenceTree) (r : List Symbol)
+    → IsNotEmpty targets
+    → AllByRecursion IsReference targets
+    → Verdict (items (reference (expression room))
+    (between_commas reference_symbols targets (MarkSymbol marks.EqualSign ∷ r)))
     (targets, MarkSymbol marks.EqualSign ∷ r) strict room (targets_height targets) (Unit {0})
 spelled_targets strict room targets r some h =
     verdict_as
-    (items-verdict reference_symbols IsReference EndsReference strict room reference_height (λ t. Unit {0}) (reference (expression room))
-    (λ t q i b. reference-verdict strict room t q i b) (λ t q i. reference-long t q) (λ q. (refl, refl)) targets (MarkSymbol marks.EqualSign ∷ r) some h refl (refl, refl))
+    (items-verdict reference_symbols IsReference EndsReference strict room reference_height (λ t. Unit {0})
+    (reference (expression room))
+    (λ t q i b. reference-verdict strict room t q i b) (λ t q i. reference-long t q) (λ q. (refl, refl))
+    targets (MarkSymbol marks.EqualSign ∷ r) some h refl (refl, refl))
     (targets_greatest targets) (λ _. tt) (λ _. all_nothing targets)
 
-derived_targets : (strict : Bool) (room : ℕ) {s r : List Symbol} {targets : List ReferenceTree} → DerivesTargets s targets (MarkSymbol marks.EqualSign ∷ r)
-    → Verdict (items (reference (expression room)) s) (targets, MarkSymbol marks.EqualSign ∷ r) strict room (targets_height targets) (Unit {0})
+derived_targets : (strict : Bool) (room : ℕ) {s r : List Symbol} {targets : List ReferenceTree}
+    → DerivesTargets s targets (MarkSymbol marks.EqualSign ∷ r)
+    → Verdict (items (reference (expression room)) s) (targets, MarkSymbol marks.EqualSign ∷ r) strict room
+    (targets_height targets) (Unit {0})
 derived_targets strict room {s} {r} {targets} d =
     let h = targets-spelled d in
-    verdict_same (ap (items (reference (expression room))) h.0) (spelled_targets strict room targets r h.1 h.2)
+    verdict_same (ap (items (reference (expression room))) h.0)
+    (spelled_targets strict room targets r h.1 h.2)
 
 -- each statement
-assignment-verdict : (strict : Bool) (room : ℕ) (targets : List ReferenceTree) (value : ExpressionTree) (end : Place) (s middle r : List Symbol)
+assignment-verdict : (strict : Bool) (room : ℕ) (targets : List ReferenceTree) (value : ExpressionTree)
+    (end : Place) (s middle r : List Symbol)
     → DerivesTargets s targets (MarkSymbol marks.EqualSign ∷ middle)
     → DerivesExpression expr_level middle value (SemicolonSymbol end ∷ r)
     → Verdict (assignment (expression room) s) (AssignmentStatement targets value, r) strict room
@@ -265,31 +303,39 @@ assignment-verdict strict room targets value end s middle r d₁ d₂ =
     (verdict_last _ (derived_expression strict room d₂ (refl, refl, refl)) refl))
     refl (λ _. tt) (λ _. (tt, tt))
 
-begins_name : {s r : List Symbol} {targets : List ReferenceTree} → DerivesTargets s targets r → beginning_of s ≡ beginnings.Name
+begins_name : {s r : List Symbol} {targets : List ReferenceTree}
+    → DerivesTargets s targets r
+    → beginning_of s ≡ beginnings.Name
 begins_name (last_target (whole d)) = refl
 begins_name (last_target (with_member d₁ d₂)) = refl
 begins_name (next_target (whole d) ds) = refl
 begins_name (next_target (with_member d₁ d₂) ds) = refl
 
 return-verdict : (strict : Bool) (room : ℕ) (place end : Place) (r : List Symbol)
-    → Verdict (return_value (expression room) place (SemicolonSymbol end ∷ r)) (ReturnStatement place None, r) strict room 0 (Unit {0})
+    → Verdict (return_value (expression room) place (SemicolonSymbol end ∷ r))
+    (ReturnStatement place None, r) strict room 0 (Unit {0})
 unfolding return_value
 return-verdict strict room place end r = verdict_ok
 
-return_value-verdict : (strict : Bool) (room : ℕ) (place end : Place) (value : ExpressionTree) (s r : List Symbol)
+return_value-verdict : (strict : Bool) (room : ℕ) (place end : Place) (value : ExpressionTree)
+    (s r : List Symbol)
     → DerivesExpression expr_level s value (SemicolonSymbol end ∷ r)
-    → Verdict (return_value (expression room) place s) (ReturnStatement place (Some value), r) strict room (expression_height value) (Unit {0})
+    → Verdict (return_value (expression room) place s) (ReturnStatement place (Some value), r) strict room
+    (expression_height value) (Unit {0})
 unfolding return_value
 return_value-verdict strict room place end value s r d =
     let e = ap at_semicolon (expression-spelled d).0 ∙ begins_no_semicolon value (SemicolonSymbol end ∷ r) in
-    verdict_same (if_false _ _ _ e) (verdict_last _ (derived_expression strict room d (refl, refl, refl)) refl)
+    verdict_same (if_false _ _ _ e)
+    (verdict_last _ (derived_expression strict room d (refl, refl, refl)) refl)
 
-if-verdict : (strict : Bool) (room : ℕ) (inner : List Symbol → Reading StatementTree) → HasStatementVerdicts strict room inner
+if-verdict : (strict : Bool) (room : ℕ) (inner : Parser StatementTree)
+    → HasStatementVerdicts strict room inner
     → (place : Place) (condition : ExpressionTree) (body : StatementTree) (s middle r : List Symbol)
     → DerivesExpression expr_level s condition (ReservedSymbol words.Then ∷ middle)
     → DerivesStatement middle body r
     → at_word words.Else r ≡ false
-    → Verdict (conditional (expression room) inner place s) (IfStatement place condition body NoElse, r) strict room
+    → Verdict (conditional (expression room) inner place s) (IfStatement place condition body NoElse, r)
+    strict room
     (max (expression_height condition) (max (statement_height body) 0)) (StatementEndsMatch body × Unit {0})
 unfolding conditional
 if-verdict strict room inner sound place condition body s middle r d₁ d₂ none =
@@ -299,14 +345,17 @@ if-verdict strict room inner sound place condition body s middle r d₁ d₂ non
     (verdict_last _ (verdict_same (if_false (at_word words.Else r) _ _ none) verdict_ok) refl)))
     refl (λ both. both.1) (λ ends. (tt, ends))
 
-if_else-verdict : (strict : Bool) (room : ℕ) (inner : List Symbol → Reading StatementTree) → HasStatementVerdicts strict room inner
-    → (place : Place) (condition : ExpressionTree) (body other : StatementTree) (s middle after r : List Symbol)
+if_else-verdict : (strict : Bool) (room : ℕ) (inner : Parser StatementTree)
+    → HasStatementVerdicts strict room inner
+    → (place : Place) (condition : ExpressionTree) (body other : StatementTree)
+    (s middle after r : List Symbol)
     → DerivesExpression expr_level s condition (ReservedSymbol words.Then ∷ middle)
     → DerivesStatement middle body (ReservedSymbol words.Else ∷ after)
     → ends_in_open_if body ≡ false
     → DerivesStatement after other r
     → (ends_in_open_if other ≡ true → at_word words.Else r ≡ false)
-    → Verdict (conditional (expression room) inner place s) (IfStatement place condition body (ElseStatement other), r) strict room
+    → Verdict (conditional (expression room) inner place s)
+    (IfStatement place condition body (ElseStatement other), r) strict room
     (max (expression_height condition) (max (statement_height body) (statement_height other)))
     (StatementEndsMatch body × StatementEndsMatch other)
 unfolding conditional
@@ -318,7 +367,8 @@ if_else-verdict strict room inner sound place condition body other s middle afte
     refl (λ both. both.1) (λ ends. (tt, ends))
 
 -- statements with END after them
-body_of_do-verdict : (strict : Bool) (room : ℕ) (inner : List Symbol → Reading StatementTree) → HasStatementVerdicts strict room inner
+body_of_do-verdict : (strict : Bool) (room : ℕ) (inner : Parser StatementTree)
+    → HasStatementVerdicts strict room inner
     → (body : StatementTrees) (end : Place) (s r : List Symbol)
     → DerivesStatements s body (ReservedSymbol words.End ∷ SemicolonSymbol end ∷ r)
     → Verdict (body_of_do inner s) (body, r) strict room (statements_height body) (StatementsEndsMatch body)
@@ -326,18 +376,21 @@ unfolding body_of_do
 body_of_do-verdict strict room inner sound body end s r d =
     verdict_last _ (statements-verdict strict room inner sound s body (SemicolonSymbol end ∷ r) d) refl
 
-simple_do-verdict : (strict : Bool) (room : ℕ) (inside : List Symbol → Reading (DeclarationTrees × StatementTrees)) → HasBlockVerdicts strict room inside
+simple_do-verdict : (strict : Bool) (room : ℕ) (inside : BlockParser) → HasBlockVerdicts strict room inside
     → (place end : Place) (declared : DeclarationTrees) (body : StatementTrees) (s middle r : List Symbol)
     → DerivesDeclarations s declared middle
     → DerivesStatements middle body (ReservedSymbol words.End ∷ SemicolonSymbol end ∷ r)
     → Verdict (simple_do inside place s) (DoStatement place declared body, r) strict room
-    (max (declarations_height declared) (statements_height body)) (DeclarationsEndsMatch declared × StatementsEndsMatch body)
+    (max (declarations_height declared) (statements_height body))
+    (DeclarationsEndsMatch declared × StatementsEndsMatch body)
 unfolding simple_do
 simple_do-verdict strict room inside sound place end declared body s middle r d₁ d₂ =
     verdict_last _ (sound s middle declared body (SemicolonSymbol end ∷ r) d₁ d₂) refl
 
-while_do-verdict : (strict : Bool) (room : ℕ) (inner : List Symbol → Reading StatementTree) → HasStatementVerdicts strict room inner
-    → (place start end : Place) (condition : ExpressionTree) (body : StatementTrees) (s middle r : List Symbol)
+while_do-verdict : (strict : Bool) (room : ℕ) (inner : Parser StatementTree)
+    → HasStatementVerdicts strict room inner
+    → (place start end : Place) (condition : ExpressionTree) (body : StatementTrees)
+    (s middle r : List Symbol)
     → DerivesExpression expr_level s condition (SemicolonSymbol start ∷ middle)
     → DerivesStatements middle body (ReservedSymbol words.End ∷ SemicolonSymbol end ∷ r)
     → Verdict (while_do (expression room) inner place s) (WhileStatement place condition body, r) strict room
@@ -349,7 +402,8 @@ while_do-verdict strict room inner sound place start end condition body s middle
     (verdict_last _ (body_of_do-verdict strict room inner sound body end middle r d₂) refl))
     refl (λ both. both.1) (λ ends. (tt, ends))
 
-case_do-verdict : (strict : Bool) (room : ℕ) (inner : List Symbol → Reading StatementTree) → HasStatementVerdicts strict room inner
+case_do-verdict : (strict : Bool) (room : ℕ) (inner : Parser StatementTree)
+    → HasStatementVerdicts strict room inner
     → (place start end : Place) (choice : ExpressionTree) (body : StatementTrees) (s middle r : List Symbol)
     → DerivesExpression expr_level s choice (SemicolonSymbol start ∷ middle)
     → DerivesStatements middle body (ReservedSymbol words.End ∷ SemicolonSymbol end ∷ r)
@@ -363,7 +417,8 @@ case_do-verdict strict room inner sound place start end choice body s middle r d
     refl (λ both. both.1) (λ ends. (tt, ends))
 
 -- the head of an iterative DO without a step, and with one
-head-verdict : (strict : Bool) (room : ℕ) (variable : Identifier) (first last : ExpressionTree) (start : Place) (s to r : List Symbol)
+head-verdict : (strict : Bool) (room : ℕ) (variable : Identifier) (first last : ExpressionTree)
+    (start : Place) (s to r : List Symbol)
     → DerivesExpression expr_level s first (ReservedSymbol words.To ∷ to)
     → DerivesExpression expr_level to last (SemicolonSymbol start ∷ r)
     → Verdict (iteration (expression room) (NameSymbol variable ∷ MarkSymbol marks.EqualSign ∷ s))
@@ -376,7 +431,8 @@ head-verdict strict room variable first last start s to r d₁ d₂ =
     (verdict_bind _ (derived_expression strict room d₂ (refl, refl, refl)) verdict_ok))
     refl (λ _. tt) (λ _. (tt, (tt, tt)))
 
-head_by-verdict : (strict : Bool) (room : ℕ) (variable : Identifier) (first last step : ExpressionTree) (start : Place) (s to by r : List Symbol)
+head_by-verdict : (strict : Bool) (room : ℕ) (variable : Identifier) (first last step : ExpressionTree)
+    (start : Place) (s to by r : List Symbol)
     → DerivesExpression expr_level s first (ReservedSymbol words.To ∷ to)
     → DerivesExpression expr_level to last (ReservedSymbol words.By ∷ by)
     → DerivesExpression expr_level by step (SemicolonSymbol start ∷ r)
@@ -391,7 +447,8 @@ head_by-verdict strict room variable first last step start s to by r d₁ d₂ d
     (verdict_last _ (verdict_last _ (derived_expression strict room d₃ (refl, refl, refl)) refl) refl)))
     refl (λ _. tt) (λ _. (tt, (tt, tt)))
 
-iterative_do-verdict : (strict : Bool) (room : ℕ) (inner : List Symbol → Reading StatementTree) → HasStatementVerdicts strict room inner
+iterative_do-verdict : (strict : Bool) (room : ℕ) (inner : Parser StatementTree)
+    → HasStatementVerdicts strict room inner
     → (place end : Place) (head : IterationTree) (body : StatementTrees) (s middle r : List Symbol)
     → Verdict (iteration (expression room) s) (head, middle) strict room (iteration_height head) (Unit {0})
     → DerivesStatements middle body (ReservedSymbol words.End ∷ SemicolonSymbol end ∷ r)
@@ -404,43 +461,65 @@ iterative_do-verdict strict room inner sound place end head body s middle r h d 
     refl (λ both. both.1) (λ ends. (tt, ends))
 
 -- a statement without labels, by its first symbol; what it holds is one level deeper
-kind_by-verdict : (strict : Bool) (room : ℕ) (inner : List Symbol → Reading StatementTree) (inside : List Symbol → Reading (DeclarationTrees × StatementTrees))
+kind_by-verdict : (strict : Bool) (room : ℕ) (inner : Parser StatementTree) (inside : BlockParser)
     → HasStatementVerdicts strict room inner
     → HasBlockVerdicts strict room inside
     → HasKindVerdicts strict (suc room) (λ s. kind_by (expression room) inner inside (beginning_of s) s)
 unfolding do_statement call goto
 kind_by-verdict strict room inner inside sound also s t r null none = verdict_inside verdict_ok
-kind_by-verdict strict room inner inside sound also s t r (assignment_line {end} {middle = middle} {targets = targets} {value = value} d₁ d₂) none =
+kind_by-verdict strict room inner inside sound also s t r
+    (assignment_line {end} {middle = middle} {targets = targets} {value = value} d₁ d₂) none =
     verdict_same (ap (λ b. kind_by (expression room) inner inside b s) (begins_name d₁))
     (verdict_inside (assignment-verdict strict room targets value end s middle r d₁ d₂))
 kind_by-verdict strict room inner inside sound also s t r (call_line d) none =
     verdict_inside (verdict_last _ (derived_arguments strict room d refl) refl)
-kind_by-verdict strict room inner inside sound also s t r return none = verdict_inside (return-verdict strict room _ _ r)
-kind_by-verdict strict room inner inside sound also s t r (return_value_line {place} {end} {symbols = symbols} {value = value} d) none =
+kind_by-verdict strict room inner inside sound also s t r return none =
+    verdict_inside (return-verdict strict room _ _ r)
+kind_by-verdict strict room inner inside sound also s t r
+    (return_value_line {place} {end} {symbols = symbols} {value = value} d) none =
     verdict_inside (return_value-verdict strict room place end value symbols r d)
 kind_by-verdict strict room inner inside sound also s t r halt none = verdict_inside verdict_ok
 kind_by-verdict strict room inner inside sound also s t r goto_line none = verdict_inside verdict_ok
-kind_by-verdict strict room inner inside sound also s t r (if_then {place} {symbols} {middle} {condition = condition} {body = body} d₁ d₂) none =
-    verdict_inside (if-verdict strict room inner sound place condition body symbols middle r d₁ d₂ (none refl))
-kind_by-verdict strict room inner inside sound also s t r (if_then_else {place} {symbols} {middle} {after} {condition = condition} {body = body} {otherwise = other} d₁ d₂ closed d₃) none =
-    verdict_inside (if_else-verdict strict room inner sound place condition body other symbols middle after r d₁ d₂ closed d₃ none)
-kind_by-verdict strict room inner inside sound also s t r (simple_do_line {place} {end = end} {symbols = symbols} {middle = middle} {declared = declared} {body = body} d₁ d₂) none =
+kind_by-verdict strict room inner inside sound also s t r
+    (if_then {place} {symbols} {middle} {condition = condition} {body = body} d₁ d₂) none =
+    verdict_inside (if-verdict strict room inner sound place condition body symbols middle r d₁ d₂
+    (none refl))
+kind_by-verdict strict room inner inside sound also s t r
+    (if_then_else {place} {symbols} {middle} {after} {condition = condition} {body = body}
+    {otherwise = other} d₁ d₂ closed d₃) none =
+    verdict_inside (if_else-verdict strict room inner sound place condition body other symbols middle after r
+    d₁ d₂ closed d₃ none)
+kind_by-verdict strict room inner inside sound also s t r
+    (simple_do_line {place} {end = end} {symbols = symbols} {middle = middle} {declared = declared}
+    {body = body} d₁ d₂) none =
     verdict_inside (simple_do-verdict strict room inside also place end declared body symbols middle r d₁ d₂)
-kind_by-verdict strict room inner inside sound also s t r (do_while {place} {start} {end} {symbols} {middle} {condition = condition} {body = body} d₁ d₂) none =
-    verdict_inside (while_do-verdict strict room inner sound place start end condition body symbols middle r d₁ d₂)
-kind_by-verdict strict room inner inside sound also s t r (iterative_do_line {place} {start} {end} {variable} {symbols} {to} {middle} {first = first} {last = last} {body = body} d₁ d₂ d₃) none =
-    verdict_inside (iterative_do-verdict strict room inner sound place end _ body _ middle r (head-verdict strict room variable first last start symbols to middle d₁ d₂) d₃)
-kind_by-verdict strict room inner inside sound also s t r (iterative_do_by {place} {start} {end} {variable} {symbols} {to} {by} {middle} {first = first} {last = last} {step = step} {body = body} d₁ d₂ d₃ d₄) none =
-    verdict_inside (iterative_do-verdict strict room inner sound place end _ body _ middle r (head_by-verdict strict room variable first last step start symbols to by middle d₁ d₂ d₃) d₄)
-kind_by-verdict strict room inner inside sound also s t r (do_case {place} {start} {end} {symbols} {middle} {choice = choice} {body = body} d₁ d₂) none =
-    verdict_inside (case_do-verdict strict room inner sound place start end choice body symbols middle r d₁ d₂)
+kind_by-verdict strict room inner inside sound also s t r
+    (do_while {place} {start} {end} {symbols} {middle} {condition = condition} {body = body} d₁ d₂) none =
+    verdict_inside (while_do-verdict strict room inner sound place start end condition body symbols middle r
+    d₁ d₂)
+kind_by-verdict strict room inner inside sound also s t r
+    (iterative_do_line {place} {start} {end} {variable} {symbols} {to} {middle} {first = first} {last = last}
+    {body = body} d₁ d₂ d₃) none =
+    verdict_inside (iterative_do-verdict strict room inner sound place end _ body _ middle r
+    (head-verdict strict room variable first last start symbols to middle d₁ d₂) d₃)
+kind_by-verdict strict room inner inside sound also s t r
+    (iterative_do_by {place} {start} {end} {variable} {symbols} {to} {by} {middle} {first = first}
+    {last = last} {step = step} {body = body} d₁ d₂ d₃ d₄) none =
+    verdict_inside (iterative_do-verdict strict room inner sound place end _ body _ middle r
+    (head_by-verdict strict room variable first last step start symbols to by middle d₁ d₂ d₃) d₄)
+kind_by-verdict strict room inner inside sound also s t r
+    (do_case {place} {start} {end} {symbols} {middle} {choice = choice} {body = body} d₁ d₂) none =
+    verdict_inside (case_do-verdict strict room inner sound place start end choice body symbols middle r d₁
+    d₂)
 
 -- the labels of a statement, and what stands after them
-record HasLabels (s : List Symbol) (labels : List Identifier) (kind : StatementKindTree) (r : List Symbol) : Type 0 where
+record HasLabels (s : List Symbol) (labels : List Identifier) (kind : StatementKindTree) (r : List Symbol) :
+    Type 0 where
   labels_are : labels_before s ≡ labels
   derives : DerivesKind (after_labels s) kind r
 
-labels_of : {s r : List Symbol} {labels : List Identifier} {kind : StatementKindTree} → DerivesStatement s (LabelledStatement labels kind) r
+labels_of : {s r : List Symbol} {labels : List Identifier} {kind : StatementKindTree}
+    → DerivesStatement s (LabelledStatement labels kind) r
     → HasLabels s labels kind r
 labels_of (labelled {label = label} d) =
     let later = labels_of d in
@@ -449,27 +528,33 @@ labels_of {s} {r} {labels} {kind} (unlabelled d) =
     let h = begins_kind d in
     record { labels_are = h.2; derives = subst (λ (k : List Symbol). DerivesKind k kind r) (sym h.3) d }
 
-statement_by-verdict : (strict : Bool) (room : ℕ) (inner : List Symbol → Reading StatementTree) (inside : List Symbol → Reading (DeclarationTrees × StatementTrees))
+statement_by-verdict : (strict : Bool) (room : ℕ) (inner : Parser StatementTree) (inside : BlockParser)
     → HasStatementVerdicts strict room inner
     → HasBlockVerdicts strict room inside
     → HasStatementVerdicts strict (suc room) (statement_by (expression room) inner inside)
 statement_by-verdict strict room inner inside sound also s (LabelledStatement labels kind) r d none =
     let h = labels_of d in
-    verdict_last _ (kind_by-verdict strict room inner inside sound also (after_labels s) kind r h.derives none)
+    verdict_last _ (kind_by-verdict strict room inner inside sound also (after_labels s) kind r h.derives
+    none)
     (ap (λ all. Ok (LabelledStatement all kind, r)) h.labels_are)
 
 -- the name after END
-pub ending-verdict : (strict : Bool) (room : ℕ) (own : Identifier) (found : Option Identifier) (end : Place) (r : List Symbol)
-    → Verdict (ending strict own (ending_symbols found (SemicolonSymbol end ∷ r))) (found, r) strict room 0 (IsEndName own found)
+pub ending-verdict : (strict : Bool) (room : ℕ) (own : Identifier) (found : Option Identifier) (end : Place)
+    (r : List Symbol)
+    → Verdict (ending strict own (ending_symbols found (SemicolonSymbol end ∷ r))) (found, r) strict room 0
+    (IsEndName own found)
 unfolding ending
 ending-verdict strict room own None end r = verdict_ok
 ending-verdict strict room own (Some found) end r = go (bytes_eq found.name own.name) strict refl
   where
     go : (b strict : Bool) → bytes_eq found.name own.name ≡ b
-        → Verdict {A = Option Identifier × List Symbol} (if strict && not b then Err OtherEndName else Ok (Some found, r)) (Some found, r) strict room 0 (IsEndName own (Some found))
+        → Verdict {A = Option Identifier × List Symbol}
+        (if strict && not b then Err OtherEndName else Ok (Some found, r)) (Some found, r) strict room 0
+        (IsEndName own (Some found))
     go true true e = fits refl (omega arith) (λ _. (bytes_eq-Decides found.name own.name).0 e)
     go true false e = fits refl (omega arith) (λ s. absurd cc)
-    go false true e = other_name refl refl (λ same. let equal = (bytes_eq-Decides found.name own.name).1 same in absurd cc)
+    go false true e =
+        other_name refl refl (λ same. let equal = (bytes_eq-Decides found.name own.name).1 same in absurd cc)
     go false false e = fits refl (omega arith) (λ s. absurd cc)
 
 pub ends_of_block : {A B C : Type 0} → (A × B) × C → C × A × B
@@ -478,38 +563,48 @@ ends_of_block h = (h.1, h.0.0, h.0.1)
 pub block_of_ends : {A B C : Type 0} → C × A × B → (A × B) × C
 block_of_ends h = ((h.1, h.2), h.0)
 
-procedure-verdict : (strict : Bool) (room : ℕ) (inside : List Symbol → Reading (DeclarationTrees × StatementTrees)) → HasBlockVerdicts strict room inside
-    → (head : HeadingTree) (declared : DeclarationTrees) (body : StatementTrees) (found : Option Identifier) (start end : Place) (s middle r : List Symbol)
+procedure-verdict : (strict : Bool) (room : ℕ) (inside : BlockParser) → HasBlockVerdicts strict room inside
+    → (head : HeadingTree) (declared : DeclarationTrees) (body : StatementTrees) (found : Option Identifier)
+    (start end : Place) (s middle r : List Symbol)
     → DerivesDeclarations s declared middle
     → DerivesStatements middle body (ending_symbols found (SemicolonSymbol end ∷ r))
-    → Verdict (procedure strict inside (heading_symbols head (SemicolonSymbol start ∷ s))) (ProcedureTree head declared body found, r) strict room
+    → Verdict (procedure strict inside (heading_symbols head (SemicolonSymbol start ∷ s)))
+    (ProcedureTree head declared body found, r) strict room
     (max (declarations_height declared) (statements_height body))
     (IsEndName head.name found × DeclarationsEndsMatch declared × StatementsEndsMatch body)
 unfolding procedure
 procedure-verdict strict room inside sound head declared body found start end s middle r d₁ d₂ =
     verdict_then _ (heading-reads head start s)
     (verdict_as
-    (verdict_bind _ (sound s middle declared body (optional name_symbols found (SemicolonSymbol end ∷ r)) d₁ d₂)
+    (verdict_bind _ (sound s middle declared body (optional name_symbols found (SemicolonSymbol end ∷ r)) d₁
+    d₂)
     (verdict_last _ (ending-verdict strict room head.name found end r) refl))
     (omega arith) ends_of_block block_of_ends)
 
 -- a declaration, where what procedures hold is one level deeper
-declare-verdict : (strict : Bool) (room : ℕ) (all : List ElementTree) (end : Place) (r : List Symbol) → IsNotEmpty all → AllByRecursion IsElement all
-    → Verdict (declare (between_commas element_symbols all (SemicolonSymbol end ∷ r))) (DeclareTree all, r) strict room 0 (Unit {0})
+declare-verdict : (strict : Bool) (room : ℕ) (all : List ElementTree) (end : Place) (r : List Symbol)
+    → IsNotEmpty all
+    → AllByRecursion IsElement all
+    → Verdict (declare (between_commas element_symbols all (SemicolonSymbol end ∷ r))) (DeclareTree all, r)
+    strict room 0 (Unit {0})
 unfolding declare
 declare-verdict strict room all end r some h = verdict_then _ (elements-reads all end r some h) verdict_ok
 
-declare_or-verdict : (strict : Bool) (room : ℕ) (inside : List Symbol → Reading (DeclarationTrees × StatementTrees)) → HasBlockVerdicts strict room inside
+declare_or-verdict : (strict : Bool) (room : ℕ) (inside : BlockParser) → HasBlockVerdicts strict room inside
     → HasDeclarationVerdicts strict (suc room) (declare_or (procedure strict inside))
 unfolding declare_or
-declare_or-verdict strict room inside sound s t r (declare_line end {elements} some all) = declare-verdict strict (suc room) elements end r some all
-declare_or-verdict strict room inside sound s t r (procedure_line start end {heading} {symbols} {middle} {rest} {declared} {body} {end_name} d₁ d₂) =
-    verdict_inside (procedure-verdict strict room inside sound heading declared body end_name start end symbols middle r d₁ d₂)
+declare_or-verdict strict room inside sound s t r (declare_line end {elements} some all) =
+    declare-verdict strict (suc room) elements end r some all
+declare_or-verdict strict room inside sound s t r
+    (procedure_line start end {heading} {symbols} {middle} {rest} {declared} {body} {end_name} d₁ d₂) =
+    verdict_inside (procedure-verdict strict room inside sound heading declared body end_name start end
+    symbols middle r d₁ d₂)
 
 -- without room there are no procedures
 no_room-verdict : (strict : Bool) → HasDeclarationVerdicts strict zero (declare_or (λ others. Err TooDeep))
 unfolding declare_or
-no_room-verdict strict s t r (declare_line end {elements} some all) = declare-verdict strict zero elements end r some all
+no_room-verdict strict s t r (declare_line end {elements} some all) =
+    declare-verdict strict zero elements end r some all
 no_room-verdict strict s t r (procedure_line start end d₁ d₂) = too_deep refl (omega arith)
 
 -- each statement takes a level
@@ -529,14 +624,20 @@ kind_height-some (CaseStatement p c body) = omega arith
 mutual
   unfolding statement declaration
 
-  pub statement-verdict : (strict : Bool) (room : ℕ) → HasStatementVerdicts strict room (statement strict room)
-  statement-verdict strict zero s (LabelledStatement labels kind) r d none = too_deep refl (kind_height-some kind)
+  pub statement-verdict : (strict : Bool) (room : ℕ)
+      → HasStatementVerdicts strict room (statement strict room)
+  statement-verdict strict zero s (LabelledStatement labels kind) r d none =
+      too_deep refl (kind_height-some kind)
   statement-verdict strict (suc room) s t r d none =
-      statement_by-verdict strict room (statement strict room) (block (declaration strict room) (statement strict room)) (statement-verdict strict room)
-      (block-verdict strict room (declaration strict room) (statement strict room) (declaration-verdict strict room) (statement-verdict strict room)) s t r d none
+      statement_by-verdict strict room (statement strict room)
+      (block (declaration strict room) (statement strict room)) (statement-verdict strict room)
+      (block-verdict strict room (declaration strict room) (statement strict room)
+      (declaration-verdict strict room) (statement-verdict strict room)) s t r d none
 
-  pub declaration-verdict : (strict : Bool) (room : ℕ) → HasDeclarationVerdicts strict room (declaration strict room)
+  pub declaration-verdict : (strict : Bool) (room : ℕ)
+      → HasDeclarationVerdicts strict room (declaration strict room)
   declaration-verdict strict zero s t r d = no_room-verdict strict s t r d
   declaration-verdict strict (suc room) s t r d =
       declare_or-verdict strict room (block (declaration strict room) (statement strict room))
-      (block-verdict strict room (declaration strict room) (statement strict room) (declaration-verdict strict room) (statement-verdict strict room)) s t r d
+      (block-verdict strict room (declaration strict room) (statement strict room)
+      (declaration-verdict strict room) (statement-verdict strict room)) s t r d

@@ -6,7 +6,7 @@ use Rattle.trees.specs.Forms.{IsNotEmpty}
 use Rattle.trees.specs.Spelling.{more_after_commas, between_commas}
 use Rattle.trees.specs.Symbols.{Symbol, MarkSymbol}
 use Rattle.syntax.specs.internal.Lists.{more_items, all_more_items, items}
-use Rattle.syntax.specs.internal.Looking.{Reading, at_mark}
+use Rattle.syntax.specs.internal.Looking.{Parser, Reading, at_mark}
 use Rattle.syntax.proofs.LookingLemmas.{at_mark-is, if_true, if_false}
 use Rattle.syntax.proofs.Verdicts.{Gets, gets_ok, gets_nothing, gets_bind, gets_if, Verdict, verdict_ok, verdict_bind, verdict_last, verdict_same}
 
@@ -16,13 +16,21 @@ greatest height [] = 0
 greatest height (first ∷ others) = max (height first) (greatest height others)
 
 -- what was read is spelled by the symbols up to those that are left, and has a property
-abbrev pub IsSpelled : {A : Type 0} → (A → List Symbol → List Symbol) → (A → Type 0) → List Symbol → A × List Symbol → Type 0
+abbrev pub IsSpelled : {A : Type 0}
+    → (A → List Symbol → List Symbol)
+    → (A → Type 0)
+    → List Symbol
+    → A × List Symbol
+    → Type 0
 IsSpelled spell P symbols found = (symbols ≡ spell found.0 found.1) × P found.0
 
-abbrev pub GetsSpelled : {A : Type 0} → (A → List Symbol → List Symbol) → (A → Type 0) → (List Symbol → Reading A) → Type 0
+abbrev pub GetsSpelled : {A : Type 0} → (A → List Symbol → List Symbol) → (A → Type 0) → Parser A → Type 0
 GetsSpelled spell P item = (symbols : List Symbol) → Gets (IsSpelled spell P symbols) (item symbols)
 
-more_items-gets : {A : Type 0} (spell : A → List Symbol → List Symbol) (P : A → Type 0) (item : List Symbol → Reading A) → GetsSpelled spell P item → (count : ℕ) → GetsSpelled (more_after_commas spell) (AllByRecursion P) (more_items item count)
+more_items-gets : {A : Type 0} (spell : A → List Symbol → List Symbol) (P : A → Type 0) (item : Parser A)
+    → GetsSpelled spell P item
+    → (count : ℕ)
+    → GetsSpelled (more_after_commas spell) (AllByRecursion P) (more_items item count)
 more_items-gets spell P item sound zero s = gets_ok (refl, tt)
 more_items-gets spell P item sound (suc count) s =
     gets_if
@@ -35,7 +43,9 @@ more_items-gets spell P item sound (suc count) s =
     gets_ok (cc, (h.1, hs.1)))
     (λ _. gets_ok (refl, tt))
 
-pub items-gets : {A : Type 0} (spell : A → List Symbol → List Symbol) (P : A → Type 0) (item : List Symbol → Reading A) → GetsSpelled spell P item → GetsSpelled (between_commas spell) (λ all. IsNotEmpty all × AllByRecursion P all) (items item)
+pub items-gets : {A : Type 0} (spell : A → List Symbol → List Symbol) (P : A → Type 0) (item : Parser A)
+    → GetsSpelled spell P item
+    → GetsSpelled (between_commas spell) (λ all. IsNotEmpty all × AllByRecursion P all) (items item)
 unfolding all_more_items
 items-gets spell P item sound s =
     gets_bind (sound s) λ first h.
@@ -45,43 +55,76 @@ items-gets spell P item sound s =
     gets_ok (cc, (tt, (h.1, hs.1)))
 
 -- how an item ends, wherever it may stand
-abbrev pub HasVerdict : {A : Type 0} → (A → List Symbol → List Symbol) → (A → Type 0) → (List Symbol → Type 0) → Bool → ℕ → (A → ℕ) → (A → Type 0) → (List Symbol → Reading A) → Type 0
-HasVerdict {A} spell P After strict room height Ends item = (a : A) (rest : List Symbol) → P a → After rest → Verdict (item (spell a rest)) (a, rest) strict room (height a) (Ends a)
+abbrev pub HasVerdict : {A : Type 0}
+    → (A → List Symbol → List Symbol)
+    → (A → Type 0)
+    → (List Symbol → Type 0)
+    → Bool
+    → ℕ
+    → (A → ℕ)
+    → (A → Type 0)
+    → Parser A
+    → Type 0
+HasVerdict {A} spell P After strict room height Ends item =
+    (a : A) (rest : List Symbol) → P a → After rest → Verdict (item (spell a rest)) (a, rest) strict room
+    (height a) (Ends a)
 
 -- each thing is spelled by a symbol at least
 abbrev pub IsLonger : {A : Type 0} → (A → List Symbol → List Symbol) → (A → Type 0) → Type 0
 IsLonger {A} spell P = (a : A) (rest : List Symbol) → P a → length rest < length (spell a rest)
 
-more_items-verdict : {A : Type 0} (spell : A → List Symbol → List Symbol) (P : A → Type 0) (After : List Symbol → Type 0) (strict : Bool) (room : ℕ) (height : A → ℕ) (Ends : A → Type 0) (item : List Symbol → Reading A)
+more_items-verdict : {A : Type 0} (spell : A → List Symbol → List Symbol) (P : A → Type 0)
+    (After : List Symbol → Type 0) (strict : Bool) (room : ℕ) (height : A → ℕ) (Ends : A → Type 0)
+    (item : Parser A)
     → HasVerdict spell P After strict room height Ends item
     → IsLonger spell P
     → ((rest : List Symbol) → After (MarkSymbol Comma ∷ rest))
-    → (count : ℕ) (all : List A) (rest : List Symbol) → AllByRecursion P all → at_mark Comma rest ≡ false → After rest → length (more_after_commas spell all rest) ≤ count
-    → Verdict (more_items item count (more_after_commas spell all rest)) (all, rest) strict room (greatest height all) (AllByRecursion Ends all)
-more_items-verdict spell P After strict room height Ends item sound longer comma zero [] rest h e b l = verdict_ok
-more_items-verdict spell P After strict room height Ends item sound longer comma (suc count) [] rest h e b l = verdict_same (if_false (at_mark Comma rest) _ _ e) verdict_ok
-more_items-verdict spell P After strict room height Ends item sound longer comma zero (first ∷ others) rest h e b l = absurd (omega (arith, l))
-more_items-verdict {A} spell P After strict room height Ends item sound longer comma (suc count) (first ∷ others) rest h e b l =
+    → (count : ℕ) (all : List A) (rest : List Symbol)
+    → AllByRecursion P all
+    → at_mark Comma rest ≡ false
+    → After rest
+    → length (more_after_commas spell all rest) ≤ count
+    → Verdict (more_items item count (more_after_commas spell all rest)) (all, rest) strict room
+    (greatest height all) (AllByRecursion Ends all)
+more_items-verdict spell P After strict room height Ends item sound longer comma zero [] rest h e b l =
+    verdict_ok
+more_items-verdict spell P After strict room height Ends item sound longer comma (suc count) [] rest h e b l =
+    verdict_same (if_false (at_mark Comma rest) _ _ e) verdict_ok
+more_items-verdict spell P After strict room height Ends item sound longer comma zero (first ∷ others) rest h
+    e b l =
+    absurd (omega (arith, l))
+more_items-verdict {A} spell P After strict room height Ends item sound longer comma (suc count)
+    (first ∷ others) rest h e b l =
     let later : List Symbol = more_after_commas spell others rest in
     verdict_bind _ (sound first later h.0 (after others))
-    (verdict_last _ (more_items-verdict spell P After strict room height Ends item sound longer comma count others rest h.1 e b (omega (arith, l, longer first later h.0))) refl)
+    (verdict_last _ (more_items-verdict spell P After strict room height Ends item sound longer comma count
+    others rest h.1 e b (omega (arith, l, longer first later h.0))) refl)
   where
     after : (others : List A) → After (more_after_commas spell others rest)
     after [] = b
     after (second ∷ others) = comma (spell second (more_after_commas spell others rest))
 
-pub items-verdict : {A : Type 0} (spell : A → List Symbol → List Symbol) (P : A → Type 0) (After : List Symbol → Type 0) (strict : Bool) (room : ℕ) (height : A → ℕ) (Ends : A → Type 0) (item : List Symbol → Reading A)
+pub items-verdict : {A : Type 0} (spell : A → List Symbol → List Symbol) (P : A → Type 0)
+    (After : List Symbol → Type 0) (strict : Bool) (room : ℕ) (height : A → ℕ) (Ends : A → Type 0)
+    (item : Parser A)
     → HasVerdict spell P After strict room height Ends item
     → IsLonger spell P
     → ((rest : List Symbol) → After (MarkSymbol Comma ∷ rest))
-    → (all : List A) (rest : List Symbol) → IsNotEmpty all → AllByRecursion P all → at_mark Comma rest ≡ false → After rest
-    → Verdict (items item (between_commas spell all rest)) (all, rest) strict room (greatest height all) (AllByRecursion Ends all)
+    → (all : List A) (rest : List Symbol)
+    → IsNotEmpty all
+    → AllByRecursion P all
+    → at_mark Comma rest ≡ false
+    → After rest
+    → Verdict (items item (between_commas spell all rest)) (all, rest) strict room (greatest height all)
+    (AllByRecursion Ends all)
 unfolding all_more_items
 items-verdict spell P After strict room height Ends item sound longer comma [] rest some h e b = absurd some
-items-verdict {A} spell P After strict room height Ends item sound longer comma (first ∷ others) rest some h e b =
+items-verdict {A} spell P After strict room height Ends item sound longer comma (first ∷ others) rest some h
+    e b =
     let later : List Symbol = more_after_commas spell others rest in
     verdict_bind _ (sound first later h.0 (after others))
-    (verdict_last _ (more_items-verdict spell P After strict room height Ends item sound longer comma (length later) others rest h.1 e b (omega arith)) refl)
+    (verdict_last _ (more_items-verdict spell P After strict room height Ends item sound longer comma
+    (length later) others rest h.1 e b (omega arith)) refl)
   where
     after : (others : List A) → After (more_after_commas spell others rest)
     after [] = b

@@ -3,6 +3,7 @@
 ghost use Rattle.std.specs.Prelude.{◌≡◌, ◌<◌, ◌≤◌, true, not, [], ◌∷◌, map, length, OnOk, IfOk, IfErr, Some, None};
 ghost use Rattle.std.specs.Option.{option_map};
 ghost use Rattle.words.specs.Spelling.{lexeme_of};
+ghost use Rattle.trees.specs.declared.module.TheConstants.{NESTING_LIMIT};
 ghost use Rattle.trees.specs.Forms.{expr_level};
 ghost use Rattle.trees.specs.Symbols.{symbol_of};
 ghost use Rattle.trees.specs.Views.{expression_tree, reference_tree, argument_trees, statement_tree, kind_tree, else_tree, statement_trees, declaration_tree, declaration_trees, iteration_tree};
@@ -161,7 +162,7 @@ impl<'a> Reader<'a> {
 
     // expr
     fn take_expression(&mut self, room: u8) -> Result<Expression, Failure<Fault>>
-        requires { room ≤ 64 }
+        requires { room ≤ NESTING_LIMIT }
         ensures { Gives expression_tree result self.new (expression room expr_level self.old) }
     {
         let found = self.expression(EXPRESSION_LEVEL, room)?;
@@ -170,7 +171,7 @@ impl<'a> Reader<'a> {
 
     // reference
     fn take_reference(&mut self, room: u8) -> Result<Reference, Failure<Fault>>
-        requires { room ≤ 64 }
+        requires { room ≤ NESTING_LIMIT }
         ensures { Gives reference_tree result self.new (reference (expression room) self.old) }
     {
         let found = self.reference(room)?;
@@ -179,8 +180,9 @@ impl<'a> Reader<'a> {
 
     // [args]
     fn take_arguments(&mut self, room: u8) -> Result<Vec<Expression>, Failure<Fault>>
-        requires { room ≤ 64 }
-        ensures { Gives (λ found. argument_trees found.items) result self.new (arguments (expression room) self.old) }
+        requires { room ≤ NESTING_LIMIT }
+        ensures { Gives (λ found. argument_trees found.items) result self.new
+            (arguments (expression room) self.old) }
     {
         let found = self.arguments(room)?;
         Ok(found.items)
@@ -189,7 +191,7 @@ impl<'a> Reader<'a> {
     // reference {`,` reference} `=` expr `;`
     #[tactic(auto, using(crate::proofs::Giving::fails_bind), unfolding(crate::specs::internal::Statements::assignment))]
     fn take_assignment(&mut self, room: u8) -> Result<StatementKind, Failure<Fault>>
-        requires { room ≤ 64 }
+        requires { room ≤ NESTING_LIMIT }
         ensures { Gives kind_tree result self.new (assignment (expression room) self.old) }
     {
         let first = self.take_reference(room)?;
@@ -203,8 +205,9 @@ impl<'a> Reader<'a> {
     // {`,` reference}
     #[tactic(auto, using(crate::proofs::TargetLoop::target_loop))]
     fn take_more_targets(&mut self, room: u8) -> Result<Vec<Reference>, Failure<Fault>>
-        requires { room ≤ 64 }
-        ensures { Gives (λ found. map reference_tree found.items) result self.new (all_more_items (reference (expression room)) self.old) }
+        requires { room ≤ NESTING_LIMIT }
+        ensures { Gives (λ found. map reference_tree found.items) result self.new
+            (all_more_items (reference (expression room)) self.old) }
     {
         let mut targets = Vec::new(self.alloc);
         'more: while self.at_mark(Mark::Comma) {
@@ -219,7 +222,7 @@ impl<'a> Reader<'a> {
     // name [args] `;`, after CALL.
     #[tactic(auto, using(crate::proofs::Giving::fails_bind), unfolding(crate::specs::internal::Statements::call))]
     fn take_call(&mut self, place: Place, room: u8) -> Result<StatementKind, Failure<Fault>>
-        requires { room ≤ 64 }
+        requires { room ≤ NESTING_LIMIT }
         ensures { Gives kind_tree result self.new (call (expression room) place self.old) }
     {
         let name = self.take_name()?;
@@ -232,7 +235,7 @@ impl<'a> Reader<'a> {
     // [expr] `;`, after RETURN.
     #[tactic(auto, using(crate::proofs::Giving::fails_bind), unfolding(crate::specs::internal::Statements::return_value))]
     fn take_return(&mut self, place: Place, room: u8) -> Result<StatementKind, Failure<Fault>>
-        requires { room ≤ 64 }
+        requires { room ≤ NESTING_LIMIT }
         ensures { Gives kind_tree result self.new (return_value (expression room) place self.old) }
     {
         if self.at_semicolon() {
@@ -266,7 +269,7 @@ impl<'a> Reader<'a> {
     // name `=` expr TO expr [BY expr] `;`
     #[tactic(auto, using(crate::proofs::Giving::fails_bind), unfolding(crate::specs::internal::Statements::iteration))]
     fn take_iteration(&mut self, room: u8) -> Result<Iteration, Failure<Fault>>
-        requires { room ≤ 64 }
+        requires { room ≤ NESTING_LIMIT }
         ensures { Gives iteration_tree result self.new (iteration (expression room) self.old) }
     {
         let variable = self.take_name()?;
@@ -287,8 +290,9 @@ impl<'a> Reader<'a> {
     // [BY expr]
     #[tactic(auto, using(crate::proofs::Giving::fails_bind))]
     fn take_step(&mut self, room: u8) -> Result<Option<Expression>, Failure<Fault>>
-        requires { room ≤ 64 }
-        ensures { Gives (λ found. option_map expression_tree found) result self.new (step (expression room) self.old) }
+        requires { room ≤ NESTING_LIMIT }
+        ensures { Gives (λ found. option_map expression_tree found) result self.new
+            (step (expression room) self.old) }
     {
         if !self.at_word(ReservedWord::By) {
             return Ok(None);
@@ -301,7 +305,7 @@ impl<'a> Reader<'a> {
     // expr `;`
     #[tactic(auto, using(crate::proofs::Giving::fails_bind))]
     fn take_condition(&mut self, room: u8) -> Result<Expression, Failure<Fault>>
-        requires { room ≤ 64 }
+        requires { room ≤ NESTING_LIMIT }
         ensures { Gives expression_tree result self.new (condition (expression room) self.old) }
     {
         let condition = self.take_expression(room)?;
@@ -352,7 +356,7 @@ impl<'a> Reader<'a> {
     #[cycle(statement)]
     #[tactic(auto, using(crate::proofs::Giving::fails_bind, crate::proofs::Insides::statement_in))]
     fn take_statement(&mut self, room: u8) -> Result<Statement, Failure<Fault>>
-        requires { room ≤ 64 }
+        requires { room ≤ NESTING_LIMIT }
         ensures { Gives statement_tree result self.new (statement true room self.old) }
     {
         if room == 0 {
@@ -367,7 +371,7 @@ impl<'a> Reader<'a> {
     #[cycle(statement)]
     #[tactic(auto, using(crate::proofs::Giving::fails_bind))]
     fn take_kind(&mut self, room: u8) -> Result<StatementKind, Failure<Fault>>
-        requires { room ≤ 64 }
+        requires { room ≤ NESTING_LIMIT }
         ensures { Gives kind_tree result self.new (kind_inside room self.old) }
     {
         let beginning = self.beginning();
@@ -394,8 +398,9 @@ impl<'a> Reader<'a> {
     #[cycle(statement)]
     #[tactic(auto, using(crate::proofs::Giving::fails_bind), unfolding(crate::specs::internal::Statements::conditional))]
     fn take_if(&mut self, place: Place, room: u8) -> Result<StatementKind, Failure<Fault>>
-        requires { room ≤ 64 }
-        ensures { Gives kind_tree result self.new (conditional (expression room) (statement true room) place self.old) }
+        requires { room ≤ NESTING_LIMIT }
+        ensures { Gives kind_tree result self.new
+            (conditional (expression room) (statement true room) place self.old) }
     {
         let condition = self.take_expression(room)?;
         self.take_word(ReservedWord::Then)?;
@@ -408,7 +413,7 @@ impl<'a> Reader<'a> {
     #[cycle(statement)]
     #[tactic(auto, using(crate::proofs::Giving::fails_bind))]
     fn take_otherwise(&mut self, room: u8) -> Result<Option<Statement>, Failure<Fault>>
-        requires { room ≤ 64 }
+        requires { room ≤ NESTING_LIMIT }
         ensures { Gives else_tree result self.new (otherwise (statement true room) self.old) }
     {
         if !self.at_word(ReservedWord::Else) {
@@ -423,8 +428,9 @@ impl<'a> Reader<'a> {
     #[cycle(statement)]
     #[tactic(auto, using(crate::proofs::Giving::fails_bind), unfolding(crate::specs::internal::Statements::do_statement, crate::specs::internal::Statements::simple_do, crate::specs::internal::Statements::while_do, crate::specs::internal::Statements::case_do, crate::specs::internal::Statements::iterative_do))]
     fn take_do(&mut self, place: Place, room: u8) -> Result<StatementKind, Failure<Fault>>
-        requires { room ≤ 64 }
-        ensures { Gives kind_tree result self.new (do_statement (expression room) (statement true room) (block_in room) place self.old) }
+        requires { room ≤ NESTING_LIMIT }
+        ensures { Gives kind_tree result self.new
+            (do_statement (expression room) (statement true room) (block_in room) place self.old) }
     {
         if self.at_semicolon() {
             self.skip();
@@ -453,8 +459,9 @@ impl<'a> Reader<'a> {
     #[cycle(statement)]
     #[tactic(auto, using(crate::proofs::Giving::fails_bind), unfolding(crate::specs::internal::Statements::body_of_do))]
     fn take_body(&mut self, room: u8) -> Result<Vec<Statement>, Failure<Fault>>
-        requires { room ≤ 64 }
-        ensures { Gives (λ found. statement_trees found.items) result self.new (body_of_do (statement true room) self.old) }
+        requires { room ≤ NESTING_LIMIT }
+        ensures { Gives (λ found. statement_trees found.items) result self.new
+            (body_of_do (statement true room) self.old) }
     {
         let statements = self.take_statements(room)?;
         self.take_end_of_do()?;
@@ -465,8 +472,9 @@ impl<'a> Reader<'a> {
     #[cycle(statement)]
     #[tactic(auto, using(crate::proofs::StatementLoops::statement_loop))]
     fn take_statements(&mut self, room: u8) -> Result<Vec<Statement>, Failure<Fault>>
-        requires { room ≤ 64 }
-        ensures { Gives (λ found. statement_trees found.items) result self.new (statements (statement true room) self.old) }
+        requires { room ≤ NESTING_LIMIT }
+        ensures { Gives (λ found. statement_trees found.items) result self.new
+            (statements (statement true room) self.old) }
     {
         let mut statements = Vec::new(self.alloc);
         'more: while !self.at_word(ReservedWord::End) {
@@ -482,7 +490,7 @@ impl<'a> Reader<'a> {
     #[cycle(statement)]
     #[tactic(auto, using(crate::proofs::Giving::fails_bind), unfolding(crate::specs::internal::Statements::block))]
     pub(crate) fn take_block(&mut self, room: u8) -> Result<Block, Failure<Fault>>
-        requires { room ≤ 64 }
+        requires { room ≤ NESTING_LIMIT }
         ensures { Gives block_trees result self.new (block_in room self.old) }
     {
         let declarations = self.take_declarations(room)?;
@@ -497,8 +505,9 @@ impl<'a> Reader<'a> {
     #[cycle(statement)]
     #[tactic(auto, using(crate::proofs::StatementLoops::declaration_loop))]
     fn take_declarations(&mut self, room: u8) -> Result<Vec<Declaration>, Failure<Fault>>
-        requires { room ≤ 64 }
-        ensures { Gives (λ found. declaration_trees found.items) result self.new (declarations (declaration true room) self.old) }
+        requires { room ≤ NESTING_LIMIT }
+        ensures { Gives (λ found. declaration_trees found.items) result self.new
+            (declarations (declaration true room) self.old) }
     {
         let mut declarations = Vec::new(self.alloc);
         'more: while self.begins_declaration() {
@@ -513,7 +522,7 @@ impl<'a> Reader<'a> {
     #[cycle(statement)]
     #[tactic(auto, using(crate::proofs::Giving::fails_bind, crate::proofs::Insides::declaration_in), unfolding(crate::specs::internal::Statements::declare_or))]
     fn take_declaration(&mut self, room: u8) -> Result<Declaration, Failure<Fault>>
-        requires { room ≤ 64 }
+        requires { room ≤ NESTING_LIMIT }
         ensures { Gives declaration_tree result self.new (declaration true room self.old) }
     {
         if self.at_word(ReservedWord::Declare) {
@@ -540,7 +549,7 @@ impl<'a> Reader<'a> {
     #[cycle(statement)]
     #[tactic(auto, using(crate::proofs::Giving::fails_bind), unfolding(crate::specs::internal::Statements::procedure))]
     fn take_procedure(&mut self, room: u8) -> Result<Declaration, Failure<Fault>>
-        requires { room ≤ 64 }
+        requires { room ≤ NESTING_LIMIT }
         ensures { Gives declaration_tree result self.new (procedure true (block_in room) self.old) }
     {
         let heading = self.take_heading()?;

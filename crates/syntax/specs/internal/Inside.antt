@@ -11,13 +11,13 @@ use Rattle.failure.specs.declared.Failure.{Failure}
 use Rattle.syntax.specs.declared.fault.Fault.{Fault}
 use Rattle.syntax.specs.declared.statements.Beginning.{Beginning}
 use Rattle.syntax.specs.declared.statements.Beginning.TheVariants.{Name}
-use Rattle.syntax.specs.internal.Expressions.{expression}
+use Rattle.syntax.specs.internal.Expressions.{ExpressionParser, expression}
 use Rattle.syntax.specs.internal.Giving.{Fails}
-use Rattle.syntax.specs.internal.Looking.{Reading, Cause, ◌>>=◌, semicolon}
-use Rattle.syntax.specs.internal.Statements.{Expressions, labels_before, after_labels, labelled, statement, declaration, kind_by, beginning_of, block}
+use Rattle.syntax.specs.internal.Looking.{Parser, Reading, Cause, ◌>>=◌, semicolon}
+use Rattle.syntax.specs.internal.Statements.{BlockParser, labels_before, after_labels, labelled, statement, declaration, kind_by, beginning_of, block}
 
 -- {declaration} {statement}, in a room
-abbrev pub block_in : ℕ → List Symbol → Reading (DeclarationTrees × StatementTrees)
+abbrev pub block_in : ℕ → BlockParser
 block_in room symbols = block (declaration true room) (statement true room) symbols
 
 -- what a statement begins with, where a symbol that the grammar doesn't have is taken for a name
@@ -26,12 +26,12 @@ next_beginning (UnknownSymbol ∷ rest) = Name
 next_beginning symbols = beginning_of symbols
 
 -- a statement without labels whose parts fit into a room
-abbrev pub kind_inside : ℕ → List Symbol → Reading StatementKindTree
+abbrev pub kind_inside : ℕ → Parser StatementKindTree
 kind_inside room symbols =
     kind_by (expression room) (statement true room) (block_in room) (next_beginning symbols) symbols
 
 -- a statement whose parts fit into a room
-abbrev pub statement_inside : ℕ → List Symbol → Reading StatementTree
+abbrev pub statement_inside : ℕ → Parser StatementTree
 statement_inside room symbols = labelled (labels_before symbols) (kind_inside room (after_labels symbols))
 
 -- the trees of a block
@@ -39,7 +39,7 @@ abbrev pub block_trees : Block → DeclarationTrees × StatementTrees
 block_trees block = (block_declarations block, block_statements block)
 
 -- expr `;`
-abbrev pub condition : Expressions → List Symbol → Reading ExpressionTree
+abbrev pub condition : ExpressionParser → Parser ExpressionTree
 condition inner symbols = do
   found ← inner expr_level symbols
   end ← semicolon found.1
@@ -53,7 +53,8 @@ is_name_symbol symbol = false
 -- statements, and then other ones
 abbrev pub statements_before : List Statement → StatementTrees → StatementTrees
 statements_before [] others = others
-statements_before (first ∷ rest) others = MoreStatements (statement_tree first) (statements_before rest others)
+statements_before (first ∷ rest) others =
+    MoreStatements (statement_tree first) (statements_before rest others)
 
 -- what is read after statements, with these before it
 abbrev pub after_statements : List Statement → Reading StatementTrees → Reading StatementTrees
@@ -63,7 +64,8 @@ after_statements made (Err cause) = Err cause
 -- declarations, and then other ones
 abbrev pub declarations_before : List Declaration → DeclarationTrees → DeclarationTrees
 declarations_before [] others = others
-declarations_before (first ∷ rest) others = MoreDeclarations (declaration_tree first) (declarations_before rest others)
+declarations_before (first ∷ rest) others =
+    MoreDeclarations (declaration_tree first) (declarations_before rest others)
 
 -- what is read after declarations, with these before it
 abbrev pub after_declarations : List Declaration → Reading DeclarationTrees → Reading DeclarationTrees
