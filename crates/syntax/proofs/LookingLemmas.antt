@@ -32,22 +32,7 @@ mark_at n = get_or marks_in_order n marks.Comma
 mark_at-number : (m : Mark) → mark_at (mark_number m) ≡ m
 unfolding mark_at
 mark_at-number marks.EqualSign = refl
-mark_at-number marks.LessSign = refl
-mark_at-number marks.GreaterSign = refl
-mark_at-number marks.LessEqualSign = refl
-mark_at-number marks.GreaterEqualSign = refl
-mark_at-number marks.UnequalSign = refl
-mark_at-number marks.PlusSign = refl
-mark_at-number marks.MinusSign = refl
-mark_at-number marks.Asterisk = refl
-mark_at-number marks.Slash = refl
-mark_at-number marks.LeftParenthesis = refl
-mark_at-number marks.RightParenthesis = refl
-mark_at-number marks.Comma = refl
-mark_at-number marks.Semicolon = refl
-mark_at-number marks.Colon = refl
-mark_at-number marks.Period = refl
-mark_at-number marks.AssignSign = refl
+mark_at-number mark = refl
 
 -- marks with the same number are the same
 pub mark_number-same : (m other : Mark) → mark_number m ≡ mark_number other → m ≡ other
@@ -71,44 +56,7 @@ word_at n = get_or words_in_order n words.And
 word_at-number : (w : ReservedWord) → word_at (word_number w) ≡ w
 unfolding word_at
 word_at-number words.Address = refl
-word_at-number words.And = refl
-word_at-number words.At = refl
-word_at-number words.Based = refl
-word_at-number words.By = refl
-word_at-number words.Byte = refl
-word_at-number words.Call = refl
-word_at-number words.Case = refl
-word_at-number words.Data = refl
-word_at-number words.Declare = refl
-word_at-number words.Disable = refl
-word_at-number words.Do = refl
-word_at-number words.Else = refl
-word_at-number words.Enable = refl
-word_at-number words.End = refl
-word_at-number words.Eof = refl
-word_at-number words.External = refl
-word_at-number words.Go = refl
-word_at-number words.Goto = refl
-word_at-number words.Halt = refl
-word_at-number words.If = refl
-word_at-number words.Initial = refl
-word_at-number words.Interrupt = refl
-word_at-number words.Label = refl
-word_at-number words.Literally = refl
-word_at-number words.Minus = refl
-word_at-number words.Mod = refl
-word_at-number words.Not = refl
-word_at-number words.Or = refl
-word_at-number words.Plus = refl
-word_at-number words.Procedure = refl
-word_at-number words.Public = refl
-word_at-number words.Reentrant = refl
-word_at-number words.Return = refl
-word_at-number words.Structure = refl
-word_at-number words.Then = refl
-word_at-number words.To = refl
-word_at-number words.While = refl
-word_at-number words.Xor = refl
+word_at-number word = refl
 
 -- reserved words with the same number are the same
 pub word_number-same : (w other : ReservedWord) → word_number w ≡ word_number other → w ≡ other
@@ -196,24 +144,12 @@ bind_fails r f c e = ap (λ t. t >>= f) e
 pub at_mark-is : (m : Mark) (s : List Symbol) → at_mark m s ≡ true → s ≡ MarkSymbol m ∷ drop 1 s
 at_mark-is m [] e = absurd cc
 at_mark-is m (MarkSymbol found ∷ rest) e = ap (λ k. MarkSymbol k ∷ rest) (equal_marks found m e)
-at_mark-is m (NameSymbol n ∷ rest) e = absurd cc
-at_mark-is m (NumberSymbol n ∷ rest) e = absurd cc
-at_mark-is m (StringSymbol t ∷ rest) e = absurd cc
-at_mark-is m (ReservedSymbol w ∷ rest) e = absurd cc
-at_mark-is m (PlacedSymbol w p ∷ rest) e = absurd cc
-at_mark-is m (SemicolonSymbol place ∷ rest) e = absurd cc
-at_mark-is m (UnknownSymbol ∷ rest) e = absurd cc
+at_mark-is m (other ∷ rest) e = absurd cc
 
 pub at_word-is : (w : ReservedWord) (s : List Symbol) → at_word w s ≡ true → s ≡ ReservedSymbol w ∷ drop 1 s
 at_word-is w [] e = absurd cc
 at_word-is w (ReservedSymbol found ∷ rest) e = ap (λ k. ReservedSymbol k ∷ rest) (equal_words found w e)
-at_word-is w (NameSymbol n ∷ rest) e = absurd cc
-at_word-is w (NumberSymbol n ∷ rest) e = absurd cc
-at_word-is w (StringSymbol t ∷ rest) e = absurd cc
-at_word-is w (MarkSymbol m ∷ rest) e = absurd cc
-at_word-is w (PlacedSymbol k p ∷ rest) e = absurd cc
-at_word-is w (SemicolonSymbol place ∷ rest) e = absurd cc
-at_word-is w (UnknownSymbol ∷ rest) e = absurd cc
+at_word-is w (other ∷ rest) e = absurd cc
 
 -- a value that is there only where a test holds
 some_where : {A : Type 0} (b : Bool) (x y : A) → (if b then Some x else None) ≡ Some y → (b ≡ true) × (x ≡ y)
@@ -229,13 +165,7 @@ place_of_word-is w (PlacedSymbol found q ∷ rest) p e =
     let same : found ≡ w = equal_words found w parts.0 in
     let place : q ≡ p = parts.1 in
     cc
-place_of_word-is w (NameSymbol n ∷ rest) p e = absurd cc
-place_of_word-is w (NumberSymbol n ∷ rest) p e = absurd cc
-place_of_word-is w (StringSymbol t ∷ rest) p e = absurd cc
-place_of_word-is w (MarkSymbol m ∷ rest) p e = absurd cc
-place_of_word-is w (ReservedSymbol k ∷ rest) p e = absurd cc
-place_of_word-is w (SemicolonSymbol place ∷ rest) p e = absurd cc
-place_of_word-is w (UnknownSymbol ∷ rest) p e = absurd cc
+place_of_word-is w (other ∷ rest) p e = absurd cc
 
 -- the symbol of this word, with its place, is seen
 pub place_of_word-at : (w : ReservedWord) (p : Place) (r : List Symbol)
@@ -247,24 +177,12 @@ pub next_semicolon-is : (s : List Symbol) (p : Place)
     → s ≡ SemicolonSymbol p ∷ drop 1 s
 next_semicolon-is [] p e = absurd cc
 next_semicolon-is (SemicolonSymbol found ∷ rest) p e = cc
-next_semicolon-is (NameSymbol n ∷ rest) p e = absurd cc
-next_semicolon-is (NumberSymbol k ∷ rest) p e = absurd cc
-next_semicolon-is (StringSymbol t ∷ rest) p e = absurd cc
-next_semicolon-is (ReservedSymbol w ∷ rest) p e = absurd cc
-next_semicolon-is (PlacedSymbol w q ∷ rest) p e = absurd cc
-next_semicolon-is (MarkSymbol m ∷ rest) p e = absurd cc
-next_semicolon-is (UnknownSymbol ∷ rest) p e = absurd cc
+next_semicolon-is (other ∷ rest) p e = absurd cc
 
 pub next_name-is : (s : List Symbol) (n : Identifier) → next_name s ≡ Some n → s ≡ NameSymbol n ∷ drop 1 s
 next_name-is [] n e = absurd cc
 next_name-is (NameSymbol found ∷ rest) n e = cc
-next_name-is (MarkSymbol m ∷ rest) n e = absurd cc
-next_name-is (NumberSymbol k ∷ rest) n e = absurd cc
-next_name-is (StringSymbol t ∷ rest) n e = absurd cc
-next_name-is (ReservedSymbol w ∷ rest) n e = absurd cc
-next_name-is (PlacedSymbol w p ∷ rest) n e = absurd cc
-next_name-is (SemicolonSymbol place ∷ rest) n e = absurd cc
-next_name-is (UnknownSymbol ∷ rest) n e = absurd cc
+next_name-is (other ∷ rest) n e = absurd cc
 
 pub next_constant-is : (s : List Symbol) (c : ConstantTree)
     → next_constant s ≡ Some c
@@ -274,12 +192,7 @@ next_constant-is (NumberSymbol k ∷ rest) c e =
     ap (λ t. constant_symbols t rest) {x = NumberConstant k} {y = c} cc
 next_constant-is (StringSymbol t ∷ rest) c e =
     ap (λ t. constant_symbols t rest) {x = StringConstant t} {y = c} cc
-next_constant-is (NameSymbol n ∷ rest) c e = absurd cc
-next_constant-is (MarkSymbol m ∷ rest) c e = absurd cc
-next_constant-is (ReservedSymbol w ∷ rest) c e = absurd cc
-next_constant-is (PlacedSymbol w p ∷ rest) c e = absurd cc
-next_constant-is (SemicolonSymbol place ∷ rest) c e = absurd cc
-next_constant-is (UnknownSymbol ∷ rest) c e = absurd cc
+next_constant-is (other ∷ rest) c e = absurd cc
 
 pub next_constant-at : (c : ConstantTree) (r : List Symbol) → next_constant (constant_symbols c r) ≡ Some c
 next_constant-at (NumberConstant k) r = refl
@@ -313,19 +226,7 @@ operator_of-is symbol o e = absurd cc
 
 pub operator_of-symbol : (o : BinaryOperator) → operator_of (binary_symbol o) ≡ Some o
 operator_of-symbol Or = refl
-operator_of-symbol Xor = refl
-operator_of-symbol And = refl
-operator_of-symbol Equal = refl
-operator_of-symbol Less = refl
-operator_of-symbol Greater = refl
-operator_of-symbol LessOrEqual = refl
-operator_of-symbol GreaterOrEqual = refl
-operator_of-symbol Unequal = refl
-operator_of-symbol Add = refl
-operator_of-symbol Subtract = refl
-operator_of-symbol Multiply = refl
-operator_of-symbol Divide = refl
-operator_of-symbol Modulo = refl
+operator_of-symbol operator = refl
 
 pub next_operator-is : (s : List Symbol) (o : BinaryOperator)
     → next_operator s ≡ Some o
@@ -389,13 +290,7 @@ number-ok (NumberSymbol k ∷ rest) r n e =
     let number : k ≡ n = same.0 in
     let later : rest ≡ r = same.1 in
     cc
-number-ok (NameSymbol m ∷ rest) r n e = absurd cc
-number-ok (StringSymbol t ∷ rest) r n e = absurd cc
-number-ok (MarkSymbol m ∷ rest) r n e = absurd cc
-number-ok (ReservedSymbol w ∷ rest) r n e = absurd cc
-number-ok (PlacedSymbol w p ∷ rest) r n e = absurd cc
-number-ok (SemicolonSymbol place ∷ rest) r n e = absurd cc
-number-ok (UnknownSymbol ∷ rest) r n e = absurd cc
+number-ok (other ∷ rest) r n e = absurd cc
 
 pub string-ok : (s r : List Symbol) (t : StringTree) → string s ≡ Ok (t, r) → s ≡ StringSymbol t ∷ r
 string-ok [] r t e = absurd cc
@@ -404,10 +299,4 @@ string-ok (StringSymbol k ∷ rest) r t e =
     let string : k ≡ t = same.0 in
     let later : rest ≡ r = same.1 in
     cc
-string-ok (NameSymbol m ∷ rest) r t e = absurd cc
-string-ok (NumberSymbol n ∷ rest) r t e = absurd cc
-string-ok (MarkSymbol m ∷ rest) r t e = absurd cc
-string-ok (ReservedSymbol w ∷ rest) r t e = absurd cc
-string-ok (PlacedSymbol w p ∷ rest) r t e = absurd cc
-string-ok (SemicolonSymbol place ∷ rest) r t e = absurd cc
-string-ok (UnknownSymbol ∷ rest) r t e = absurd cc
+string-ok (other ∷ rest) r t e = absurd cc

@@ -139,13 +139,7 @@ primary_name inner deeper (NameSymbol name ∷ s) base e = let same : name ≡ b
         → (reference inner (NameSymbol base ∷ s) >>= reference_leaf)
         ≡ (reference_after inner base s >>= reference_leaf)
     go inner base s = refl
-primary_name inner deeper (NumberSymbol _ ∷ s) base e = absurd cc
-primary_name inner deeper (StringSymbol _ ∷ s) base e = absurd cc
-primary_name inner deeper (ReservedSymbol _ ∷ s) base e = absurd cc
-primary_name inner deeper (PlacedSymbol _ _ ∷ s) base e = absurd cc
-primary_name inner deeper (MarkSymbol _ ∷ s) base e = absurd cc
-primary_name inner deeper (SemicolonSymbol _ ∷ s) base e = absurd cc
-primary_name inner deeper (UnknownSymbol ∷ s) base e = absurd cc
+primary_name inner deeper (other ∷ s) base e = absurd cc
 
 -- a constant
 pub primary_constant : (inner deeper : ExpressionParser) (s : List Symbol)
