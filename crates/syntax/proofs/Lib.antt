@@ -9,8 +9,10 @@ pub mod ExpressionSound
 pub mod ExpressionVerdicts
 pub mod Giving
 pub mod Insides
+pub mod Labels
 pub mod ItemLaws
 pub mod ListLaws
+pub mod ListedItems
 pub mod LookingLemmas
 pub mod Loops
 pub mod ModuleLaws
@@ -18,7 +20,7 @@ pub mod OperatorLaws
 pub mod Operators
 pub mod Parsed
 pub mod RestrictedLaws
-pub mod SpelledLengths
+pub mod StatementLengths
 pub mod StatementLaws
 pub mod StatementLoops
 pub mod StatementSoundness
