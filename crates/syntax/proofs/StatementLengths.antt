@@ -9,7 +9,7 @@ use Rattle.trees.specs.Trees.{ExpressionTree, ReferenceTree, ArgumentTrees, Stat
 use Rattle.trees.proofs.Derivations.{expression-spelled, reference-spelled, arguments-spelled}
 use Rattle.syntax.proofs.DeclarationLaws.{heading-reads, heading-shrinks}
 use Rattle.syntax.proofs.ExpressionLaws.{expression-long, reference-long, arguments-long}
-use Rattle.syntax.proofs.ItemLaws.{between_commas-lengthens, element-lengthens}
+use Rattle.syntax.proofs.DeclarationItems.{between_commas-lengthens, element-lengthens}
 
 ending_symbols-long : (n : Option Identifier) (r : List Symbol) → length r < length (ending_symbols n r)
 ending_symbols-long None r = omega arith

@@ -21,15 +21,15 @@ use Rattle.trees.proofs.Derivations.{expression-spelled, arguments-spelled, targ
 use Rattle.syntax.specs.declared.statements.Beginning.TheVariants as beginnings
 use Rattle.syntax.specs.internal.Expressions.{expression, reference, arguments}
 use Rattle.syntax.specs.internal.Lists.{items, many, many_items}
-use Rattle.syntax.specs.internal.Looking.{Parser, TooDeep, OtherEndName, Reading, at_mark, at_word}
+use Rattle.syntax.specs.internal.Reader.{Parser, TooDeep, OtherEndName, Reading, at_mark, at_word}
 use Rattle.syntax.specs.internal.Statements.{BlockParser, at_semicolon, labels_before, after_labels, statements_of, beginning_of, declarations_of, ends_declarations, statements, declarations, block, body_of_do, ending, assignment, return_value, conditional, iteration, simple_do, while_do, case_do, iterative_do, do_statement, call, goto, kind_by, statement_by, procedure, declare, declare_or, statement, declaration}
 use Rattle.syntax.proofs.DeclarationLaws.{elements-reads, heading-reads}
 use Rattle.syntax.proofs.ExpressionLaws.{EndsReference, EndsExpression, reference-long}
 use Rattle.syntax.proofs.ExpressionVerdicts.{expression-verdict, reference-verdict, arguments-verdict}
-use Rattle.syntax.proofs.LookingLemmas.{if_true, if_false}
+use Rattle.syntax.proofs.ReaderLemmas.{if_true, if_false}
 use Rattle.syntax.proofs.StatementLengths.{statement-shorter, declaration-shorter}
-use Rattle.syntax.proofs.VerdictLists.{greatest, items-verdict}
-use Rattle.syntax.proofs.Verdicts.{Verdict, fits, too_deep, other_name, verdict_ok, verdict_bind, verdict_then, verdict_last, verdict_same, verdict_as, verdict_inside}
+use Rattle.syntax.proofs.StatementVerdictLists.{greatest, items-verdict}
+use Rattle.syntax.proofs.StatementVerdictRules.{Verdict, fits, too_deep, other_name, verdict_ok, verdict_bind, verdict_then, verdict_last, verdict_same, verdict_as, verdict_inside}
 
 -- how statements end, where no ELSE stands after an IF without one, and how declarations end
 abbrev pub HasStatementVerdicts : Bool → ℕ → Parser StatementTree → Type 0

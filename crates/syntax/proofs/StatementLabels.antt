@@ -5,7 +5,7 @@ use Rattle.words.specs.declared.vocabulary.Mark.TheVariants as marks
 use Rattle.trees.specs.declared.identifier.Identifier.{Identifier}
 use Rattle.trees.specs.declared.identifier.Place.{Place}
 use Rattle.trees.specs.Symbols.{Symbol, NameSymbol, mark_symbol}
-use Rattle.syntax.specs.internal.Looking.{at_mark, next_name}
+use Rattle.syntax.specs.internal.Reader.{at_mark, next_name}
 use Rattle.syntax.specs.internal.Statements.{next_label, labels_before, after_labels}
 
 -- no name
