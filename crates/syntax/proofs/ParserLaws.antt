@@ -1,5 +1,5 @@
 -- The laws of reading modules: what words derive is read, and what is read is derived.
-use Rattle.std.proofs.Common.{◌≡◌, ℕ, max, ◌≤◌, Bool, true, false, List, [], ◌∷◌, Ok, Err, refl, sym, ◌∙◌, ap, subst, arith}
+use Rattle.std.proofs.Common.{◌≡◌, ℕ, max, ◌<◌, ◌≤◌, Bool, true, false, List, [], ◌∷◌, Result, Ok, Err, refl, sym, ◌∙◌, ap, subst, arith}
 use Rattle.words.specs.declared.vocabulary.Mark.TheVariants as marks
 use Rattle.words.specs.declared.vocabulary.ReservedWord.TheVariants as words
 use Rattle.words.specs.Spelling.{Lexeme}
@@ -9,13 +9,13 @@ use Rattle.trees.specs.Nesting.{module_height, ModuleEndsMatch}
 use Rattle.trees.specs.Spelling.{optional, name_symbols, ending_symbols}
 use Rattle.trees.specs.Symbols.{Symbol, NameSymbol, PlacedSymbol, MarkSymbol, SemicolonSymbol, symbols_of}
 use Rattle.trees.specs.Trees.{ModuleTree}
-use Rattle.syntax.specs.internal.Reader.{TooDeep, OtherEndName, place_of_word, taken}
+use Rattle.syntax.specs.internal.Reader.{Cause, Unexpected, TooDeep, OtherEndName, place_of_word, taken}
 use Rattle.syntax.specs.internal.Statements.{at_the_end, module_of, whole_module}
 use Rattle.syntax.proofs.ReaderLemmas.{taken-ok, place_of_word-is}
 use Rattle.syntax.proofs.StatementLaws.{body-gets, body-verdict}
 use Rattle.syntax.proofs.StatementSoundness.{mark-gets, semicolon-gets, name-gets, ending-gets, statements-left}
 use Rattle.syntax.proofs.StatementVerdicts.{ending-verdict, ends_of_block, block_of_ends}
-use Rattle.syntax.proofs.StatementVerdictRules.{Gets, gets_ok, gets_nothing, gets_bind, Verdict, verdict_bind, verdict_last, verdict_as, verdict_given, verdict_reads, verdict_deep, verdict_other_name}
+use Rattle.syntax.proofs.StatementVerdictRules.{Gets, gets_ok, gets_nothing, gets_bind, Verdict, fits, too_deep, other_name, verdict_bind, verdict_last, verdict_as, verdict_given, verdict_reads, verdict_deep, verdict_other_name}
 
 place-gets : (s : List Symbol)
     → Gets (λ found. s ≡ PlacedSymbol words.Do found.0 ∷ found.1) (taken (place_of_word words.Do s) s)
@@ -88,6 +88,32 @@ pub module_end_name-reads : (words : List Lexeme) → DerivesButForEndName words
 module_end_name-reads words d =
     verdict_other_name (derived-verdict true NESTING_LIMIT (symbols_of words) d.tree d.grammar) d.nested refl
     d.other
+
+-- what a cause is in a tree that is derived
+abbrev pub IsCauseIn : Cause → ModuleTree → Type 0
+IsCauseIn Unexpected tree = ⊥
+IsCauseIn TooDeep tree = NESTING_LIMIT < module_height tree
+IsCauseIn OtherEndName tree = ¬ ModuleEndsMatch tree
+
+cause_of_verdict : {read : Result ModuleTree Cause} (t : ModuleTree) (cause : Cause)
+    → Verdict read t true NESTING_LIMIT (module_height t) (ModuleEndsMatch t)
+    → read ≡ Err cause
+    → IsCauseIn cause t
+cause_of_verdict t cause (fits e l ends) e' = absurd cc
+cause_of_verdict t Unexpected (too_deep e l) e' = absurd cc
+cause_of_verdict t TooDeep (too_deep e l) e' = l
+cause_of_verdict t OtherEndName (too_deep e l) e' = absurd cc
+cause_of_verdict t Unexpected (other_name e s not) e' = absurd cc
+cause_of_verdict t TooDeep (other_name e s not) e' = absurd cc
+cause_of_verdict t OtherEndName (other_name e s not) e' = not
+
+-- where words derive a tree and reading fails, the cause is in that tree
+pub module_fails-cause : (words : List Lexeme) (t : ModuleTree) (cause : Cause)
+    → DerivesModule (symbols_of words) t
+    → whole_module true NESTING_LIMIT (symbols_of words) ≡ Err cause
+    → IsCauseIn cause t
+module_fails-cause words t cause d e =
+    cause_of_verdict t cause (derived-verdict true NESTING_LIMIT (symbols_of words) t d) e
 
 -- words derive one module at most
 pub derives_at_most_one : (words : List Lexeme) → DerivesAtMostOne words

@@ -4,7 +4,7 @@ use Rattle.std.specs.Prelude.{IfOk}
 use Rattle.words.specs.Spelling.{Lexeme}
 use Rattle.trees.specs.declared.module.Module.{Module}
 use Rattle.trees.specs.declared.module.TheConstants.{NESTING_LIMIT}
-use Rattle.trees.specs.Derivation.{Derives, DerivesButForDepth, DerivesButForEndName}
+use Rattle.trees.specs.Derivation.{Derives, DerivesButForDepth, DerivesButForEndName, DerivesModule}
 use Rattle.trees.specs.Symbols.{Symbol, symbols_of}
 use Rattle.trees.specs.Trees.{ModuleTree}
 use Rattle.trees.specs.Views.{module_tree}
@@ -13,12 +13,12 @@ use Rattle.failure.specs.declared.Failure.{Failure}
 use Rattle.failure.specs.declared.Failure.TheVariants as failures
 use Rattle.syntax.specs.declared.fault.Fault.{Fault}
 use Rattle.syntax.specs.declared.fault.Fault.TheVariants.{Word, Depth, EndName}
-use Rattle.syntax.specs.Faults.{IsOfDepth, IsOfEndName, IsRefused}
+use Rattle.syntax.specs.Faults.{IsOfDepth, IsOfEndName, IsRefused, IsWrongWith}
 use Rattle.syntax.specs.internal.Results.{Fails}
 use Rattle.syntax.specs.internal.Inside.{Makes}
 use Rattle.syntax.specs.internal.Reader.{Cause, TooDeep, OtherEndName}
 use Rattle.syntax.specs.internal.Statements.{whole_module}
-use Rattle.syntax.proofs.ParserLaws.{module_read-derives, module_derives-reads, module_deep-reads, module_end_name-reads}
+use Rattle.syntax.proofs.ParserLaws.{module_read-derives, module_derives-reads, module_deep-reads, module_end_name-reads, module_fails-cause}
 
 -- what was made of these words
 abbrev MadeOf : List Lexeme → Result Module (Failure Fault) → Type 0
@@ -43,6 +43,16 @@ refused-derives_none words (Ok found) made = tt
 refused-derives_none words (Err (failures.Fault fault)) made =
     λ tree derived. none_kept_back _ tree fault (module_derives-reads words tree derived) made
 refused-derives_none words (Err failures.Memory) made = tt
+
+pub refused-wrong : (words : List Lexeme) (parsed : Result Module (Failure Fault))
+    → MadeOf words parsed
+    → IfFault parsed (λ fault. (tree : ModuleTree) → DerivesModule (symbols_of words) tree → IsWrongWith fault tree)
+refused-wrong words (Ok found) made = tt
+refused-wrong words (Err (failures.Fault (Word line))) made = λ tree derived. module_fails-cause words tree _ derived made
+refused-wrong words (Err (failures.Fault (Depth line))) made = λ tree derived. module_fails-cause words tree _ derived made
+refused-wrong words (Err (failures.Fault (EndName line))) made =
+    λ tree derived. module_fails-cause words tree _ derived made
+refused-wrong words (Err failures.Memory) made = tt
 
 -- the fault of too many levels
 deep_fault : (read : Result ModuleTree Cause) (fault : Fault)

@@ -1,7 +1,10 @@
 -- Faults: their numbers, their lines, and which of them tells of what.
-use Rattle.std.specs.Prelude.{ℕ, List, Result, Ok, Err, codes}
+use Rattle.std.specs.Prelude.{ℕ, ◌<◌, List, Result, Ok, Err, codes}
 use Rattle.failure.specs.declared.Failure.{Failure}
 use Rattle.failure.specs.declared.Failure.TheVariants as failures
+use Rattle.trees.specs.declared.module.TheConstants.{NESTING_LIMIT}
+use Rattle.trees.specs.Nesting.{module_height, ModuleEndsMatch}
+use Rattle.trees.specs.Trees.{ModuleTree}
 use Rattle.syntax.specs.declared.fault.Fault.{Fault}
 use Rattle.syntax.specs.declared.fault.Fault.TheVariants.{Word, Depth, EndName}
 
@@ -32,3 +35,10 @@ abbrev pub IsRefused : {A : Type 0} → Result A (Failure Fault) → (Fault → 
 IsRefused (Ok value) P = ⊥
 IsRefused (Err (failures.Fault fault)) P = P fault
 IsRefused (Err failures.Memory) P = Unit {0}
+
+-- what a fault says is wrong with the tree that the grammar derives from the words; where it derives one, no word of
+-- them is out of place
+abbrev pub IsWrongWith : Fault → ModuleTree → Type 0
+IsWrongWith (Word line) tree = ⊥
+IsWrongWith (Depth line) tree = NESTING_LIMIT < module_height tree
+IsWrongWith (EndName line) tree = ¬ ModuleEndsMatch tree

@@ -4,10 +4,11 @@ ghost use Rattle.std.specs.Prelude.{◌≡◌, ◌≢◌, ◌≤◌, true, List,
 ghost use Rattle.failure.specs.Failure.{IfFault};
 ghost use Rattle.words.specs.Spelling.{Lexeme, lexemes_of};
 ghost use Rattle.trees.specs.declared.module.TheConstants.{NESTING_LIMIT};
-ghost use Rattle.trees.specs.Derivation.{Derives, DerivesAtMostOne, DerivesButForDepth, DerivesButForEndName};
+ghost use Rattle.trees.specs.Derivation.{Derives, DerivesAtMostOne, DerivesButForDepth, DerivesButForEndName, DerivesModule};
+ghost use Rattle.trees.specs.Symbols.{symbols_of};
 ghost use Rattle.trees.specs.Trees.{ModuleTree};
 ghost use Rattle.trees.specs.Views.{module_tree};
-ghost use Rattle.syntax.specs.Faults.{IsOfDepth, IsOfEndName, IsRefused};
+ghost use Rattle.syntax.specs.Faults.{IsOfDepth, IsOfEndName, IsRefused, IsWrongWith};
 ghost use Rattle.syntax.specs.internal.Results.{cause_of};
 ghost use Rattle.syntax.specs.internal.Inside.{Makes, block_trees};
 ghost use Rattle.syntax.specs.internal.Reader.{Unexpected};
@@ -26,6 +27,9 @@ pub fn parse(alloc: Global, words: &[Word]) -> Result<Module, Failure<Fault>>
     ensures ok { IfOk result (λ parsed. Derives (lexemes_of words.now) (module_tree parsed)) }
     ensures one_tree { (all : List Lexeme) → DerivesAtMostOne all }
     ensures refused { IfFault result (λ fault. (tree : ModuleTree) → Derives (lexemes_of words.now) tree → ⊥) }
+    ensures wrong { IfFault result (λ fault. (tree : ModuleTree)
+        → DerivesModule (symbols_of (lexemes_of words.now)) tree
+        → IsWrongWith fault tree) }
     ensures depth { DerivesButForDepth (lexemes_of words.now) → IsRefused result IsOfDepth }
     ensures end_name { DerivesButForEndName (lexemes_of words.now) → IsRefused result IsOfEndName }
 {
