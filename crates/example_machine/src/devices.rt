@@ -14,7 +14,8 @@ pub const COUNTER: u8 = 1;
 /// The output port of the line printer.
 pub const PRINTER: u8 = 2;
 
-/// A counter at port 1, a line printer at port 2, and nothing at the other ports: they give 255 and take any byte.
+/// A counter at port 1, a line printer at port 2, and nothing at the other ports: they give 255 and take any
+/// byte.
 #[derive(Drop)]
 pub struct Devices {
     /// What happened at the ports, the first event first.
@@ -54,8 +55,9 @@ impl Devices {
     }
 }
 
-// `Ports` says what a machine may rely on: a read gives the next byte of the port's queue, and each answer adds one
-// event. `script` is what the queues are, `events` what happened so far, and `failures` how often a port failed.
+// `Ports` says what a machine may rely on: a read gives the next byte of the port's queue, and each answer
+// adds one event. `script` is what the queues are, `events` what happened so far, and `failures` how often a
+// port failed.
 impl Ports for Devices {
     ghost script = { λ devices. counter_script };
 

@@ -1,5 +1,5 @@
-//! Drives an 8080 with devices of one's own: a program that counts is put in memory and run, and what it printed is
-//! shown.
+//! Drives an 8080 with devices of one's own: a program that counts is put in memory and run, and what it
+//! printed is shown.
 #![tactic(auto)]
 
 mod devices;

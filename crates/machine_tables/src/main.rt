@@ -1,10 +1,11 @@
-//! Prints what DAA makes of every byte with every carry and auxiliary carry, and the flags of the rows that the manual
-//! works out.
+//! Prints what DAA makes of every byte with every carry and auxiliary carry, and the flags of the rows that
+//! the manual works out.
 //!
-//! What it is to print was computed apart from this repository, by a script of forty lines that takes the rules from the
-//! 8080 Assembly Language Programming Manual as they stand there: DAA in its two steps, with the high digit judged after
-//! the low one was adjusted, where the definition judges both on the byte as it was; the subtraction by a borrow from
-//! each digit, where the definition adds the complement; and parity by counting the ones of the byte as text.
+//! What it is to print was computed apart from this repository, by a script of forty lines that takes the
+//! rules from the 8080 Assembly Language Programming Manual as they stand there: DAA in its two steps, with
+//! the high digit judged after the low one was adjusted, where the definition judges both on the byte as it
+//! was; the subtraction by a borrow from each digit, where the definition adds the complement; and parity by
+//! counting the ones of the byte as text.
 #![tactic(auto)]
 
 use anyhow::Result;
@@ -17,8 +18,8 @@ use std::io::Write;
 // Where programs start.
 const START: u16 = 0x100;
 
-// LXI SP,F000H; LXI H,0: H is the byte to adjust, and L, which stands at DAA_FLAGS, the flag byte before. At 106H: PUSH H;
-// POP PSW; DAA; PUSH PSW; POP B; MOV A,B; OUT 0; MOV A,C; OUT 1; INR H; JNZ 106H; HLT.
+// LXI SP,F000H; LXI H,0: H is the byte to adjust, and L, which stands at DAA_FLAGS, the flag byte before. At
+// 106H: PUSH H; POP PSW; DAA; PUSH PSW; POP B; MOV A,B; OUT 0; MOV A,C; OUT 1; INR H; JNZ 106H; HLT.
 const DAA: [u8; 23] = [
     0x31, 0x00, 0xF0, 0x21, 0x00, 0x00, 0xE5, 0xF1, 0x27, 0xF5, 0xC1, 0x78, 0xD3, 0x00, 0x79, 0xD3,
     0x01, 0x24, 0xC2, 0x06, 0x01, 0x76, 0x00,
