@@ -12,7 +12,7 @@ use Rattle.trees.specs.internal.Forms.{left_level, unary_level_of, operand_level
 use Rattle.trees.specs.Nesting.{expression_height, reference_height, member_height, arguments_height, targets_height}
 use Rattle.trees.specs.Spelling.{more_after_commas, between_commas, constant_symbols, binary_symbol}
 use Rattle.trees.specs.internal.Spelling.{expression_symbols, reference_symbols, member_of_symbols, arguments_symbols, more_arguments_symbols}
-use Rattle.trees.specs.Symbols.{Symbol, NameSymbol, MarkSymbol}
+use Rattle.trees.specs.Symbols.{Symbol, MarkSymbol}
 use Rattle.trees.specs.Trees.{ConstantTree, NumberConstant, StringConstant, ExpressionTree, ConstantLeaf, ReferenceLeaf, LocationLeaf, ListLeaf, ParenthesizedNode, AssignmentNode, UnaryNode, BinaryNode, ReferenceTree, ReferenceTo, MemberTree, NoMember, MemberOf, ArgumentTrees, NoArguments, MoreArguments}
 use Rattle.syntax.specs.internal.Expressions.{ExpressionParser, next_operator, top_level, goes_on, arguments_of, arguments, member_of, reference, location, parenthesized, primary, operand, operator_then, all_operators, expression, expression_less}
 use Rattle.syntax.specs.internal.Lists.{items, Keeps}

@@ -116,18 +116,6 @@ unfolding many
 many-end ends item [] end = if_true (ends []) _ _ end
 many-end ends item (x ∷ s) end = if_true (ends (x ∷ s)) _ _ end
 
--- {item}, where no item begins with nothing
-pub many-equation : {A : Type 0} (ends : List Symbol → Bool) (item : Parser A)
-    → Shrinks item
-    → item [] ≡ Err Unexpected
-    → (s : List Symbol)
-    → many ends item s ≡ (if ends s then read [] s else item_then item (many ends item) s)
-many-equation ends item shrinks none [] =
-    many-nothing ends item
-    ∙ ap (λ t. if ends [] then read [] [] else t) (sym (bind_fails (item []) _ Unexpected none))
-many-equation ends item shrinks none (x ∷ s) =
-    many-step ends item shrinks (λ _ _ _ _. none) (x ∷ s) (omega arith)
-
 -- the parts of an item and others
 pub item_then-ok : {A : Type 0} (item : Parser A) (again : Parser (List A)) (s r : List Symbol) (all : List A)
     → item_then item again s ≡ read all r
@@ -195,64 +183,6 @@ items-sound item spell P sound s r all e =
     subst (λ l. (s ≡ between_commas spell l r) × IsNotEmpty l × AllByRecursion P l) (sym parts.5)
     (spelled, tt, (first.1, later.1))
 
--- {..}
-abbrev pub one_after_another : {A : Type 0}
-    → (A → List Symbol → List Symbol)
-    → List A
-    → List Symbol
-    → List Symbol
-one_after_another symbols [] rest = rest
-one_after_another symbols (first ∷ others) rest = symbols first (one_after_another symbols others rest)
-
-abbrev AreMany : {A : Type 0}
-    → (List Symbol → Bool)
-    → (A → List Symbol → List Symbol)
-    → (A → Type 0)
-    → List Symbol
-    → List Symbol
-    → List A
-    → Type 0
-AreMany ends spell P s r all = (s ≡ one_after_another spell all r) × (ends r ≡ true) × AllByRecursion P all
-
-not_many : {A : Type 0} (ends : List Symbol → Bool) (spell : A → List Symbol → List Symbol) (P : A → Type 0)
-    (s r : List Symbol) (all : List A)
-    → ends s ≡ true → read [] s ≡ read all r → AreMany ends spell P s r all
-not_many ends spell P s r [] end e =
-    let same = (same_reading [] [] s r e).1 in
-    (same, ap ends (sym same) ∙ end, tt)
-not_many ends spell P s r (a ∷ all) end e =
-    absurd (let none : [] ≡ a ∷ all = (same_reading [] (a ∷ all) s r e).0 in cc)
-
-many_items-sound : {A : Type 0} (ends : List Symbol → Bool) (item : Parser A)
-    (spell : A → List Symbol → List Symbol) (P : A → Type 0)
-    → IsSound item spell P
-    → (count : ℕ) (s r : List Symbol) (all : List A)
-    → many_items ends item count s ≡ read all r
-    → AreMany ends spell P s r all
-many_items-sound ends item spell P sound zero s r all e =
-    let parts = if_ok (ends s) (read [] s) Unexpected (all, r) e in
-    not_many ends spell P s r all parts.0 parts.1
-many_items-sound ends item spell P sound (suc count) s r all e =
-    ⊎_elim
-    (λ at_end. not_many ends spell P s r all at_end.0 at_end.1)
-    (λ goes_on.
-    let parts = item_then-ok item (many_items ends item count) s r all goes_on.1 in
-    let first = sound s parts.1 parts.0 parts.3 in
-    let later = many_items-sound ends item spell P sound count parts.1 r parts.2 parts.4 in
-    let spelled : s ≡ one_after_another spell (parts.0 ∷ parts.2) r = first.0 ∙ ap (spell parts.0) later.0 in
-    subst (AreMany ends spell P s r) (sym parts.5) (spelled, later.1, (first.1, later.2)))
-    (if_cases (ends s) _ _ _ e)
-
--- what one after another is spelled by, up to where the list ends
-pub many-sound : {A : Type 0} (ends : List Symbol → Bool) (item : Parser A)
-    (spell : A → List Symbol → List Symbol) (P : A → Type 0)
-    → IsSound item spell P
-    → (s r : List Symbol) (all : List A)
-    → many ends item s ≡ read all r
-    → (s ≡ one_after_another spell all r) × (ends r ≡ true) × AllByRecursion P all
-unfolding many
-many-sound ends item spell P sound s r all e = many_items-sound ends item spell P sound (length s) s r all e
-
 -- what is read, or why there is nothing
 abbrev pub gave : {A : Type 0} → Option Cause → A → Parser A
 gave None a rest = Ok (a, rest)
@@ -266,15 +196,6 @@ earlier (Some cause) other = Some cause
 abbrev pub first_fault : {A : Type 0} → (A → Option Cause) → List A → Option Cause
 first_fault fault [] = None
 first_fault fault (first ∷ others) = earlier (fault first) (first_fault fault others)
-
--- no fault at all
-pub first_fault-none : {A : Type 0} (fault : A → Option Cause)
-    → ((a : A) → fault a ≡ None)
-    → (all : List A)
-    → first_fault fault all ≡ None
-first_fault-none fault none [] = refl
-first_fault-none fault none (a ∷ all) =
-    ap (λ f. earlier f (first_fault fault all)) (none a) ∙ first_fault-none fault none all
 
 -- an item and others, with their faults
 pub item_then-gave : {A : Type 0} (item : Parser A) (again : Parser (List A)) (s rest r : List Symbol) (a : A)
@@ -296,131 +217,45 @@ abbrev pub Reads : {A : Type 0}
     → (List Symbol → Type 0)
     → (A → Option Cause)
     → Type 0
-Reads {A} item spell P Behind fault =
-    (a : A) (rest : List Symbol) → P a → Behind rest → item (spell a rest) ≡ gave (fault a) a rest
+Reads {A} item spell P Follows fault =
+    (a : A) (rest : List Symbol) → P a → Follows rest → item (spell a rest) ≡ gave (fault a) a rest
 
 more_items-reads : {A : Type 0} (item : Parser A) (spell : A → List Symbol → List Symbol) (P : A → Type 0)
-    (Behind : List Symbol → Type 0) (fault : A → Option Cause)
-    → Keeps item → Reads item spell P Behind fault → ((rest : List Symbol) → Behind (MarkSymbol Comma ∷ rest))
-    → (all : List A) (r : List Symbol) → AllByRecursion P all → Behind r → at_mark Comma r ≡ false
+    (Follows : List Symbol → Type 0) (fault : A → Option Cause)
+    → Keeps item → Reads item spell P Follows fault → ((rest : List Symbol) → Follows (MarkSymbol Comma ∷ rest))
+    → (all : List A) (r : List Symbol) → AllByRecursion P all → Follows r → at_mark Comma r ≡ false
     → all_more_items item (more_after_commas spell all r) ≡ gave (first_fault fault all) all r
-more_items-reads item spell P Behind fault keeps reads comma [] r h later ends =
+more_items-reads item spell P Follows fault keeps reads comma [] r h later ends =
     all_more_items-step item keeps r ∙ if_false (at_mark Comma r) _ _ ends
-more_items-reads item spell P Behind fault keeps reads comma (a ∷ []) r h later ends =
+more_items-reads item spell P Follows fault keeps reads comma (a ∷ []) r h later ends =
     all_more_items-step item keeps (more_after_commas spell (a ∷ []) r)
     ∙ item_then-gave item (all_more_items item) (spell a r) r r a [] (fault a) None (reads a r h.0 later)
-    (more_items-reads item spell P Behind fault keeps reads comma [] r h.1 later ends)
-more_items-reads item spell P Behind fault keeps reads comma (a ∷ b ∷ all) r h later ends =
+    (more_items-reads item spell P Follows fault keeps reads comma [] r h.1 later ends)
+more_items-reads item spell P Follows fault keeps reads comma (a ∷ b ∷ all) r h later ends =
     let others : List Symbol = more_after_commas spell (b ∷ all) r in
     all_more_items-step item keeps (more_after_commas spell (a ∷ b ∷ all) r)
     ∙ item_then-gave item (all_more_items item) (spell a others) others r a (b ∷ all) (fault a)
     (first_fault fault (b ∷ all))
     (reads a others h.0 (comma _))
-    (more_items-reads item spell P Behind fault keeps reads comma (b ∷ all) r h.1 later ends)
+    (more_items-reads item spell P Follows fault keeps reads comma (b ∷ all) r h.1 later ends)
 
 -- items that are spelled are read again
 pub items-reads : {A : Type 0} (item : Parser A) (spell : A → List Symbol → List Symbol) (P : A → Type 0)
-    (Behind : List Symbol → Type 0) (fault : A → Option Cause)
-    → Keeps item → Reads item spell P Behind fault → ((rest : List Symbol) → Behind (MarkSymbol Comma ∷ rest))
+    (Follows : List Symbol → Type 0) (fault : A → Option Cause)
+    → Keeps item → Reads item spell P Follows fault → ((rest : List Symbol) → Follows (MarkSymbol Comma ∷ rest))
     → (all : List A) (r : List Symbol)
     → IsNotEmpty all
     → AllByRecursion P all
-    → Behind r
+    → Follows r
     → at_mark Comma r ≡ false
     → items item (between_commas spell all r) ≡ gave (first_fault fault all) all r
-items-reads item spell P Behind fault keeps reads comma [] r some h later ends = absurd some
-items-reads item spell P Behind fault keeps reads comma (a ∷ []) r some h later ends =
+items-reads item spell P Follows fault keeps reads comma [] r some h later ends = absurd some
+items-reads item spell P Follows fault keeps reads comma (a ∷ []) r some h later ends =
     item_then-gave item (all_more_items item) (spell a r) r r a [] (fault a) None (reads a r h.0 later)
-    (more_items-reads item spell P Behind fault keeps reads comma [] r tt later ends)
-items-reads item spell P Behind fault keeps reads comma (a ∷ b ∷ all) r some h later ends =
+    (more_items-reads item spell P Follows fault keeps reads comma [] r tt later ends)
+items-reads item spell P Follows fault keeps reads comma (a ∷ b ∷ all) r some h later ends =
     let others : List Symbol = more_after_commas spell (b ∷ all) r in
     item_then-gave item (all_more_items item) (spell a others) others r a (b ∷ all) (fault a)
     (first_fault fault (b ∷ all))
     (reads a others h.0 (comma _))
-    (more_items-reads item spell P Behind fault keeps reads comma (b ∷ all) r h.1 later ends)
-
--- one after another that are spelled are read again, up to where the list ends
-pub many-reads : {A : Type 0} (ends : List Symbol → Bool) (item : Parser A)
-    (spell : A → List Symbol → List Symbol) (P : A → Type 0) (Behind : List Symbol → Type 0)
-    (fault : A → Option Cause)
-    → Shrinks item → Starts item → Reads item spell P Behind fault
-    → ((a : A) (rest : List Symbol) → P a
-    → Behind (spell a rest) × (ends (spell a rest) ≡ false) × (0 < length (spell a rest)))
-    → (all : List A) (r : List Symbol) → AllByRecursion P all → Behind r → ends r ≡ true
-    → many ends item (one_after_another spell all r) ≡ gave (first_fault fault all) all r
-many-reads ends item spell P Behind fault shrinks starts reads begins [] r h later end =
-    many-end ends item r end
-many-reads ends item spell P Behind fault shrinks starts reads begins (a ∷ []) r h later end =
-    let head = begins a r h.0 in
-    many-step ends item shrinks starts (spell a r) head.2
-    ∙ if_false (ends (spell a r)) _ _ head.1
-    ∙ item_then-gave item (many ends item) (spell a r) r r a [] (fault a) None (reads a r h.0 later)
-    (many-reads ends item spell P Behind fault shrinks starts reads begins [] r tt later end)
-many-reads ends item spell P Behind fault shrinks starts reads begins (a ∷ b ∷ all) r h later end =
-    let others : List Symbol = one_after_another spell (b ∷ all) r in
-    let head = begins a others h.0 in
-    let next = begins b (one_after_another spell all r) h.1.0 in
-    many-step ends item shrinks starts (spell a others) head.2
-    ∙ if_false (ends (spell a others)) _ _ head.1
-    ∙ item_then-gave item (many ends item) (spell a others) others r a (b ∷ all) (fault a)
-    (first_fault fault (b ∷ all))
-    (reads a others h.0 next.0)
-    (many-reads ends item spell P Behind fault shrinks starts reads begins (b ∷ all) r h.1 later end)
-
--- lists take no symbols away from after them
-more_items-keeps : {A : Type 0} (item : Parser A) → Keeps item → (count : ℕ) → Keeps (more_items item count)
-more_items-keeps item keeps zero s r all e = let same : s ≡ r = (same_reading [] all s r e).1 in
-    omega (arith, ap length same)
-more_items-keeps item keeps (suc count) s r all e =
-    ⊎_elim
-    (λ yes_comma.
-    let parts = item_then-ok item (more_items item count) (drop 1 s) r all yes_comma.1 in
-    let first : length parts.1 ≤ length (drop 1 s) = keeps (drop 1 s) parts.1 parts.0 parts.3 in
-    let later : length r ≤ length parts.1 = more_items-keeps item keeps count parts.1 r parts.2 parts.4 in
-    omega (arith, length-drop 1 s))
-    (λ no_comma. let same : s ≡ r = (same_reading [] all s r no_comma.1).1 in omega (arith, ap length same))
-    (if_cases (at_mark Comma s) _ _ _ e)
-
-pub all_more_items-keeps : {A : Type 0} (item : Parser A) → Keeps item → Keeps (all_more_items item)
-unfolding all_more_items
-all_more_items-keeps item keeps s r all e = more_items-keeps item keeps (length s) s r all e
-
-pub items-keeps : {A : Type 0} (item : Parser A) → Keeps item → Keeps (items item)
-items-keeps item keeps s r all e =
-    let parts = item_then-ok item (all_more_items item) s r all e in
-    let first : length parts.1 ≤ length s = keeps s parts.1 parts.0 parts.3 in
-    let later : length r ≤ length parts.1 = all_more_items-keeps item keeps parts.1 r parts.2 parts.4 in
-    omega arith
-
-pub items-shrinks : {A : Type 0} (item : Parser A) → Shrinks item → Shrinks (items item)
-items-shrinks item shrinks s r all e =
-    let keeps : Keeps item = λ s r a e. let short : length r < length s = shrinks s r a e in omega arith in
-    let parts = item_then-ok item (all_more_items item) s r all e in
-    let first : length parts.1 < length s = shrinks s parts.1 parts.0 parts.3 in
-    let later : length r ≤ length parts.1 = all_more_items-keeps item keeps parts.1 r parts.2 parts.4 in
-    omega arith
-
-many_items-keeps : {A : Type 0} (ends : List Symbol → Bool) (item : Parser A)
-    → Keeps item
-    → (count : ℕ)
-    → Keeps (many_items ends item count)
-many_items-keeps ends item keeps zero s r all e =
-    let parts = if_ok (ends s) (read [] s) Unexpected (all, r) e in
-    let same : s ≡ r = (same_reading [] all s r parts.1).1 in
-    omega (arith, ap length same)
-many_items-keeps ends item keeps (suc count) s r all e =
-    ⊎_elim
-    (λ at_end. let same : s ≡ r = (same_reading [] all s r at_end.1).1 in omega (arith, ap length same))
-    (λ goes_on.
-    let parts = item_then-ok item (many_items ends item count) s r all goes_on.1 in
-    let first : length parts.1 ≤ length s = keeps s parts.1 parts.0 parts.3 in
-    let later : length r ≤ length parts.1 =
-    many_items-keeps ends item keeps count parts.1 r parts.2 parts.4 in
-    omega arith)
-    (if_cases (ends s) _ _ _ e)
-
-pub many-keeps : {A : Type 0} (ends : List Symbol → Bool) (item : Parser A)
-    → Keeps item
-    → Keeps (many ends item)
-unfolding many
-many-keeps ends item keeps s r all e = many_items-keeps ends item keeps (length s) s r all e
+    (more_items-reads item spell P Follows fault keeps reads comma (b ∷ all) r h.1 later ends)

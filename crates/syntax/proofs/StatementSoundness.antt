@@ -15,7 +15,6 @@ use Rattle.trees.specs.Spelling.{between_commas, optional, name_symbols, element
 use Rattle.trees.specs.Symbols.{Symbol, NameSymbol, NumberSymbol, StringSymbol, ReservedSymbol, PlacedSymbol, MarkSymbol, SemicolonSymbol, UnknownSymbol}
 use Rattle.trees.specs.Trees.{ExpressionTree, ArgumentTrees, ReferenceTree, IterationTree, StatementTree, LabelledStatement, StatementKindTree, IfStatement, IterateStatement, ElseTree, NoElse, ElseStatement, StatementTrees, DeclarationTree, DeclareTree, ProcedureTree, DeclarationTrees}
 use Rattle.trees.proofs.Derivations.{expression-derived, arguments-derived, targets-derived}
-use Rattle.syntax.specs.declared.statements.Beginning.TheVariants as beginnings
 use Rattle.syntax.specs.internal.Expressions.{expression, reference, arguments}
 use Rattle.syntax.specs.internal.Lists.{items, many, many_items}
 use Rattle.syntax.specs.internal.Reader.{Parser, TooDeep, Reading, at_mark, at_word, next_name, mark, semicolon, word, name}

@@ -16,7 +16,7 @@ use Rattle.trees.specs.Forms.{expr_level, conj_level, neg_level, rel_level, sum_
 use Rattle.trees.specs.Nesting.{module_height, IsNestedWithin, ModuleEndsMatch}
 use Rattle.trees.specs.Spelling.{binary_symbol, between_commas, constant_symbols, element_symbols, heading_symbols, ending_symbols}
 use Rattle.trees.specs.Symbols.{Symbol, NameSymbol, NumberSymbol, StringSymbol, ReservedSymbol, PlacedSymbol, MarkSymbol, SemicolonSymbol, symbols_of}
-use Rattle.trees.specs.Trees.{StringTree, ConstantTree, NumberConstant, StringConstant, ExpressionTree, ConstantLeaf, ReferenceLeaf, LocationLeaf, ListLeaf, ParenthesizedNode, AssignmentNode, UnaryNode, BinaryNode, ReferenceTree, ReferenceTo, NoMember, MemberOf, ArgumentTrees, NoArguments, MoreArguments, ElementTree, HeadingTree, StatementTree, LabelledStatement, StatementKindTree, NullStatement, AssignmentStatement, CallStatement, ReturnStatement, HaltStatement, GotoStatement, IfStatement, NoElse, ElseStatement, DoStatement, WhileStatement, IterateStatement, CaseStatement, StatementTrees, NoStatements, MoreStatements, DeclarationTree, DeclareTree, ProcedureTree, DeclarationTrees, NoDeclarations, MoreDeclarations, ModuleTree}
+use Rattle.trees.specs.Trees.{StringTree, ConstantTree, NumberConstant, StringConstant, ExpressionTree, ConstantLeaf, ReferenceLeaf, LocationLeaf, ListLeaf, ParenthesizedNode, AssignmentNode, UnaryNode, BinaryNode, ReferenceTree, ReferenceTo, NoMember, MemberOf, ArgumentTrees, NoArguments, MoreArguments, ElementTree, HeadingTree, IterationTree, StatementTree, LabelledStatement, StatementKindTree, NullStatement, AssignmentStatement, CallStatement, ReturnStatement, HaltStatement, GotoStatement, IfStatement, NoElse, ElseStatement, DoStatement, WhileStatement, IterateStatement, CaseStatement, StatementTrees, NoStatements, MoreStatements, DeclarationTree, DeclareTree, ProcedureTree, DeclarationTrees, NoDeclarations, MoreDeclarations, ModuleTree}
 
 mutual
   -- the symbols derive an expression at a level of the grammar
@@ -64,10 +64,12 @@ mutual
         → DerivesExpression sec_level (MarkSymbol MinusSign ∷ symbols) (UnaryNode Negate operand) rest
     -- primary: number
     number : {value : Number} {rest : List Symbol}
-        → DerivesExpression primary_level (NumberSymbol value ∷ rest) (ConstantLeaf (NumberConstant value)) rest
+        → DerivesExpression primary_level (NumberSymbol value ∷ rest)
+        (ConstantLeaf (NumberConstant value)) rest
     -- primary: string
     string : {text : StringTree} {rest : List Symbol}
-        → DerivesExpression primary_level (StringSymbol text ∷ rest) (ConstantLeaf (StringConstant text)) rest
+        → DerivesExpression primary_level (StringSymbol text ∷ rest)
+        (ConstantLeaf (StringConstant text)) rest
     -- primary: reference
     reference : {symbols rest : List Symbol} {tree : ReferenceTree}
         → DerivesReference symbols tree rest
@@ -80,16 +82,19 @@ mutual
     list : {constants : List ConstantTree} {rest : List Symbol}
         → IsNotEmpty constants
         → DerivesExpression primary_level (MarkSymbol Period ∷ MarkSymbol LeftParenthesis
-        ∷ between_commas constant_symbols constants (MarkSymbol RightParenthesis ∷ rest)) (ListLeaf constants) rest
+        ∷ between_commas constant_symbols constants (MarkSymbol RightParenthesis ∷ rest))
+        (ListLeaf constants) rest
     -- primary: `(` expr `)`
     parenthesized : {symbols rest : List Symbol} {tree : ExpressionTree}
         → DerivesExpression expr_level symbols tree (MarkSymbol RightParenthesis ∷ rest)
         → DerivesExpression primary_level (MarkSymbol LeftParenthesis ∷ symbols) (ParenthesizedNode tree) rest
     -- primary: `(` reference `:=` expr `)`
-    embedded_assignment : {symbols middle rest : List Symbol} {target : ReferenceTree} {value : ExpressionTree}
+    embedded_assignment : {symbols middle rest : List Symbol} {target : ReferenceTree}
+        {value : ExpressionTree}
         → DerivesReference symbols target (MarkSymbol AssignSign ∷ middle)
         → DerivesExpression expr_level middle value (MarkSymbol RightParenthesis ∷ rest)
-        → DerivesExpression primary_level (MarkSymbol LeftParenthesis ∷ symbols) (AssignmentNode target value) rest
+        → DerivesExpression primary_level (MarkSymbol LeftParenthesis ∷ symbols)
+        (AssignmentNode target value) rest
 
   pub data DerivesReference : List Symbol → ReferenceTree → List Symbol → Type 0 where
     -- reference: name [args]
@@ -131,6 +136,10 @@ pub data DerivesTargets : List Symbol → List ReferenceTree → List Symbol →
       → DerivesReference symbols target (MarkSymbol Comma ∷ middle)
       → DerivesTargets middle others rest
       → DerivesTargets symbols (target ∷ others) rest
+
+-- the head of an iterative DO
+abbrev head : Identifier → ExpressionTree → ExpressionTree → Option ExpressionTree → IterationTree
+head variable first last step = record { variable = variable; first = first; last = last; step = step }
 
 mutual
   pub data DerivesStatement : List Symbol → StatementTree → List Symbol → Type 0 where
@@ -177,7 +186,8 @@ mutual
         → DerivesKind (PlacedSymbol words.Goto place ∷ NameSymbol label ∷ SemicolonSymbol end ∷ rest)
         (GotoStatement place label) rest
     -- statement: IF expr THEN statement
-    if_then : {place : Place} {symbols middle rest : List Symbol} {condition : ExpressionTree} {body : StatementTree}
+    if_then : {place : Place} {symbols middle rest : List Symbol} {condition : ExpressionTree}
+        {body : StatementTree}
         → DerivesExpression expr_level symbols condition (ReservedSymbol words.Then ∷ middle)
         → DerivesStatement middle body rest
         → DerivesKind (PlacedSymbol words.If place ∷ symbols) (IfStatement place condition body NoElse) rest
@@ -211,17 +221,17 @@ mutual
         → DerivesExpression expr_level to last (SemicolonSymbol start ∷ middle)
         → DerivesStatements middle body (ReservedSymbol words.End ∷ SemicolonSymbol end ∷ rest)
         → DerivesKind (PlacedSymbol words.Do place ∷ NameSymbol variable ∷ MarkSymbol EqualSign ∷ symbols)
-        (IterateStatement place (record { variable = variable; first = first; last = last; step = None }) body) rest
+        (IterateStatement place (head variable first last None) body) rest
     -- statement: DO name `=` expr TO expr BY expr `;` {statement} END `;`
-    iterative_do_by : {place start end : Place} {variable : Identifier} {symbols to by middle rest : List Symbol}
+    iterative_do_by : {place start end : Place} {variable : Identifier}
+        {symbols to by middle rest : List Symbol}
         {first last step : ExpressionTree} {body : StatementTrees}
         → DerivesExpression expr_level symbols first (ReservedSymbol words.To ∷ to)
         → DerivesExpression expr_level to last (ReservedSymbol words.By ∷ by)
         → DerivesExpression expr_level by step (SemicolonSymbol start ∷ middle)
         → DerivesStatements middle body (ReservedSymbol words.End ∷ SemicolonSymbol end ∷ rest)
         → DerivesKind (PlacedSymbol words.Do place ∷ NameSymbol variable ∷ MarkSymbol EqualSign ∷ symbols)
-        (IterateStatement place (record { variable = variable; first = first; last = last; step = Some step }) body)
-        rest
+        (IterateStatement place (head variable first last (Some step)) body) rest
     -- statement: DO CASE expr `;` {statement} END `;`
     do_case : {place start end : Place} {symbols middle rest : List Symbol} {choice : ExpressionTree}
         {body : StatementTrees}
@@ -256,7 +266,8 @@ mutual
   -- {declaration}
   pub data DerivesDeclarations : List Symbol → DeclarationTrees → List Symbol → Type 0 where
     no_declaration : {rest : List Symbol} → DerivesDeclarations rest NoDeclarations rest
-    next_declaration : {symbols middle rest : List Symbol} {first : DeclarationTree} {others : DeclarationTrees}
+    next_declaration : {symbols middle rest : List Symbol} {first : DeclarationTree}
+        {others : DeclarationTrees}
         → DerivesDeclaration symbols first middle
         → DerivesDeclarations middle others rest
         → DerivesDeclarations symbols (MoreDeclarations first others) rest

@@ -27,13 +27,21 @@ optional symbols None rest = rest
 optional symbols (Some a) rest = symbols a rest
 
 -- {`,` ..}
-abbrev pub more_after_commas : {A : Type 0} → (A → List Symbol → List Symbol) → List A → List Symbol → List Symbol
+abbrev pub more_after_commas : {A : Type 0}
+    → (A → List Symbol → List Symbol)
+    → List A
+    → List Symbol
+    → List Symbol
 more_after_commas symbols [] rest = rest
 more_after_commas symbols (first ∷ others) rest =
     MarkSymbol Comma ∷ symbols first (more_after_commas symbols others rest)
 
 -- .. {`,` ..}
-abbrev pub between_commas : {A : Type 0} → (A → List Symbol → List Symbol) → List A → List Symbol → List Symbol
+abbrev pub between_commas : {A : Type 0}
+    → (A → List Symbol → List Symbol)
+    → List A
+    → List Symbol
+    → List Symbol
 between_commas symbols [] rest = rest
 between_commas symbols (first ∷ others) rest = symbols first (more_after_commas symbols others rest)
 
@@ -81,7 +89,8 @@ offsets_symbols (offset ∷ others) rest =
 
 -- place: constant {(`+` | `-`) constant} | `.` name {(`+` | `-`) constant}
 abbrev pub restricted_symbols : RestrictedTree → List Symbol → List Symbol
-restricted_symbols restricted rest = origin_symbols restricted.origin (offsets_symbols restricted.offsets rest)
+restricted_symbols restricted rest =
+    origin_symbols restricted.origin (offsets_symbols restricted.offsets rest)
 
 -- BYTE | ADDRESS
 abbrev pub scalar_symbols : ScalarType → List Symbol → List Symbol
@@ -90,7 +99,8 @@ scalar_symbols Address rest = ReservedSymbol words.Address ∷ rest
 
 -- `(` number `)`
 abbrev pub count_symbols : Number → List Symbol → List Symbol
-count_symbols number rest = MarkSymbol LeftParenthesis ∷ NumberSymbol number ∷ MarkSymbol RightParenthesis ∷ rest
+count_symbols number rest =
+    MarkSymbol LeftParenthesis ∷ NumberSymbol number ∷ MarkSymbol RightParenthesis ∷ rest
 
 -- dim: `(` number `)` | `(` `*` `)`
 abbrev pub dimension_symbols : Dimension → List Symbol → List Symbol

@@ -27,7 +27,8 @@ abbrev mutual
   expression_symbols (AssignmentNode target value) rest =
       MarkSymbol LeftParenthesis ∷ reference_symbols target
       (MarkSymbol AssignSign ∷ expression_symbols value (MarkSymbol RightParenthesis ∷ rest))
-  expression_symbols (UnaryNode operator operand) rest = unary_symbol operator ∷ expression_symbols operand rest
+  expression_symbols (UnaryNode operator operand) rest =
+      unary_symbol operator ∷ expression_symbols operand rest
   expression_symbols (BinaryNode operator left right) rest =
       expression_symbols left (binary_symbol operator ∷ expression_symbols right rest)
 
