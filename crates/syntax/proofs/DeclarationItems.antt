@@ -30,18 +30,18 @@ no_fault (a ∷ all) = no_fault all
 
 -- a list that is spelled is read
 pub list-reads : {A : Type 0} (item : Parser A) (spell : A → List Symbol → List Symbol) (P : A → Type 0)
-    (Behind : List Symbol → Type 0)
+    (Follows : List Symbol → Type 0)
     → Keeps item
-    → ((a : A) (rest : List Symbol) → P a → Behind rest → item (spell a rest) ≡ Ok (a, rest))
-    → ((rest : List Symbol) → Behind (MarkSymbol marks.Comma ∷ rest))
+    → ((a : A) (rest : List Symbol) → P a → Follows rest → item (spell a rest) ≡ Ok (a, rest))
+    → ((rest : List Symbol) → Follows (MarkSymbol marks.Comma ∷ rest))
     → (all : List A) (r : List Symbol)
     → IsNotEmpty all
     → AllByRecursion P all
-    → Behind r
+    → Follows r
     → at_mark marks.Comma r ≡ false
     → items item (between_commas spell all r) ≡ Ok (all, r)
-list-reads item spell P Behind keeps reads comma all r some h later ends =
-    items-reads item spell P Behind (λ _. None) keeps reads comma all r some h later ends
+list-reads item spell P Follows keeps reads comma all r some h later ends =
+    items-reads item spell P Follows (λ _. None) keeps reads comma all r some h later ends
     ∙ ap (λ k. gave k all r) (no_fault all)
 
 -- where nothing is asked of the items

@@ -296,67 +296,67 @@ abbrev pub Reads : {A : Type 0}
     → (List Symbol → Type 0)
     → (A → Option Cause)
     → Type 0
-Reads {A} item spell P Behind fault =
-    (a : A) (rest : List Symbol) → P a → Behind rest → item (spell a rest) ≡ gave (fault a) a rest
+Reads {A} item spell P Follows fault =
+    (a : A) (rest : List Symbol) → P a → Follows rest → item (spell a rest) ≡ gave (fault a) a rest
 
 more_items-reads : {A : Type 0} (item : Parser A) (spell : A → List Symbol → List Symbol) (P : A → Type 0)
-    (Behind : List Symbol → Type 0) (fault : A → Option Cause)
-    → Keeps item → Reads item spell P Behind fault → ((rest : List Symbol) → Behind (MarkSymbol Comma ∷ rest))
-    → (all : List A) (r : List Symbol) → AllByRecursion P all → Behind r → at_mark Comma r ≡ false
+    (Follows : List Symbol → Type 0) (fault : A → Option Cause)
+    → Keeps item → Reads item spell P Follows fault → ((rest : List Symbol) → Follows (MarkSymbol Comma ∷ rest))
+    → (all : List A) (r : List Symbol) → AllByRecursion P all → Follows r → at_mark Comma r ≡ false
     → all_more_items item (more_after_commas spell all r) ≡ gave (first_fault fault all) all r
-more_items-reads item spell P Behind fault keeps reads comma [] r h later ends =
+more_items-reads item spell P Follows fault keeps reads comma [] r h later ends =
     all_more_items-step item keeps r ∙ if_false (at_mark Comma r) _ _ ends
-more_items-reads item spell P Behind fault keeps reads comma (a ∷ []) r h later ends =
+more_items-reads item spell P Follows fault keeps reads comma (a ∷ []) r h later ends =
     all_more_items-step item keeps (more_after_commas spell (a ∷ []) r)
     ∙ item_then-gave item (all_more_items item) (spell a r) r r a [] (fault a) None (reads a r h.0 later)
-    (more_items-reads item spell P Behind fault keeps reads comma [] r h.1 later ends)
-more_items-reads item spell P Behind fault keeps reads comma (a ∷ b ∷ all) r h later ends =
+    (more_items-reads item spell P Follows fault keeps reads comma [] r h.1 later ends)
+more_items-reads item spell P Follows fault keeps reads comma (a ∷ b ∷ all) r h later ends =
     let others : List Symbol = more_after_commas spell (b ∷ all) r in
     all_more_items-step item keeps (more_after_commas spell (a ∷ b ∷ all) r)
     ∙ item_then-gave item (all_more_items item) (spell a others) others r a (b ∷ all) (fault a)
     (first_fault fault (b ∷ all))
     (reads a others h.0 (comma _))
-    (more_items-reads item spell P Behind fault keeps reads comma (b ∷ all) r h.1 later ends)
+    (more_items-reads item spell P Follows fault keeps reads comma (b ∷ all) r h.1 later ends)
 
 -- items that are spelled are read again
 pub items-reads : {A : Type 0} (item : Parser A) (spell : A → List Symbol → List Symbol) (P : A → Type 0)
-    (Behind : List Symbol → Type 0) (fault : A → Option Cause)
-    → Keeps item → Reads item spell P Behind fault → ((rest : List Symbol) → Behind (MarkSymbol Comma ∷ rest))
+    (Follows : List Symbol → Type 0) (fault : A → Option Cause)
+    → Keeps item → Reads item spell P Follows fault → ((rest : List Symbol) → Follows (MarkSymbol Comma ∷ rest))
     → (all : List A) (r : List Symbol)
     → IsNotEmpty all
     → AllByRecursion P all
-    → Behind r
+    → Follows r
     → at_mark Comma r ≡ false
     → items item (between_commas spell all r) ≡ gave (first_fault fault all) all r
-items-reads item spell P Behind fault keeps reads comma [] r some h later ends = absurd some
-items-reads item spell P Behind fault keeps reads comma (a ∷ []) r some h later ends =
+items-reads item spell P Follows fault keeps reads comma [] r some h later ends = absurd some
+items-reads item spell P Follows fault keeps reads comma (a ∷ []) r some h later ends =
     item_then-gave item (all_more_items item) (spell a r) r r a [] (fault a) None (reads a r h.0 later)
-    (more_items-reads item spell P Behind fault keeps reads comma [] r tt later ends)
-items-reads item spell P Behind fault keeps reads comma (a ∷ b ∷ all) r some h later ends =
+    (more_items-reads item spell P Follows fault keeps reads comma [] r tt later ends)
+items-reads item spell P Follows fault keeps reads comma (a ∷ b ∷ all) r some h later ends =
     let others : List Symbol = more_after_commas spell (b ∷ all) r in
     item_then-gave item (all_more_items item) (spell a others) others r a (b ∷ all) (fault a)
     (first_fault fault (b ∷ all))
     (reads a others h.0 (comma _))
-    (more_items-reads item spell P Behind fault keeps reads comma (b ∷ all) r h.1 later ends)
+    (more_items-reads item spell P Follows fault keeps reads comma (b ∷ all) r h.1 later ends)
 
 -- one after another that are spelled are read again, up to where the list ends
 pub many-reads : {A : Type 0} (ends : List Symbol → Bool) (item : Parser A)
-    (spell : A → List Symbol → List Symbol) (P : A → Type 0) (Behind : List Symbol → Type 0)
+    (spell : A → List Symbol → List Symbol) (P : A → Type 0) (Follows : List Symbol → Type 0)
     (fault : A → Option Cause)
-    → Shrinks item → Starts item → Reads item spell P Behind fault
+    → Shrinks item → Starts item → Reads item spell P Follows fault
     → ((a : A) (rest : List Symbol) → P a
-    → Behind (spell a rest) × (ends (spell a rest) ≡ false) × (0 < length (spell a rest)))
-    → (all : List A) (r : List Symbol) → AllByRecursion P all → Behind r → ends r ≡ true
+    → Follows (spell a rest) × (ends (spell a rest) ≡ false) × (0 < length (spell a rest)))
+    → (all : List A) (r : List Symbol) → AllByRecursion P all → Follows r → ends r ≡ true
     → many ends item (one_after_another spell all r) ≡ gave (first_fault fault all) all r
-many-reads ends item spell P Behind fault shrinks starts reads begins [] r h later end =
+many-reads ends item spell P Follows fault shrinks starts reads begins [] r h later end =
     many-end ends item r end
-many-reads ends item spell P Behind fault shrinks starts reads begins (a ∷ []) r h later end =
+many-reads ends item spell P Follows fault shrinks starts reads begins (a ∷ []) r h later end =
     let head = begins a r h.0 in
     many-step ends item shrinks starts (spell a r) head.2
     ∙ if_false (ends (spell a r)) _ _ head.1
     ∙ item_then-gave item (many ends item) (spell a r) r r a [] (fault a) None (reads a r h.0 later)
-    (many-reads ends item spell P Behind fault shrinks starts reads begins [] r tt later end)
-many-reads ends item spell P Behind fault shrinks starts reads begins (a ∷ b ∷ all) r h later end =
+    (many-reads ends item spell P Follows fault shrinks starts reads begins [] r tt later end)
+many-reads ends item spell P Follows fault shrinks starts reads begins (a ∷ b ∷ all) r h later end =
     let others : List Symbol = one_after_another spell (b ∷ all) r in
     let head = begins a others h.0 in
     let next = begins b (one_after_another spell all r) h.1.0 in
@@ -365,7 +365,7 @@ many-reads ends item spell P Behind fault shrinks starts reads begins (a ∷ b �
     ∙ item_then-gave item (many ends item) (spell a others) others r a (b ∷ all) (fault a)
     (first_fault fault (b ∷ all))
     (reads a others h.0 next.0)
-    (many-reads ends item spell P Behind fault shrinks starts reads begins (b ∷ all) r h.1 later end)
+    (many-reads ends item spell P Follows fault shrinks starts reads begins (b ∷ all) r h.1 later end)
 
 -- lists take no symbols away from after them
 more_items-keeps : {A : Type 0} (item : Parser A) → Keeps item → (count : ℕ) → Keeps (more_items item count)

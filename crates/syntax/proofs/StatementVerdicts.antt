@@ -1,4 +1,5 @@
--- Statements and declarations that are derived are read again, unless depth or a name after END is in the way.
+-- Statements and declarations that are derived are read again, unless depth or a name after END is in the
+-- way.
 use Rattle.std.proofs.Common.{◌≡◌, ℕ, zero, suc, max, ◌≤◌, ◌<◌, Bool, true, false, not, ◌&&◌, List, [], ◌∷◌, length, Option, Some, None, Ok, Err, if◌then◌else◌, refl, sym, ◌∙◌, ap, subst, arith}
 use Rattle.std.proofs.lemmas.Slice.Eq.{bytes_eq-Decides}
 use Rattle.std.specs.List.{AllByRecursion}

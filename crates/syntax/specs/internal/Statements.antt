@@ -1,4 +1,5 @@
--- How the parser reads statements, declarations and modules. Names after END are compared only where it is strict.
+-- How the parser reads statements, declarations and modules. Names after END are compared only where it is
+-- strict.
 use Rattle.std.specs.Prelude.{ℕ, zero, suc, Bool, true, false, not, ◌&&◌, ◌||◌, List, [], ◌∷◌, drop, Option, Some, None, Result, Ok, Err, if◌then◌else◌}
 use Rattle.std.specs.Str.{bytes_eq}
 use Rattle.words.specs.declared.vocabulary.Mark.TheVariants as marks
