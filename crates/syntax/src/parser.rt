@@ -26,7 +26,8 @@ use words::{Mark, ReservedWord, Word};
 pub fn parse(alloc: Global, words: &[Word]) -> Result<Module, Failure<Fault>>
     ensures ok { IfOk result (λ parsed. Derives (lexemes_of words.now) (module_tree parsed)) }
     ensures one_tree { (all : List Lexeme) → DerivesAtMostOne all }
-    ensures refused { IfFault result (λ fault. (tree : ModuleTree) → Derives (lexemes_of words.now) tree → ⊥) }
+    ensures refused { IfFault result
+        (λ fault. (tree : ModuleTree) → Derives (lexemes_of words.now) tree → ⊥) }
     ensures wrong { IfFault result (λ fault. (tree : ModuleTree)
         → DerivesModule (symbols_of (lexemes_of words.now)) tree
         → IsWrongWith fault tree) }
