@@ -8,7 +8,3 @@ pub mod Simulation
 pub mod Lengths
 pub mod Loading
 pub mod Faithful
-pub mod WriteLemmas
-pub mod ReportLemmas
-pub mod CommandLemmas
-pub mod PlmLemmas

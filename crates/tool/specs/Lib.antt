@@ -13,7 +13,7 @@ pub mod Reading
 pub mod Causes
 pub mod Sources
 pub mod Execution
-pub mod Command
-pub mod Files
-pub mod Report
-pub mod Writing
+pub use Rattle.command_line.specs.Command
+pub use Rattle.files.specs.Files
+pub use Rattle.report.specs.Report
+pub use Rattle.writing.specs.Writing

@@ -2,15 +2,16 @@
 
 ghost use Rattle.std.specs.Prelude.{◌≤◌};
 
-use crate::command::{LineFault, Order, command};
 use crate::execution::execute;
-use crate::files::{FileFault, Files};
 use crate::plan::Plan;
-use crate::report::report;
 use crate::sources::{Source, ToolFault, build};
+use command_line::{LineFault, Order, command};
 use cpu8080::End;
+use failure::Failure;
+use files::Files;
 use mem80::Memory;
 use ports::Script;
+use report::report;
 use std::alloc::Global;
 use std::io::Write;
 
@@ -45,7 +46,8 @@ pub fn run_command<F: Files, O: Write, E: Write>(
 {
     let ending = match command(alloc, words) {
         Ok(Order::Run { file }) => run_file(alloc, file, files, out, err),
-        Err(fault) => end_line(&fault, out, err),
+        Err(Failure::Fault(fault)) => end_line(&fault, out, err),
+        Err(Failure::Memory) => refuse_memory(err),
     };
     ending as u8
 }
@@ -61,7 +63,6 @@ fn end_line<O: Write, E: Write>(fault: &LineFault, out: &mut O, err: &mut E) -> 
             let _ = write!(err, "{fault}");
             Ending::WrongLine
         }
-        LineFault::Memory => refuse_memory(err),
     }
 }
 
@@ -75,11 +76,12 @@ fn run_file<F: Files, O: Write, E: Write>(
 ) -> Ending {
     match files.read_file(file) {
         Ok(text) => run_text(alloc, file, text.as_slice(), out, err),
-        Err(FileFault::Device) => {
-            let _ = writeln!(err, "U3 {file} 0");
+        Err(Failure::Fault(fault)) => {
+            let number = fault.number();
+            let _ = writeln!(err, "{number} {file} 0");
             Ending::Refused
         }
-        Err(FileFault::Memory) => refuse_memory(err),
+        Err(Failure::Memory) => refuse_memory(err),
     }
 }
 

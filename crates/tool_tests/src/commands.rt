@@ -1,6 +1,6 @@
 //! The command line, on sources of a line or a few.
 
-use crate::files::OneFile;
+use crate::one_file::OneFile;
 use crate::runs::{check_refusals, check_runs};
 use std::test::Fail;
 use tool::run_command;
