@@ -1,8 +1,8 @@
 //! The byte memory of an 8080: 65,536 places of one byte each, ranges of places, and pieces of bytes with a place.
 #![tactic(auto)]
 
-pub mod memory;
-pub mod range;
+mod memory;
+mod range;
 
-pub use memory::{Memory, Memory80Fault};
+pub use memory::{MEMORY_SIZE, Memory};
 pub use range::{Bytes, Piece, Range, overlap};
