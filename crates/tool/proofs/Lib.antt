@@ -1,10 +1,9 @@
 pub mod ServedLemmas
 pub mod Service
-pub mod Readings
+pub mod CodeLemmas
 pub mod Standing
 pub mod Ending
 pub mod SourceRuns
 pub mod Simulation
-pub mod Lengths
-pub mod Loading
-pub mod Faithful
+pub mod ExecutionLemmas
+pub mod SourcesLemmas

@@ -15,7 +15,7 @@ use Rattle.source_meaning.specs.declared.program.Target.TheVariants.{Output}
 use Rattle.source_meaning.specs.declared.program.Statement.{Statement}
 use Rattle.source_meaning.specs.declared.program.Statement.TheVariants.{Assignment}
 use Rattle.source_meaning.specs.Run.{Run, source_run}
-use Rattle.tool.specs.declared.image.Image.{Image}
+use Rattle.tool.specs.declared.built.Image.{Image}
 use Rattle.tool.specs.Image.{loaded, machine_run}
 use Rattle.tool.specs.Code.{statements_code, program_code, code_bytes}
 use Rattle.tool.specs.Headline.{IsBeginning, Agrees, DoesWhatItSays}

@@ -3,7 +3,7 @@ use Rattle.std.proofs.Common.{◌≡◌, ℕ, ◌+◌, ◌≤◌, List, [], ◌�
 use Rattle.std.proofs.Math.Seq.{get_or-append_seam}
 use Rattle.std.proofs.lemmas.List.{length-take-le}
 use Rattle.mem80.specs.Memory.{byte_at}
-use Rattle.tool.specs.Image.{with_bytes}
+use Rattle.mem80.specs.Memory.{with_bytes}
 
 -- these bytes stand from an address on
 abbrev pub StandsAt : List ℕ → ℕ → List ℕ → Type 0

@@ -6,8 +6,9 @@ use Rattle.cpu8080.specs.declared.machine.End.{End}
 use Rattle.cpu8080.specs.declared.machine.End.TheVariants.{Halted}
 use Rattle.cpu8080.specs.Machine.{Machine}
 use Rattle.source_meaning.specs.Outcome.{Ended}
-use Rattle.source_meaning.specs.Run.{Run}
-use Rattle.tool.specs.declared.image.Image.{Image}
+use Rattle.source_meaning.specs.Run.{Run, source_run}
+use Rattle.tool.specs.Construction.{Construction}
+use Rattle.tool.specs.declared.built.Image.{Image}
 use Rattle.tool.specs.Headline.{IsBeginning}
 use Rattle.tool.specs.Image.{loaded}
 
@@ -15,6 +16,10 @@ use Rattle.tool.specs.Image.{loaded}
 abbrev pub started : Image → List ℕ → List (List ℕ) → List Event → ℕ → Machine
 started image memory script events failures =
     record { state = initial_state (loaded image memory) events image.start; script = script; failures = failures }
+
+-- the runs of the source of a built program, by their budgets
+abbrev pub source_of : Construction → List ℕ → List (List ℕ) → List Event → ℕ → Run
+source_of built memory script events = source_run built.program built.placement built.plan.stack_size memory script events
 
 -- what a machine did is a beginning of what the source does, and if it halted the source ended with just that
 pub record IsFaithful (source : ℕ → Run) (end : End) (machine : Machine) : Type 0 where

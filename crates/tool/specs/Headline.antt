@@ -9,7 +9,7 @@ use Rattle.source_meaning.specs.declared.program.Joined.{Joined}
 use Rattle.source_meaning.specs.declared.program.Placement.{Placement}
 use Rattle.source_meaning.specs.Outcome.{Ended}
 use Rattle.source_meaning.specs.Run.{Run, source_run, NeverOutside}
-use Rattle.tool.specs.declared.image.Image.{Image}
+use Rattle.tool.specs.declared.built.Image.{Image}
 use Rattle.tool.specs.Image.{machine_run}
 
 -- events are a beginning of others

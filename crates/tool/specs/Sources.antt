@@ -10,9 +10,9 @@ use Rattle.trees.specs.Trees.{ModuleTree}
 use Rattle.tool.specs.declared.plan.Plan.{Plan}
 use Rattle.tool.specs.declared.read.ReadFault.TheVariants as read_faults
 use Rattle.tool.specs.Causes.{HasReadCause}
-use Rattle.tool.specs.Code.{code_bytes, program_code}
+use Rattle.tool.specs.Code.{code_of}
 use Rattle.tool.specs.Reading.{IsSourceOf, IsText}
-use Rattle.tool.specs.Refusals.{HasPlacementCause}
+use Rattle.tool.specs.Placing.{HasPlacementCause}
 
 -- the texts of sources
 abbrev pub texts_of : List declared_source.Source → List (List ℕ)
@@ -40,10 +40,6 @@ is_of_service (Source file (read_faults.NotServed line)) = true
 is_of_service (NotServed file line) = true
 is_of_service fault = false
 
--- the word just past the stack of a plan
-abbrev pub stack_end_of : Plan → ℕ
-stack_end_of plan = (plan.stack + plan.stack_size) % 65536
-
 -- the texts are the one source of a program, whose statements are those of its module
 pub record IsProgramOf (texts : List (List ℕ)) (program : Joined) : Type 0 where
   pub text : List ℕ
@@ -54,7 +50,7 @@ pub record IsProgramOf (texts : List (List ℕ)) (program : Joined) : Type 0 whe
 pub record HasLongCode (text : List ℕ) (plan : Plan) : Type 0 where
   pub statements : List Statement
   pub source : IsSourceOf text statements
-  pub long : 65535 < length (code_bytes (program_code (stack_end_of plan) statements))
+  pub long : 65535 < length (code_of plan statements)
 
 -- a source alone is refused: its text has the fault, or its code is too long
 abbrev pub HasCompileCause : ToolFault → ℕ → List ℕ → Plan → Type 0
@@ -74,7 +70,7 @@ HasNoMain texts = (texts ≡ []) ⊎ ((text : List ℕ) × (texts ≡ text ∷ [
 pub record HasNoPlace (fault : PlacementFault) (texts : List (List ℕ)) (plan : Plan) : Type 0 where
   pub program : Joined
   pub source : IsProgramOf texts program
-  pub cause : HasPlacementCause fault plan (length (code_bytes (program_code (stack_end_of plan) program.main)))
+  pub cause : HasPlacementCause fault plan (length (code_of plan program.main))
 
 -- the cause of a refusal is in the sources or in the plan; of want of memory nothing is said
 abbrev pub HasCause : ToolFault → List (List ℕ) → Plan → Type 0

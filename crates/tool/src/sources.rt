@@ -1,15 +1,16 @@
 //! From sources to a program at its places.
 
 ghost use Rattle.std.specs.Prelude.{◌≡◌, ◌<◌, ◌≤◌, [], ◌∷◌, length, true, Err, IfOk, IfErr, IfSome, MatchOption, MatchResult};
-ghost use Rattle.tool.specs.Code.{code_bytes, program_code};
+ghost use Rattle.tool.specs.Code.{code_of};
 ghost use Rattle.tool.specs.Headline.{DoesWhatItSays};
 ghost use Rattle.tool.specs.Reading.{IsSourceOf};
-ghost use Rattle.tool.specs.Sources.{texts_of, AreRead, IsProgramOf, IsRead, HasCause, HasCompileCause, is_of_service, stack_end_of};
+ghost use Rattle.tool.specs.Sources.{texts_of, AreRead, IsProgramOf, IsRead, HasCause, HasCompileCause, is_of_service};
 
 use crate::built::{Built, PlacementFault, place};
-use crate::generate::{CodeFault, generate};
+use crate::code::generate;
 use crate::plan::Plan;
 use crate::read::{ReadFault, read_source};
+use failure::Failure;
 use source_meaning::{JoinFault, Statement, Statements, join};
 use std::alloc::Global;
 use thiserror::Error;
@@ -108,7 +109,7 @@ fn build_one(alloc: Global, text: &[u8], plan: &Plan) -> Result<Built, ToolFault
 
 // Why several sources are refused: the first fault of one of them, where that something is not served comes behind all
 // others, or else that they are several.
-#[tactic(auto, using(crate::proofs::Readings::none_is_read, crate::proofs::Readings::one_more_is_read))]
+#[tactic(auto, using(crate::proofs::SourcesLemmas::none_is_read, crate::proofs::SourcesLemmas::one_more_is_read))]
 fn refusal_of_several(alloc: Global, sources: &[Source], plan: &Plan) -> ToolFault
     requires { 1 < length sources.now }
     ensures cause { HasCause result (texts_of sources.now) plan.now }
@@ -157,7 +158,7 @@ struct Compiled {
 // Reads a source, and makes its code.
 fn compile(alloc: Global, file: usize, text: &[u8], plan: &Plan) -> Result<Compiled, ToolFault>
     ensures source { IfOk result (λ compiled. IsSourceOf text.now compiled.statements.items) }
-    ensures code { IfOk result (λ compiled. compiled.code.items ≡ code_bytes (program_code (stack_end_of plan.now) compiled.statements.items)) }
+    ensures code { IfOk result (λ compiled. compiled.code.items ≡ code_of plan.now compiled.statements.items) }
     ensures fits { IfOk result (λ compiled. length compiled.code.items ≤ 65535) }
     ensures refused { IfErr result (λ fault. HasCompileCause fault file text.now plan.now) }
     ensures read { MatchResult result (λ _. IsRead text.now) (λ fault. is_of_service fault ≡ true → IsRead text.now) }
@@ -167,9 +168,9 @@ fn compile(alloc: Global, file: usize, text: &[u8], plan: &Plan) -> Result<Compi
         Err(ReadFault::Memory) => return Err(ToolFault::Memory),
         Err(fault) => return Err(ToolFault::Source { file, fault }),
     };
-    match generate(alloc, statements.as_slice(), plan.stack_end()) {
+    match generate(alloc, statements.as_slice(), plan) {
         Ok(code) => Ok(Compiled { statements, code }),
-        Err(CodeFault::TooLong) => Err(ToolFault::CodeTooLong { file }),
-        Err(CodeFault::Memory) => Err(ToolFault::Memory),
+        Err(Failure::Fault(_)) => Err(ToolFault::CodeTooLong { file }),
+        Err(Failure::Memory) => Err(ToolFault::Memory),
     }
 }

@@ -1,7 +1,7 @@
 use Rattle.std.proofs.Common.{arith}
 use Rattle.std.proofs.lemmas.Grind.{common_steps}
 use Rattle.tool.specs.Sources.{IsRead, text_of, texts_of}
-use Rattle.tool.proofs.Readings.{one_more_is_read}
+use Rattle.tool.proofs.SourcesLemmas.{one_more_is_read}
 use Rattle.tool.proofs.sources.refusal_of_several.Goals as goal
 use Rattle.tool.proofs.sources.refusal_of_several.Goals.{in-Some, in-None}
 

@@ -11,7 +11,7 @@ use Rattle.cpu8080.specs.Machine.{Machine}
 use Rattle.cpu8080.specs.Runs.{IsRun}
 use Rattle.source_meaning.specs.Outcome.{Ended}
 use Rattle.source_meaning.specs.Run.{Run}
-use Rattle.tool.specs.declared.image.Image.{Image}
+use Rattle.tool.specs.declared.built.Image.{Image}
 use Rattle.tool.specs.Execution.{started, IsFaithful}
 use Rattle.tool.specs.Headline.{Agrees, IsBeginning}
 use Rattle.tool.specs.Image.{machine_run}
