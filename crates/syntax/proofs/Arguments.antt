@@ -3,7 +3,7 @@ use Rattle.std.proofs.Common.{◌≡◌, max, List, [], ◌∷◌, ◌++◌, map
 use Rattle.trees.specs.declared.expression.Expression.{Expression}
 use Rattle.trees.specs.Nesting.{expression_height, arguments_height}
 use Rattle.trees.specs.Views.{expression_tree, argument_trees}
-use Rattle.syntax.specs.Expressions.{arguments_of}
+use Rattle.syntax.specs.internal.Expressions.{arguments_of}
 
 -- one more argument
 pub arguments_height_push : (items : List Expression) (next : Expression)

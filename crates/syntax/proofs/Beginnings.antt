@@ -6,8 +6,8 @@ use Rattle.trees.specs.declared.identifier.Identifier.{Identifier}
 use Rattle.trees.specs.declared.identifier.Place.{Place}
 use Rattle.trees.specs.Symbols.{Symbol, NameSymbol, UnknownSymbol, reserved_symbol}
 use Rattle.syntax.specs.declared.statements.Beginning.TheVariants as beginnings
-use Rattle.syntax.specs.Inside.{next_beginning}
-use Rattle.syntax.specs.Statements.{beginning_at}
+use Rattle.syntax.specs.internal.Inside.{next_beginning}
+use Rattle.syntax.specs.internal.Statements.{beginning_at}
 
 -- at a reserved word
 pub next_beginning_reserved : (word : ReservedWord) (place : Place) (rest : List Symbol) → next_beginning (reserved_symbol word place ∷ rest) ≡ beginning_at word place

@@ -15,9 +15,9 @@ use Rattle.trees.specs.Symbols.{Symbol, NameSymbol, ReservedSymbol, MarkSymbol}
 use Rattle.trees.specs.Trees.{ElementTree, HeadingTree}
 use Rattle.syntax.proofs.ListLaws.{items-sound}
 use Rattle.syntax.proofs.LookingLemmas.{if_false, if_cases, bind_ok, bind_at, same_reading, place_of_word-is, mark-ok, word-ok, name-ok}
-use Rattle.syntax.specs.Declarations.{next_scalar, result_type, next_linkage, linkage, element, elements, parameters, reentrant_of, reentrant, heading}
-use Rattle.syntax.specs.Lists.{Shrinks, items}
-use Rattle.syntax.specs.Looking.{at_mark, place_of_word, mark, word, name}
+use Rattle.syntax.specs.internal.Declarations.{next_scalar, result_type, next_linkage, linkage, element, elements, parameters, reentrant_of, reentrant, heading}
+use Rattle.syntax.specs.internal.Lists.{Shrinks, items}
+use Rattle.syntax.specs.internal.Looking.{at_mark, place_of_word, mark, word, name}
 use Rattle.syntax.proofs.ItemLaws.{list-reads, optional-lengthens, between_commas-lengthens, scalar-lengthens, names-sound, names-reads, linkage-spelled, linkage-reads, EndsItem, element-sound, element-reads, names-lengthens, linkage-lengthens, element-lengthens, element-keeps}
 use Rattle.syntax.proofs.RestrictedLaws.{Spelled, respelled, Lengthens, result_type-spelled, result_type-reads}
 

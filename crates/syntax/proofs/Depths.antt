@@ -2,7 +2,7 @@
 use Rattle.std.proofs.Common.{◌≡◌, ◌⊎◌, inl, inr, ⊎_elim, ℕ, suc, ◌≤◌, ◌<◌, max, nat_le, List, Option, Some, None, Result, Err, if◌then◌else◌, refl, sym, ◌∙◌, ap, arith, le-leb}
 use Rattle.std.proofs.lemmas.Bool.{cases_lt, lt-leb}
 use Rattle.trees.specs.Symbols.{Symbol}
-use Rattle.syntax.specs.Looking.{Reading, Cause, TooDeep, ◌>>=◌}
+use Rattle.syntax.specs.internal.Looking.{Reading, Cause, TooDeep, ◌>>=◌}
 use Rattle.syntax.proofs.ListLaws.{gave, earlier}
 use Rattle.syntax.proofs.LookingLemmas.{if_true, if_false, read}
 

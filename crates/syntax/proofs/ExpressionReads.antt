@@ -12,9 +12,9 @@ use Rattle.trees.specs.Nesting.{expression_height, reference_height, arguments_h
 use Rattle.trees.specs.Spelling.{more_after_commas, between_commas, constant_symbols, binary_symbol, expression_symbols, reference_symbols, arguments_symbols, more_arguments_symbols}
 use Rattle.trees.specs.Symbols.{Symbol, NameSymbol, MarkSymbol}
 use Rattle.trees.specs.Trees.{ConstantTree, NumberConstant, StringConstant, ExpressionTree, ConstantLeaf, ReferenceLeaf, LocationLeaf, ListLeaf, ParenthesizedNode, AssignmentNode, UnaryNode, BinaryNode, ReferenceTree, WholeReference, MemberReference, ArgumentTrees, NoArguments, MoreArguments}
-use Rattle.syntax.specs.Expressions.{next_operator, top_level, goes_on, arguments_of, arguments, reference, location, parenthesized, primary, operand, operator_then, all_operators, expression, expression_less}
-use Rattle.syntax.specs.Lists.{items, Keeps}
-use Rattle.syntax.specs.Looking.{Reading, Cause, TooDeep, ◌>>=◌, at_mark, constant}
+use Rattle.syntax.specs.internal.Expressions.{next_operator, top_level, goes_on, arguments_of, arguments, reference, location, parenthesized, primary, operand, operator_then, all_operators, expression, expression_less}
+use Rattle.syntax.specs.internal.Lists.{items, Keeps}
+use Rattle.syntax.specs.internal.Looking.{Reading, Cause, TooDeep, ◌>>=◌, at_mark, constant}
 use Rattle.syntax.proofs.Depths.{depth_fault, depth_fault-within, depth_fault-over, depth_fault-same, depth_fault-suc, depth_fault-max, after, bind_gave, after-gave, after-read, after-deep}
 use Rattle.syntax.proofs.ExpressionSound.{expression-keeps, reference-keeps, constant-long, expression-top, expression-at}
 use Rattle.syntax.proofs.ListLaws.{items-reads, Reads, gave, earlier, first_fault}

@@ -13,9 +13,9 @@ use Rattle.trees.specs.Nesting.{expression_height, reference_height, arguments_h
 use Rattle.trees.specs.Spelling.{more_after_commas, between_commas, constant_symbols, binary_symbol, expression_symbols, reference_symbols, arguments_symbols, more_arguments_symbols}
 use Rattle.trees.specs.Symbols.{Symbol, NameSymbol, ReservedSymbol, MarkSymbol}
 use Rattle.trees.specs.Trees.{ConstantTree, NumberConstant, StringConstant, ExpressionTree, ConstantLeaf, ReferenceLeaf, LocationLeaf, ListLeaf, ParenthesizedNode, AssignmentNode, UnaryNode, BinaryNode, ReferenceTree, WholeReference, MemberReference, ArgumentTrees, NoArguments, MoreArguments}
-use Rattle.syntax.specs.Expressions.{next_operator, top_level, goes_on, arguments_of, arguments, member_of, reference, location, assigned, closed, parenthesized, primary, operand, operator_then, operators, all_operators, expression, expression_less}
-use Rattle.syntax.specs.Lists.{items, Keeps, Shrinks}
-use Rattle.syntax.specs.Looking.{Reading, TooDeep, ◌>>=◌, at_mark, at_word, mark, name, next_name, constant}
+use Rattle.syntax.specs.internal.Expressions.{next_operator, top_level, goes_on, arguments_of, arguments, member_of, reference, location, assigned, closed, parenthesized, primary, operand, operator_then, operators, all_operators, expression, expression_less}
+use Rattle.syntax.specs.internal.Lists.{items, Keeps, Shrinks}
+use Rattle.syntax.specs.internal.Looking.{Reading, TooDeep, ◌>>=◌, at_mark, at_word, mark, name, next_name, constant}
 use Rattle.syntax.proofs.ListLaws.{IsSound, items-sound}
 use Rattle.syntax.proofs.LookingLemmas.{at_mark-is, at_word-is, next_operator-is, if_cases, if_ok, bind_ok, read, same_reading, mark-ok, name-ok, constant-ok}
 

@@ -8,9 +8,9 @@ use Rattle.trees.specs.Nesting.{expression_height, reference_height, arguments_h
 use Rattle.trees.specs.Spelling.{expression_symbols, reference_symbols, arguments_symbols, between_commas, element_symbols, heading_symbols}
 use Rattle.trees.specs.Symbols.{Symbol, MarkSymbol}
 use Rattle.trees.specs.Trees.{ExpressionTree, ReferenceTree, ArgumentTrees, ElementTree}
-use Rattle.syntax.specs.Declarations.{elements, heading}
-use Rattle.syntax.specs.Expressions.{expression, reference, arguments}
-use Rattle.syntax.specs.Looking.{TooDeep, Reading, at_mark}
+use Rattle.syntax.specs.internal.Declarations.{elements, heading}
+use Rattle.syntax.specs.internal.Expressions.{expression, reference, arguments}
+use Rattle.syntax.specs.internal.Looking.{TooDeep, Reading, at_mark}
 use Rattle.syntax.proofs.DeclarationLaws.{elements-sound, heading-sound}
 use Rattle.syntax.proofs.ExpressionLaws.{depth_fault, EndsReference, EndsExpression, expression-sound, reference-sound, arguments-sound, expression-reads, reference-reads, arguments-reads}
 use Rattle.syntax.proofs.ListLaws.{gave}

@@ -3,12 +3,12 @@ use Rattle.std.proofs.Common.{◌≡◌, ℕ, zero, suc, ◌<◌, ◌-◌, true,
 use Rattle.words.specs.declared.vocabulary.ReservedWord.TheVariants.{Declare}
 use Rattle.trees.specs.Symbols.{Symbol, NameSymbol, NumberSymbol, StringSymbol, ReservedSymbol, PlacedSymbol, MarkSymbol, UnknownSymbol}
 use Rattle.trees.specs.Trees.{ElementTree, DeclarationTree, DeclareTree}
-use Rattle.syntax.specs.Declarations.{elements}
-use Rattle.syntax.specs.Expressions.{expression, reference}
-use Rattle.syntax.specs.Giving.{FailsBy}
-use Rattle.syntax.specs.Inside.{block_in, statement_inside}
-use Rattle.syntax.specs.Looking.{Cause, Unexpected, TooDeep, Reading, ◌>>=◌, at_word}
-use Rattle.syntax.specs.Statements.{assignment, beginning_of, statement, statement_by, declaration, declare_or, procedure}
+use Rattle.syntax.specs.internal.Declarations.{elements}
+use Rattle.syntax.specs.internal.Expressions.{expression, reference}
+use Rattle.syntax.specs.internal.Giving.{FailsBy}
+use Rattle.syntax.specs.internal.Inside.{block_in, statement_inside}
+use Rattle.syntax.specs.internal.Looking.{Cause, Unexpected, TooDeep, Reading, ◌>>=◌, at_word}
+use Rattle.syntax.specs.internal.Statements.{assignment, beginning_of, statement, statement_by, declaration, declare_or, procedure}
 
 -- a symbol that the grammar doesn't have is no target of an assignment
 unknown_target : (room : ℕ) (rest : List Symbol) → Err Unexpected ≡ assignment (expression room) (UnknownSymbol ∷ rest)

@@ -11,6 +11,7 @@ pub mod Giving
 pub mod Insides
 pub mod ItemLaws
 pub mod ListLaws
+pub mod ListedItems
 pub mod LookingLemmas
 pub mod Loops
 pub mod ModuleLaws

@@ -5,8 +5,8 @@ use Rattle.words.specs.declared.vocabulary.Mark.TheVariants.{Comma}
 use Rattle.trees.specs.Forms.{IsNotEmpty}
 use Rattle.trees.specs.Spelling.{more_after_commas, between_commas}
 use Rattle.trees.specs.Symbols.{Symbol, MarkSymbol}
-use Rattle.syntax.specs.Lists.{more_items, all_more_items, items, many_items, many, Keeps, Shrinks}
-use Rattle.syntax.specs.Looking.{Cause, Unexpected, Reading, ◌>>=◌, at_mark}
+use Rattle.syntax.specs.internal.Lists.{more_items, all_more_items, items, many_items, many, Keeps, Shrinks}
+use Rattle.syntax.specs.internal.Looking.{Cause, Unexpected, Reading, ◌>>=◌, at_mark}
 use Rattle.syntax.proofs.LookingLemmas.{at_mark-is, if_true, if_false, if_cases, if_ok, bind_ok, bind_at, bind_fails, read, same_reading}
 
 -- an item, and then others

@@ -13,8 +13,8 @@ use Rattle.trees.specs.declared.identifier.Place.{Place}
 use Rattle.trees.specs.Spelling.{binary_symbol, constant_symbols}
 use Rattle.trees.specs.Symbols.{Symbol, NameSymbol, NumberSymbol, StringSymbol, ReservedSymbol, PlacedSymbol, MarkSymbol, UnknownSymbol}
 use Rattle.trees.specs.Trees.{StringTree, ConstantTree, NumberConstant, StringConstant}
-use Rattle.syntax.specs.Expressions.{operator_of, next_operator}
-use Rattle.syntax.specs.Looking.{Cause, Unexpected, Reading, ◌>>=◌, mark_number, word_number, at_mark, at_word, place_of_word, next_name, next_constant, mark, word, taken, name, constant, number, string}
+use Rattle.syntax.specs.internal.Expressions.{operator_of, next_operator}
+use Rattle.syntax.specs.internal.Looking.{Cause, Unexpected, Reading, ◌>>=◌, mark_number, word_number, at_mark, at_word, place_of_word, next_name, next_constant, mark, word, taken, name, constant, number, string}
 
 -- the marks in the order of their numbers
 marks_in_order : List Mark

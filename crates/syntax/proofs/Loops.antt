@@ -1,15 +1,16 @@
 -- How the loops of the parser go on.
 use Rattle.std.proofs.Common.{◌≡◌, ◌<◌, Bool, true, false, List, [], ◌∷◌, ◌++◌, drop, length, map, Option, Some, None, Result, Ok, Err, refl, sym, ◌∙◌, ap, arith, append_assoc, append-nil}
-use Rattle.std.proofs.lemmas.List.{map-append}
+use Rattle.std.proofs.lemmas.List.{map-append, map-id}
 use Rattle.words.specs.declared.vocabulary.Mark.TheVariants.{Comma}
 use Rattle.trees.specs.Symbols.{Symbol}
-use Rattle.syntax.specs.Lists.{all_more_items, items, Keeps, Shrinks}
-use Rattle.syntax.specs.Looking.{Cause, Reading, ◌>>=◌, at_mark, constant, next_constant}
+use Rattle.syntax.specs.internal.Lists.{all_more_items, items, Keeps, Shrinks}
+use Rattle.syntax.specs.internal.Looking.{Cause, Reading, ◌>>=◌, at_mark, constant, next_constant}
 use Rattle.syntax.proofs.LookingLemmas.{taken-ok}
 use Rattle.std.specs.Prelude.{IsErrAnd}
+use Rattle.failure.specs.declared.Failure.{Failure}
 use Rattle.syntax.specs.declared.fault.Fault.{Fault}
-use Rattle.syntax.specs.Giving.{FailsBy, Fails, Gives}
-use Rattle.syntax.specs.Parts.{behind}
+use Rattle.syntax.specs.internal.Giving.{FailsBy, Fails, Gives}
+use Rattle.syntax.specs.internal.Parts.{behind}
 use Rattle.syntax.proofs.ListLaws.{all_more_items-step}
 
 -- one more item, and then others
@@ -74,11 +75,15 @@ list_fails item keeps view whole found s after comma (Some cause) is at true_is 
     is ∙ more-fails item keeps (map view found) s cause (sym at ∙ true_is) (ap item (sym skipped) ∙ e)
 
 -- a fault is handed on as it is
-pub gives_exit : {X Y : Type 0} (view : X → Y) (result : Result X Fault) (fault : Fault) (rest : List Symbol) (read : Reading Y)
-    → IsErrAnd result (λ given. given ≡ fault) → Fails fault read → Gives view result rest read
-gives_exit view (Ok x) fault rest read handed fails = absurd handed
-gives_exit view (Err given) fault rest read handed fails = rw handed fails
+pub gives_exit : {X Y : Type 0} (view : X → Y) (result : Result X (Failure Fault)) (failure : Failure Fault) (rest : List Symbol) (read : Reading Y)
+    → IsErrAnd result (λ given. given ≡ failure) → Fails failure read → Gives view result rest read
+gives_exit view (Ok x) failure rest read handed fails = absurd handed
+gives_exit view (Err given) failure rest read handed fails = rw handed fails
 
 -- what takes symbols away at once keeps no more than there were
 pub keeps_from_shrinks : {A : Type 0} (item : List Symbol → Reading A) → Shrinks item → Keeps item
 keeps_from_shrinks item shrinks symbols rest a e = let h : length rest < length symbols = shrinks symbols rest a e in omega arith
+
+-- values that are their own trees
+pub map_same : {A : Type 0} (values : List A) → map (λ (value : A). value) values ≡ values
+map_same values = map-id values

@@ -10,8 +10,8 @@ use Rattle.trees.specs.Nesting.{module_height, ModuleEndsRight}
 use Rattle.trees.specs.Spelling.{optional, name_symbols, module_symbols}
 use Rattle.trees.specs.Symbols.{Symbol, PlacedSymbol, MarkSymbol, symbols_of}
 use Rattle.trees.specs.Trees.{ModuleTree}
-use Rattle.syntax.specs.Looking.{TooDeep, OtherEndName, place_of_word, taken}
-use Rattle.syntax.specs.Statements.{at_the_end, whole_module}
+use Rattle.syntax.specs.internal.Looking.{TooDeep, OtherEndName, place_of_word, taken}
+use Rattle.syntax.specs.internal.Statements.{at_the_end, whole_module}
 use Rattle.syntax.proofs.LookingLemmas.{taken-ok, place_of_word-is}
 use Rattle.syntax.proofs.StatementLaws.{body-gets, body-verdict}
 use Rattle.syntax.proofs.StatementSoundness.{mark-gets, name-gets, ending-gets}

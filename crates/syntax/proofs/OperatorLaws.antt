@@ -5,9 +5,9 @@ use Rattle.trees.specs.Forms.{level_of}
 use Rattle.trees.specs.Nesting.{expression_height}
 use Rattle.trees.specs.Symbols.{Symbol}
 use Rattle.trees.specs.Trees.{ExpressionTree, BinaryNode}
-use Rattle.syntax.specs.Expressions.{operator_of, next_operator, top_level, goes_on, operator_then, operators, all_operators}
-use Rattle.syntax.specs.Lists.{Keeps}
-use Rattle.syntax.specs.Looking.{Reading, TooDeep}
+use Rattle.syntax.specs.internal.Expressions.{operator_of, next_operator, top_level, goes_on, operator_then, operators, all_operators}
+use Rattle.syntax.specs.internal.Lists.{Keeps}
+use Rattle.syntax.specs.internal.Looking.{Reading, TooDeep}
 use Rattle.syntax.proofs.LookingLemmas.{bind_same, read}
 
 -- what goes on matters only behind what is read

@@ -7,10 +7,10 @@ use Rattle.trees.specs.Forms.{level_of}
 use Rattle.trees.specs.Nesting.{expression_height}
 use Rattle.trees.specs.Symbols.{Symbol, NameSymbol, NumberSymbol, StringSymbol, ReservedSymbol, PlacedSymbol, MarkSymbol, UnknownSymbol}
 use Rattle.trees.specs.Trees.{ExpressionTree, ConstantLeaf, ReferenceLeaf, BinaryNode, ReferenceTree}
-use Rattle.syntax.specs.Expressions.{expression, operand, primary, parenthesized, location, reference, expression_less, all_operators, operator_then, next_operator, goes_on, top_level}
-use Rattle.syntax.specs.Looking.{Cause, TooDeep, Reading, ◌>>=◌, at_mark, next_name, constant}
-use Rattle.syntax.specs.Giving.{FailsBy}
-use Rattle.syntax.specs.Parts.{operator_on, reference_behind}
+use Rattle.syntax.specs.internal.Expressions.{expression, operand, primary, parenthesized, location, reference, expression_less, all_operators, operator_then, next_operator, goes_on, top_level}
+use Rattle.syntax.specs.internal.Looking.{Cause, TooDeep, Reading, ◌>>=◌, at_mark, next_name, constant}
+use Rattle.syntax.specs.internal.Giving.{FailsBy}
+use Rattle.syntax.specs.internal.Parts.{operator_on, reference_behind}
 use Rattle.syntax.proofs.LookingLemmas.{bind_at, bind_fails}
 use Rattle.syntax.proofs.ExpressionSound.{expression-keeps, expression-shrinks}
 use Rattle.syntax.proofs.OperatorLaws.{all_operators-step}

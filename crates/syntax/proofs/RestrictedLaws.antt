@@ -14,8 +14,8 @@ use Rattle.trees.specs.Spelling.{optional, constant_symbols, origin_symbols, sig
 use Rattle.trees.specs.Symbols.{Symbol, NameSymbol, NumberSymbol, MarkSymbol}
 use Rattle.trees.specs.Trees.{ConstantTree, NumberConstant, StringConstant, OriginTree, ConstantOrigin, LocationOrigin, OffsetTree, RestrictedTree}
 use Rattle.syntax.proofs.LookingLemmas.{if_false, if_cases, bind_ok, bind_at, read, same_reading, at_mark-is, at_word-is, mark-ok, name-ok, number-ok, constant-ok, constant-at}
-use Rattle.syntax.specs.Declarations.{origin, next_sign, offset_then, offsets, all_offsets, restricted, next_scalar, scalar_of, scalar, result_of, result_type, count, dimension_inside, dimension, member}
-use Rattle.syntax.specs.Looking.{Reading, ◌>>=◌, at_mark, at_word, mark, name, number, constant}
+use Rattle.syntax.specs.internal.Declarations.{origin, next_sign, offset_then, offsets, all_offsets, restricted, next_scalar, scalar_of, scalar, result_of, result_type, count, dimension_inside, dimension, member}
+use Rattle.syntax.specs.internal.Looking.{Reading, ◌>>=◌, at_mark, at_word, mark, name, number, constant}
 
 -- what is read is spelled so
 abbrev pub Spelled : {A : Type 0} → (List Symbol → Reading A) → (A → List Symbol → List Symbol) → Type 0

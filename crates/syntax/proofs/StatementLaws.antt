@@ -6,9 +6,9 @@ use Rattle.trees.specs.Nesting.{statement_height, declaration_height, EndsRight,
 use Rattle.trees.specs.Spelling.{statement_symbols, declaration_symbols}
 use Rattle.trees.specs.Symbols.{Symbol}
 use Rattle.trees.specs.Trees.{StatementTree, DeclarationTree}
-use Rattle.syntax.specs.Lists.{Keeps, Shrinks}
-use Rattle.syntax.specs.Looking.{at_word}
-use Rattle.syntax.specs.Statements.{block, statement, declaration}
+use Rattle.syntax.specs.internal.Lists.{Keeps, Shrinks}
+use Rattle.syntax.specs.internal.Looking.{at_word}
+use Rattle.syntax.specs.internal.Statements.{block, statement, declaration}
 use Rattle.syntax.proofs.SpelledLengths.{statement_symbols-long, declaration_symbols-long}
 use Rattle.syntax.proofs.StatementSoundness.{GetsBlocks, statement-gets, declaration-gets, block-gets}
 use Rattle.syntax.proofs.StatementVerdicts.{HasBlockVerdicts, statement-verdict, declaration-verdict, block-verdict}

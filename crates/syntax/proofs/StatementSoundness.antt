@@ -12,9 +12,9 @@ use Rattle.trees.specs.Spelling.{optional, name_symbols, expression_symbols, ref
 use Rattle.trees.specs.Symbols.{Symbol, NameSymbol, NumberSymbol, StringSymbol, ReservedSymbol, PlacedSymbol, MarkSymbol, UnknownSymbol}
 use Rattle.trees.specs.Trees.{ExpressionTree, StatementTree, StatementTrees, DeclarationTree, DeclarationTrees}
 use Rattle.syntax.specs.declared.statements.Beginning.TheVariants as beginnings
-use Rattle.syntax.specs.Expressions.{expression, reference}
-use Rattle.syntax.specs.Looking.{TooDeep, Reading, mark_number, at_word, next_name, mark, word, name}
-use Rattle.syntax.specs.Statements.{statements_of, declarations_of, ends_declarations, statements, declarations, block, end_of_do, body_of_do, end_name, ending, assignment, call, return_value, otherwise, conditional, step, iteration, simple_do, while_do, case_do, iterative_do, do_statement, halt, beginning_of, statement_by, procedure, declare_or, statement, declaration}
+use Rattle.syntax.specs.internal.Expressions.{expression, reference}
+use Rattle.syntax.specs.internal.Looking.{TooDeep, Reading, mark_number, at_word, next_name, mark, word, name}
+use Rattle.syntax.specs.internal.Statements.{statements_of, declarations_of, ends_declarations, statements, declarations, block, end_of_do, body_of_do, end_name, ending, assignment, call, return_value, otherwise, conditional, step, iteration, simple_do, while_do, case_do, iterative_do, do_statement, halt, beginning_of, statement_by, procedure, declare_or, statement, declaration}
 use Rattle.syntax.proofs.ExpressionVerdicts.{expression-gets, reference-gets, arguments-gets, elements-gets, heading-gets}
 use Rattle.syntax.proofs.LookingLemmas.{at_mark-is, at_word-is, mark-ok, word-ok, name-ok, next_name-is, equal_marks}
 use Rattle.syntax.proofs.VerdictLists.{spells, GetsSpelled, many-gets, items-gets}

@@ -13,10 +13,10 @@ use Rattle.trees.specs.Nesting.{expression_height, reference_height, arguments_h
 use Rattle.trees.specs.Spelling.{optional, name_symbols, between_commas, expression_symbols, reference_symbols, arguments_symbols, ending_symbols, step_symbols, iteration_symbols, statement_symbols, statements_symbols, declaration_symbols, declarations_symbols}
 use Rattle.trees.specs.Symbols.{Symbol, NameSymbol, ReservedSymbol, MarkSymbol}
 use Rattle.trees.specs.Trees.{NumberConstant, StringConstant, ExpressionTree, ConstantLeaf, ReferenceLeaf, LocationLeaf, ListLeaf, ParenthesizedNode, AssignmentNode, UnaryNode, BinaryNode, ReferenceTree, WholeReference, MemberReference, ArgumentTrees, NoArguments, MoreArguments, HeadingTree, IterationTree, StatementTree, NullStatement, AssignmentStatement, CallStatement, ReturnStatement, HaltStatement, IfStatement, IfElseStatement, DoStatement, WhileStatement, IterateStatement, CaseStatement, StatementTrees, NoStatements, MoreStatements, DeclarationTree, DeclareTree, ProcedureTree, DeclarationTrees, NoDeclarations, MoreDeclarations}
-use Rattle.syntax.specs.Expressions.{expression, reference}
-use Rattle.syntax.specs.Lists.{items, many}
-use Rattle.syntax.specs.Looking.{TooDeep, OtherEndName, Reading, at_mark, at_word}
-use Rattle.syntax.specs.Statements.{statements_of, beginning_of, declarations_of, ends_declarations, statements, declarations, block, body_of_do, end_name, ending, assignment, call, return_value, conditional, step, iteration, simple_do, while_do, case_do, iterative_do, do_statement, statement_by, procedure, declare_or, statement, declaration}
+use Rattle.syntax.specs.internal.Expressions.{expression, reference}
+use Rattle.syntax.specs.internal.Lists.{items, many}
+use Rattle.syntax.specs.internal.Looking.{TooDeep, OtherEndName, Reading, at_mark, at_word}
+use Rattle.syntax.specs.internal.Statements.{statements_of, beginning_of, declarations_of, ends_declarations, statements, declarations, block, body_of_do, end_name, ending, assignment, call, return_value, conditional, step, iteration, simple_do, while_do, case_do, iterative_do, do_statement, statement_by, procedure, declare_or, statement, declaration}
 use Rattle.syntax.proofs.DeclarationLaws.{elements-reads, heading-reads}
 use Rattle.syntax.proofs.ExpressionLaws.{EndsReference, EndsExpression, reference-long}
 use Rattle.syntax.proofs.ExpressionVerdicts.{expression-verdict, reference-verdict, arguments-verdict}

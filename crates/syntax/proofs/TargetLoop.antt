@@ -6,11 +6,11 @@ use Rattle.trees.specs.declared.expression.Reference.{Reference}
 use Rattle.trees.specs.Symbols.{Symbol}
 use Rattle.trees.specs.Trees.{ReferenceTree}
 use Rattle.trees.specs.Views.{reference_tree}
-use Rattle.syntax.specs.Expressions.{expression, reference}
-use Rattle.syntax.specs.Giving.{FailsBy}
-use Rattle.syntax.specs.Lists.{all_more_items, Keeps}
-use Rattle.syntax.specs.Looking.{Cause, Reading, at_mark}
-use Rattle.syntax.specs.Parts.{behind}
+use Rattle.syntax.specs.internal.Expressions.{expression, reference}
+use Rattle.syntax.specs.internal.Giving.{FailsBy}
+use Rattle.syntax.specs.internal.Lists.{all_more_items, Keeps}
+use Rattle.syntax.specs.internal.Looking.{Cause, Reading, at_mark}
+use Rattle.syntax.specs.internal.Parts.{behind}
 use Rattle.syntax.proofs.ExpressionLaws.{reference-shrinks}
 use Rattle.syntax.proofs.Loops.{more-step, more-fails, more-ends}
 

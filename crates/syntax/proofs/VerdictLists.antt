@@ -5,8 +5,8 @@ use Rattle.words.specs.declared.vocabulary.Mark.TheVariants.{Comma}
 use Rattle.trees.specs.Forms.{IsNotEmpty}
 use Rattle.trees.specs.Spelling.{more_after_commas, between_commas}
 use Rattle.trees.specs.Symbols.{Symbol, MarkSymbol}
-use Rattle.syntax.specs.Lists.{more_items, all_more_items, items, many_items, many}
-use Rattle.syntax.specs.Looking.{Reading, at_mark}
+use Rattle.syntax.specs.internal.Lists.{more_items, all_more_items, items, many_items, many}
+use Rattle.syntax.specs.internal.Looking.{Reading, at_mark}
 use Rattle.syntax.proofs.LookingLemmas.{at_mark-is, if_true, if_false}
 use Rattle.syntax.proofs.Verdicts.{Gets, gets_ok, gets_nothing, gets_bind, gets_if, Verdict, verdict_ok, verdict_bind, verdict_last, verdict_same}
 

@@ -1,6 +1,6 @@
 -- How reading ends: what holds of all that is read, and whether depth or a name behind END is in the way.
 use Rattle.std.proofs.Common.{◌≡◌, ℕ, suc, max, ◌≤◌, ◌<◌, Bool, true, false, Result, Ok, Err, if◌then◌else◌, refl, ◌∙◌, subst, arith}
-use Rattle.syntax.specs.Looking.{Cause, TooDeep, OtherEndName, ◌>>=◌}
+use Rattle.syntax.specs.internal.Looking.{Cause, TooDeep, OtherEndName, ◌>>=◌}
 use Rattle.syntax.proofs.LookingLemmas.{bind_ok, bind_at, bind_fails}
 
 -- whatever is read has this property

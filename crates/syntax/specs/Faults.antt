@@ -1,19 +1,34 @@
--- Which faults tell of the depth, and which of a name behind END.
+-- Faults: their numbers, their lines, and which of them tells of what.
+use Rattle.std.specs.Prelude.{ℕ, List, Result, Ok, Err, codes}
+use Rattle.failure.specs.declared.Failure.{Failure}
+use Rattle.failure.specs.declared.Failure.TheVariants as failures
 use Rattle.syntax.specs.declared.fault.Fault.{Fault}
-use Rattle.syntax.specs.declared.fault.Fault.TheVariants.{Word, Depth, EndName, Label, Memory}
+use Rattle.syntax.specs.declared.fault.Fault.TheVariants.{Word, Depth, EndName}
 
--- the fault of depth, or want of memory, of which nothing is said
+-- the number of a fault
+abbrev pub number_of : Fault → List ℕ
+number_of (Word line) = codes "C7"
+number_of (Depth line) = codes "C8"
+number_of (EndName line) = codes "C9"
+
+-- the line of a fault
+abbrev pub line_of : Fault → ℕ
+line_of (Word line) = line
+line_of (Depth line) = line
+line_of (EndName line) = line
+
+-- the fault of the depth
 abbrev pub IsOfDepth : Fault → Type 0
 IsOfDepth (Depth line) = Unit {0}
-IsOfDepth Memory = Unit {0}
-IsOfDepth (Word line) = ⊥
-IsOfDepth (EndName line) = ⊥
-IsOfDepth (Label line) = ⊥
+IsOfDepth fault = ⊥
 
--- the fault of a name behind END, or want of memory
+-- the fault of a name after END
 abbrev pub IsOfEndName : Fault → Type 0
 IsOfEndName (EndName line) = Unit {0}
-IsOfEndName Memory = Unit {0}
-IsOfEndName (Word line) = ⊥
-IsOfEndName (Depth line) = ⊥
-IsOfEndName (Label line) = ⊥
+IsOfEndName fault = ⊥
+
+-- a call failed, with a fault of which this holds or because memory ran out
+abbrev pub IsRefused : {A : Type 0} → Result A (Failure Fault) → (Fault → Type 0) → Type 0
+IsRefused (Ok value) P = ⊥
+IsRefused (Err (failures.Fault fault)) P = P fault
+IsRefused (Err failures.Memory) P = Unit {0}

@@ -1,9 +1,2 @@
-pub mod Declarations
-pub mod Expressions
 pub mod Faults
-pub mod Giving
-pub mod Inside
-pub mod Lists
-pub mod Looking
-pub mod Parts
-pub mod Statements
+pub mod internal

@@ -3,14 +3,14 @@
 ghost use Rattle.std.specs.Prelude.{◌≡◌, Ok, map};
 ghost use Rattle.std.specs.Option.{option_map};
 ghost use Rattle.trees.specs.Views.{origin_tree, restricted_tree, item_type_tree, at_tree, value_list_tree, subject_tree, item_tree, element_tree, heading_tree, offset_tree};
-ghost use Rattle.syntax.specs.Declarations.{origin, next_sign, all_offsets, restricted, next_scalar, scalar, result_type, count, dimension_inside, dimension, member, item_type, next_linkage, linkage, at, next_storage, value_list, base, names, item_behind, element_behind, element, elements, parameters, reentrant, heading};
-ghost use Rattle.syntax.specs.Giving.{Gives};
-ghost use Rattle.syntax.specs.Lists.{items};
-ghost use Rattle.syntax.specs.Looking.{name};
+ghost use Rattle.syntax.specs.internal.Declarations.{origin, next_sign, all_offsets, restricted, next_scalar, scalar, result_type, count, dimension_inside, dimension, member, item_type, next_linkage, linkage, at, next_storage, value_list, base, names, item_behind, element_behind, element, elements, parameters, reentrant, heading};
+ghost use Rattle.syntax.specs.internal.Giving.{Gives};
+ghost use Rattle.syntax.specs.internal.Lists.{items};
+ghost use Rattle.syntax.specs.internal.Looking.{name};
 
 use crate::fault::Fault;
 use crate::reader::Reader;
-use std::alloc::Global;
+use failure::Failure;
 use trees::{
     At, Dimension, Element, Heading, Identifier, Item, ItemType, Linkage, Member, Number, Offset,
     Origin, Place, Restricted, ScalarType, Sign, Storage, Subject, ValueList,
@@ -19,14 +19,14 @@ use words::{Mark, ReservedWord};
 
 impl<'a> Reader<'a> {
     // constant | `.` name
-    fn take_origin(&mut self, alloc: Global) -> Result<Origin, Fault>
+    fn take_origin(&mut self) -> Result<Origin, Failure<Fault>>
         ensures { Gives origin_tree result self.new (origin self.old) }
     {
         if self.at_mark(Mark::Period) {
             self.skip();
             return Ok(Origin::Location(self.take_name()?));
         }
-        Ok(Origin::Constant(self.take_constant(alloc)?))
+        Ok(Origin::Constant(self.take_constant()?))
     }
 
     // The next word, if it is a sign.
@@ -56,7 +56,7 @@ impl<'a> Reader<'a> {
     }
 
     // BYTE | ADDRESS
-    fn take_scalar(&mut self) -> Result<ScalarType, Fault>
+    fn take_scalar(&mut self) -> Result<ScalarType, Failure<Fault>>
         ensures { Gives (λ found. found) result self.new (scalar self.old) }
     {
         match self.next_scalar() {
@@ -69,7 +69,7 @@ impl<'a> Reader<'a> {
     }
 
     // [`(` number `)`]
-    fn take_count(&mut self) -> Result<Option<Number>, Fault>
+    fn take_count(&mut self) -> Result<Option<Number>, Failure<Fault>>
         ensures { Gives (λ found. found) result self.new (count self.old) }
     {
         if !self.at_mark(Mark::LeftParenthesis) {
@@ -82,7 +82,7 @@ impl<'a> Reader<'a> {
     }
 
     // `*` | number
-    fn take_dimension_inside(&mut self) -> Result<Dimension, Fault>
+    fn take_dimension_inside(&mut self) -> Result<Dimension, Failure<Fault>>
         ensures { Gives (λ found. found) result self.new (dimension_inside self.old) }
     {
         if self.at_mark(Mark::Asterisk) {
@@ -93,7 +93,7 @@ impl<'a> Reader<'a> {
     }
 
     // [`(` number `)` | `(` `*` `)`]
-    fn take_dimension(&mut self) -> Result<Option<Dimension>, Fault>
+    fn take_dimension(&mut self) -> Result<Option<Dimension>, Failure<Fault>>
         ensures { Gives (λ found. found) result self.new (dimension self.old) }
     {
         if !self.at_mark(Mark::LeftParenthesis) {
@@ -106,8 +106,8 @@ impl<'a> Reader<'a> {
     }
 
     // name [`(` number `)`] (BYTE | ADDRESS)
-    #[tactic(auto, unfolding(crate::specs::Declarations::member))]
-    fn take_member(&mut self) -> Result<Member, Fault>
+    #[tactic(auto, unfolding(crate::specs::internal::Declarations::member))]
+    pub(crate) fn take_member(&mut self) -> Result<Member, Failure<Fault>>
         ensures { Gives (λ found. found) result self.new (member self.old) }
     {
         let name = self.take_name()?;
@@ -122,13 +122,13 @@ impl<'a> Reader<'a> {
 
     // {(`+` | `-`) constant}
     #[tactic(auto, using(crate::proofs::DeclarationLoops::offset_steps))]
-    fn take_offsets(&mut self, alloc: Global) -> Result<Vec<Offset>, Fault>
+    fn take_offsets(&mut self) -> Result<Vec<Offset>, Failure<Fault>>
         ensures { Gives (λ found. map offset_tree found.items) result self.new (all_offsets self.old) }
     {
-        let mut found = Vec::new(alloc);
+        let mut found = Vec::new(self.alloc);
         'more: while let Some(sign) = self.next_sign() {
             self.skip();
-            let constant = self.take_constant(alloc)?;
+            let constant = self.take_constant()?;
             found.push(Offset { sign, constant })?;
         }
         found.shrink_to_fit();
@@ -136,35 +136,18 @@ impl<'a> Reader<'a> {
     }
 
     // constant {(`+` | `-`) constant} | `.` name {(`+` | `-`) constant}
-    #[tactic(auto, unfolding(crate::specs::Declarations::restricted))]
-    fn take_restricted(&mut self, alloc: Global) -> Result<Restricted, Fault>
+    #[tactic(auto, unfolding(crate::specs::internal::Declarations::restricted))]
+    pub(crate) fn take_restricted(&mut self) -> Result<Restricted, Failure<Fault>>
         ensures { Gives restricted_tree result self.new (restricted self.old) }
     {
-        let origin = self.take_origin(alloc)?;
-        let offsets = self.take_offsets(alloc)?;
+        let origin = self.take_origin()?;
+        let offsets = self.take_offsets()?;
         Ok(Restricted { origin, offsets })
     }
 
-    // member {`,` member}
-    #[tactic(auto, using(crate::proofs::DeclarationLoops::member_steps))]
-    fn take_members(&mut self, alloc: Global) -> Result<Vec<Member>, Fault>
-        ensures { Gives (λ found. found.items) result self.new (items member self.old) }
-    {
-        let first = self.take_member()?;
-        let mut found = Vec::with_capacity(alloc, 1)?;
-        found.push(first)?;
-        'more: while self.at_mark(Mark::Comma) {
-            self.skip();
-            let next = self.take_member()?;
-            found.push(next)?;
-        }
-        found.shrink_to_fit();
-        Ok(found)
-    }
-
     // BYTE | ADDRESS | STRUCTURE `(` member {`,` member} `)`
-    #[tactic(auto, unfolding(crate::specs::Declarations::item_type))]
-    fn take_item_type(&mut self, alloc: Global) -> Result<ItemType, Fault>
+    #[tactic(auto, using(crate::proofs::ListedItems::listed), unfolding(crate::specs::internal::Declarations::item_type))]
+    fn take_item_type(&mut self) -> Result<ItemType, Failure<Fault>>
         ensures { Gives item_type_tree result self.new (item_type self.old) }
     {
         if !self.at_word(ReservedWord::Structure) {
@@ -172,7 +155,7 @@ impl<'a> Reader<'a> {
         }
         self.skip();
         self.take_mark(Mark::LeftParenthesis)?;
-        let members = self.take_members(alloc)?;
+        let members = self.take_list::<Member>()?;
         self.take_mark(Mark::RightParenthesis)?;
         Ok(ItemType::Structure(members))
     }
@@ -198,8 +181,8 @@ impl<'a> Reader<'a> {
     }
 
     // [AT `(` place `)`]
-    #[tactic(auto, unfolding(crate::specs::Declarations::at))]
-    fn take_at(&mut self, alloc: Global) -> Result<Option<At>, Fault>
+    #[tactic(auto, unfolding(crate::specs::internal::Declarations::at))]
+    fn take_at(&mut self) -> Result<Option<At>, Failure<Fault>>
         ensures { Gives (option_map at_tree) result self.new (at self.old) }
     {
         let Some(place) = self.place_of_word(ReservedWord::At) else {
@@ -207,7 +190,7 @@ impl<'a> Reader<'a> {
         };
         self.skip();
         self.take_mark(Mark::LeftParenthesis)?;
-        let address = self.take_restricted(alloc)?;
+        let address = self.take_restricted()?;
         self.take_mark(Mark::RightParenthesis)?;
         Ok(Some(At { place, address }))
     }
@@ -223,26 +206,9 @@ impl<'a> Reader<'a> {
         Some(Storage::Data(place))
     }
 
-    // place {`,` place}
-    #[tactic(auto, using(crate::proofs::DeclarationLoops::values_first))]
-    fn take_values(&mut self, alloc: Global) -> Result<Vec<Restricted>, Fault>
-        ensures { Gives (λ found. map restricted_tree found.items) result self.new (items restricted self.old) }
-    {
-        let first = self.take_restricted(alloc)?;
-        let mut found = Vec::with_capacity(alloc, 1)?;
-        found.push(first)?;
-        'more: while self.at_mark(Mark::Comma) {
-            self.skip();
-            let next = self.take_restricted(alloc)?;
-            found.push(next)?;
-        }
-        found.shrink_to_fit();
-        Ok(found)
-    }
-
     // [INITIAL `(` list `)` | DATA `(` list `)`]
-    #[tactic(auto, unfolding(crate::specs::Declarations::value_list))]
-    fn take_value_list(&mut self, alloc: Global) -> Result<Option<ValueList>, Fault>
+    #[tactic(auto, using(crate::proofs::ListedItems::listed), unfolding(crate::specs::internal::Declarations::value_list))]
+    fn take_value_list(&mut self) -> Result<Option<ValueList>, Failure<Fault>>
         ensures { Gives (option_map value_list_tree) result self.new (value_list self.old) }
     {
         let Some(storage) = self.next_storage() else {
@@ -250,13 +216,13 @@ impl<'a> Reader<'a> {
         };
         self.skip();
         self.take_mark(Mark::LeftParenthesis)?;
-        let values = self.take_values(alloc)?;
+        let values = self.take_list::<Restricted>()?;
         self.take_mark(Mark::RightParenthesis)?;
         Ok(Some(ValueList { storage, values }))
     }
 
     // [BASED name]
-    fn take_base(&mut self) -> Result<Option<Identifier>, Fault>
+    fn take_base(&mut self) -> Result<Option<Identifier>, Failure<Fault>>
         ensures { Gives (λ found. found) result self.new (base self.old) }
     {
         if !self.at_word(ReservedWord::Based) {
@@ -266,43 +232,26 @@ impl<'a> Reader<'a> {
         Ok(Some(self.take_name()?))
     }
 
-    // name {`,` name}
-    #[tactic(auto, using(crate::proofs::DeclarationLoops::name_steps))]
-    fn take_name_list(&mut self, alloc: Global) -> Result<Vec<Identifier>, Fault>
-        ensures { Gives (λ found. found.items) result self.new (items name self.old) }
-    {
-        let first = self.take_name()?;
-        let mut found = Vec::with_capacity(alloc, 1)?;
-        found.push(first)?;
-        'more: while self.at_mark(Mark::Comma) {
-            self.skip();
-            let next = self.take_name()?;
-            found.push(next)?;
-        }
-        found.shrink_to_fit();
-        Ok(found)
-    }
-
     // `(` name {`,` name} `)`
-    #[tactic(auto, unfolding(crate::specs::Declarations::names))]
-    fn take_names(&mut self, alloc: Global) -> Result<Vec<Identifier>, Fault>
+    #[tactic(auto, using(crate::proofs::ListedItems::listed), unfolding(crate::specs::internal::Declarations::names))]
+    fn take_names(&mut self) -> Result<Vec<Identifier>, Failure<Fault>>
         ensures { Gives (λ found. found.items) result self.new (names self.old) }
     {
         self.take_mark(Mark::LeftParenthesis)?;
-        let found = self.take_name_list(alloc)?;
+        let found = self.take_list::<Identifier>()?;
         self.take_mark(Mark::RightParenthesis)?;
         Ok(found)
     }
 
     // What stands behind the subject of an item.
-    fn take_item_behind(&mut self, alloc: Global, subject: Subject) -> Result<Item, Fault>
+    fn take_item_behind(&mut self, subject: Subject) -> Result<Item, Failure<Fault>>
         ensures { Gives item_tree result self.new (item_behind (subject_tree subject) self.old) }
     {
         let dimension = self.take_dimension()?;
-        let item_type = self.take_item_type(alloc)?;
+        let item_type = self.take_item_type()?;
         let linkage = self.take_linkage();
-        let at = self.take_at(alloc)?;
-        let value_list = self.take_value_list(alloc)?;
+        let at = self.take_at()?;
+        let value_list = self.take_value_list()?;
         Ok(Item {
             subject,
             dimension,
@@ -314,68 +263,51 @@ impl<'a> Reader<'a> {
     }
 
     // What stands behind the name with which an element begins.
-    fn take_element_behind(&mut self, alloc: Global, name: Identifier) -> Result<Element, Fault>
+    fn take_element_behind(&mut self, name: Identifier) -> Result<Element, Failure<Fault>>
         ensures { Gives element_tree result self.new (element_behind name self.old) }
     {
         if self.at_word(ReservedWord::Literally) {
             self.skip();
-            let text = self.take_string(alloc)?;
-            return Ok(Element::literally(alloc, name, text)?);
+            let text = self.take_string()?;
+            return Ok(Element::literally(self.alloc, name, text)?);
         }
         let base = self.take_base()?;
-        let found = self.take_item_behind(alloc, Subject::Single { name, base })?;
-        Ok(Element::item(alloc, found)?)
+        let found = self.take_item_behind(Subject::Single { name, base })?;
+        Ok(Element::item(self.alloc, found)?)
     }
 
     // name LITERALLY string | item
-    #[tactic(auto, using(crate::proofs::DeclarationLoops::element_is), unfolding(crate::specs::Declarations::element, crate::specs::Declarations::item, crate::specs::Declarations::subject))]
-    fn take_element(&mut self, alloc: Global) -> Result<Element, Fault>
+    #[tactic(auto, using(crate::proofs::DeclarationLoops::element_is), unfolding(crate::specs::internal::Declarations::element, crate::specs::internal::Declarations::item, crate::specs::internal::Declarations::subject))]
+    pub(crate) fn take_element(&mut self) -> Result<Element, Failure<Fault>>
         ensures { Gives element_tree result self.new (element self.old) }
     {
         if let Some(name) = self.next_name() {
             self.skip();
-            return self.take_element_behind(alloc, name);
+            return self.take_element_behind(name);
         }
-        let names = self.take_names(alloc)?;
-        let found = self.take_item_behind(alloc, Subject::Group(names))?;
-        Ok(Element::item(alloc, found)?)
-    }
-
-    // element {`,` element}
-    #[tactic(auto, using(crate::proofs::DeclarationLoops::elements_first))]
-    fn take_element_list(&mut self, alloc: Global) -> Result<Vec<Element>, Fault>
-        ensures { Gives (λ found. map element_tree found.items) result self.new (items element self.old) }
-    {
-        let first = self.take_element(alloc)?;
-        let mut found = Vec::with_capacity(alloc, 1)?;
-        found.push(first)?;
-        'more: while self.at_mark(Mark::Comma) {
-            self.skip();
-            let next = self.take_element(alloc)?;
-            found.push(next)?;
-        }
-        found.shrink_to_fit();
-        Ok(found)
+        let names = self.take_names()?;
+        let found = self.take_item_behind(Subject::Group(names))?;
+        Ok(Element::item(self.alloc, found)?)
     }
 
     /// element {`,` element} `;`, behind DECLARE
-    #[tactic(auto, unfolding(crate::specs::Declarations::elements))]
-    pub(crate) fn take_elements(&mut self, alloc: Global) -> Result<Vec<Element>, Fault>
+    #[tactic(auto, using(crate::proofs::ListedItems::listed), unfolding(crate::specs::internal::Declarations::elements))]
+    pub(crate) fn take_elements(&mut self) -> Result<Vec<Element>, Failure<Fault>>
         ensures { Gives (λ found. map element_tree found.items) result self.new (elements self.old) }
     {
-        let found = self.take_element_list(alloc)?;
+        let found = self.take_list::<Element>()?;
         self.take_mark(Mark::Semicolon)?;
         Ok(found)
     }
 
     // [`(` name {`,` name} `)`]
-    fn take_parameters(&mut self, alloc: Global) -> Result<Vec<Identifier>, Fault>
+    fn take_parameters(&mut self) -> Result<Vec<Identifier>, Failure<Fault>>
         ensures { Gives (λ found. found.items) result self.new (parameters self.old) }
     {
         if self.at_mark(Mark::LeftParenthesis) {
-            self.take_names(alloc)
+            self.take_names()
         } else {
-            Ok(Vec::new(alloc))
+            Ok(Vec::new(self.alloc))
         }
     }
 
@@ -398,14 +330,14 @@ impl<'a> Reader<'a> {
     }
 
     /// name `:` PROCEDURE [`(` name {`,` name} `)`] [BYTE | ADDRESS] [PUBLIC | EXTERNAL] [REENTRANT] `;`
-    #[tactic(auto, unfolding(crate::specs::Declarations::heading))]
-    pub(crate) fn take_heading(&mut self, alloc: Global) -> Result<Heading, Fault>
+    #[tactic(auto, unfolding(crate::specs::internal::Declarations::heading))]
+    pub(crate) fn take_heading(&mut self) -> Result<Heading, Failure<Fault>>
         ensures { Gives heading_tree result self.new (heading self.old) }
     {
         let name = self.take_name()?;
         self.take_mark(Mark::Colon)?;
         self.take_word(ReservedWord::Procedure)?;
-        let parameters = self.take_parameters(alloc)?;
+        let parameters = self.take_parameters()?;
         let result = self.take_result_type();
         let linkage = self.take_linkage();
         let reentrant = self.take_reentrant();

@@ -2,13 +2,13 @@
 
 ghost use Rattle.std.specs.Prelude.{◌≡◌, ◌<◌, ◌≤◌, ◌+◌, suc, map, IfOk};
 ghost use Rattle.trees.specs.Views.{constant_tree, expression_tree, reference_tree, argument_trees};
-ghost use Rattle.syntax.specs.Expressions.{arguments, reference, location, assigned, closed, parenthesized, primary, operand, all_operators, expression, expression_less, next_operator};
+ghost use Rattle.syntax.specs.internal.Expressions.{arguments, reference, location, assigned, closed, parenthesized, primary, operand, all_operators, expression, expression_less, next_operator};
 ghost use Rattle.trees.specs.Forms.{expr_level};
 ghost use Rattle.trees.specs.Trees.{ReferenceLeaf};
-ghost use Rattle.syntax.specs.Giving.{Gives};
-ghost use Rattle.syntax.specs.Lists.{items};
-ghost use Rattle.syntax.specs.Looking.{constant, name};
-ghost use Rattle.syntax.specs.Parts.{reference_behind, operator_on};
+ghost use Rattle.syntax.specs.internal.Giving.{Gives};
+ghost use Rattle.syntax.specs.internal.Lists.{items};
+ghost use Rattle.syntax.specs.internal.Looking.{constant, name};
+ghost use Rattle.syntax.specs.internal.Parts.{reference_behind, operator_on};
 
 use crate::fault::Fault;
 use crate::measured::{
@@ -16,7 +16,7 @@ use crate::measured::{
     PRIMARY_LEVEL, SIGN_LEVEL, left_level, level_of,
 };
 use crate::reader::Reader;
-use std::alloc::Global;
+use failure::Failure;
 use trees::{BinaryOperator, Constant, Identifier, UnaryOperator};
 use words::{Mark, ReservedWord};
 
@@ -24,12 +24,7 @@ impl<'a> Reader<'a> {
     /// An expression at a level, of no more levels than the room.
     #[cycle(expression)]
     #[tactic(auto, using(crate::proofs::Operators::expression_at, crate::proofs::Operators::expression_none))]
-    pub(crate) fn expression(
-        &mut self,
-        alloc: Global,
-        level: u8,
-        room: u8,
-    ) -> Result<Measured, Fault>
+    pub(crate) fn expression(&mut self, level: u8, room: u8) -> Result<Measured, Failure<Fault>>
         requires { room ≤ 64 }
         ensures gives { Gives (λ found. expression_tree found.expression) result self.new (expression room level self.old) }
         ensures fits { IfOk result (λ found. found.height ≤ room) }
@@ -37,20 +32,14 @@ impl<'a> Reader<'a> {
         if room == 0 {
             return Err(self.too_deep());
         }
-        let left = self.operand(alloc, level, room - 1)?;
-        self.operators(alloc, level, room - 1, left)
+        let left = self.operand(level, room - 1)?;
+        self.operators(level, room - 1, left)
     }
 
     // Operators that may stand at a level, with what stands behind them, behind a left operand.
     #[cycle(expression)]
     #[tactic(auto, using(crate::proofs::Operators::operators_deep, crate::proofs::Operators::operators_end))]
-    fn operators(
-        &mut self,
-        alloc: Global,
-        level: u8,
-        room: u8,
-        left: Measured,
-    ) -> Result<Measured, Fault>
+    fn operators(&mut self, level: u8, room: u8, left: Measured) -> Result<Measured, Failure<Fault>>
         requires room { room < 64 }
         requires left { left.height ≤ room + 1 }
         ensures gives { Gives (λ found. expression_tree found.expression) result self.new (all_operators (expression room) (suc room) level (expression_tree left.expression) self.old) }
@@ -62,8 +51,8 @@ impl<'a> Reader<'a> {
                 return Err(self.too_deep());
             }
             self.skip();
-            let right = self.expression(alloc, level_of(operator) + 1, room)?;
-            left = Measured::binary(alloc, operator, left, right)?;
+            let right = self.expression(level_of(operator) + 1, room)?;
+            left = Measured::binary(self.alloc, operator, left, right)?;
         }
         Ok(left)
     }
@@ -83,65 +72,65 @@ impl<'a> Reader<'a> {
 
     // An operator before its operand, or a primary, at a level.
     #[cycle(expression)]
-    #[tactic(auto, unfolding(crate::specs::Expressions::operand))]
-    fn operand(&mut self, alloc: Global, level: u8, room: u8) -> Result<Measured, Fault>
+    #[tactic(auto, unfolding(crate::specs::internal::Expressions::operand))]
+    fn operand(&mut self, level: u8, room: u8) -> Result<Measured, Failure<Fault>>
         requires { room < 64 }
         ensures gives { Gives (λ found. expression_tree found.expression) result self.new (operand (expression room) (expression_less room) level self.old) }
         ensures fits { IfOk result (λ found. found.height ≤ room + 1) }
     {
         if self.at_word(ReservedWord::Not) && level <= NEGATION_LEVEL {
             self.skip();
-            let inner = self.expression(alloc, NEGATION_LEVEL, room)?;
-            return Ok(Measured::unary(alloc, UnaryOperator::Not, inner)?);
+            let inner = self.expression(NEGATION_LEVEL, room)?;
+            return Ok(Measured::unary(self.alloc, UnaryOperator::Not, inner)?);
         }
         if self.at_mark(Mark::MinusSign) && level <= SIGN_LEVEL {
             self.skip();
-            let inner = self.expression(alloc, PRIMARY_LEVEL, room)?;
-            return Ok(Measured::unary(alloc, UnaryOperator::Negate, inner)?);
+            let inner = self.expression(PRIMARY_LEVEL, room)?;
+            return Ok(Measured::unary(self.alloc, UnaryOperator::Negate, inner)?);
         }
-        self.primary(alloc, room)
+        self.primary(room)
     }
 
     // A constant, a reference, a location or an expression in parentheses.
     #[cycle(expression)]
     #[tactic(auto, using(crate::proofs::Operators::primary_constant, crate::proofs::Operators::primary_parenthesized, crate::proofs::Operators::primary_location))]
-    fn primary(&mut self, alloc: Global, room: u8) -> Result<Measured, Fault>
+    fn primary(&mut self, room: u8) -> Result<Measured, Failure<Fault>>
         requires { room < 64 }
         ensures gives { Gives (λ found. expression_tree found.expression) result self.new (primary (expression room) (expression_less room) self.old) }
         ensures fits { IfOk result (λ found. found.height ≤ room + 1) }
     {
         if self.at_mark(Mark::LeftParenthesis) {
             self.skip();
-            return self.parenthesized(alloc, room);
+            return self.parenthesized(room);
         }
         if self.at_mark(Mark::Period) {
             self.skip();
-            return self.location(alloc, room);
+            return self.location(room);
         }
         let Some(base) = self.next_name() else {
-            let found = self.take_constant(alloc)?;
+            let found = self.take_constant()?;
             return Ok(Measured::constant(found));
         };
         self.skip();
-        let found = self.reference_behind(alloc, base, room)?;
-        Ok(Measured::reference(alloc, found)?)
+        let found = self.reference_behind(base, room)?;
+        Ok(Measured::reference(self.alloc, found)?)
     }
 
     // What stands behind an opening parenthesis: an expression, or an assignment.
     #[cycle(expression)]
-    #[tactic(auto, unfolding(crate::specs::Expressions::parenthesized))]
-    fn parenthesized(&mut self, alloc: Global, room: u8) -> Result<Measured, Fault>
+    #[tactic(auto, unfolding(crate::specs::internal::Expressions::parenthesized))]
+    fn parenthesized(&mut self, room: u8) -> Result<Measured, Failure<Fault>>
         requires { room < 64 }
         ensures gives { Gives (λ found. expression_tree found.expression) result self.new (parenthesized (expression room) (expression_less room) self.old) }
         ensures fits { IfOk result (λ found. found.height ≤ room + 1) }
     {
-        let inner = self.expression(alloc, EXPRESSION_LEVEL, room)?;
+        let inner = self.expression(EXPRESSION_LEVEL, room)?;
         if self.at_mark(Mark::RightParenthesis) {
             self.skip();
-            return Ok(Measured::parenthesized(alloc, inner)?);
+            return Ok(Measured::parenthesized(self.alloc, inner)?);
         }
         match inner.into_reference() {
-            Some(target) => self.assigned(alloc, target, room),
+            Some(target) => self.assigned(target, room),
             None => Err(self.unexpected()),
         }
     }
@@ -149,123 +138,101 @@ impl<'a> Reader<'a> {
     // What stands behind an opening parenthesis and the reference that is assigned to.
     #[cycle(expression)]
     #[tactic(auto, using(crate::proofs::Operators::expression_less_at))]
-    fn assigned(
-        &mut self,
-        alloc: Global,
-        target: MeasuredReference,
-        room: u8,
-    ) -> Result<Measured, Fault>
+    fn assigned(&mut self, target: MeasuredReference, room: u8) -> Result<Measured, Failure<Fault>>
         requires room { room < 64 }
         requires target { target.height < room }
         ensures gives { Gives (λ found. expression_tree found.expression) result self.new (assigned (expression_less room) (ReferenceLeaf (reference_tree target.reference)) self.old) }
         ensures fits { IfOk result (λ found. found.height ≤ room + 1) }
     {
         self.take_mark(Mark::AssignSign)?;
-        let value = self.expression(alloc, EXPRESSION_LEVEL, room - 1)?;
+        let value = self.expression(EXPRESSION_LEVEL, room - 1)?;
         self.take_mark(Mark::RightParenthesis)?;
-        Ok(Measured::assignment(alloc, target, value)?)
+        Ok(Measured::assignment(self.alloc, target, value)?)
     }
 
     // What stands behind a period: a reference, or constants in parentheses.
     #[cycle(expression)]
-    #[tactic(auto, unfolding(crate::specs::Expressions::location, crate::specs::Expressions::reference))]
-    fn location(&mut self, alloc: Global, room: u8) -> Result<Measured, Fault>
+    #[tactic(auto, using(crate::proofs::ListedItems::listed), unfolding(crate::specs::internal::Expressions::location, crate::specs::internal::Expressions::reference))]
+    fn location(&mut self, room: u8) -> Result<Measured, Failure<Fault>>
         requires { room < 64 }
         ensures gives { Gives (λ found. expression_tree found.expression) result self.new (location (expression room) self.old) }
         ensures fits { IfOk result (λ found. found.height ≤ room + 1) }
     {
         if self.at_mark(Mark::LeftParenthesis) {
             self.skip();
-            let constants = self.take_constants(alloc)?;
+            let constants = self.take_list::<Constant>()?;
             self.take_mark(Mark::RightParenthesis)?;
             return Ok(Measured::list(constants));
         }
         let base = self.take_name()?;
-        let found = self.reference_behind(alloc, base, room)?;
-        Ok(Measured::location(alloc, found)?)
+        let found = self.reference_behind(base, room)?;
+        Ok(Measured::location(self.alloc, found)?)
     }
 
     /// A reference whose arguments take no more levels than the room.
-    #[tactic(auto, unfolding(crate::specs::Expressions::reference))]
-    pub(crate) fn reference(&mut self, alloc: Global, room: u8) -> Result<MeasuredReference, Fault>
+    #[tactic(auto, unfolding(crate::specs::internal::Expressions::reference))]
+    pub(crate) fn reference(&mut self, room: u8) -> Result<MeasuredReference, Failure<Fault>>
         requires { room ≤ 64 }
         ensures gives { Gives (λ found. reference_tree found.reference) result self.new (reference (expression room) self.old) }
         ensures fits { IfOk result (λ found. found.height ≤ room) }
     {
         let base = self.take_name()?;
-        self.reference_behind(alloc, base, room)
+        self.reference_behind(base, room)
     }
 
     // What stands behind the name of a reference: arguments, and perhaps a member with its own.
     #[cycle(expression)]
     fn reference_behind(
         &mut self,
-        alloc: Global,
         base: Identifier,
         room: u8,
-    ) -> Result<MeasuredReference, Fault>
+    ) -> Result<MeasuredReference, Failure<Fault>>
         requires { room ≤ 64 }
         ensures gives { Gives (λ found. reference_tree found.reference) result self.new (reference_behind (expression room) base self.old) }
         ensures fits { IfOk result (λ found. found.height ≤ room) }
     {
-        let its_arguments = self.arguments(alloc, room)?;
+        let its_arguments = self.arguments(room)?;
         if !self.at_mark(Mark::Period) {
-            return Ok(MeasuredReference::whole(alloc, base, its_arguments)?);
+            return Ok(MeasuredReference::whole(self.alloc, base, its_arguments)?);
         }
         self.skip();
         let member = self.take_name()?;
-        let behind = self.arguments(alloc, room)?;
-        Ok(MeasuredReference::member(alloc, base, its_arguments, member, behind)?)
+        let behind = self.arguments(room)?;
+        Ok(MeasuredReference::member(self.alloc, base, its_arguments, member, behind)?)
     }
 
     /// Arguments in parentheses that take no more levels than the room, or none.
     #[cycle(expression)]
     #[tactic(auto, using(crate::proofs::Arguments::arguments_of_map))]
-    pub(crate) fn arguments(&mut self, alloc: Global, room: u8) -> Result<MeasuredArguments, Fault>
+    pub(crate) fn arguments(&mut self, room: u8) -> Result<MeasuredArguments, Failure<Fault>>
         requires { room ≤ 64 }
         ensures gives { Gives (λ found. argument_trees found.items.items) result self.new (arguments (expression room) self.old) }
         ensures fits { IfOk result (λ found. found.height ≤ room) }
     {
         if !self.at_mark(Mark::LeftParenthesis) {
-            return Ok(MeasuredArguments::none(alloc));
+            return Ok(MeasuredArguments::none(self.alloc));
         }
         self.skip();
-        let found = self.expressions(alloc, room)?;
+        let found = self.expressions(room)?;
         self.take_mark(Mark::RightParenthesis)?;
         Ok(found)
     }
 
     // Expressions between commas.
     #[cycle(expression)]
-    fn expressions(&mut self, alloc: Global, room: u8) -> Result<MeasuredArguments, Fault>
+    fn expressions(&mut self, room: u8) -> Result<MeasuredArguments, Failure<Fault>>
         requires { room ≤ 64 }
         ensures gives { Gives (λ found. map expression_tree found.items.items) result self.new (items (expression room expr_level) self.old) }
         ensures fits { IfOk result (λ found. found.height ≤ room) }
     {
-        let first = self.expression(alloc, EXPRESSION_LEVEL, room)?;
-        let mut found = MeasuredArguments::one(alloc, first)?;
+        let first = self.expression(EXPRESSION_LEVEL, room)?;
+        let mut found = MeasuredArguments::one(self.alloc, first)?;
         'more: while self.at_mark(Mark::Comma) {
             self.skip();
-            let next = self.expression(alloc, EXPRESSION_LEVEL, room)?;
+            let next = self.expression(EXPRESSION_LEVEL, room)?;
             found.push(next)?;
         }
         found.shrink();
-        Ok(found)
-    }
-
-    /// Constants between commas.
-    pub(crate) fn take_constants(&mut self, alloc: Global) -> Result<Vec<Constant>, Fault>
-        ensures { Gives (λ found. map constant_tree found.items) result self.new (items constant self.old) }
-    {
-        let first = self.take_constant(alloc)?;
-        let mut found = Vec::with_capacity(alloc, 1)?;
-        found.push(first)?;
-        'more: while self.at_mark(Mark::Comma) {
-            self.skip();
-            let next = self.take_constant(alloc)?;
-            found.push(next)?;
-        }
-        found.shrink_to_fit();
         Ok(found)
     }
 }

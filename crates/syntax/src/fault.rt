@@ -6,18 +6,37 @@ use thiserror::Error;
 #[derive(Clone, Copy, Debug, PartialEq, Eq, Error)]
 pub enum Fault {
     /// A word that no module has there, with its line, or the end of the words, with the line of the last one, or 1.
-    #[error("C7")]
+    #[error("line {line}: a word that cannot stand here")]
     Word { line: u32 },
     /// The word begins what would be nested more than 64 levels deep.
-    #[error("C8")]
+    #[error("line {line}: nested more than 64 levels deep")]
     Depth { line: u32 },
-    /// The name behind END is not that of what it ends. The line is that of the name behind END.
-    #[error("C9")]
+    /// The name after END is not that of what it ends. The line is that of the name after END.
+    #[error("line {line}: a name after END that is not the name of what ends")]
     EndName { line: u32 },
-    /// A label, with its line, or GOTO, with its line.
-    #[error("C10")]
-    Label { line: u32 },
-    /// There was no memory on the host.
-    #[error("MEMORY")]
-    Memory,
+}
+
+impl Fault {
+    ghost use Rattle.std.specs.Prelude.{◌≡◌};
+    ghost use Rattle.syntax.specs.Faults.{number_of, line_of};
+
+    /// The number by which the documentation and the command line know the fault.
+    pub fn number(&self) -> &'static str
+        ensures { result.now ≡ number_of self.now }
+    {
+        match self {
+            Fault::Word { .. } => "C7",
+            Fault::Depth { .. } => "C8",
+            Fault::EndName { .. } => "C9",
+        }
+    }
+
+    /// The line at which the fault is found.
+    pub fn line(&self) -> u32
+        ensures { result ≡ line_of self.now }
+    {
+        match self {
+            Fault::Word { line } | Fault::Depth { line } | Fault::EndName { line } => *line,
+        }
+    }
 }

@@ -3,19 +3,12 @@
 
 mod declarations;
 mod expressions;
-pub mod fault;
-pub mod laws;
+mod fault;
+mod lists;
 mod measured;
-pub mod parser;
+mod parser;
 mod reader;
 mod statements;
 
 pub use fault::Fault;
 pub use parser::parse;
-
-#[cfg(test)]
-mod declaration_tests;
-#[cfg(test)]
-mod parser_tests;
-#[cfg(test)]
-mod tests;

@@ -5,7 +5,7 @@ ghost use Rattle.trees.specs.Forms.{expr_level, neg_level, rel_level, sec_level,
 ghost use Rattle.trees.specs.Nesting.{expression_height, reference_height, arguments_height};
 ghost use Rattle.trees.specs.Trees.{ConstantLeaf, ReferenceLeaf, LocationLeaf, ListLeaf, ParenthesizedNode, AssignmentNode, UnaryNode, BinaryNode, WholeReference, MemberReference, NoArguments};
 ghost use Rattle.trees.specs.Views.{constant_tree, expression_tree, reference_tree, argument_trees, reference_of, is_reference_leaf};
-ghost use Rattle.syntax.specs.Expressions.{top_level};
+ghost use Rattle.syntax.specs.internal.Expressions.{top_level};
 
 use std::alloc::{AllocError, Global};
 use trees::{BinaryOperator, Constant, Expression, Identifier, Reference, Selector, UnaryOperator};

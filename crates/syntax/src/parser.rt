@@ -1,19 +1,20 @@
 //! The parser.
 
-ghost use Rattle.std.specs.Prelude.{◌≡◌, ◌≢◌, ◌≤◌, true, [], OnOk, IfOk, IfErr, IsErrAnd, Some};
-ghost use Rattle.words.specs.Spelling.{lexemes_of};
-ghost use Rattle.trees.specs.Derivation.{Derives, DerivesButForDepth, DerivesButForEndName};
+ghost use Rattle.std.specs.Prelude.{◌≡◌, ◌≢◌, ◌≤◌, true, List, [], OnOk, IfOk, IfErr, Some};
+ghost use Rattle.failure.specs.Failure.{IfFault};
+ghost use Rattle.words.specs.Spelling.{Lexeme, lexemes_of};
+ghost use Rattle.trees.specs.Derivation.{Derives, DerivesAtMostOne, DerivesButForDepth, DerivesButForEndName};
 ghost use Rattle.trees.specs.Trees.{ModuleTree};
 ghost use Rattle.trees.specs.Views.{declaration_trees, statement_trees, module_tree};
-ghost use Rattle.syntax.specs.Faults.{IsOfDepth, IsOfEndName};
-ghost use Rattle.syntax.specs.Giving.{cause_of, Gives};
-ghost use Rattle.syntax.specs.Inside.{Makes};
-ghost use Rattle.syntax.specs.Looking.{Unexpected, place_of_word, taken};
-ghost use Rattle.words.specs.declared.vocabulary.ReservedWord.TheVariants.{Do};
-ghost use Rattle.syntax.specs.Statements.{whole_module};
+ghost use Rattle.syntax.specs.Faults.{IsOfDepth, IsOfEndName, IsRefused};
+ghost use Rattle.syntax.specs.internal.Giving.{cause_of};
+ghost use Rattle.syntax.specs.internal.Inside.{Makes};
+ghost use Rattle.syntax.specs.internal.Looking.{Unexpected};
+ghost use Rattle.syntax.specs.internal.Statements.{whole_module};
 
 use crate::fault::Fault;
 use crate::reader::Reader;
+use failure::Failure;
 use std::alloc::Global;
 use std::marker::Model;
 use trees::{Block, Identifier, Module, Place};
@@ -23,14 +24,15 @@ use words::{Mark, ReservedWord, Word};
 const NESTING_LIMIT: u8 = 64;
 
 /// The module that the words derive. Takes time and memory in proportion to the words (which no clause says).
-pub fn parse(alloc: Global, words: &[Word]) -> Result<Module, Fault>
+pub fn parse(alloc: Global, words: &[Word]) -> Result<Module, Failure<Fault>>
     ensures ok { IfOk result (λ parsed. Derives (lexemes_of words.now) (module_tree parsed)) }
-    ensures err { IfErr result (λ fault. fault ≢ Fault.Memory → (tree : ModuleTree) → Derives (lexemes_of words.now) tree → ⊥) }
-    ensures depth { DerivesButForDepth (lexemes_of words.now) → IsErrAnd result IsOfDepth }
-    ensures end_name { DerivesButForEndName (lexemes_of words.now) → IsErrAnd result IsOfEndName }
+    ensures one_tree { (all : List Lexeme) → DerivesAtMostOne all }
+    ensures refused { IfFault result (λ fault. (tree : ModuleTree) → Derives (lexemes_of words.now) tree → ⊥) }
+    ensures depth { DerivesButForDepth (lexemes_of words.now) → IsRefused result IsOfDepth }
+    ensures end_name { DerivesButForEndName (lexemes_of words.now) → IsRefused result IsOfEndName }
 {
-    let mut reader = Reader::new(words);
-    reader.take_module(alloc, NESTING_LIMIT)
+    let mut reader = Reader::new(alloc, words);
+    reader.take_module(NESTING_LIMIT)
 }
 
 // A module of its parts.
@@ -47,36 +49,23 @@ fn module_of(name: Identifier, place: Place, body: Block, end_name: Option<Ident
 
 impl<'a> Reader<'a> {
     // name `:` DO `;` {declaration} {statement} END [name] `;`, and nothing behind it.
-    #[tactic(auto, using(crate::proofs::Giving::fails_bind, crate::proofs::Giving::fails_behind), unfolding(crate::specs::Statements::whole_module))]
-    fn take_module(&mut self, alloc: Global, room: u8) -> Result<Module, Fault>
+    #[tactic(auto, using(crate::proofs::Giving::fails_bind, crate::proofs::Giving::fails_behind), unfolding(crate::specs::internal::Statements::whole_module))]
+    fn take_module(&mut self, room: u8) -> Result<Module, Failure<Fault>>
         requires { room ≤ 64 }
         ensures { Makes module_tree result (whole_module true room self.old) }
     {
         let name = self.take_name()?;
         self.take_mark(Mark::Colon)?;
-        let place = self.take_do_behind(&name)?;
+        let place = self.take_placed(ReservedWord::Do)?;
         self.take_mark(Mark::Semicolon)?;
-        let body = self.take_block(alloc, room)?;
+        let body = self.take_block(room)?;
         let end_name = self.take_ending(&name)?;
         self.take_end()?;
         Ok(module_of(name, place, body, end_name))
     }
 
-    // DO, behind the name of a module and a colon. Without DO the name is a label.
-    fn take_do_behind(&mut self, name: &Identifier) -> Result<Place, Fault>
-        ensures { Gives (λ place. place) result self.new (taken (place_of_word Do self.old) self.old) }
-    {
-        match self.place_of_word(ReservedWord::Do) {
-            Some(place) => {
-                self.skip();
-                Ok(place)
-            }
-            None => Err(self.fault_behind_colon(name.place.line)),
-        }
-    }
-
     // The end of the words.
-    fn take_end(&self) -> Result<(), Fault>
+    fn take_end(&self) -> Result<(), Failure<Fault>>
         ensures ok { OnOk result (self.now ≡ []) }
         ensures err { IfErr result (λ fault. (cause_of fault ≡ Some Unexpected) × (self.now ≢ [])) }
     {

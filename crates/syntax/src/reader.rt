@@ -5,45 +5,23 @@ ghost use Rattle.words.specs.Spelling.{lexeme_of};
 ghost use Rattle.trees.specs.Symbols.{symbol_of, MarkSymbol, ReservedSymbol};
 ghost use Rattle.words.specs.Strings.{characters_of, unquoted};
 ghost use Rattle.trees.specs.Views.{constant_tree, string_tree};
-ghost use Rattle.syntax.specs.Expressions.{operator_of, next_operator};
-ghost use Rattle.syntax.specs.Giving.{left_of, cause_of, Gives, Leaves};
-ghost use Rattle.syntax.specs.Looking.{Cause, Unexpected, TooDeep, at_mark, at_word, keeps_place, place_of_word, next_name, mark, word, taken, name, number, string, constant};
-ghost use Rattle.syntax.specs.Parts.{string_constant, number_constant};
+ghost use Rattle.syntax.specs.internal.Expressions.{operator_of, next_operator};
+ghost use Rattle.syntax.specs.internal.Giving.{left_of, cause_of, Gives, Leaves};
+ghost use Rattle.syntax.specs.internal.Looking.{Cause, Unexpected, TooDeep, at_mark, at_word, keeps_place, place_of_word, next_name, mark, word, taken, name, number, string, constant};
+ghost use Rattle.syntax.specs.internal.Parts.{string_constant, number_constant};
 
 use crate::fault::Fault;
-use std::alloc::{AllocError, AllocFailed, Global};
+use failure::Failure;
+use std::alloc::{AllocError, Global};
 use std::marker::Model;
 use trees::{BinaryOperator, Constant, Identifier, Name, Number, Place, StringLiteral};
 use words::{Kind, Mark, ReservedWord, Word};
 
-impl<T: Drop> From<AllocFailed<T>> for Fault {
-    ghost use Rattle.std.specs.Prelude.{◌≡◌};
-    ghost use Rattle.syntax.specs.declared.fault.Fault.TheVariants as faults;
-
-    ghost from_gives = { λ _ fault. fault ≡ faults.Memory };
-
-    fn from(_failed: AllocFailed<T>) -> Fault {
-        Fault::Memory
-    }
-}
-
-impl From<AllocError> for Fault {
-    ghost use Rattle.std.specs.Prelude.{◌≡◌};
-    ghost use Rattle.syntax.specs.declared.fault.Fault.TheVariants as faults;
-
-    ghost from_gives = { λ _ fault. fault ≡ faults.Memory };
-
-    fn from(_failed: AllocError) -> Fault {
-        Fault::Memory
-    }
-}
-
 /// The words that are left. Contracts see their symbols.
 #[derive(Drop)]
 pub(crate) struct Reader<'a> {
+    pub(crate) alloc: Global,
     rest: &'a [Word<'a>],
-    // From where the last statement began.
-    statement: &'a [Word<'a>],
     // The line of the word before.
     line: u32,
 }
@@ -51,7 +29,7 @@ pub(crate) struct Reader<'a> {
 impl<'a> Model for Reader<'a> {
     ghost use Rattle.std.specs.Prelude.{List};
     ghost use Rattle.trees.specs.Symbols.{Symbol};
-    ghost use Rattle.syntax.specs.Giving.{left_of};
+    ghost use Rattle.syntax.specs.internal.Giving.{left_of};
 
     ghost Value = { List Symbol };
 
@@ -71,12 +49,12 @@ pub(crate) fn place_of(word: &Word) -> Place
 
 impl<'a> Reader<'a> {
     /// The reader of words.
-    pub(crate) fn new(words: &'a [Word<'a>]) -> Reader<'a>
+    pub(crate) fn new(alloc: Global, words: &'a [Word<'a>]) -> Reader<'a>
         ensures { result ≡ left_of words.now }
     {
         Reader {
+            alloc,
             rest: words,
-            statement: words,
             line: 1,
         }
     }
@@ -86,13 +64,6 @@ impl<'a> Reader<'a> {
         ensures { IsTrue result ↔ (self.now ≡ []) }
     {
         self.rest.is_empty()
-    }
-
-    /// A statement may begin here.
-    pub(crate) fn begin_statement(&mut self)
-        ensures { self.new ≡ self.old }
-    {
-        self.statement = self.rest;
     }
 
     /// The words that are left.
@@ -174,7 +145,7 @@ impl<'a> Reader<'a> {
     }
 
     /// A mark.
-    pub(crate) fn take_mark(&mut self, wanted: Mark) -> Result<(), Fault>
+    pub(crate) fn take_mark(&mut self, wanted: Mark) -> Result<(), Failure<Fault>>
         ensures { Leaves result self.new (mark wanted self.old) }
     {
         if !self.at_mark(wanted) {
@@ -185,7 +156,7 @@ impl<'a> Reader<'a> {
     }
 
     /// A reserved word whose place is not kept.
-    pub(crate) fn take_word(&mut self, wanted: ReservedWord) -> Result<(), Fault>
+    pub(crate) fn take_word(&mut self, wanted: ReservedWord) -> Result<(), Failure<Fault>>
         requires { keeps_place wanted ≡ false }
         ensures { Leaves result self.new (word wanted self.old) }
     {
@@ -197,7 +168,7 @@ impl<'a> Reader<'a> {
     }
 
     /// A reserved word whose place is kept.
-    pub(crate) fn take_placed(&mut self, wanted: ReservedWord) -> Result<Place, Fault>
+    pub(crate) fn take_placed(&mut self, wanted: ReservedWord) -> Result<Place, Failure<Fault>>
         requires { keeps_place wanted ≡ true }
         ensures { Gives (λ place. place) result self.new (taken (place_of_word wanted self.old) self.old) }
     {
@@ -211,7 +182,7 @@ impl<'a> Reader<'a> {
     }
 
     /// A name.
-    pub(crate) fn take_name(&mut self) -> Result<Identifier, Fault>
+    pub(crate) fn take_name(&mut self) -> Result<Identifier, Failure<Fault>>
         ensures { Gives (λ found. found) result self.new (name self.old) }
     {
         match self.next_name() {
@@ -224,7 +195,7 @@ impl<'a> Reader<'a> {
     }
 
     /// A number.
-    pub(crate) fn take_number(&mut self) -> Result<Number, Fault>
+    pub(crate) fn take_number(&mut self) -> Result<Number, Failure<Fault>>
         ensures { Gives (λ found. found) result self.new (number self.old) }
     {
         match self.next() {
@@ -251,13 +222,13 @@ impl<'a> Reader<'a> {
     }
 
     /// A string.
-    pub(crate) fn take_string(&mut self, alloc: Global) -> Result<StringLiteral, Fault>
+    pub(crate) fn take_string(&mut self) -> Result<StringLiteral, Failure<Fault>>
         ensures { Gives string_tree result self.new (string self.old) }
     {
         match self.next() {
             Some(word) if word.kind == Kind::String => {
                 let place = place_of(word);
-                let characters = characters_of(alloc, word.text)?;
+                let characters = characters_of(self.alloc, word.text)?;
                 self.skip();
                 Ok(StringLiteral { characters, place })
             }
@@ -266,12 +237,12 @@ impl<'a> Reader<'a> {
     }
 
     /// A number or a string.
-    pub(crate) fn take_constant(&mut self, alloc: Global) -> Result<Constant, Fault>
+    pub(crate) fn take_constant(&mut self) -> Result<Constant, Failure<Fault>>
         ensures { Gives constant_tree result self.new (constant self.old) }
     {
         if self.at_string() {
-            let literal = self.take_string(alloc)?;
-            return Ok(Constant::string(alloc, literal)?);
+            let literal = self.take_string()?;
+            return Ok(Constant::string(self.alloc, literal)?);
         }
         let number = self.take_number()?;
         Ok(Constant::number(number))
@@ -287,63 +258,30 @@ impl<'a> Reader<'a> {
         }
     }
 
-    /// The fault of a word that can't stand there: that of a label, where the word is GOTO or a colon behind the name
-    /// with which a statement began, unless PROCEDURE is behind it.
-    pub(crate) fn unexpected(&self) -> Fault
+    /// The fault of a word that can't stand there, or of the end of the words.
+    pub(crate) fn unexpected(&self) -> Failure<Fault>
         ensures { cause_of result ≡ Some Unexpected }
     {
-        match self.rest {
-            [first, ..] if is_reserved(first.kind, ReservedWord::Goto) => {
-                Fault::Label { line: first.line }
-            }
-            [first, behind @ ..] if is_mark(first.kind, Mark::Colon) => {
-                self.fault_of_colon(first.line, behind)
-            }
-            [first, ..] => Fault::Word { line: first.line },
-            [] => Fault::Word { line: self.line },
-        }
-    }
-
-    // The fault of a colon on a line, with these words behind it.
-    fn fault_of_colon(&self, line: u32, behind: &[Word]) -> Fault
-        ensures { cause_of result ≡ Some Unexpected }
-    {
-        match self.statement {
-            [name, after @ ..] if name.kind == Kind::Name && after.len() == self.rest.len() => {
-                fault_of_label(name.line, behind)
-            }
-            _ => Fault::Word { line },
-        }
-    }
-
-    /// The fault of the next word behind a label on a line and its colon.
-    pub(crate) fn fault_behind_colon(&self, line: u32) -> Fault
-        ensures { cause_of result ≡ Some Unexpected }
-    {
-        fault_of_label(line, self.rest)
+        Failure::Fault(Fault::Word {
+            line: self.next_line(),
+        })
     }
 
     /// The fault of what is nested too deep.
-    pub(crate) fn too_deep(&self) -> Fault
+    pub(crate) fn too_deep(&self) -> Failure<Fault>
         ensures { cause_of result ≡ Some TooDeep }
     {
-        let line = match self.rest {
+        Failure::Fault(Fault::Depth {
+            line: self.next_line(),
+        })
+    }
+
+    // The line of the next word, or of the last one.
+    fn next_line(&self) -> u32 {
+        match self.rest {
             [first, ..] => first.line,
             [] => self.line,
-        };
-        Fault::Depth { line }
-    }
-}
-
-// The fault of a label on a line, with these words behind its colon.
-fn fault_of_label(line: u32, behind: &[Word]) -> Fault
-    ensures { cause_of result ≡ Some Unexpected }
-{
-    match behind {
-        [word, ..] if is_reserved(word.kind, ReservedWord::Procedure) => {
-            Fault::Word { line: word.line }
         }
-        _ => Fault::Label { line },
     }
 }
 

@@ -5,4 +5,6 @@
 mod accepted;
 #[cfg(test)]
 mod memory;
+#[cfg(test)]
+mod refused;
 mod shape;

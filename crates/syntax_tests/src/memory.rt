@@ -4,6 +4,7 @@ ghost use Rattle.std.specs.Prelude.{◌≤◌, length, IfOk};
 ghost use Rattle.literally.specs.Expansion.{AreShort};
 ghost use Rattle.words.specs.Spelling.{lexemes_of};
 
+use failure::Failure;
 use std::alloc::Global;
 use std::test::Fail;
 use words::Word;
@@ -34,8 +35,8 @@ fn read(alloc: Global) -> Option<bool> {
     };
     match syntax::parse(alloc, output.as_slice()) {
         Ok(_) => Some(true),
-        Err(syntax::Fault::Memory) => None,
-        Err(_) => Some(false),
+        Err(Failure::Memory) => None,
+        Err(Failure::Fault(_)) => Some(false),
     }
 }
 

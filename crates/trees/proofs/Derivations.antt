@@ -1,14 +1,18 @@
--- The derivation is the spelling of a tree that the grammar has.
-use Rattle.std.proofs.Common.{◌≡◌, ℕ, zero, suc, ◌+◌, ◌-◌, ◌≤◌, List, ◌∷◌, refl, sym, subst, arith}
+-- The derivation of expressions and targets is the spelling of a tree that the grammar has.
+use Rattle.std.proofs.Common.{◌≡◌, ℕ, zero, suc, ◌+◌, ◌-◌, ◌≤◌, List, [], ◌∷◌, refl, sym, subst, arith}
+use Rattle.std.specs.List.{AllByRecursion}
+use Rattle.words.specs.declared.vocabulary.Mark.TheVariants.{Comma}
 use Rattle.trees.specs.declared.expression.BinaryOperator.{BinaryOperator}
 use Rattle.trees.specs.declared.expression.BinaryOperator.TheVariants.{Or, Xor, And, Equal, Less, Greater, LessOrEqual, GreaterOrEqual, Unequal, Add, Subtract, Multiply, Divide, Modulo}
 use Rattle.trees.specs.declared.expression.UnaryOperator.{UnaryOperator}
 use Rattle.trees.specs.declared.expression.UnaryOperator.TheVariants.{Not, Negate}
-use Rattle.trees.specs.Derivation.{DerivesExpression, next_level, or_chain, and_chain, negation, comparison, sum_chain, term_chain, minus, number, string, reference, location, list, parenthesized, embedded_assignment, DerivesReference, whole, with_member, DerivesArguments, no_arguments, some_arguments, DerivesMoreArguments, last_argument, next_argument}
-use Rattle.trees.specs.Forms.{expr_level, primary_level, level_of, left_level, unary_level_of, operand_level_of, IsExpression, IsReference, AreArguments}
-use Rattle.trees.specs.Spelling.{binary_symbol, unary_symbol, expression_symbols, reference_symbols, arguments_symbols, more_arguments_symbols}
-use Rattle.trees.specs.Symbols.{Symbol}
-use Rattle.trees.specs.Trees.{ExpressionTree, ConstantLeaf, NumberConstant, StringConstant, ReferenceLeaf, LocationLeaf, ListLeaf, ParenthesizedNode, AssignmentNode, UnaryNode, BinaryNode, ReferenceTree, WholeReference, MemberReference, ArgumentTrees, NoArguments, MoreArguments}
+use Rattle.trees.specs.Derivation.{DerivesExpression, next_level, or_chain, and_chain, negation, comparison, sum_chain, term_chain, minus, number, string, reference, location, list, parenthesized, embedded_assignment, DerivesReference, whole, with_member, DerivesArguments, no_arguments, some_arguments, DerivesMoreArguments, last_argument, next_argument, DerivesTargets, last_target, next_target}
+use Rattle.trees.specs.Forms.{expr_level, primary_level, level_of, IsNotEmpty}
+use Rattle.trees.specs.internal.Forms.{left_level, unary_level_of, operand_level_of, IsExpression, IsReference, IsMember, AreArguments}
+use Rattle.trees.specs.internal.Spelling.{unary_symbol, expression_symbols, reference_symbols, arguments_symbols, more_arguments_symbols}
+use Rattle.trees.specs.Spelling.{binary_symbol, more_after_commas, between_commas}
+use Rattle.trees.specs.Symbols.{Symbol, MarkSymbol}
+use Rattle.trees.specs.Trees.{ExpressionTree, ConstantLeaf, NumberConstant, StringConstant, ReferenceLeaf, LocationLeaf, ListLeaf, ParenthesizedNode, AssignmentNode, UnaryNode, BinaryNode, ReferenceTree, ReferenceTo, NoMember, MemberOf, ArgumentTrees, NoArguments, MoreArguments}
 
 -- what may stand at a level may stand at the level below
 IsExpression-lower : (level : ℕ) (tree : ExpressionTree) → IsExpression (suc level) tree → IsExpression level tree
@@ -63,7 +67,7 @@ mutual
       (cc, (omega arith, r.1, v.1))
 
   pub reference-spelled : {symbols rest : List Symbol} {tree : ReferenceTree} → DerivesReference symbols tree rest → (symbols ≡ reference_symbols tree rest) × IsReference tree
-  reference-spelled (whole d) = let h = arguments-spelled d in (cc, h.1)
+  reference-spelled (whole d) = let h = arguments-spelled d in (cc, (h.1, tt))
   reference-spelled (with_member d₁ d₂) =
       let a = arguments-spelled d₁ in
       let b = arguments-spelled d₂ in
@@ -131,8 +135,8 @@ mutual
       (join operator (expression-derived (left_level (level_of operator)) left _ h.1) (expression-derived (suc (level_of operator)) right rest h.2))
 
   pub reference-derived : (tree : ReferenceTree) (rest : List Symbol) → IsReference tree → DerivesReference (reference_symbols tree rest) tree rest
-  reference-derived (WholeReference name arguments) rest h = whole (arguments-derived arguments rest h)
-  reference-derived (MemberReference name arguments member its_arguments) rest h =
+  reference-derived (ReferenceTo name arguments NoMember) rest h = whole (arguments-derived arguments rest h.0)
+  reference-derived (ReferenceTo name arguments (MemberOf member its_arguments)) rest h =
       with_member (arguments-derived arguments _ h.0) (arguments-derived its_arguments rest h.1)
 
   pub arguments-derived : (tree : ArgumentTrees) (rest : List Symbol) → AreArguments tree → DerivesArguments (arguments_symbols tree rest) tree rest
@@ -144,3 +148,25 @@ mutual
   more_arguments-derived NoArguments rest h = last_argument
   more_arguments-derived (MoreArguments first others) rest h =
       next_argument (expression-derived expr_level first _ h.0) (more_arguments-derived others rest h.1)
+
+-- after the first of several, a comma and the others
+more_after_commas-some : {A : Type 0} (symbols : A → List Symbol → List Symbol) (others : List A) (rest : List Symbol) → IsNotEmpty others → more_after_commas symbols others rest ≡ MarkSymbol Comma ∷ between_commas symbols others rest
+more_after_commas-some symbols [] rest e = absurd e
+more_after_commas-some symbols (first ∷ others) rest e = refl
+
+pub targets-spelled : {symbols rest : List Symbol} {targets : List ReferenceTree}
+    → DerivesTargets symbols targets rest
+    → (symbols ≡ between_commas reference_symbols targets rest) × IsNotEmpty targets × AllByRecursion IsReference targets
+targets-spelled (last_target d) = let h = reference-spelled d in (h.0, tt, (h.1, tt))
+targets-spelled (next_target {rest = rest} {others = others} d ds) =
+    let h = reference-spelled d in
+    let hs = targets-spelled ds in
+    let e = more_after_commas-some reference_symbols others rest hs.1 in
+    (cc, tt, (h.1, hs.2))
+
+pub targets-derived : (first : ReferenceTree) (others : List ReferenceTree) (rest : List Symbol)
+    → IsReference first
+    → AllByRecursion IsReference others
+    → DerivesTargets (between_commas reference_symbols (first ∷ others) rest) (first ∷ others) rest
+targets-derived first [] rest h hs = last_target (reference-derived first rest h)
+targets-derived first (second ∷ others) rest h hs = next_target (reference-derived first _ h) (targets-derived second others rest hs.0 hs.1)

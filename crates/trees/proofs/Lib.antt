@@ -1,5 +1,4 @@
 pub mod Names
-pub mod Derivations
-pub mod StatementDerivations
-mod Rows
 pub mod Views
+pub mod Derivations
+mod Rows

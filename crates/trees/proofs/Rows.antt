@@ -1,16 +1,31 @@
 -- Rows of the derivation.
-use Rattle.std.proofs.Common.{refl, lit≤, arith}
-use Rattle.trees.proofs.StatementDerivations.{module-derived}
-use Rattle.trees.specs.Derivation.{Derives}
-use Rattle.trees.specs.Forms.{expr_level, IsExpression}
-use Rattle.trees.specs.Rows.{nested_if_words, nested_if_tree, left_sum, right_sum}
+use Rattle.std.proofs.Common.{◌≡◌, List, [], ◌∷◌, refl, lit≤, arith}
+use Rattle.trees.specs.declared.identifier.Identifier.{Identifier}
+use Rattle.trees.specs.Derivation.{DerivesExpression, Derives, whole_module, no_declaration, next_statement, no_statement, labelled, unlabelled, null, goto, if_then, if_then_else, next_level, reference, whole, no_arguments}
+use Rattle.trees.specs.Forms.{expr_level}
+use Rattle.trees.specs.internal.Forms.{IsExpression}
+use Rattle.trees.specs.internal.Spelling.{expression_symbols}
+use Rattle.trees.specs.Symbols.{Symbol, NameSymbol}
+use Rattle.trees.specs.Trees.{ReferenceLeaf, ReferenceTo, NoArguments, NoMember}
+use Rattle.trees.specs.Rows.{at, nested_if_words, nested_if_tree, left_sum, right_sum}
+
+variable-derived : {name : Identifier} {rest : List Symbol}
+    → DerivesExpression expr_level (NameSymbol name ∷ rest) (ReferenceLeaf (ReferenceTo name NoArguments NoMember)) rest
+variable-derived =
+    next_level (next_level (next_level (next_level (next_level (next_level (next_level
+    (reference (whole no_arguments))))))))
 
 -- the words derive the tree in which the ELSE goes with the nearer IF
 nested_if-derived : Derives nested_if_words nested_if_tree
 nested_if-derived = record {
-  grammar = module-derived nested_if_tree (tt, (((lit≤ tt, tt), ((lit≤ tt, tt), (tt, (tt, tt), lit≤ tt), refl, (tt, (tt, tt), lit≤ tt))), tt));
+  grammar =
+      whole_module (at 44) no_declaration
+      (next_statement
+      (unlabelled (if_then variable-derived
+      (labelled (unlabelled (if_then_else variable-derived (unlabelled null) refl (unlabelled goto))))))
+      no_statement);
   nested = lit≤ tt;
-  ends = (refl, tt, ((tt, tt), tt));
+  ends = (refl, tt, (((tt, tt), tt), tt));
 }
 
 -- 1 + 2 + 3 groups from the left
@@ -19,3 +34,6 @@ left_sum-is = (lit≤ tt, (lit≤ tt, lit≤ tt, lit≤ tt), lit≤ tt)
 
 right_sum-is-not : IsExpression expr_level right_sum → ⊥
 right_sum-is-not h = omega (arith, h.2.0)
+
+right_sum-is_spelled_alike : expression_symbols right_sum [] ≡ expression_symbols left_sum []
+right_sum-is_spelled_alike = refl

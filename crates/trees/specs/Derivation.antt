@@ -1,7 +1,8 @@
--- When words derive a module: a case for each line of the grammar. In each, the symbols before `rest` are those of the tree.
+-- When words derive a module: a case for each line of the grammar. In each, the symbols before `rest` are those of
+-- the tree.
 use Rattle.std.specs.Prelude.{◌≡◌, ℕ, suc, ◌<◌, false, List, [], ◌∷◌, Option, Some, None}
 use Rattle.std.specs.List.{AllByRecursion}
-use Rattle.words.specs.declared.vocabulary.Mark.TheVariants.{EqualSign, MinusSign, LeftParenthesis, RightParenthesis, Comma, Semicolon, Colon, Period, AssignSign}
+use Rattle.words.specs.declared.vocabulary.Mark.TheVariants.{EqualSign, MinusSign, LeftParenthesis, RightParenthesis, Comma, Colon, Period, AssignSign}
 use Rattle.words.specs.declared.vocabulary.ReservedWord.TheVariants as words
 use Rattle.words.specs.Spelling.{Lexeme}
 use Rattle.trees.specs.declared.expression.BinaryOperator.{BinaryOperator}
@@ -10,11 +11,12 @@ use Rattle.trees.specs.declared.expression.UnaryOperator.TheVariants.{Not, Negat
 use Rattle.trees.specs.declared.identifier.Identifier.{Identifier}
 use Rattle.trees.specs.declared.identifier.Number.{Number}
 use Rattle.trees.specs.declared.identifier.Place.{Place}
+use Rattle.trees.specs.declared.module.TheConstants.{NESTING_LIMIT}
 use Rattle.trees.specs.Forms.{expr_level, conj_level, neg_level, rel_level, sum_level, term_level, sec_level, primary_level, level_of, IsNotEmpty, IsElement, ends_in_open_if}
-use Rattle.trees.specs.Nesting.{module_height, IsNestedWithin, ModuleEndsRight}
+use Rattle.trees.specs.Nesting.{module_height, IsNestedWithin, ModuleEndsMatch}
 use Rattle.trees.specs.Spelling.{binary_symbol, between_commas, constant_symbols, element_symbols, heading_symbols, ending_symbols}
-use Rattle.trees.specs.Symbols.{Symbol, NameSymbol, NumberSymbol, StringSymbol, ReservedSymbol, PlacedSymbol, MarkSymbol, symbols_of}
-use Rattle.trees.specs.Trees.{StringTree, ConstantTree, NumberConstant, StringConstant, ExpressionTree, ConstantLeaf, ReferenceLeaf, LocationLeaf, ListLeaf, ParenthesizedNode, AssignmentNode, UnaryNode, BinaryNode, ReferenceTree, WholeReference, MemberReference, ArgumentTrees, NoArguments, MoreArguments, ElementTree, HeadingTree, StatementTree, NullStatement, AssignmentStatement, CallStatement, ReturnStatement, HaltStatement, IfStatement, IfElseStatement, DoStatement, WhileStatement, IterateStatement, CaseStatement, StatementTrees, NoStatements, MoreStatements, DeclarationTree, DeclareTree, ProcedureTree, DeclarationTrees, NoDeclarations, MoreDeclarations, ModuleTree}
+use Rattle.trees.specs.Symbols.{Symbol, NameSymbol, NumberSymbol, StringSymbol, ReservedSymbol, PlacedSymbol, MarkSymbol, SemicolonSymbol, symbols_of}
+use Rattle.trees.specs.Trees.{StringTree, ConstantTree, NumberConstant, StringConstant, ExpressionTree, ConstantLeaf, ReferenceLeaf, LocationLeaf, ListLeaf, ParenthesizedNode, AssignmentNode, UnaryNode, BinaryNode, ReferenceTree, ReferenceTo, NoMember, MemberOf, ArgumentTrees, NoArguments, MoreArguments, ElementTree, HeadingTree, StatementTree, LabelledStatement, StatementKindTree, NullStatement, AssignmentStatement, CallStatement, ReturnStatement, HaltStatement, GotoStatement, IfStatement, NoElse, ElseStatement, DoStatement, WhileStatement, IterateStatement, CaseStatement, StatementTrees, NoStatements, MoreStatements, DeclarationTree, DeclareTree, ProcedureTree, DeclarationTrees, NoDeclarations, MoreDeclarations, ModuleTree}
 
 mutual
   -- the symbols derive an expression at a level of the grammar
@@ -77,7 +79,8 @@ mutual
     -- primary: `.` `(` constant {`,` constant} `)`
     list : {constants : List ConstantTree} {rest : List Symbol}
         → IsNotEmpty constants
-        → DerivesExpression primary_level (MarkSymbol Period ∷ MarkSymbol LeftParenthesis ∷ between_commas constant_symbols constants (MarkSymbol RightParenthesis ∷ rest)) (ListLeaf constants) rest
+        → DerivesExpression primary_level (MarkSymbol Period ∷ MarkSymbol LeftParenthesis
+        ∷ between_commas constant_symbols constants (MarkSymbol RightParenthesis ∷ rest)) (ListLeaf constants) rest
     -- primary: `(` expr `)`
     parenthesized : {symbols rest : List Symbol} {tree : ExpressionTree}
         → DerivesExpression expr_level symbols tree (MarkSymbol RightParenthesis ∷ rest)
@@ -92,12 +95,14 @@ mutual
     -- reference: name [args]
     whole : {name : Identifier} {symbols rest : List Symbol} {arguments : ArgumentTrees}
         → DerivesArguments symbols arguments rest
-        → DerivesReference (NameSymbol name ∷ symbols) (WholeReference name arguments) rest
+        → DerivesReference (NameSymbol name ∷ symbols) (ReferenceTo name arguments NoMember) rest
     -- reference: name [args] `.` name [args]
-    with_member : {name member : Identifier} {symbols middle rest : List Symbol} {arguments its_arguments : ArgumentTrees}
+    with_member : {name member : Identifier} {symbols middle rest : List Symbol}
+        {arguments its_arguments : ArgumentTrees}
         → DerivesArguments symbols arguments (MarkSymbol Period ∷ NameSymbol member ∷ middle)
         → DerivesArguments middle its_arguments rest
-        → DerivesReference (NameSymbol name ∷ symbols) (MemberReference name arguments member its_arguments) rest
+        → DerivesReference (NameSymbol name ∷ symbols)
+        (ReferenceTo name arguments (MemberOf member its_arguments)) rest
 
   -- [args]
   pub data DerivesArguments : List Symbol → ArgumentTrees → List Symbol → Type 0 where
@@ -129,67 +134,101 @@ pub data DerivesTargets : List Symbol → List ReferenceTree → List Symbol →
 
 mutual
   pub data DerivesStatement : List Symbol → StatementTree → List Symbol → Type 0 where
+    -- statement: name `:` statement
+    labelled : {label : Identifier} {labels : List Identifier} {symbols rest : List Symbol}
+        {kind : StatementKindTree}
+        → DerivesStatement symbols (LabelledStatement labels kind) rest
+        → DerivesStatement (NameSymbol label ∷ MarkSymbol Colon ∷ symbols)
+        (LabelledStatement (label ∷ labels) kind) rest
+    -- statement: one of the lines below
+    unlabelled : {symbols rest : List Symbol} {kind : StatementKindTree}
+        → DerivesKind symbols kind rest
+        → DerivesStatement symbols (LabelledStatement [] kind) rest
+
+  -- a statement without labels
+  pub data DerivesKind : List Symbol → StatementKindTree → List Symbol → Type 0 where
     -- statement: `;`
-    null : {rest : List Symbol} → DerivesStatement (MarkSymbol Semicolon ∷ rest) NullStatement rest
+    null : {place : Place} {rest : List Symbol}
+        → DerivesKind (SemicolonSymbol place ∷ rest) (NullStatement place) rest
     -- statement: reference {`,` reference} `=` expr `;`
-    assignment : {symbols middle rest : List Symbol} {targets : List ReferenceTree} {value : ExpressionTree}
+    assignment : {end : Place} {symbols middle rest : List Symbol} {targets : List ReferenceTree}
+        {value : ExpressionTree}
         → DerivesTargets symbols targets (MarkSymbol EqualSign ∷ middle)
-        → DerivesExpression expr_level middle value (MarkSymbol Semicolon ∷ rest)
-        → DerivesStatement symbols (AssignmentStatement targets value) rest
+        → DerivesExpression expr_level middle value (SemicolonSymbol end ∷ rest)
+        → DerivesKind symbols (AssignmentStatement targets value) rest
     -- statement: CALL name [args] `;`
-    call : {place : Place} {name : Identifier} {symbols rest : List Symbol} {arguments : ArgumentTrees}
-        → DerivesArguments symbols arguments (MarkSymbol Semicolon ∷ rest)
-        → DerivesStatement (PlacedSymbol words.Call place ∷ NameSymbol name ∷ symbols) (CallStatement place name arguments) rest
+    call : {place end : Place} {name : Identifier} {symbols rest : List Symbol} {arguments : ArgumentTrees}
+        → DerivesArguments symbols arguments (SemicolonSymbol end ∷ rest)
+        → DerivesKind (PlacedSymbol words.Call place ∷ NameSymbol name ∷ symbols)
+        (CallStatement place name arguments) rest
     -- statement: RETURN `;`
-    return : {place : Place} {rest : List Symbol}
-        → DerivesStatement (PlacedSymbol words.Return place ∷ MarkSymbol Semicolon ∷ rest) (ReturnStatement place None) rest
+    return : {place end : Place} {rest : List Symbol}
+        → DerivesKind (PlacedSymbol words.Return place ∷ SemicolonSymbol end ∷ rest)
+        (ReturnStatement place None) rest
     -- statement: RETURN expr `;`
-    return_value : {place : Place} {symbols rest : List Symbol} {value : ExpressionTree}
-        → DerivesExpression expr_level symbols value (MarkSymbol Semicolon ∷ rest)
-        → DerivesStatement (PlacedSymbol words.Return place ∷ symbols) (ReturnStatement place (Some value)) rest
+    return_value : {place end : Place} {symbols rest : List Symbol} {value : ExpressionTree}
+        → DerivesExpression expr_level symbols value (SemicolonSymbol end ∷ rest)
+        → DerivesKind (PlacedSymbol words.Return place ∷ symbols) (ReturnStatement place (Some value)) rest
     -- statement: HALT `;`
-    halt : {place : Place} {rest : List Symbol}
-        → DerivesStatement (PlacedSymbol words.Halt place ∷ MarkSymbol Semicolon ∷ rest) (HaltStatement place) rest
+    halt : {place end : Place} {rest : List Symbol}
+        → DerivesKind (PlacedSymbol words.Halt place ∷ SemicolonSymbol end ∷ rest) (HaltStatement place) rest
+    -- statement: GOTO name `;`
+    goto : {place end : Place} {label : Identifier} {rest : List Symbol}
+        → DerivesKind (PlacedSymbol words.Goto place ∷ NameSymbol label ∷ SemicolonSymbol end ∷ rest)
+        (GotoStatement place label) rest
     -- statement: IF expr THEN statement
     if_then : {place : Place} {symbols middle rest : List Symbol} {condition : ExpressionTree} {body : StatementTree}
         → DerivesExpression expr_level symbols condition (ReservedSymbol words.Then ∷ middle)
         → DerivesStatement middle body rest
-        → DerivesStatement (PlacedSymbol words.If place ∷ symbols) (IfStatement place condition body) rest
+        → DerivesKind (PlacedSymbol words.If place ∷ symbols) (IfStatement place condition body NoElse) rest
     -- statement: IF expr THEN statement ELSE statement, where the ELSE goes with no IF nearer to it
-    if_then_else : {place : Place} {symbols middle behind rest : List Symbol} {condition : ExpressionTree} {body otherwise : StatementTree}
+    if_then_else : {place : Place} {symbols middle after rest : List Symbol} {condition : ExpressionTree}
+        {body otherwise : StatementTree}
         → DerivesExpression expr_level symbols condition (ReservedSymbol words.Then ∷ middle)
-        → DerivesStatement middle body (ReservedSymbol words.Else ∷ behind)
+        → DerivesStatement middle body (ReservedSymbol words.Else ∷ after)
         → ends_in_open_if body ≡ false
-        → DerivesStatement behind otherwise rest
-        → DerivesStatement (PlacedSymbol words.If place ∷ symbols) (IfElseStatement place condition body otherwise) rest
+        → DerivesStatement after otherwise rest
+        → DerivesKind (PlacedSymbol words.If place ∷ symbols)
+        (IfStatement place condition body (ElseStatement otherwise)) rest
     -- statement: DO `;` {declaration} {statement} END `;`
-    simple_do : {place : Place} {symbols middle rest : List Symbol} {declared : DeclarationTrees} {body : StatementTrees}
+    simple_do : {place start end : Place} {symbols middle rest : List Symbol} {declared : DeclarationTrees}
+        {body : StatementTrees}
         → DerivesDeclarations symbols declared middle
-        → DerivesStatements middle body (ReservedSymbol words.End ∷ MarkSymbol Semicolon ∷ rest)
-        → DerivesStatement (PlacedSymbol words.Do place ∷ MarkSymbol Semicolon ∷ symbols) (DoStatement place declared body) rest
+        → DerivesStatements middle body (ReservedSymbol words.End ∷ SemicolonSymbol end ∷ rest)
+        → DerivesKind (PlacedSymbol words.Do place ∷ SemicolonSymbol start ∷ symbols)
+        (DoStatement place declared body) rest
     -- statement: DO WHILE expr `;` {statement} END `;`
-    do_while : {place : Place} {symbols middle rest : List Symbol} {condition : ExpressionTree} {body : StatementTrees}
-        → DerivesExpression expr_level symbols condition (MarkSymbol Semicolon ∷ middle)
-        → DerivesStatements middle body (ReservedSymbol words.End ∷ MarkSymbol Semicolon ∷ rest)
-        → DerivesStatement (PlacedSymbol words.Do place ∷ ReservedSymbol words.While ∷ symbols) (WhileStatement place condition body) rest
+    do_while : {place start end : Place} {symbols middle rest : List Symbol} {condition : ExpressionTree}
+        {body : StatementTrees}
+        → DerivesExpression expr_level symbols condition (SemicolonSymbol start ∷ middle)
+        → DerivesStatements middle body (ReservedSymbol words.End ∷ SemicolonSymbol end ∷ rest)
+        → DerivesKind (PlacedSymbol words.Do place ∷ ReservedSymbol words.While ∷ symbols)
+        (WhileStatement place condition body) rest
     -- statement: DO name `=` expr TO expr `;` {statement} END `;`
-    iterative_do : {place : Place} {variable : Identifier} {symbols middle behind rest : List Symbol} {first last : ExpressionTree} {body : StatementTrees}
-        → DerivesExpression expr_level symbols first (ReservedSymbol words.To ∷ middle)
-        → DerivesExpression expr_level middle last (MarkSymbol Semicolon ∷ behind)
-        → DerivesStatements behind body (ReservedSymbol words.End ∷ MarkSymbol Semicolon ∷ rest)
-        → DerivesStatement (PlacedSymbol words.Do place ∷ NameSymbol variable ∷ MarkSymbol EqualSign ∷ symbols) (IterateStatement place (record { variable = variable; first = first; last = last; step = None }) body) rest
+    iterative_do : {place start end : Place} {variable : Identifier} {symbols to middle rest : List Symbol}
+        {first last : ExpressionTree} {body : StatementTrees}
+        → DerivesExpression expr_level symbols first (ReservedSymbol words.To ∷ to)
+        → DerivesExpression expr_level to last (SemicolonSymbol start ∷ middle)
+        → DerivesStatements middle body (ReservedSymbol words.End ∷ SemicolonSymbol end ∷ rest)
+        → DerivesKind (PlacedSymbol words.Do place ∷ NameSymbol variable ∷ MarkSymbol EqualSign ∷ symbols)
+        (IterateStatement place (record { variable = variable; first = first; last = last; step = None }) body) rest
     -- statement: DO name `=` expr TO expr BY expr `;` {statement} END `;`
-    iterative_do_by : {place : Place} {variable : Identifier} {symbols middle behind after rest : List Symbol} {first last step : ExpressionTree} {body : StatementTrees}
-        → DerivesExpression expr_level symbols first (ReservedSymbol words.To ∷ middle)
-        → DerivesExpression expr_level middle last (ReservedSymbol words.By ∷ behind)
-        → DerivesExpression expr_level behind step (MarkSymbol Semicolon ∷ after)
-        → DerivesStatements after body (ReservedSymbol words.End ∷ MarkSymbol Semicolon ∷ rest)
-        → DerivesStatement (PlacedSymbol words.Do place ∷ NameSymbol variable ∷ MarkSymbol EqualSign ∷ symbols) (IterateStatement place (record { variable = variable; first = first; last = last; step = Some step }) body) rest
+    iterative_do_by : {place start end : Place} {variable : Identifier} {symbols to by middle rest : List Symbol}
+        {first last step : ExpressionTree} {body : StatementTrees}
+        → DerivesExpression expr_level symbols first (ReservedSymbol words.To ∷ to)
+        → DerivesExpression expr_level to last (ReservedSymbol words.By ∷ by)
+        → DerivesExpression expr_level by step (SemicolonSymbol start ∷ middle)
+        → DerivesStatements middle body (ReservedSymbol words.End ∷ SemicolonSymbol end ∷ rest)
+        → DerivesKind (PlacedSymbol words.Do place ∷ NameSymbol variable ∷ MarkSymbol EqualSign ∷ symbols)
+        (IterateStatement place (record { variable = variable; first = first; last = last; step = Some step }) body)
+        rest
     -- statement: DO CASE expr `;` {statement} END `;`
-    do_case : {place : Place} {symbols middle rest : List Symbol} {choice : ExpressionTree} {body : StatementTrees}
-        → DerivesExpression expr_level symbols choice (MarkSymbol Semicolon ∷ middle)
-        → DerivesStatements middle body (ReservedSymbol words.End ∷ MarkSymbol Semicolon ∷ rest)
-        → DerivesStatement (PlacedSymbol words.Do place ∷ ReservedSymbol words.Case ∷ symbols) (CaseStatement place choice body) rest
+    do_case : {place start end : Place} {symbols middle rest : List Symbol} {choice : ExpressionTree}
+        {body : StatementTrees}
+        → DerivesExpression expr_level symbols choice (SemicolonSymbol start ∷ middle)
+        → DerivesStatements middle body (ReservedSymbol words.End ∷ SemicolonSymbol end ∷ rest)
+        → DerivesKind (PlacedSymbol words.Do place ∷ ReservedSymbol words.Case ∷ symbols)
+        (CaseStatement place choice body) rest
 
   -- {statement}
   pub data DerivesStatements : List Symbol → StatementTrees → List Symbol → Type 0 where
@@ -201,15 +240,18 @@ mutual
 
   pub data DerivesDeclaration : List Symbol → DeclarationTree → List Symbol → Type 0 where
     -- declaration: DECLARE element {`,` element} `;`
-    declare : {elements : List ElementTree} {rest : List Symbol}
+    declare : (end : Place) {elements : List ElementTree} {rest : List Symbol}
         → IsNotEmpty elements
         → AllByRecursion IsElement elements
-        → DerivesDeclaration (ReservedSymbol words.Declare ∷ between_commas element_symbols elements (MarkSymbol Semicolon ∷ rest)) (DeclareTree elements) rest
-    -- procedure: its heading {declaration} {statement} END [name] `;`
-    procedure : {heading : HeadingTree} {symbols middle rest : List Symbol} {declared : DeclarationTrees} {body : StatementTrees} {end_name : Option Identifier}
+        → DerivesDeclaration (ReservedSymbol words.Declare
+        ∷ between_commas element_symbols elements (SemicolonSymbol end ∷ rest)) (DeclareTree elements) rest
+    -- procedure: its heading `;` {declaration} {statement} END [name] `;`
+    procedure : (start end : Place) {heading : HeadingTree} {symbols middle rest : List Symbol}
+        {declared : DeclarationTrees} {body : StatementTrees} {end_name : Option Identifier}
         → DerivesDeclarations symbols declared middle
-        → DerivesStatements middle body (ending_symbols end_name rest)
-        → DerivesDeclaration (heading_symbols heading symbols) (ProcedureTree heading declared body end_name) rest
+        → DerivesStatements middle body (ending_symbols end_name (SemicolonSymbol end ∷ rest))
+        → DerivesDeclaration (heading_symbols heading (SemicolonSymbol start ∷ symbols))
+        (ProcedureTree heading declared body end_name) rest
 
   -- {declaration}
   pub data DerivesDeclarations : List Symbol → DeclarationTrees → List Symbol → Type 0 where
@@ -219,34 +261,40 @@ mutual
         → DerivesDeclarations middle others rest
         → DerivesDeclarations symbols (MoreDeclarations first others) rest
 
--- module: name `:` DO `;` {declaration} {statement} END [name] `;`, and nothing behind it
-pub record DerivesModule (symbols : List Symbol) (tree : ModuleTree) : Type 0 where
-  pub behind_heading : List Symbol
-  pub behind_declarations : List Symbol
-  pub heading : symbols ≡ NameSymbol tree.name ∷ MarkSymbol Colon ∷ PlacedSymbol words.Do tree.place ∷ MarkSymbol Semicolon ∷ behind_heading
-  pub declarations : DerivesDeclarations behind_heading tree.declarations behind_declarations
-  pub statements : DerivesStatements behind_declarations tree.statements (ending_symbols tree.end_name [])
+-- module: name `:` DO `;` {declaration} {statement} END [name] `;`, and nothing after it
+pub data DerivesModule : List Symbol → ModuleTree → Type 0 where
+  whole_module : (end : Place) {name : Identifier} {place start : Place} {symbols middle : List Symbol}
+      {declared : DeclarationTrees} {body : StatementTrees} {end_name : Option Identifier}
+      → DerivesDeclarations symbols declared middle
+      → DerivesStatements middle body (ending_symbols end_name (SemicolonSymbol end ∷ []))
+      → DerivesModule
+      (NameSymbol name ∷ MarkSymbol Colon ∷ PlacedSymbol words.Do place ∷ SemicolonSymbol start ∷ symbols)
+      (record { name = name; place = place; declarations = declared; statements = body; end_name = end_name })
 
--- words derive a module: by the grammar, nested 64 levels at most, and with the right names behind END
+-- words derive a module: by the grammar, nested no deeper than the limit, and with names after END that match
 pub record Derives (words : List Lexeme) (tree : ModuleTree) : Type 0 where
   pub grammar : DerivesModule (symbols_of words) tree
   pub nested : IsNestedWithin tree
-  pub ends : ModuleEndsRight tree
+  pub ends : ModuleEndsMatch tree
 
 -- words would derive a module, but for its depth
 pub record DerivesButForDepth (words : List Lexeme) : Type 0 where
   pub tree : ModuleTree
   pub grammar : DerivesModule (symbols_of words) tree
-  pub too_deep : 64 < module_height tree
-  pub ends : ModuleEndsRight tree
+  pub too_deep : NESTING_LIMIT < module_height tree
+  pub ends : ModuleEndsMatch tree
 
--- words would derive a module, but for a name behind END
+-- words would derive a module, but for a name after END
 pub record DerivesButForEndName (words : List Lexeme) : Type 0 where
   pub tree : ModuleTree
   pub grammar : DerivesModule (symbols_of words) tree
   pub nested : IsNestedWithin tree
-  pub other : ¬ ModuleEndsRight tree
+  pub other : ¬ ModuleEndsMatch tree
 
--- words derive one module at most, whatever its depth and the names behind END
+-- words derive one module at most, whatever its depth and the names after END
 abbrev pub DerivesAtMostOne : List Lexeme → Type 0
-DerivesAtMostOne words = (first second : ModuleTree) → DerivesModule (symbols_of words) first → DerivesModule (symbols_of words) second → first ≡ second
+DerivesAtMostOne words =
+    (first second : ModuleTree)
+    → DerivesModule (symbols_of words) first
+    → DerivesModule (symbols_of words) second
+    → first ≡ second

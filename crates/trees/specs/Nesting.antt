@@ -1,10 +1,12 @@
--- How deep a tree nests, and whether the names behind END are right.
+-- How deep a tree nests, and whether the names after END match what they end.
 use Rattle.std.specs.Prelude.{◌≡◌, ℕ, suc, ◌≤◌, max, List, [], ◌∷◌, Option, IfSome}
 use Rattle.std.specs.Option.{option_map_or}
 use Rattle.trees.specs.declared.identifier.Identifier.{Identifier}
-use Rattle.trees.specs.Trees.{ExpressionTree, ConstantLeaf, ReferenceLeaf, LocationLeaf, ListLeaf, ParenthesizedNode, AssignmentNode, UnaryNode, BinaryNode, ReferenceTree, WholeReference, MemberReference, ArgumentTrees, NoArguments, MoreArguments, IterationTree, StatementTree, NullStatement, AssignmentStatement, CallStatement, ReturnStatement, HaltStatement, IfStatement, IfElseStatement, DoStatement, WhileStatement, IterateStatement, CaseStatement, StatementTrees, NoStatements, MoreStatements, DeclarationTree, DeclareTree, ProcedureTree, DeclarationTrees, NoDeclarations, MoreDeclarations, ModuleTree}
+use Rattle.trees.specs.declared.module.TheConstants.{NESTING_LIMIT}
+use Rattle.trees.specs.Trees.{ExpressionTree, ConstantLeaf, ReferenceLeaf, LocationLeaf, ListLeaf, ParenthesizedNode, AssignmentNode, UnaryNode, BinaryNode, ReferenceTree, ReferenceTo, MemberTree, NoMember, MemberOf, ArgumentTrees, NoArguments, MoreArguments, IterationTree, StatementTree, LabelledStatement, StatementKindTree, NullStatement, AssignmentStatement, CallStatement, ReturnStatement, HaltStatement, GotoStatement, IfStatement, DoStatement, WhileStatement, IterateStatement, CaseStatement, ElseTree, NoElse, ElseStatement, StatementTrees, NoStatements, MoreStatements, DeclarationTree, DeclareTree, ProcedureTree, DeclarationTrees, NoDeclarations, MoreDeclarations, ModuleTree}
 
--- How many levels an expression takes. A leaf and an operator are one level, and so are parentheses; `(A := e)` is two.
+-- How many levels an expression takes. A leaf and an operator are one level, and so are parentheses; `(A := e)` is
+-- two.
 -- The arguments of a name are one level deeper than the leaf or the assignment that it stands in.
 abbrev mutual
   pub expression_height : ExpressionTree → ℕ
@@ -13,14 +15,19 @@ abbrev mutual
   expression_height (LocationLeaf reference) = suc (reference_height reference)
   expression_height (ListLeaf constants) = 1
   expression_height (ParenthesizedNode inner) = suc (expression_height inner)
-  expression_height (AssignmentNode target value) = suc (suc (max (reference_height target) (expression_height value)))
+  expression_height (AssignmentNode target value) =
+      suc (suc (max (reference_height target) (expression_height value)))
   expression_height (UnaryNode operator operand) = suc (expression_height operand)
-  expression_height (BinaryNode operator left right) = suc (max (expression_height left) (expression_height right))
+  expression_height (BinaryNode operator left right) =
+      suc (max (expression_height left) (expression_height right))
 
   -- the levels of a reference's arguments; the reference itself is none
   pub reference_height : ReferenceTree → ℕ
-  reference_height (WholeReference name arguments) = arguments_height arguments
-  reference_height (MemberReference name arguments member its_arguments) = max (arguments_height arguments) (arguments_height its_arguments)
+  reference_height (ReferenceTo name arguments member) = max (arguments_height arguments) (member_height member)
+
+  pub member_height : MemberTree → ℕ
+  member_height NoMember = 0
+  member_height (MemberOf name arguments) = arguments_height arguments
 
   pub arguments_height : ArgumentTrees → ℕ
   arguments_height NoArguments = 0
@@ -37,23 +44,35 @@ optional_height value = option_map_or expression_height value 0
 
 -- the levels of the head of an iterative DO
 abbrev pub iteration_height : IterationTree → ℕ
-iteration_height iteration = max (expression_height iteration.first) (max (expression_height iteration.last) (optional_height iteration.step))
+iteration_height iteration =
+    max (expression_height iteration.first)
+    (max (expression_height iteration.last) (optional_height iteration.step))
 
--- How many levels a statement or a declaration takes. A statement and a procedure are one level, and what they hold is deeper. DECLARE takes none.
+-- How many levels a statement or a declaration takes. A statement and a procedure are one level, and what they hold
+-- is deeper. Labels and DECLARE take none.
 abbrev mutual
   pub statement_height : StatementTree → ℕ
-  statement_height NullStatement = 1
-  statement_height (AssignmentStatement targets value) = suc (max (targets_height targets) (expression_height value))
-  statement_height (CallStatement place name arguments) = suc (arguments_height arguments)
-  statement_height (ReturnStatement place value) = suc (optional_height value)
-  statement_height (HaltStatement place) = 1
-  statement_height (IfStatement place condition body) = suc (max (expression_height condition) (statement_height body))
-  statement_height (IfElseStatement place condition body otherwise) =
-      suc (max (expression_height condition) (max (statement_height body) (statement_height otherwise)))
-  statement_height (DoStatement place declared body) = suc (max (declarations_height declared) (statements_height body))
-  statement_height (WhileStatement place condition body) = suc (max (expression_height condition) (statements_height body))
-  statement_height (IterateStatement place iteration body) = suc (max (iteration_height iteration) (statements_height body))
-  statement_height (CaseStatement place choice body) = suc (max (expression_height choice) (statements_height body))
+  statement_height (LabelledStatement labels kind) = kind_height kind
+
+  pub kind_height : StatementKindTree → ℕ
+  kind_height (NullStatement place) = 1
+  kind_height (AssignmentStatement targets value) = suc (max (targets_height targets) (expression_height value))
+  kind_height (CallStatement place name arguments) = suc (arguments_height arguments)
+  kind_height (ReturnStatement place value) = suc (optional_height value)
+  kind_height (HaltStatement place) = 1
+  kind_height (GotoStatement place label) = 1
+  kind_height (IfStatement place condition body otherwise) =
+      suc (max (expression_height condition) (max (statement_height body) (else_height otherwise)))
+  kind_height (DoStatement place declared body) = suc (max (declarations_height declared) (statements_height body))
+  kind_height (WhileStatement place condition body) =
+      suc (max (expression_height condition) (statements_height body))
+  kind_height (IterateStatement place iteration body) =
+      suc (max (iteration_height iteration) (statements_height body))
+  kind_height (CaseStatement place choice body) = suc (max (expression_height choice) (statements_height body))
+
+  pub else_height : ElseTree → ℕ
+  else_height NoElse = 0
+  else_height (ElseStatement otherwise) = statement_height otherwise
 
   pub statements_height : StatementTrees → ℕ
   statements_height NoStatements = 0
@@ -61,7 +80,8 @@ abbrev mutual
 
   pub declaration_height : DeclarationTree → ℕ
   declaration_height (DeclareTree elements) = 0
-  declaration_height (ProcedureTree heading declared body end_name) = suc (max (declarations_height declared) (statements_height body))
+  declaration_height (ProcedureTree heading declared body end_name) =
+      suc (max (declarations_height declared) (statements_height body))
 
   pub declarations_height : DeclarationTrees → ℕ
   declarations_height NoDeclarations = 0
@@ -71,42 +91,52 @@ abbrev mutual
 abbrev pub module_height : ModuleTree → ℕ
 module_height tree = max (declarations_height tree.declarations) (statements_height tree.statements)
 
--- a module nests 64 levels at most
+-- a module nests no deeper than the limit
 abbrev pub IsNestedWithin : ModuleTree → Type 0
-IsNestedWithin tree = module_height tree ≤ 64
+IsNestedWithin tree = module_height tree ≤ NESTING_LIMIT
 
--- a name behind END is that of what it ends
+-- a name after END is that of what it ends
 abbrev pub IsEndName : Identifier → Option Identifier → Type 0
 IsEndName name end_name = IfSome end_name (λ other. other.name ≡ name.name)
 
--- the names behind END in statements and declarations are right
+-- the names after END in statements and declarations match
 abbrev mutual
-  pub EndsRight : StatementTree → Type 0
-  EndsRight NullStatement = Unit {0}
-  EndsRight (AssignmentStatement _ _) = Unit {0}
-  EndsRight (CallStatement _ _ _) = Unit {0}
-  EndsRight (ReturnStatement _ _) = Unit {0}
-  EndsRight (HaltStatement place) = Unit {0}
-  EndsRight (IfStatement place condition body) = EndsRight body
-  EndsRight (IfElseStatement place condition body otherwise) = EndsRight body × EndsRight otherwise
-  EndsRight (DoStatement place declared body) = DeclarationsEndRight declared × StatementsEndRight body
-  EndsRight (WhileStatement place condition body) = StatementsEndRight body
-  EndsRight (IterateStatement place iteration body) = StatementsEndRight body
-  EndsRight (CaseStatement place choice body) = StatementsEndRight body
+  pub StatementEndsMatch : StatementTree → Type 0
+  StatementEndsMatch (LabelledStatement labels kind) = KindEndsMatch kind
 
-  pub StatementsEndRight : StatementTrees → Type 0
-  StatementsEndRight NoStatements = Unit {0}
-  StatementsEndRight (MoreStatements first others) = EndsRight first × StatementsEndRight others
+  pub KindEndsMatch : StatementKindTree → Type 0
+  KindEndsMatch (NullStatement place) = Unit {0}
+  KindEndsMatch (AssignmentStatement targets value) = Unit {0}
+  KindEndsMatch (CallStatement place name _) = Unit {0}
+  KindEndsMatch (ReturnStatement place value) = Unit {0}
+  KindEndsMatch (HaltStatement place) = Unit {0}
+  KindEndsMatch (GotoStatement place label) = Unit {0}
+  KindEndsMatch (IfStatement place condition body otherwise) = StatementEndsMatch body × ElseEndsMatch otherwise
+  KindEndsMatch (DoStatement place declared body) = DeclarationsEndsMatch declared × StatementsEndsMatch body
+  KindEndsMatch (WhileStatement place condition body) = StatementsEndsMatch body
+  KindEndsMatch (IterateStatement place iteration body) = StatementsEndsMatch body
+  KindEndsMatch (CaseStatement place choice body) = StatementsEndsMatch body
 
-  pub DeclarationEndsRight : DeclarationTree → Type 0
-  DeclarationEndsRight (DeclareTree elements) = Unit {0}
-  DeclarationEndsRight (ProcedureTree heading declared body end_name) =
-      IsEndName heading.name end_name × DeclarationsEndRight declared × StatementsEndRight body
+  pub ElseEndsMatch : ElseTree → Type 0
+  ElseEndsMatch NoElse = Unit {0}
+  ElseEndsMatch (ElseStatement otherwise) = StatementEndsMatch otherwise
 
-  pub DeclarationsEndRight : DeclarationTrees → Type 0
-  DeclarationsEndRight NoDeclarations = Unit {0}
-  DeclarationsEndRight (MoreDeclarations first others) = DeclarationEndsRight first × DeclarationsEndRight others
+  pub StatementsEndsMatch : StatementTrees → Type 0
+  StatementsEndsMatch NoStatements = Unit {0}
+  StatementsEndsMatch (MoreStatements first others) = StatementEndsMatch first × StatementsEndsMatch others
 
--- the names behind END in a module are right
-abbrev pub ModuleEndsRight : ModuleTree → Type 0
-ModuleEndsRight tree = IsEndName tree.name tree.end_name × DeclarationsEndRight tree.declarations × StatementsEndRight tree.statements
+  pub DeclarationEndsMatch : DeclarationTree → Type 0
+  DeclarationEndsMatch (DeclareTree elements) = Unit {0}
+  DeclarationEndsMatch (ProcedureTree heading declared body end_name) =
+      IsEndName heading.name end_name × DeclarationsEndsMatch declared × StatementsEndsMatch body
+
+  pub DeclarationsEndsMatch : DeclarationTrees → Type 0
+  DeclarationsEndsMatch NoDeclarations = Unit {0}
+  DeclarationsEndsMatch (MoreDeclarations first others) = DeclarationEndsMatch first × DeclarationsEndsMatch others
+
+-- the names after END in a module match
+abbrev pub ModuleEndsMatch : ModuleTree → Type 0
+ModuleEndsMatch tree =
+    IsEndName tree.name tree.end_name
+    × DeclarationsEndsMatch tree.declarations
+    × StatementsEndsMatch tree.statements

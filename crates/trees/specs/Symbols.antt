@@ -3,8 +3,9 @@ use Rattle.std.specs.Prelude.{ℕ, List, map, if◌then◌else◌}
 use Rattle.words.specs.declared.vocabulary.Kind.{Kind}
 use Rattle.words.specs.declared.vocabulary.Kind.TheVariants.{Name, Reserved, Number as NumberWord, String, Mark as MarkWord}
 use Rattle.words.specs.declared.vocabulary.Mark.{Mark}
+use Rattle.words.specs.declared.vocabulary.Mark.TheVariants.{Semicolon}
 use Rattle.words.specs.declared.vocabulary.ReservedWord.{ReservedWord}
-use Rattle.words.specs.declared.vocabulary.ReservedWord.TheVariants.{At, Call, Data, Do, External, Halt, If, Initial, Public, Reentrant, Return}
+use Rattle.words.specs.declared.vocabulary.ReservedWord.TheVariants.{At, Call, Data, Do, External, Goto, Halt, If, Initial, Public, Reentrant, Return}
 use Rattle.words.specs.Names.{name_of}
 use Rattle.words.specs.Spelling.{Lexeme}
 use Rattle.words.specs.Strings.{characters_of}
@@ -14,7 +15,8 @@ use Rattle.trees.specs.declared.identifier.Place.{Place}
 use Rattle.trees.specs.Names.{is_name}
 use Rattle.trees.specs.Trees.{StringTree}
 
--- A name, a number and a string by what they stand for and where, a reserved word, for some with where it stands, or a mark.
+-- A name, a number and a string by what they stand for and where, a reserved word, for some with where it stands,
+-- or a mark, for a semicolon with where it stands.
 -- A word that is said to be a name and has other characters is a symbol that the grammar doesn't have.
 pub data Symbol : Type 0 where
   NameSymbol : Identifier → Symbol
@@ -23,6 +25,7 @@ pub data Symbol : Type 0 where
   ReservedSymbol : ReservedWord → Symbol
   PlacedSymbol : ReservedWord → Place → Symbol
   MarkSymbol : Mark → Symbol
+  SemicolonSymbol : Place → Symbol
   UnknownSymbol : Symbol
 
 -- a reserved word, with its place if a tree keeps it: that of an attribute, and of a word that begins a statement
@@ -32,6 +35,7 @@ reserved_symbol Call place = PlacedSymbol Call place
 reserved_symbol Data place = PlacedSymbol Data place
 reserved_symbol Do place = PlacedSymbol Do place
 reserved_symbol External place = PlacedSymbol External place
+reserved_symbol Goto place = PlacedSymbol Goto place
 reserved_symbol Halt place = PlacedSymbol Halt place
 reserved_symbol If place = PlacedSymbol If place
 reserved_symbol Initial place = PlacedSymbol Initial place
@@ -40,6 +44,11 @@ reserved_symbol Reentrant place = PlacedSymbol Reentrant place
 reserved_symbol Return place = PlacedSymbol Return place
 reserved_symbol word place = ReservedSymbol word
 
+-- a mark, with its place if a tree keeps it: that of a semicolon, which may be a statement
+abbrev pub mark_symbol : Mark → Place → Symbol
+mark_symbol Semicolon place = SemicolonSymbol place
+mark_symbol mark place = MarkSymbol mark
+
 -- the symbol of a word of a kind, from its bytes and its place
 abbrev pub symbol_at : Kind → List ℕ → Place → Symbol
 symbol_at Name text place =
@@ -47,7 +56,7 @@ symbol_at Name text place =
 symbol_at (Reserved word) text place = reserved_symbol word place
 symbol_at (NumberWord value) text place = NumberSymbol (record { value = value; place = place })
 symbol_at String text place = StringSymbol (record { characters = characters_of text; place = place })
-symbol_at (MarkWord mark) text place = MarkSymbol mark
+symbol_at (MarkWord mark) text place = mark_symbol mark place
 
 -- the symbol of a word
 abbrev pub symbol_of : Lexeme → Symbol

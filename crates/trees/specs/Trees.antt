@@ -1,4 +1,5 @@
--- The trees of a module, without where their parts lie in memory. Names, numbers, operators and the like are those of the code.
+-- The trees of a module, without where their parts lie in memory. Names, numbers, operators and the like are those of
+-- the code.
 use Rattle.std.specs.Prelude.{ℕ, List, Option}
 use Rattle.trees.specs.declared.declaration.Dimension.{Dimension}
 use Rattle.trees.specs.declared.declaration.Linkage.{Linkage}
@@ -33,10 +34,14 @@ mutual
     UnaryNode : UnaryOperator → ExpressionTree → ExpressionTree
     BinaryNode : BinaryOperator → ExpressionTree → ExpressionTree → ExpressionTree
 
-  -- a name with its arguments, and perhaps a member of it with its own
+  -- a name with its arguments, and perhaps a member of it
   pub data ReferenceTree : Type 0 where
-    WholeReference : Identifier → ArgumentTrees → ReferenceTree
-    MemberReference : Identifier → ArgumentTrees → Identifier → ArgumentTrees → ReferenceTree
+    ReferenceTo : Identifier → ArgumentTrees → MemberTree → ReferenceTree
+
+  -- a member with its arguments, or none
+  pub data MemberTree : Type 0 where
+    NoMember : MemberTree
+    MemberOf : Identifier → ArgumentTrees → MemberTree
 
   -- a list of expressions
   pub data ArgumentTrees : Type 0 where
@@ -101,19 +106,28 @@ pub record IterationTree : Type 0 where
   pub step : Option ExpressionTree
 
 mutual
-  -- a statement, with the place of its first word if that is a reserved one
+  -- a statement with the labels before it
   pub data StatementTree : Type 0 where
-    NullStatement : StatementTree
-    AssignmentStatement : List ReferenceTree → ExpressionTree → StatementTree
-    CallStatement : Place → Identifier → ArgumentTrees → StatementTree
-    ReturnStatement : Place → Option ExpressionTree → StatementTree
-    HaltStatement : Place → StatementTree
-    IfStatement : Place → ExpressionTree → StatementTree → StatementTree
-    IfElseStatement : Place → ExpressionTree → StatementTree → StatementTree → StatementTree
-    DoStatement : Place → DeclarationTrees → StatementTrees → StatementTree
-    WhileStatement : Place → ExpressionTree → StatementTrees → StatementTree
-    IterateStatement : Place → IterationTree → StatementTrees → StatementTree
-    CaseStatement : Place → ExpressionTree → StatementTrees → StatementTree
+    LabelledStatement : List Identifier → StatementKindTree → StatementTree
+
+  -- what a statement does, with the place of its first word if that is a reserved one or a semicolon
+  pub data StatementKindTree : Type 0 where
+    NullStatement : Place → StatementKindTree
+    AssignmentStatement : List ReferenceTree → ExpressionTree → StatementKindTree
+    CallStatement : Place → Identifier → ArgumentTrees → StatementKindTree
+    ReturnStatement : Place → Option ExpressionTree → StatementKindTree
+    HaltStatement : Place → StatementKindTree
+    GotoStatement : Place → Identifier → StatementKindTree
+    IfStatement : Place → ExpressionTree → StatementTree → ElseTree → StatementKindTree
+    DoStatement : Place → DeclarationTrees → StatementTrees → StatementKindTree
+    WhileStatement : Place → ExpressionTree → StatementTrees → StatementKindTree
+    IterateStatement : Place → IterationTree → StatementTrees → StatementKindTree
+    CaseStatement : Place → ExpressionTree → StatementTrees → StatementKindTree
+
+  -- the statement after ELSE, or none
+  pub data ElseTree : Type 0 where
+    NoElse : ElseTree
+    ElseStatement : StatementTree → ElseTree
 
   pub data StatementTrees : Type 0 where
     NoStatements : StatementTrees
@@ -121,7 +135,7 @@ mutual
 
   pub data DeclarationTree : Type 0 where
     DeclareTree : List ElementTree → DeclarationTree
-    -- a heading, what the procedure declares and does, and the name behind its END
+    -- a heading, what the procedure declares and does, and the name after its END
     ProcedureTree : HeadingTree → DeclarationTrees → StatementTrees → Option Identifier → DeclarationTree
 
   pub data DeclarationTrees : Type 0 where

@@ -1,5 +1,5 @@
 -- The trees of the code as trees without where their parts lie in memory.
-use Rattle.std.specs.Prelude.{Bool, true, false, List, [], ◌∷◌, map, Option, Some, None}
+use Rattle.std.specs.Prelude.{◌≡◌, Bool, true, false, List, [], ◌∷◌, map, Option, Some, None, Result, IfOk}
 use Rattle.std.specs.Option.{option_map}
 use Rattle.trees.specs.declared.declaration.At.{At}
 use Rattle.trees.specs.declared.declaration.Element.{Element}
@@ -24,15 +24,20 @@ use Rattle.trees.specs.declared.identifier.Identifier.{Identifier}
 use Rattle.trees.specs.declared.identifier.Place.{Place}
 use Rattle.trees.specs.declared.identifier.StringLiteral.{StringLiteral}
 use Rattle.trees.specs.declared.module.Module.{Module}
-use Rattle.trees.specs.declared.statement.Declaration.{Declaration, Row_of-Declaration, end_of-Declaration, more_of-Declaration}
+use Rattle.trees.specs.declared.statement.Block.{Block, Block', out-Block, Row_of-Declaration, end_of-Declaration, more_of-Declaration, Row_of-Statement, end_of-Statement, more_of-Statement}
+use Rattle.trees.specs.declared.statement.Declaration.{Declaration}
 use Rattle.trees.specs.declared.statement.Declaration.TheVariants as declarations
+use Rattle.trees.specs.declared.statement.DoCase.{DoCase'}
+use Rattle.trees.specs.declared.statement.DoWhile.{DoWhile'}
 use Rattle.trees.specs.declared.statement.Heading.{Heading}
 use Rattle.trees.specs.declared.statement.Iteration.{Iteration}
-use Rattle.trees.specs.declared.statement.IfThen.{Held-IfThen-otherwise}
-use Rattle.trees.specs.declared.statement.IfThen.{None' as NoElse', Some' as SomeElse'}
-use Rattle.trees.specs.declared.statement.Statement.{Statement, Row_of-Statement, end_of-Statement, more_of-Statement}
-use Rattle.trees.specs.declared.statement.Statement.TheVariants as statements
-use Rattle.trees.specs.Trees.{StringTree, ConstantTree, NumberConstant, StringConstant, ExpressionTree, ConstantLeaf, ReferenceLeaf, LocationLeaf, ListLeaf, ParenthesizedNode, AssignmentNode, UnaryNode, BinaryNode, ReferenceTree, WholeReference, MemberReference, ArgumentTrees, NoArguments, MoreArguments, OriginTree, ConstantOrigin, LocationOrigin, OffsetTree, RestrictedTree, ItemTypeTree, ScalarItem, StructureItem, AtTree, ValueListTree, SubjectTree, SingleSubject, GroupSubject, ItemTree, ElementTree, LiterallyElement, ItemElement, HeadingTree, IterationTree, StatementTree, NullStatement, AssignmentStatement, CallStatement, ReturnStatement, HaltStatement, IfStatement, IfElseStatement, DoStatement, WhileStatement, IterateStatement, CaseStatement, StatementTrees, NoStatements, MoreStatements, DeclarationTree, DeclareTree, ProcedureTree, DeclarationTrees, NoDeclarations, MoreDeclarations, ModuleTree}
+use Rattle.trees.specs.declared.statement.IfThen.{IfThen', Held-IfThen-otherwise, None' as NoElse', Some' as SomeElse'}
+use Rattle.trees.specs.declared.statement.IterativeDo.{IterativeDo'}
+use Rattle.trees.specs.declared.statement.Procedure.{Procedure'}
+use Rattle.trees.specs.declared.statement.Statement.{Statement}
+use Rattle.trees.specs.declared.statement.StatementKind.{StatementKind}
+use Rattle.trees.specs.declared.statement.StatementKind.TheVariants as kinds
+use Rattle.trees.specs.Trees.{StringTree, ConstantTree, NumberConstant, StringConstant, ExpressionTree, ConstantLeaf, ReferenceLeaf, LocationLeaf, ListLeaf, ParenthesizedNode, AssignmentNode, UnaryNode, BinaryNode, ReferenceTree, ReferenceTo, MemberTree, NoMember, MemberOf, ArgumentTrees, NoArguments, MoreArguments, OriginTree, ConstantOrigin, LocationOrigin, OffsetTree, RestrictedTree, ItemTypeTree, ScalarItem, StructureItem, AtTree, ValueListTree, SubjectTree, SingleSubject, GroupSubject, ItemTree, ElementTree, LiterallyElement, ItemElement, HeadingTree, IterationTree, StatementTree, LabelledStatement, StatementKindTree, NullStatement, AssignmentStatement, CallStatement, ReturnStatement, HaltStatement, GotoStatement, IfStatement, DoStatement, WhileStatement, IterateStatement, CaseStatement, ElseTree, NoElse, ElseStatement, StatementTrees, NoStatements, MoreStatements, DeclarationTree, DeclareTree, ProcedureTree, DeclarationTrees, NoDeclarations, MoreDeclarations, ModuleTree}
 
 abbrev pub string_tree : StringLiteral → StringTree
 string_tree literal = record { characters = literal.characters.items; place = literal.place }
@@ -48,30 +53,41 @@ abbrev mutual
   expression_tree (expressions.Location' p reference) = LocationLeaf (reference_tree reference)
   expression_tree (expressions.List constants) = ListLeaf (map constant_tree constants.items)
   expression_tree (expressions.Parenthesized' p inner) = ParenthesizedNode (expression_tree inner)
-  expression_tree (expressions.Assignment' p reference q value) = AssignmentNode (reference_tree reference) (expression_tree value)
+  expression_tree (expressions.Assignment' p target q value) =
+      AssignmentNode (reference_tree target) (expression_tree value)
   expression_tree (expressions.Unary' operator p operand) = UnaryNode operator (expression_tree operand)
-  expression_tree (expressions.Binary' operator p left q right) = BinaryNode operator (expression_tree left) (expression_tree right)
+  expression_tree (expressions.Binary' operator p left q right) =
+      BinaryNode operator (expression_tree left) (expression_tree right)
 
   pub reference_tree : Reference → ReferenceTree
-  reference_tree (Reference' name shape arguments member) = with_member name (row_trees arguments) member
+  reference_tree (Reference' name shape arguments member) =
+      ReferenceTo name (row_trees arguments) (held_member_tree member)
 
-  pub with_member : Identifier → ArgumentTrees → Held-Reference-member → ReferenceTree
-  with_member name arguments None' = WholeReference name arguments
-  with_member name arguments (Some' p member shape its_arguments) = MemberReference name arguments member (row_trees its_arguments)
+  pub held_member_tree : Held-Reference-member → MemberTree
+  held_member_tree None' = NoMember
+  held_member_tree (Some' p name shape arguments) = MemberOf name (row_trees arguments)
 
   pub row_trees : {count : _} → Row_of-Expression count → ArgumentTrees
   row_trees end_of-Expression = NoArguments
   row_trees (more_of-Expression first rest) = MoreArguments (expression_tree first) (row_trees rest)
+
+-- where there was memory, an expression with this tree was made
+abbrev pub MakesExpression : {E : Type 0} → Result Expression E → ExpressionTree → Type 0
+MakesExpression result tree = IfOk result (λ made. expression_tree made ≡ tree)
 
 -- the arguments in a list
 abbrev pub argument_trees : List Expression → ArgumentTrees
 argument_trees [] = NoArguments
 argument_trees (first ∷ rest) = MoreArguments (expression_tree first) (argument_trees rest)
 
--- the reference of a name with its arguments, and perhaps a member with its own
-abbrev pub reference_of : Selector → Option Selector → ReferenceTree
-reference_of base None = WholeReference base.name (argument_trees base.arguments.items)
-reference_of base (Some member) = MemberReference base.name (argument_trees base.arguments.items) member.name (argument_trees member.arguments.items)
+-- the member that a reference names, if it names one
+abbrev pub member_tree : Option Selector → MemberTree
+member_tree None = NoMember
+member_tree (Some member) = MemberOf member.name (argument_trees member.arguments.items)
+
+-- the reference to what a name with its arguments names, or to a member of it
+abbrev pub reference_of : Selector → MemberTree → ReferenceTree
+reference_of base member = ReferenceTo base.name (argument_trees base.arguments.items) member
 
 -- whether an expression is a reference alone
 abbrev pub is_reference_leaf : ExpressionTree → Bool
@@ -86,7 +102,10 @@ abbrev pub offset_tree : Offset → OffsetTree
 offset_tree offset = record { sign = offset.sign; constant = constant_tree offset.constant }
 
 abbrev pub restricted_tree : Restricted → RestrictedTree
-restricted_tree restricted = record { origin = origin_tree restricted.origin; offsets = map offset_tree restricted.offsets.items }
+restricted_tree restricted = record {
+  origin = origin_tree restricted.origin;
+  offsets = map offset_tree restricted.offsets.items;
+}
 
 abbrev pub item_type_tree : ItemType → ItemTypeTree
 item_type_tree (Scalar scalar) = ScalarItem scalar
@@ -96,7 +115,10 @@ abbrev pub at_tree : At → AtTree
 at_tree at = record { place = at.place; address = restricted_tree at.address }
 
 abbrev pub value_list_tree : ValueList → ValueListTree
-value_list_tree list = record { storage = list.storage; values = map restricted_tree list.values.items }
+value_list_tree list = record {
+  storage = list.storage;
+  values = map restricted_tree list.values.items;
+}
 
 abbrev pub subject_tree : Subject → SubjectTree
 subject_tree (Single name base) = SingleSubject name base
@@ -113,7 +135,8 @@ item_tree item = record {
 }
 
 abbrev pub element_tree : Element → ElementTree
-element_tree (Literally definition) = LiterallyElement definition.value.name (string_tree definition.value.text)
+element_tree (Literally definition) =
+    LiterallyElement definition.value.name (string_tree definition.value.text)
 element_tree (ItemVariant item) = ItemElement (item_tree item.value)
 
 abbrev pub heading_tree : Heading → HeadingTree
@@ -134,38 +157,62 @@ iteration_tree iteration = record {
 }
 
 abbrev mutual
-  pub statement_tree : Statement → StatementTree
-  statement_tree statements.Null = NullStatement
-  statement_tree (statements.Assignment assignment) = AssignmentStatement (reference_tree assignment.value.target ∷ map reference_tree assignment.value.others.items) (expression_tree assignment.value.value)
-  statement_tree (statements.Call place procedure) = CallStatement place procedure.value.name (argument_trees procedure.value.arguments.items)
-  statement_tree (statements.Return place value) = ReturnStatement place (option_map (λ held. expression_tree held.value) value)
-  statement_tree (statements.Halt place) = HaltStatement place
-  statement_tree (statements.If' p place condition body otherwise) = with_else place (expression_tree condition) (statement_tree body) otherwise
-  statement_tree (statements.Do' place p n declared m body) = DoStatement place (declaration_rows declared) (statement_rows body)
-  statement_tree (statements.While' p place condition n body) = WhileStatement place (expression_tree condition) (statement_rows body)
-  statement_tree (statements.Iterate' p place iteration n body) = IterateStatement place (iteration_tree iteration) (statement_rows body)
-  statement_tree (statements.Case' p place choice n body) = CaseStatement place (expression_tree choice) (statement_rows body)
+  pub kind_tree : StatementKind → StatementKindTree
+  kind_tree (kinds.Null place) = NullStatement place
+  kind_tree (kinds.Assignment assignment) =
+      AssignmentStatement (reference_tree assignment.value.target ∷ map reference_tree assignment.value.others.items)
+      (expression_tree assignment.value.value)
+  kind_tree (kinds.Call place procedure) =
+      CallStatement place procedure.value.name (argument_trees procedure.value.arguments.items)
+  kind_tree (kinds.Return place value) =
+      ReturnStatement place (option_map (λ held. expression_tree held.value) value)
+  kind_tree (kinds.Halt place) = HaltStatement place
+  kind_tree (kinds.Goto place label) = GotoStatement place label.value
+  kind_tree (kinds.If' p (IfThen' place condition labels kind otherwise)) =
+      IfStatement place (expression_tree condition) (LabelledStatement labels.items (kind_tree kind))
+      (held_else_tree otherwise)
+  kind_tree (kinds.Do' place p (Block' n declared m body)) =
+      DoStatement place (declaration_rows declared) (statement_rows body)
+  kind_tree (kinds.While' p (DoWhile' place condition n body)) =
+      WhileStatement place (expression_tree condition) (statement_rows body)
+  kind_tree (kinds.Iterate' p (IterativeDo' place iteration n body)) =
+      IterateStatement place (iteration_tree iteration) (statement_rows body)
+  kind_tree (kinds.Case' p (DoCase' place choice n body)) =
+      CaseStatement place (expression_tree choice) (statement_rows body)
 
-  pub with_else : Place → ExpressionTree → StatementTree → Held-IfThen-otherwise → StatementTree
-  with_else place condition body NoElse' = IfStatement place condition body
-  with_else place condition body (SomeElse' otherwise) = IfElseStatement place condition body (statement_tree otherwise)
+  pub held_else_tree : Held-IfThen-otherwise → ElseTree
+  held_else_tree NoElse' = NoElse
+  held_else_tree (SomeElse' labels kind) = ElseStatement (LabelledStatement labels.items (kind_tree kind))
 
   pub statement_rows : {count : _} → Row_of-Statement count → StatementTrees
   statement_rows end_of-Statement = NoStatements
-  statement_rows (more_of-Statement first rest) = MoreStatements (statement_tree first) (statement_rows rest)
+  statement_rows (more_of-Statement labels kind rest) =
+      MoreStatements (LabelledStatement labels.items (kind_tree kind)) (statement_rows rest)
 
   pub declaration_tree : Declaration → DeclarationTree
   declaration_tree (declarations.Declare elements) = DeclareTree (map element_tree elements.items)
-  declaration_tree (declarations.Procedure' p heading n declared m body end_name) = ProcedureTree (heading_tree heading) (declaration_rows declared) (statement_rows body) end_name
+  declaration_tree (declarations.Procedure' p (Procedure' heading (Block' n declared m body) end_name)) =
+      ProcedureTree (heading_tree heading) (declaration_rows declared) (statement_rows body) end_name
 
   pub declaration_rows : {count : _} → Row_of-Declaration count → DeclarationTrees
   declaration_rows end_of-Declaration = NoDeclarations
   declaration_rows (more_of-Declaration first rest) = MoreDeclarations (declaration_tree first) (declaration_rows rest)
 
--- an IF, with what stands behind ELSE, if it has one
-abbrev pub if_tree : Place → ExpressionTree → StatementTree → Option StatementTree → StatementTree
-if_tree place condition body None = IfStatement place condition body
-if_tree place condition body (Some otherwise) = IfElseStatement place condition body otherwise
+abbrev pub statement_tree : Statement → StatementTree
+statement_tree statement = LabelledStatement statement.labels.items (kind_tree statement.kind)
+
+-- where there was memory, such a statement was made
+abbrev pub MakesKind : {E : Type 0} → Result StatementKind E → StatementKindTree → Type 0
+MakesKind result tree = IfOk result (λ made. kind_tree made ≡ tree)
+
+-- the trees of the targets of an assignment
+abbrev pub target_trees : Reference → List Reference → List ReferenceTree
+target_trees first others = reference_tree first ∷ map reference_tree others
+
+-- the statement after ELSE, if there is one
+abbrev pub else_tree : Option Statement → ElseTree
+else_tree None = NoElse
+else_tree (Some otherwise) = ElseStatement (statement_tree otherwise)
 
 -- the statements in a list
 abbrev pub statement_trees : List Statement → StatementTrees
@@ -177,11 +224,23 @@ abbrev pub declaration_trees : List Declaration → DeclarationTrees
 declaration_trees [] = NoDeclarations
 declaration_trees (first ∷ rest) = MoreDeclarations (declaration_tree first) (declaration_trees rest)
 
+-- what a block declares and does
+abbrev pub block_declarations : Block → DeclarationTrees
+block_declarations block = declaration_trees (out-Block block).declarations.items
+
+abbrev pub block_statements : Block → StatementTrees
+block_statements block = statement_trees (out-Block block).statements.items
+
+-- a procedure with its name after END, if there is one
+abbrev pub procedure_tree : Heading → Block → Option Identifier → DeclarationTree
+procedure_tree heading body end_name =
+    ProcedureTree (heading_tree heading) (block_declarations body) (block_statements body) end_name
+
 abbrev pub module_tree : Module → ModuleTree
 module_tree parsed = record {
   name = parsed.name;
   place = parsed.place;
-  declarations = declaration_trees parsed.body.declarations.items;
-  statements = statement_trees parsed.body.statements.items;
+  declarations = block_declarations parsed.body;
+  statements = block_statements parsed.body;
   end_name = parsed.end_name;
 }

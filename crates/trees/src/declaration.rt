@@ -95,7 +95,7 @@ pub struct ValueList {
 /// What an item declares.
 #[derive(Debug, Drop)]
 pub enum Subject {
-    /// A name, and the name behind BASED, if there is one.
+    /// A name, and the name after BASED, if there is one.
     Single {
         name: Identifier,
         base: Option<Identifier>,

@@ -75,7 +75,7 @@ const _: () = prove!(size_of::<Expression>() <= 32);
 
 const _: () = prove!(size_of::<Reference>() <= 80);
 
-/// A name with what stands in parentheses behind it, subscripts or arguments; no parentheses are an empty list.
+/// A name with its subscripts or arguments, which stand in parentheses; no parentheses are an empty list.
 #[cycle(expression)]
 #[derive(Debug, Drop)]
 pub struct Selector {
@@ -94,7 +94,7 @@ pub struct Reference {
 
 impl Reference {
     ghost use Rattle.std.specs.Prelude.{◌≡◌, IfOk};
-    ghost use Rattle.trees.specs.Views.{reference_tree, reference_of};
+    ghost use Rattle.trees.specs.Views.{member_tree, reference_of, reference_tree};
 
     /// The reference to what `base` names, or to a member of it.
     #[tactic(auto, using(crate::specs::declared::expression::Reference::the_lemmas, crate::proofs::Views::row_trees_are))]
@@ -103,7 +103,7 @@ impl Reference {
         base: Selector,
         member: Option<Selector>,
     ) -> Result<Reference, AllocError>
-        ensures view { IfOk result (λ made. reference_tree made ≡ reference_of base member) }
+        ensures view { IfOk result (λ made. reference_tree made ≡ reference_of base (member_tree member)) }
     {
         let Selector { name, arguments } = base;
         let member = match member {
@@ -120,8 +120,9 @@ impl Reference {
 
 impl Expression {
     ghost use Rattle.std.specs.Prelude.{◌≡◌, false, map, IfOk, IfErr};
-    ghost use Rattle.trees.specs.Trees.{ConstantLeaf, ReferenceLeaf, LocationLeaf, ListLeaf, ParenthesizedNode, AssignmentNode, UnaryNode, BinaryNode};
-    ghost use Rattle.trees.specs.Views.{constant_tree, expression_tree, reference_tree, is_reference_leaf};
+    ghost use Rattle.trees.specs.Trees.{ConstantLeaf, ReferenceLeaf, LocationLeaf, ListLeaf};
+    ghost use Rattle.trees.specs.Trees.{ParenthesizedNode, AssignmentNode, UnaryNode, BinaryNode};
+    ghost use Rattle.trees.specs.Views.{MakesExpression, constant_tree, expression_tree, reference_tree, is_reference_leaf};
 
     /// A number or a string.
     pub fn constant(constant: Constant) -> Expression
@@ -132,14 +133,14 @@ impl Expression {
 
     /// A variable, an element or a member of one, or a call.
     pub fn reference(alloc: Global, reference: Reference) -> Result<Expression, AllocError>
-        ensures view { IfOk result (λ made. expression_tree made ≡ ReferenceLeaf (reference_tree reference)) }
+        ensures view { MakesExpression result (ReferenceLeaf (reference_tree reference)) }
     {
         Ok(Expression::Reference(Box::new(alloc, reference)?))
     }
 
     /// `.` and what it locates.
     pub fn location(alloc: Global, reference: Reference) -> Result<Expression, AllocError>
-        ensures view { IfOk result (λ made. expression_tree made ≡ LocationLeaf (reference_tree reference)) }
+        ensures view { MakesExpression result (LocationLeaf (reference_tree reference)) }
     {
         Ok(Expression::Location(Box::new(alloc, reference)?))
     }
@@ -153,7 +154,7 @@ impl Expression {
 
     /// `(..)`
     pub fn parenthesized(alloc: Global, inner: Expression) -> Result<Expression, AllocError>
-        ensures view { IfOk result (λ made. expression_tree made ≡ ParenthesizedNode (expression_tree inner)) }
+        ensures view { MakesExpression result (ParenthesizedNode (expression_tree inner)) }
     {
         Ok(Expression::Parenthesized(Box::new(alloc, inner)?))
     }
@@ -164,7 +165,7 @@ impl Expression {
         target: Reference,
         value: Expression,
     ) -> Result<Expression, AllocError>
-        ensures view { IfOk result (λ made. expression_tree made ≡ AssignmentNode (reference_tree target) (expression_tree value)) }
+        ensures view { MakesExpression result (AssignmentNode (reference_tree target) (expression_tree value)) }
     {
         let target = Box::new(alloc, target)?;
         let value = Box::new(alloc, value)?;
@@ -177,7 +178,7 @@ impl Expression {
         operator: UnaryOperator,
         operand: Expression,
     ) -> Result<Expression, AllocError>
-        ensures view { IfOk result (λ made. expression_tree made ≡ UnaryNode operator (expression_tree operand)) }
+        ensures view { MakesExpression result (UnaryNode operator (expression_tree operand)) }
     {
         Ok(Expression::Unary(operator, Box::new(alloc, operand)?))
     }
@@ -189,7 +190,7 @@ impl Expression {
         left: Expression,
         right: Expression,
     ) -> Result<Expression, AllocError>
-        ensures view { IfOk result (λ made. expression_tree made ≡ BinaryNode operator (expression_tree left) (expression_tree right)) }
+        ensures view { MakesExpression result (BinaryNode operator (expression_tree left) (expression_tree right)) }
     {
         let left = Box::new(alloc, left)?;
         Ok(Expression::Binary(operator, left, Box::new(alloc, right)?))

@@ -1,13 +1,12 @@
 //! The trees of PL/M-80 modules, and which words derive them.
 #![tactic(auto)]
 
-pub mod declaration;
-pub mod expression;
-pub mod identifier;
-pub mod laws;
-pub mod module;
-pub mod name;
-pub mod statement;
+mod declaration;
+mod expression;
+mod identifier;
+mod module;
+mod name;
+mod statement;
 
 pub use declaration::{
     At, Definition, Dimension, Element, Item, ItemType, Linkage, Member, Offset, Origin,
@@ -15,12 +14,9 @@ pub use declaration::{
 };
 pub use expression::{BinaryOperator, Expression, Reference, Selector, UnaryOperator};
 pub use identifier::{Constant, Identifier, Number, Place, StringLiteral};
-pub use module::Module;
+pub use module::{Module, NESTING_LIMIT};
 pub use name::Name;
 pub use statement::{
     Assignment, Block, Declaration, DoCase, DoWhile, Heading, IfThen, Iteration, IterativeDo,
-    Procedure, Statement,
+    Procedure, Statement, StatementKind,
 };
-
-#[cfg(test)]
-mod tests;

@@ -38,9 +38,9 @@ fn is_character(byte: u8) -> bool
     byte.is_ascii_uppercase() || byte.is_ascii_digit()
 }
 
-// The first character of a name, and the text behind it.
+// The first character of a name, and the text after it.
 fn first_character(text: &[u8]) -> Option<(u8, &[u8])>
-    ensures first { MatchOption result (name_of text.now ≡ []) (λ found. name_of text.now ≡ found.0 ∷ name_of found.1.now) }
+    ensures first { MatchOption result (name_of text.now ≡ []) (λ f. name_of text.now ≡ f.0 ∷ name_of f.1.now) }
     ensures shorter { IfSome result (λ found. length found.1.now < length text.now) }
 {
     let mut rest = text;

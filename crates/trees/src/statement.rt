@@ -18,17 +18,25 @@ pub struct Iteration {
 #[derive(Debug, Drop)]
 pub struct Assignment {
     pub target: Reference,
-    /// The targets behind the first.
+    /// The targets after the first.
     pub others: Vec<Reference>,
     pub value: Expression,
 }
 
-/// A statement.
+/// A statement with the labels before it.
 #[cycle(statement)]
 #[derive(Debug, Drop)]
-pub enum Statement {
-    /// `;`
-    Null,
+pub struct Statement {
+    pub labels: Vec<Identifier>,
+    pub kind: StatementKind,
+}
+
+/// What a statement does.
+#[cycle(statement)]
+#[derive(Debug, Drop)]
+pub enum StatementKind {
+    /// `;`, with where it stands.
+    Null(Place),
     /// Targets and the value that they get.
     Assignment(Box<Assignment>),
     /// CALL, with where the word stands.
@@ -43,6 +51,11 @@ pub enum Statement {
     },
     /// HALT, with where the word stands.
     Halt(Place),
+    /// GOTO, with where the word stands, and the label that it goes to.
+    Goto {
+        place: Place,
+        label: Box<Identifier>,
+    },
     /// IF
     If(Box<IfThen>),
     /// A simple DO, with where the word stands.
@@ -59,7 +72,9 @@ pub enum Statement {
 }
 
 // A module has many statements, so what is large is boxed.
-const _: () = prove!(size_of::<Statement>() <= 32);
+const _: () = prove!(size_of::<StatementKind>() <= 32);
+
+const _: () = prove!(size_of::<Statement>() <= 56);
 
 /// IF a condition THEN a statement ELSE another, if there is one, with where the word IF stands.
 #[cycle(statement)]
@@ -99,41 +114,62 @@ pub struct DoCase {
 }
 
 impl Statement {
-    ghost use Rattle.std.specs.Prelude.{◌≡◌, ◌∷◌, map, IfOk};
+    ghost use Rattle.std.specs.Prelude.{◌≡◌};
+    ghost use Rattle.trees.specs.Trees.{LabelledStatement};
+    ghost use Rattle.trees.specs.Views.{kind_tree, statement_tree};
+
+    /// A statement with these labels before it, in their order.
+    pub fn new(labels: Vec<Identifier>, kind: StatementKind) -> Statement
+        ensures view { statement_tree result ≡ LabelledStatement labels.items (kind_tree kind) }
+    {
+        Statement { labels, kind }
+    }
+}
+
+impl StatementKind {
+    ghost use Rattle.std.specs.Prelude.{◌≡◌};
     ghost use Rattle.std.specs.Option.{option_map};
-    ghost use Rattle.trees.specs.Trees.{NullStatement, AssignmentStatement, CallStatement, ReturnStatement, HaltStatement, DoStatement, WhileStatement, IterateStatement, CaseStatement};
-    ghost use Rattle.trees.specs.Views.{reference_tree, argument_trees, expression_tree, iteration_tree, if_tree, statement_tree, statement_trees, declaration_trees};
+    ghost use Rattle.trees.specs.Trees.{NullStatement, AssignmentStatement, CallStatement, ReturnStatement};
+    ghost use Rattle.trees.specs.Trees.{HaltStatement, GotoStatement, IfStatement, DoStatement, WhileStatement};
+    ghost use Rattle.trees.specs.Trees.{IterateStatement, CaseStatement};
+    ghost use Rattle.trees.specs.Views.{MakesKind, target_trees, argument_trees, expression_tree, iteration_tree};
+    ghost use Rattle.trees.specs.Views.{else_tree, kind_tree, statement_tree, statement_trees};
+    ghost use Rattle.trees.specs.Views.{block_declarations, block_statements};
 
     /// `;`
-    pub fn null() -> Statement
-        ensures view { statement_tree result ≡ NullStatement }
+    pub fn null(place: Place) -> StatementKind
+        ensures view { kind_tree result ≡ NullStatement place }
     {
-        Statement::Null
+        StatementKind::Null(place)
     }
 
-    /// The first target, the others behind it, and the value that they get.
+    /// The first target, the others after it, and the value that they get.
     pub fn assignment(
         alloc: Global,
         first: Reference,
         others: Vec<Reference>,
         value: Expression,
-    ) -> Result<Statement, AllocError>
-        ensures view { IfOk result (λ made. statement_tree made ≡ AssignmentStatement (reference_tree first ∷ map reference_tree others.items) (expression_tree value)) }
+    ) -> Result<StatementKind, AllocError>
+        ensures view { MakesKind result (AssignmentStatement (target_trees first others.items) (expression_tree value)) }
     {
         let assignment = Assignment {
             target: first,
             others,
             value,
         };
-        Ok(Statement::Assignment(Box::new(alloc, assignment)?))
+        Ok(StatementKind::Assignment(Box::new(alloc, assignment)?))
     }
 
     /// CALL and a procedure with its arguments.
-    pub fn call(alloc: Global, place: Place, procedure: Selector) -> Result<Statement, AllocError>
-        ensures view { IfOk result (λ made. statement_tree made ≡ CallStatement place procedure.name (argument_trees procedure.arguments.items)) }
+    pub fn call(
+        alloc: Global,
+        place: Place,
+        procedure: Selector,
+    ) -> Result<StatementKind, AllocError>
+        ensures view { MakesKind result (CallStatement place procedure.name (argument_trees procedure.arguments.items)) }
     {
         let procedure = Box::new(alloc, procedure)?;
-        Ok(Statement::Call { place, procedure })
+        Ok(StatementKind::Call { place, procedure })
     }
 
     /// RETURN, and a value, if there is one.
@@ -141,21 +177,29 @@ impl Statement {
         alloc: Global,
         place: Place,
         value: Option<Expression>,
-    ) -> Result<Statement, AllocError>
-        ensures view { IfOk result (λ made. statement_tree made ≡ ReturnStatement place (option_map expression_tree value)) }
+    ) -> Result<StatementKind, AllocError>
+        ensures view { MakesKind result (ReturnStatement place (option_map expression_tree value)) }
     {
         let value = match value {
             Some(expression) => Some(Box::new(alloc, expression)?),
             None => None,
         };
-        Ok(Statement::Return { place, value })
+        Ok(StatementKind::Return { place, value })
     }
 
     /// HALT
-    pub fn halt(place: Place) -> Statement
-        ensures view { statement_tree result ≡ HaltStatement place }
+    pub fn halt(place: Place) -> StatementKind
+        ensures view { kind_tree result ≡ HaltStatement place }
     {
-        Statement::Halt(place)
+        StatementKind::Halt(place)
+    }
+
+    /// GOTO a label.
+    pub fn goto(alloc: Global, place: Place, label: Identifier) -> Result<StatementKind, AllocError>
+        ensures view { MakesKind result (GotoStatement place label) }
+    {
+        let label = Box::new(alloc, label)?;
+        Ok(StatementKind::Goto { place, label })
     }
 
     /// IF a condition THEN a statement ELSE another, if there is one.
@@ -165,8 +209,9 @@ impl Statement {
         condition: Expression,
         body: Statement,
         otherwise: Option<Statement>,
-    ) -> Result<Statement, AllocError>
-        ensures view { IfOk result (λ made. statement_tree made ≡ if_tree place (expression_tree condition) (statement_tree body) (option_map statement_tree otherwise)) }
+    ) -> Result<StatementKind, AllocError>
+        ensures view { MakesKind result
+            (IfStatement place (expression_tree condition) (statement_tree body) (else_tree otherwise)) }
     {
         let statement = IfThen {
             place,
@@ -174,70 +219,70 @@ impl Statement {
             body,
             otherwise,
         };
-        Ok(Statement::If(Box::new(alloc, statement)?))
+        Ok(StatementKind::If(Box::new(alloc, statement)?))
     }
 
     /// A simple DO.
-    #[tactic(auto, using(crate::specs::declared::statement::Statement::the_lemmas, crate::proofs::Views::statement_rows_are, crate::proofs::Views::declaration_rows_are))]
-    pub fn simple_do(alloc: Global, place: Place, block: Block) -> Result<Statement, AllocError>
-        ensures view { IfOk result (λ made. statement_tree made ≡ DoStatement place (declaration_trees block.declarations.items) (statement_trees block.statements.items)) }
+    #[tactic(auto, using(crate::specs::declared::statement::StatementKind::the_lemmas, crate::proofs::Views::statement_rows_are, crate::proofs::Views::declaration_rows_are))]
+    pub fn simple_do(alloc: Global, place: Place, block: Block) -> Result<StatementKind, AllocError>
+        ensures view { MakesKind result (DoStatement place (block_declarations block) (block_statements block)) }
     {
         let block = Box::new(alloc, block)?;
-        Ok(Statement::Do { place, block })
+        Ok(StatementKind::Do { place, block })
     }
 
     /// DO WHILE a condition.
-    #[tactic(auto, using(crate::specs::declared::statement::Statement::the_lemmas, crate::proofs::Views::statement_rows_are))]
+    #[tactic(auto, using(crate::specs::declared::statement::StatementKind::the_lemmas, crate::proofs::Views::statement_rows_are))]
     pub fn do_while(
         alloc: Global,
         place: Place,
         condition: Expression,
         body: Vec<Statement>,
-    ) -> Result<Statement, AllocError>
-        ensures view { IfOk result (λ made. statement_tree made ≡ WhileStatement place (expression_tree condition) (statement_trees body.items)) }
+    ) -> Result<StatementKind, AllocError>
+        ensures view { MakesKind result (WhileStatement place (expression_tree condition) (statement_trees body.items)) }
     {
         let statement = DoWhile {
             place,
             condition,
             body,
         };
-        Ok(Statement::While(Box::new(alloc, statement)?))
+        Ok(StatementKind::While(Box::new(alloc, statement)?))
     }
 
     /// An iterative DO.
-    #[tactic(auto, using(crate::specs::declared::statement::Statement::the_lemmas, crate::proofs::Views::statement_rows_are))]
+    #[tactic(auto, using(crate::specs::declared::statement::StatementKind::the_lemmas, crate::proofs::Views::statement_rows_are))]
     pub fn iterative_do(
         alloc: Global,
         place: Place,
         iteration: Iteration,
         body: Vec<Statement>,
-    ) -> Result<Statement, AllocError>
-        ensures view { IfOk result (λ made. statement_tree made ≡ IterateStatement place (iteration_tree iteration) (statement_trees body.items)) }
+    ) -> Result<StatementKind, AllocError>
+        ensures view { MakesKind result (IterateStatement place (iteration_tree iteration) (statement_trees body.items)) }
     {
         let statement = IterativeDo {
             place,
             iteration,
             body,
         };
-        Ok(Statement::Iterate(Box::new(alloc, statement)?))
+        Ok(StatementKind::Iterate(Box::new(alloc, statement)?))
     }
 
     /// DO CASE a number.
-    #[tactic(auto, using(crate::specs::declared::statement::Statement::the_lemmas, crate::proofs::Views::statement_rows_are))]
+    #[tactic(auto, using(crate::specs::declared::statement::StatementKind::the_lemmas, crate::proofs::Views::statement_rows_are))]
     pub fn do_case(
         alloc: Global,
         place: Place,
         choice: Expression,
         body: Vec<Statement>,
-    ) -> Result<Statement, AllocError>
-        ensures view { IfOk result (λ made. statement_tree made ≡ CaseStatement place (expression_tree choice) (statement_trees body.items)) }
+    ) -> Result<StatementKind, AllocError>
+        ensures view { MakesKind result (CaseStatement place (expression_tree choice) (statement_trees body.items)) }
     {
         let statement = DoCase {
             place,
             choice,
             body,
         };
-        Ok(Statement::Case(Box::new(alloc, statement)?))
+        Ok(StatementKind::Case(Box::new(alloc, statement)?))
     }
 }
 
@@ -260,8 +305,8 @@ pub enum Declaration {
 
 impl Declaration {
     ghost use Rattle.std.specs.Prelude.{◌≡◌, map, IfOk};
-    ghost use Rattle.trees.specs.Trees.{DeclareTree, ProcedureTree};
-    ghost use Rattle.trees.specs.Views.{element_tree, heading_tree, statement_trees, declaration_tree, declaration_trees};
+    ghost use Rattle.trees.specs.Trees.{DeclareTree};
+    ghost use Rattle.trees.specs.Views.{element_tree, declaration_tree, procedure_tree};
 
     /// DECLARE and its elements.
     pub fn declare(elements: Vec<Element>) -> Declaration
@@ -270,7 +315,7 @@ impl Declaration {
         Declaration::Declare(elements)
     }
 
-    /// A procedure, with the name behind its END, if there is one.
+    /// A procedure, with the name after its END, if there is one.
     #[tactic(auto, using(crate::specs::declared::statement::Declaration::the_lemmas, crate::proofs::Views::statement_rows_are, crate::proofs::Views::declaration_rows_are))]
     pub fn procedure(
         alloc: Global,
@@ -278,7 +323,7 @@ impl Declaration {
         body: Block,
         end_name: Option<Identifier>,
     ) -> Result<Declaration, AllocError>
-        ensures view { IfOk result (λ made. declaration_tree made ≡ ProcedureTree (heading_tree heading) (declaration_trees body.declarations.items) (statement_trees body.statements.items) end_name) }
+        ensures view { IfOk result (λ made. declaration_tree made ≡ procedure_tree heading body end_name) }
     {
         let procedure = Procedure {
             heading,
@@ -300,7 +345,7 @@ pub struct Heading {
     pub reentrant: Option<Place>,
 }
 
-/// A procedure, with the name behind its END, if there is one.
+/// A procedure, with the name after its END, if there is one.
 #[cycle(statement)]
 #[derive(Debug, Drop)]
 pub struct Procedure {

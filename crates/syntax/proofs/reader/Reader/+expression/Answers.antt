@@ -1,7 +1,7 @@
 use Rattle.std.proofs.Common.{arith}
 use Rattle.trees.specs.Forms.{expr_level}
 use Rattle.trees.specs.Views.{expression_tree}
-use Rattle.syntax.specs.Expressions.{expression}
+use Rattle.syntax.specs.internal.Expressions.{expression}
 use Rattle.syntax.proofs.ExpressionSound.{expression-keeps}
 use Rattle.syntax.proofs.Loops.{list_more, list_ends, list_fails, gives_exit}
 use Rattle.syntax.proofs.Operators.{shorter_behind, operators_go_on, operators_do_not_go_on, primary_reads, primary_fails}

@@ -1,9 +1,9 @@
 use Rattle.std.proofs.Common.{◌≡◌, ◌≤◌, ◌+◌, ◌*◌, suc, map, length}
 use Rattle.trees.specs.Forms.{expr_level}
 use Rattle.trees.specs.Views.{expression_tree}
-use Rattle.syntax.specs.Expressions.{expression, all_operators}
-use Rattle.syntax.specs.Lists.{items, all_more_items}
-use Rattle.syntax.specs.Parts.{behind}
+use Rattle.syntax.specs.internal.Expressions.{expression, all_operators}
+use Rattle.syntax.specs.internal.Lists.{items, all_more_items}
+use Rattle.syntax.specs.internal.Parts.{behind}
 use Rattle.syntax.proofs.reader.Reader.+expression.Given as goal
 
 abbrev pub decreases-expression : goal.decreases-expression

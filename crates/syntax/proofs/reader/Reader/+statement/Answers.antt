@@ -11,19 +11,19 @@ pub take_statements-returns-in_err-expect_word : goal.take_statements-returns-in
 take_statements-returns-in_err-expect_word t c =
     let p = err_from_is_err_and c.from_residual.result c.from_residual.ensures.1 in
     let e = c.in_err-expect_word.ensures.err in
-    rw (p.1, p.2) (statements-fails_at_end _ _ _ _ _ c.loop-alloc.invariant e.1 e.0)
+    rw (p.1, p.2) (statements-fails_at_end _ _ _ _ _ c.more.invariant e.1 e.0)
 
 pub take_statements-returns-in_err-statement : goal.take_statements-returns-in_err-statement
 take_statements-returns-in_err-statement t c =
     let p = err_from_is_err_and c.from_residual-in_err-statement.result c.from_residual-in_err-statement.ensures.1 in
     rw (p.1, p.2)
-    (statements-fails _ _ _ _ _ c.loop-alloc.invariant c.in_ok-expect_word.ensures.ok (sym c.loop-alloc-test.true ∙ c.at_word.ensures) c.in_err-statement.ensures)
+    (statements-fails _ _ _ _ _ c.more.invariant c.in_ok-expect_word.ensures.ok (sym c.more-test.true ∙ c.at_word.ensures) c.in_err-statement.ensures)
 
 pub take_declarations-returns-in_err-declaration : goal.take_declarations-returns-in_err-declaration
 take_declarations-returns-in_err-declaration t c =
     let p = err_from_is_err_and c.from_residual.result c.from_residual.ensures.1 in
     rw (p.1, p.2)
-    (declarations-fails _ _ _ _ _ c.loop-alloc.invariant (ap not (sym c.loop-alloc-test.true) ∙ c.begins_declaration.ensures) c.in_err-declaration.ensures)
+    (declarations-fails _ _ _ _ _ c.more.invariant (ap not (sym c.more-test.true) ∙ c.begins_declaration.ensures) c.in_err-declaration.ensures)
 
 pub take_declaration-returns-then-room-eq0 : goal.take_declaration-returns-then-room-eq0
 take_declaration-returns-then-room-eq0 t c =

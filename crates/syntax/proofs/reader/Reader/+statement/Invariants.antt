@@ -1,6 +1,6 @@
 use Rattle.std.proofs.Common.{◌≡◌, true, ◌+◌, ◌*◌, length}
-use Rattle.syntax.specs.Inside.{behind_statements, behind_declarations}
-use Rattle.syntax.specs.Statements.{statements, declarations, statement, declaration}
+use Rattle.syntax.specs.internal.Inside.{behind_statements, behind_declarations}
+use Rattle.syntax.specs.internal.Statements.{statements, declarations, statement, declaration}
 use Rattle.syntax.proofs.reader.Reader.+statement.Given as goal
 
 abbrev pub decreases-take_block : goal.decreases-take_block
@@ -36,14 +36,14 @@ decreases-take_statement l = 10 * l.room + 0
 abbrev pub decreases-take_statements : goal.decreases-take_statements
 decreases-take_statements l = 10 * l.room + 1
 
-abbrev pub invariant-take_declarations-loop-alloc : goal.invariant-take_declarations-loop-alloc
-invariant-take_declarations-loop-alloc l = declarations (declaration true l.room) l.initial.self ≡ behind_declarations l.declarations.items (declarations (declaration true l.room) l.self)
+abbrev pub invariant-take_declarations-more : goal.invariant-take_declarations-more
+invariant-take_declarations-more l = declarations (declaration true l.room) l.initial.self ≡ behind_declarations l.declarations.items (declarations (declaration true l.room) l.self)
 
-abbrev pub decreases-take_declarations-loop-alloc : goal.decreases-take_declarations-loop-alloc
-decreases-take_declarations-loop-alloc l = length l.self
+abbrev pub decreases-take_declarations-more : goal.decreases-take_declarations-more
+decreases-take_declarations-more l = length l.self
 
-abbrev pub invariant-take_statements-loop-alloc : goal.invariant-take_statements-loop-alloc
-invariant-take_statements-loop-alloc l = statements (statement true l.room) l.initial.self ≡ behind_statements l.statements.items (statements (statement true l.room) l.self)
+abbrev pub invariant-take_statements-more : goal.invariant-take_statements-more
+invariant-take_statements-more l = statements (statement true l.room) l.initial.self ≡ behind_statements l.statements.items (statements (statement true l.room) l.self)
 
-abbrev pub decreases-take_statements-loop-alloc : goal.decreases-take_statements-loop-alloc
-decreases-take_statements-loop-alloc l = length l.self
+abbrev pub decreases-take_statements-more : goal.decreases-take_statements-more
+decreases-take_statements-more l = length l.self

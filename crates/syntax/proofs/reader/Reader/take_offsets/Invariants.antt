@@ -1,7 +1,7 @@
 use Rattle.std.proofs.Common.{◌≡◌, length, map}
 use Rattle.trees.specs.Views.{offset_tree}
-use Rattle.syntax.specs.Declarations.{all_offsets}
-use Rattle.syntax.specs.Parts.{behind}
+use Rattle.syntax.specs.internal.Declarations.{all_offsets}
+use Rattle.syntax.specs.internal.Parts.{behind}
 use Rattle.syntax.proofs.reader.Reader.take_offsets.Given as goal
 
 abbrev pub invariant-more : goal.invariant-more

@@ -1,0 +1,169 @@
+-- How the parser reads expressions: an operand, and then operators with what stands behind them, as long as they may stand there.
+use Rattle.std.specs.Prelude.{ℕ, zero, suc, Bool, ◌&&◌, nat_le, nat_lt, List, [], ◌∷◌, drop, length, Option, Some, None, Ok, Err, if◌then◌else◌}
+use Rattle.words.specs.declared.vocabulary.Mark.TheVariants as marks
+use Rattle.words.specs.declared.vocabulary.ReservedWord.TheVariants as words
+use Rattle.trees.specs.declared.expression.BinaryOperator.{BinaryOperator}
+use Rattle.trees.specs.declared.expression.BinaryOperator.TheVariants.{Or, Xor, And, Equal, Less, Greater, LessOrEqual, GreaterOrEqual, Unequal, Add, Subtract, Multiply, Divide, Modulo}
+use Rattle.trees.specs.declared.expression.UnaryOperator.TheVariants.{Not, Negate}
+use Rattle.trees.specs.declared.identifier.Identifier.{Identifier}
+use Rattle.trees.specs.Forms.{expr_level, neg_level, sec_level, primary_level, level_of, left_level, unary_level_of}
+use Rattle.trees.specs.Nesting.{expression_height}
+use Rattle.trees.specs.Symbols.{Symbol, MarkSymbol, ReservedSymbol}
+use Rattle.trees.specs.Trees.{ExpressionTree, ConstantLeaf, ReferenceLeaf, LocationLeaf, ListLeaf, ParenthesizedNode, AssignmentNode, UnaryNode, BinaryNode, ReferenceTree, WholeReference, MemberReference, ArgumentTrees, NoArguments, MoreArguments}
+use Rattle.syntax.specs.internal.Looking.{Reading, Unexpected, TooDeep, ◌>>=◌, at_mark, at_word, mark, name, next_name, constant}
+use Rattle.syntax.specs.internal.Lists.{items}
+
+-- the operator of a symbol between operands
+abbrev pub operator_of : Symbol → Option BinaryOperator
+operator_of (ReservedSymbol words.Or) = Some Or
+operator_of (ReservedSymbol words.Xor) = Some Xor
+operator_of (ReservedSymbol words.And) = Some And
+operator_of (ReservedSymbol words.Mod) = Some Modulo
+operator_of (MarkSymbol marks.EqualSign) = Some Equal
+operator_of (MarkSymbol marks.LessSign) = Some Less
+operator_of (MarkSymbol marks.GreaterSign) = Some Greater
+operator_of (MarkSymbol marks.LessEqualSign) = Some LessOrEqual
+operator_of (MarkSymbol marks.GreaterEqualSign) = Some GreaterOrEqual
+operator_of (MarkSymbol marks.UnequalSign) = Some Unequal
+operator_of (MarkSymbol marks.PlusSign) = Some Add
+operator_of (MarkSymbol marks.MinusSign) = Some Subtract
+operator_of (MarkSymbol marks.Asterisk) = Some Multiply
+operator_of (MarkSymbol marks.Slash) = Some Divide
+operator_of symbol = None
+
+-- the next symbol, if it is an operator between operands
+abbrev pub next_operator : List Symbol → Option BinaryOperator
+next_operator [] = None
+next_operator (symbol ∷ rest) = operator_of symbol
+
+-- the highest level at which an expression stands
+abbrev pub top_level : ExpressionTree → ℕ
+top_level (UnaryNode operator operand) = unary_level_of operator
+top_level (BinaryNode operator left right) = level_of operator
+top_level tree = primary_level
+
+-- whether an operator goes on with an expression of a level, where what comes out must stand at another
+abbrev pub goes_on : ℕ → ℕ → BinaryOperator → Bool
+goes_on level top operator = nat_le level (level_of operator) && nat_le (left_level (level_of operator)) top
+
+-- the trees of a list of arguments
+abbrev pub arguments_of : List ExpressionTree → ArgumentTrees
+arguments_of [] = NoArguments
+arguments_of (first ∷ others) = MoreArguments first (arguments_of others)
+
+-- [`(` expr {`,` expr} `)`], where the expressions are read so
+abbrev pub arguments : (ℕ → List Symbol → Reading ExpressionTree) → List Symbol → Reading ArgumentTrees
+arguments inner symbols =
+    if at_mark marks.LeftParenthesis symbols then (do
+      found ← items (inner expr_level) (drop 1 symbols)
+      rest ← mark marks.RightParenthesis found.1
+      Ok (arguments_of found.0, rest))
+    else Ok (NoArguments, symbols)
+
+-- [`.` name [args]], behind a name with its arguments
+abbrev pub member_of : (ℕ → List Symbol → Reading ExpressionTree) → Identifier → ArgumentTrees → List Symbol → Reading ReferenceTree
+member_of inner base its_arguments symbols =
+    if at_mark marks.Period symbols then (do
+      member ← name (drop 1 symbols)
+      behind ← arguments inner member.1
+      Ok (MemberReference base its_arguments member.0 behind.0, behind.1))
+    else Ok (WholeReference base its_arguments, symbols)
+
+-- reference: name [args] [`.` name [args]]
+unfoldable pub reference : (ℕ → List Symbol → Reading ExpressionTree) → List Symbol → Reading ReferenceTree
+reference inner symbols = do
+  base ← name symbols
+  found ← arguments inner base.1
+  member_of inner base.0 found.0 found.1
+
+-- what stands behind a period: a reference, or constants in parentheses
+unfoldable pub location : (ℕ → List Symbol → Reading ExpressionTree) → List Symbol → Reading ExpressionTree
+location inner symbols =
+    if at_mark marks.LeftParenthesis symbols then (do
+      found ← items constant (drop 1 symbols)
+      rest ← mark marks.RightParenthesis found.1
+      Ok (ListLeaf found.0, rest))
+    else (do
+      found ← reference inner symbols
+      Ok (LocationLeaf found.0, found.1))
+
+-- `:=` expr `)`, behind a reference
+abbrev pub assigned : (ℕ → List Symbol → Reading ExpressionTree) → ExpressionTree → List Symbol → Reading ExpressionTree
+assigned deeper (ReferenceLeaf target) symbols = do
+  behind ← mark marks.AssignSign symbols
+  value ← deeper expr_level behind
+  rest ← mark marks.RightParenthesis value.1
+  Ok (AssignmentNode target value.0, rest)
+assigned deeper tree symbols = Err Unexpected
+
+-- what stands behind an opening parenthesis and an expression
+abbrev pub closed : (ℕ → List Symbol → Reading ExpressionTree) → ExpressionTree → List Symbol → Reading ExpressionTree
+closed deeper tree symbols =
+    if at_mark marks.RightParenthesis symbols then Ok (ParenthesizedNode tree, drop 1 symbols)
+    else assigned deeper tree symbols
+
+-- what stands behind an opening parenthesis: expr `)`, or reference `:=` expr `)`
+unfoldable pub parenthesized : (ℕ → List Symbol → Reading ExpressionTree) → (ℕ → List Symbol → Reading ExpressionTree) → List Symbol → Reading ExpressionTree
+parenthesized inner deeper symbols = do
+  found ← inner expr_level symbols
+  closed deeper found.0 found.1
+
+-- a constant, a reference, a location or an expression in parentheses
+unfoldable pub primary : (ℕ → List Symbol → Reading ExpressionTree) → (ℕ → List Symbol → Reading ExpressionTree) → List Symbol → Reading ExpressionTree
+primary inner deeper symbols =
+    if at_mark marks.LeftParenthesis symbols then parenthesized inner deeper (drop 1 symbols)
+    else (if at_mark marks.Period symbols then location inner (drop 1 symbols)
+    else leaf inner (next_name symbols) symbols)
+  where
+    leaf : (ℕ → List Symbol → Reading ExpressionTree) → Option Identifier → List Symbol → Reading ExpressionTree
+    leaf inner (Some base) symbols = do
+      found ← reference inner symbols
+      Ok (ReferenceLeaf found.0, found.1)
+    leaf inner None symbols = do
+      found ← constant symbols
+      Ok (ConstantLeaf found.0, found.1)
+
+-- an operator before its operand, or a primary, at a level
+unfoldable pub operand : (ℕ → List Symbol → Reading ExpressionTree) → (ℕ → List Symbol → Reading ExpressionTree) → ℕ → List Symbol → Reading ExpressionTree
+operand inner deeper level symbols =
+    if at_word words.Not symbols && nat_le level neg_level then (do
+      found ← inner neg_level (drop 1 symbols)
+      Ok (UnaryNode Not found.0, found.1))
+    else (if at_mark marks.MinusSign symbols && nat_le level sec_level then (do
+      found ← inner primary_level (drop 1 symbols)
+      Ok (UnaryNode Negate found.0, found.1))
+    else primary inner deeper symbols)
+
+-- an operator with what stands behind it, and what goes on behind these; the whole takes no more levels than the room
+abbrev pub operator_then : (ℕ → List Symbol → Reading ExpressionTree) → (ExpressionTree → List Symbol → Reading ExpressionTree) → ℕ → ℕ → ExpressionTree → Option BinaryOperator → List Symbol → Reading ExpressionTree
+operator_then inner again room level left None symbols = Ok (left, symbols)
+operator_then inner again room level left (Some operator) symbols =
+    if goes_on level (top_level left) operator then
+    (if nat_lt (expression_height left) room then (do
+      right ← inner (suc (level_of operator)) (drop 1 symbols)
+      again (BinaryNode operator left right.0) right.1)
+    else Err TooDeep)
+    else Ok (left, symbols)
+
+-- operators that may stand at a level, with what stands behind them, behind a left operand
+abbrev pub operators : (ℕ → List Symbol → Reading ExpressionTree) → ℕ → ℕ → ℕ → ExpressionTree → List Symbol → Reading ExpressionTree
+operators inner room level zero left symbols = Ok (left, symbols)
+operators inner room level (suc count) left symbols =
+    operator_then inner (operators inner room level count) room level left (next_operator symbols) symbols
+
+-- operators, as many as there are
+unfoldable pub all_operators : (ℕ → List Symbol → Reading ExpressionTree) → ℕ → ℕ → ExpressionTree → List Symbol → Reading ExpressionTree
+all_operators inner room level left symbols = operators inner room level (length symbols) left symbols
+
+-- an expression at a level, of no more levels than the room
+unfoldable mutual
+  pub expression : ℕ → ℕ → List Symbol → Reading ExpressionTree
+  expression zero level symbols = Err TooDeep
+  expression (suc room) level symbols = do
+    left ← operand (expression room) (expression_less room) level symbols
+    all_operators (expression room) (suc room) level left.0 left.1
+
+  -- an expression of one level less than the room
+  pub expression_less : ℕ → ℕ → List Symbol → Reading ExpressionTree
+  expression_less zero level symbols = Err TooDeep
+  expression_less (suc room) level symbols = expression room level symbols

@@ -1,0 +1,81 @@
+-- What the parser reads inside of statements and declarations, where names behind END are compared.
+use Rattle.std.specs.Prelude.{◌≡◌, ℕ, Bool, true, false, List, [], ◌∷◌, drop, Option, Some, None, Result, Ok, Err, if◌then◌else◌}
+use Rattle.words.specs.declared.vocabulary.Mark.TheVariants.{Semicolon}
+use Rattle.words.specs.declared.vocabulary.ReservedWord.TheVariants.{Else}
+use Rattle.trees.specs.declared.statement.Block.{Block}
+use Rattle.trees.specs.declared.statement.Declaration.{Declaration}
+use Rattle.trees.specs.declared.statement.Statement.{Statement}
+use Rattle.trees.specs.Forms.{expr_level}
+use Rattle.trees.specs.Symbols.{Symbol, NameSymbol, UnknownSymbol}
+use Rattle.trees.specs.Trees.{ExpressionTree, StatementTree, StatementTrees, MoreStatements, DeclarationTrees, MoreDeclarations}
+use Rattle.trees.specs.Views.{statement_tree, statement_trees, declaration_tree, declaration_trees}
+use Rattle.failure.specs.declared.Failure.{Failure}
+use Rattle.syntax.specs.declared.fault.Fault.{Fault}
+use Rattle.syntax.specs.declared.statements.Beginning.{Beginning}
+use Rattle.syntax.specs.declared.statements.Beginning.TheVariants.{Name}
+use Rattle.syntax.specs.internal.Expressions.{expression}
+use Rattle.syntax.specs.internal.Giving.{Fails}
+use Rattle.syntax.specs.internal.Looking.{Reading, Cause, ◌>>=◌, at_word, mark}
+use Rattle.syntax.specs.internal.Statements.{Expressions, statement, declaration, statement_by, beginning_of, block}
+
+-- {declaration} {statement}, in a room
+abbrev pub block_in : ℕ → List Symbol → Reading (DeclarationTrees × StatementTrees)
+block_in room symbols = block (declaration true room) (statement true room) symbols
+
+-- what a statement begins with, where a symbol that the grammar doesn't have is taken for a name
+abbrev pub next_beginning : List Symbol → Beginning
+next_beginning (UnknownSymbol ∷ rest) = Name
+next_beginning symbols = beginning_of symbols
+
+-- a statement whose parts fit into a room
+abbrev pub statement_inside : ℕ → List Symbol → Reading StatementTree
+statement_inside room symbols = statement_by (expression room) (statement true room) (block_in room) (next_beginning symbols) symbols
+
+-- the trees of a block
+abbrev pub block_trees : Block → DeclarationTrees × StatementTrees
+block_trees block = (declaration_trees block.declarations.items, statement_trees block.statements.items)
+
+-- expr `;`
+abbrev pub condition : Expressions → List Symbol → Reading ExpressionTree
+condition inner symbols = do
+  found ← inner expr_level symbols
+  rest ← mark Semicolon found.1
+  Ok (found.0, rest)
+
+-- [ELSE statement]
+abbrev pub other_statement : (List Symbol → Reading StatementTree) → List Symbol → Reading (Option StatementTree)
+other_statement inner symbols =
+    if at_word Else symbols then (do
+      found ← inner (drop 1 symbols)
+      Ok (Some (found.0), found.1))
+    else Ok (None, symbols)
+
+-- whether a symbol is a name
+abbrev pub is_name_symbol : Symbol → Bool
+is_name_symbol (NameSymbol name) = true
+is_name_symbol symbol = false
+
+-- statements, and then other ones
+abbrev pub statements_before : List Statement → StatementTrees → StatementTrees
+statements_before [] others = others
+statements_before (first ∷ rest) others = MoreStatements (statement_tree first) (statements_before rest others)
+
+-- what is read behind statements, with these before it
+abbrev pub behind_statements : List Statement → Reading StatementTrees → Reading StatementTrees
+behind_statements made (Ok found) = Ok (statements_before made found.0, found.1)
+behind_statements made (Err cause) = Err cause
+
+-- declarations, and then other ones
+abbrev pub declarations_before : List Declaration → DeclarationTrees → DeclarationTrees
+declarations_before [] others = others
+declarations_before (first ∷ rest) others = MoreDeclarations (declaration_tree first) (declarations_before rest others)
+
+-- what is read behind declarations, with these before it
+abbrev pub behind_declarations : List Declaration → Reading DeclarationTrees → Reading DeclarationTrees
+behind_declarations made (Ok found) = Ok (declarations_before made found.0, found.1)
+behind_declarations made (Err cause) = Err cause
+
+-- what was returned is what the whole is read as
+abbrev pub Makes : {X Y : Type 0} → (X → Y) → Result X (Failure Fault) → Result Y Cause → Type 0
+Makes view (Ok x) read = read ≡ Ok (view x)
+Makes view (Err failure) read = Fails failure read

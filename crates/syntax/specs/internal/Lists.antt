@@ -1,0 +1,46 @@
+-- How the parser reads lists. The numbers bound how many items there can be: the symbols that are left are always enough.
+use Rattle.std.specs.Prelude.{◌≡◌, ℕ, zero, suc, ◌≤◌, ◌<◌, Bool, List, [], ◌∷◌, drop, length, Ok, Err, if◌then◌else◌}
+use Rattle.words.specs.declared.vocabulary.Mark.TheVariants.{Comma}
+use Rattle.trees.specs.Symbols.{Symbol}
+use Rattle.syntax.specs.internal.Looking.{Reading, Unexpected, ◌>>=◌, at_mark}
+
+-- {`,` item}
+abbrev pub more_items : {A : Type 0} → (List Symbol → Reading A) → ℕ → List Symbol → Reading (List A)
+more_items item zero symbols = Ok ([], symbols)
+more_items item (suc count) symbols =
+    if at_mark Comma symbols then (do
+      first ← item (drop 1 symbols)
+      others ← more_items item count first.1
+      Ok (first.0 ∷ others.0, others.1))
+    else Ok ([], symbols)
+
+-- {`,` item}, as many as there are
+unfoldable pub all_more_items : {A : Type 0} → (List Symbol → Reading A) → List Symbol → Reading (List A)
+all_more_items item symbols = more_items item (length symbols) symbols
+
+-- item {`,` item}
+abbrev pub items : {A : Type 0} → (List Symbol → Reading A) → List Symbol → Reading (List A)
+items item symbols = do
+  first ← item symbols
+  others ← all_more_items item first.1
+  Ok (first.0 ∷ others.0, others.1)
+
+-- {item}, up to where a list ends
+abbrev pub many_items : {A : Type 0} → (List Symbol → Bool) → (List Symbol → Reading A) → ℕ → List Symbol → Reading (List A)
+many_items ends item zero symbols = if ends symbols then Ok ([], symbols) else Err Unexpected
+many_items ends item (suc count) symbols =
+    if ends symbols then Ok ([], symbols) else (do
+      first ← item symbols
+      others ← many_items ends item count first.1
+      Ok (first.0 ∷ others.0, others.1))
+
+-- {item}, as many as there are
+unfoldable pub many : {A : Type 0} → (List Symbol → Bool) → (List Symbol → Reading A) → List Symbol → Reading (List A)
+many ends item symbols = many_items ends item (length symbols) symbols
+
+-- what is read takes no symbols away from behind it, or at least one
+abbrev pub Keeps : {A : Type 0} → (List Symbol → Reading A) → Type 0
+Keeps {A} item = (symbols rest : List Symbol) (a : A) → item symbols ≡ Ok (a, rest) → length rest ≤ length symbols
+
+abbrev pub Shrinks : {A : Type 0} → (List Symbol → Reading A) → Type 0
+Shrinks {A} item = (symbols rest : List Symbol) (a : A) → item symbols ≡ Ok (a, rest) → length rest < length symbols

@@ -1,0 +1,123 @@
+//! Lists of items between commas.
+
+ghost use Rattle.std.specs.Prelude.{List, map};
+ghost use Rattle.trees.specs.Symbols.{Symbol};
+ghost use Rattle.syntax.specs.internal.Giving.{Gives};
+ghost use Rattle.syntax.specs.internal.Lists.{items, Keeps};
+ghost use Rattle.syntax.specs.internal.Looking.{Reading};
+
+use crate::fault::Fault;
+use crate::reader::Reader;
+use failure::Failure;
+use trees::{Constant, Element, Identifier, Member, Restricted};
+use words::Mark;
+
+/// What may stand between commas.
+pub(crate) trait Listed: Drop + Sized {
+    ghost Tree: { Type 0 };
+
+    ghost tree_of: { Self → Tree };
+
+    ghost reading: { List Symbol → Reading Tree };
+
+    /// One item.
+    fn take(reader: &mut Reader) -> Result<Self, Failure<Fault>>
+        ensures { Gives tree_of result reader.new (reading reader.old) };
+}
+
+impl<'a> Reader<'a> {
+    /// item {`,` item}
+    pub(crate) fn take_list<T: Listed>(&mut self) -> Result<Vec<T>, Failure<Fault>>
+        requires { Keeps T.reading }
+        ensures { Gives (λ found. map T.tree_of found.items) result self.new (items T.reading self.old) }
+    {
+        let first = T::take(self)?;
+        let mut found = Vec::with_capacity(self.alloc, 1)?;
+        found.push(first)?;
+        'more: while self.at_mark(Mark::Comma) {
+            self.skip();
+            let next = T::take(self)?;
+            found.push(next)?;
+        }
+        found.shrink_to_fit();
+        Ok(found)
+    }
+}
+
+impl Listed for Constant {
+    ghost use Rattle.trees.specs.Trees.{ConstantTree};
+    ghost use Rattle.trees.specs.Views.{constant_tree};
+    ghost use Rattle.syntax.specs.internal.Looking.{constant};
+
+    ghost Tree = { ConstantTree };
+
+    ghost tree_of = { constant_tree };
+
+    ghost reading = { constant };
+
+    fn take(reader: &mut Reader) -> Result<Constant, Failure<Fault>> {
+        reader.take_constant()
+    }
+}
+
+impl Listed for Identifier {
+    ghost use Rattle.trees.specs.declared.identifier.Identifier as identifiers;
+    ghost use Rattle.syntax.specs.internal.Looking.{name};
+
+    ghost Tree = { identifiers.Identifier };
+
+    ghost tree_of = { λ found. found };
+
+    ghost reading = { name };
+
+    fn take(reader: &mut Reader) -> Result<Identifier, Failure<Fault>> {
+        reader.take_name()
+    }
+}
+
+impl Listed for Member {
+    ghost use Rattle.trees.specs.declared.declaration.Member as members;
+    ghost use Rattle.syntax.specs.internal.Declarations.{member};
+
+    ghost Tree = { members.Member };
+
+    ghost tree_of = { λ found. found };
+
+    ghost reading = { member };
+
+    fn take(reader: &mut Reader) -> Result<Member, Failure<Fault>> {
+        reader.take_member()
+    }
+}
+
+impl Listed for Restricted {
+    ghost use Rattle.trees.specs.Trees.{RestrictedTree};
+    ghost use Rattle.trees.specs.Views.{restricted_tree};
+    ghost use Rattle.syntax.specs.internal.Declarations.{restricted};
+
+    ghost Tree = { RestrictedTree };
+
+    ghost tree_of = { restricted_tree };
+
+    ghost reading = { restricted };
+
+    fn take(reader: &mut Reader) -> Result<Restricted, Failure<Fault>> {
+        reader.take_restricted()
+    }
+}
+
+impl Listed for Element {
+    ghost use Rattle.trees.specs.Trees.{ElementTree};
+    ghost use Rattle.trees.specs.Views.{element_tree};
+    ghost use Rattle.syntax.specs.internal.Declarations.{element};
+
+    ghost Tree = { ElementTree };
+
+    ghost tree_of = { element_tree };
+
+    ghost reading = { element };
+
+    fn take(reader: &mut Reader) -> Result<Element, Failure<Fault>> {
+        reader.take_element()
+    }
+}
