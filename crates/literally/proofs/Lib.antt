@@ -1,7 +1,8 @@
-pub mod Expansions
-pub mod HeldLemmas
-pub mod NoStrings
-pub mod Outputs
-pub mod Steps
-pub mod Totality
-pub mod WorkList
+pub mod Failures
+pub mod DefinitionsNoStrings
+pub mod DefinitionsInForce
+pub mod DefinitionsHeld
+pub mod ExpansionTexts
+pub mod ExpansionWords
+pub mod LawsOneExpansion
+pub mod LawsTotality

@@ -53,6 +53,6 @@ abbrev pub text_in : List ℕ → List Lexeme → Option (List ℕ)
 text_in name [] = None
 text_in name (word ∷ before) = text_if name (definition_by word before) (text_in name before)
 
--- the text that a word stands for behind an output, if it is a name that the output defines
+-- the text that a word stands for after an output, if it is a name that the output defines
 abbrev pub in_force : List Lexeme → Lexeme → Option (List ℕ)
 in_force output word = if is_name word.kind then text_in (name_of word.text) (reverse output) else None

@@ -1,6 +1,4 @@
 pub mod Definitions
 pub mod Expansion
-pub mod Held
-pub mod Keys
-pub mod Rows
-pub mod Steps
+pub mod Fault
+pub mod internal

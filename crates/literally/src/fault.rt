@@ -1,26 +1,56 @@
 //! Why a list of words has no expansion.
 
+ghost use Rattle.std.specs.Prelude.{◌≡◌};
+ghost use Rattle.literally.specs.Fault.{number_of, line_of};
+
+use crate::limits::{DEEPEST, MOST_WORDS};
 use thiserror::Error;
 
-/// Why a list of words has no expansion. `line` is that of the source word at which it is seen, counted from 1.
+/// Why a list of words has no expansion. `line` is that of the word of the list at which the fault is found, counted
+/// from 1.
 #[derive(Clone, Copy, Debug, PartialEq, Eq, Error)]
 pub enum Fault {
-    /// The text of a definition is no list of words. The line is that of its string.
-    #[error("{0}")]
+    /// The text of a definition is not a list of words. Its line is that of the string.
+    #[error("{0}, in the text of a LITERALLY definition")]
     Text(words::Fault),
-    /// A word of a text is replaced at depth 17.
-    #[error("C5")]
+    /// A name is replaced within too many texts.
+    #[error("line {line}: LITERALLY definitions within one another more than {most} deep", most = DEEPEST)]
     Depth { line: u32 },
-    /// More than 2,097,152 words are taken up.
-    #[error("C5")]
+    /// The list and the texts have too many words.
+    #[error("line {line}: more than {most} words with those of LITERALLY definitions", most = MOST_WORDS)]
     Count { line: u32 },
     /// The text of a definition holds a quote.
-    #[error("C6")]
+    #[error("line {line}: a quote in the text of a LITERALLY definition")]
     Quote { line: u32 },
-    /// A name in force stands before LITERALLY.
-    #[error("C6")]
+    /// A name that has a definition is defined again.
+    #[error("line {line}: a name that LITERALLY defines already")]
     Again { line: u32 },
-    /// There was no memory on the host.
-    #[error("MEMORY")]
-    Memory,
+}
+
+impl Fault {
+    /// The number under which the fault is reported: `C5`, `C6`, or that of the fault of a text, `C1` to `C4`.
+    pub fn number(&self) -> &'static str
+        ensures { result.now ≡ number_of self.now }
+    {
+        match self {
+            Fault::Text(fault) => fault.number(),
+            Fault::Depth { .. } => "C5",
+            Fault::Count { .. } => "C5",
+            Fault::Quote { .. } => "C6",
+            Fault::Again { .. } => "C6",
+        }
+    }
+
+    /// The line of the word at which the fault is found, counted from 1.
+    pub fn line(&self) -> u32
+        ensures { result ≡ line_of self.now }
+    {
+        match self {
+            Fault::Text(fault) => fault.line(),
+            Fault::Depth { line } => *line,
+            Fault::Count { line } => *line,
+            Fault::Quote { line } => *line,
+            Fault::Again { line } => *line,
+        }
+    }
 }

@@ -2,10 +2,12 @@
 #![tactic(auto)]
 
 mod definitions;
-pub mod expansion;
-pub mod fault;
+mod expansion;
+mod fault;
 pub mod laws;
+mod limits;
 mod names;
 
 pub use expansion::expand;
 pub use fault::Fault;
+pub use limits::{DEEPEST, MOST_WORDS};

@@ -7,7 +7,7 @@ ghost use Rattle.std.specs.Cmp.{partial_equiv_from_equiv};
 ghost use Rattle.std.specs.Cmp.Lexicographic.{on_texts_equal};
 ghost use Rattle.std.specs.Hash as fed;
 ghost use Rattle.words.specs.Names.{name_of};
-ghost use Rattle.literally.specs.Keys.{name_respects};
+ghost use Rattle.literally.specs.internal.Keys.{name_respects};
 
 use std::hash::{Hash, Hasher};
 

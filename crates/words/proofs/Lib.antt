@@ -1,6 +1,6 @@
-pub mod ItemLemmas
-pub mod NameLemmas
-pub mod NumberLemmas
-pub mod Readings
-pub mod SpellingLemmas
-pub mod Tables
+pub mod NamesLemmas
+pub mod NumbersLemmas
+pub mod ItemsLemmas
+pub mod ScannerLemmas
+pub mod LawsReadings
+pub mod LawsTables

@@ -1,8 +1,9 @@
--- The characters of a PL/M-80 source text, by their ASCII codes (PL/M-80 Programming Manual, on the character set).
+-- The characters of a PL/M-80 source text, by their ASCII codes
+-- (PL/M-80 Programming Manual, on the character set).
 use Rattle.std.specs.Prelude.{ℕ, Bool, ◌&&◌, ◌||◌, ◌==◌, nat_le}
 use Rattle.std.specs.Char.{is_ascii_alphabetic, is_ascii_digit}
 
--- a letter, a digit or `$`: what a name or a number runs on over
+-- a letter, a digit or `$`: what continues a name or a number
 abbrev pub is_word_byte : ℕ → Bool
 is_word_byte b = is_ascii_alphabetic b || is_ascii_digit b || (b == 36)
 

@@ -1,8 +1,9 @@
 -- What stands at one place of a text (PL/M-80 Programming Manual, on tokens, separators and blanks).
-use Rattle.std.specs.Prelude.{ℕ, ◌<◌, ◌≤◌, false, ◌==◌, ◌&&◌, List, [], ◌∷◌, length, drop, slice_index, take_while, if◌then◌else◌}
+use Rattle.std.specs.Prelude.{ℕ, false, ◌==◌, ◌&&◌, if◌then◌else◌}
+use Rattle.std.specs.Prelude.{List, [], ◌∷◌, length, drop, slice_index, take_while}
 use Rattle.std.specs.Char.{is_ascii_alphabetic, is_ascii_digit}
 use Rattle.words.specs.declared.items.Item.{Item}
-use Rattle.words.specs.declared.items.Item.TheVariants.{Ending, Blank, Spelled}
+use Rattle.words.specs.declared.items.Item.TheVariants.{Ending, Blank}
 use Rattle.words.specs.Characters.{is_word_byte, is_blank}
 use Rattle.words.specs.Marks.{mark_item}
 use Rattle.words.specs.Names.{name_item}
@@ -15,7 +16,8 @@ comment_or_mark first text =
     if (first == 47) && (slice_index text 0 == 42) then comment_item (comment_end false (drop 1 text))
     else mark_item (first ∷ text)
 
--- The item with which a text begins: a run of blanks, a name, a number, a string, a comment, or a mark, each as long as it can be.
+-- The item with which a text begins: a run of blanks, a name, a number, a string, a comment, or a mark, each
+-- as long as it can be.
 abbrev pub item_at : List ℕ → Item
 item_at [] = Ending
 item_at (first ∷ text) =
@@ -24,9 +26,3 @@ item_at (first ∷ text) =
     else (if is_ascii_digit first then number_item (take_while is_word_byte (first ∷ text))
     else (if first == 39 then string_item (string_end false text)
     else comment_or_mark first text)))
-
--- an item takes at least one byte of a text of this size, and none past its end
-abbrev pub FitsIn : ℕ → Item → Type 0
-FitsIn size (Blank length) = (0 < length) × (length ≤ size)
-FitsIn size (Spelled kind length) = (0 < length) × (length ≤ size)
-FitsIn size item = Unit {0}

@@ -1,8 +1,9 @@
 pub mod Characters
-pub mod Items
-pub mod Marks
 pub mod Names
 pub mod Numbers
-pub mod Rows
-pub mod Spelling
 pub mod Strings
+pub mod Marks
+pub mod Items
+pub mod Spelling
+pub mod Fault
+pub mod internal

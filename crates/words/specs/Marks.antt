@@ -7,7 +7,11 @@ use Rattle.words.specs.declared.items.Item.{Item}
 use Rattle.words.specs.declared.items.Item.TheVariants.{Spelled, Wrong}
 use Rattle.words.specs.declared.vocabulary.Kind.TheVariants.{Mark as MarkWord}
 use Rattle.words.specs.declared.vocabulary.Mark.{Mark}
-use Rattle.words.specs.declared.vocabulary.Mark.TheVariants.{EqualSign, LessSign, GreaterSign, LessEqualSign, GreaterEqualSign, UnequalSign, PlusSign, MinusSign, Asterisk, Slash, LeftParenthesis, RightParenthesis, Comma, Semicolon, Colon, Period, AssignSign}
+use Rattle.words.specs.declared.vocabulary.Mark.TheVariants.{EqualSign, LessSign, GreaterSign}
+use Rattle.words.specs.declared.vocabulary.Mark.TheVariants.{LessEqualSign, GreaterEqualSign, UnequalSign}
+use Rattle.words.specs.declared.vocabulary.Mark.TheVariants.{PlusSign, MinusSign, Asterisk, Slash}
+use Rattle.words.specs.declared.vocabulary.Mark.TheVariants.{LeftParenthesis, RightParenthesis}
+use Rattle.words.specs.declared.vocabulary.Mark.TheVariants.{Comma, Semicolon, Colon, Period, AssignSign}
 
 -- how each mark is written, the marks of two bytes first
 abbrev pub marks : List (List ℕ × Mark)
@@ -36,4 +40,5 @@ mark_at text = find (λ mark. starts_with nat_eq text mark.0) marks
 
 -- a mark, or a byte that begins no word
 abbrev pub mark_item : List ℕ → Item
-mark_item text = option_map_or (λ mark. Spelled (MarkWord mark.1) (length mark.0)) (mark_at text) (Wrong BadCharacter)
+mark_item text =
+    option_map_or (λ mark. Spelled (MarkWord mark.1) (length mark.0)) (mark_at text) (Wrong BadCharacter)

@@ -1,5 +1,6 @@
 -- Names and reserved words (PL/M-80 Programming Manual, on identifiers and reserved words).
-use Rattle.std.specs.Prelude.{ℕ, Option, None, Some, List, [], ◌∷◌, ◌==◌, not, map, nat_lt, length, filter, if◌then◌else◌}
+use Rattle.std.specs.Prelude.{ℕ, Option, None, Some, ◌==◌, not, nat_lt, if◌then◌else◌}
+use Rattle.std.specs.Prelude.{List, [], ◌∷◌, map, length, filter}
 use Rattle.std.specs.Str.{bytes_eq}
 use Rattle.std.specs.Option.{option_map_or}
 use Rattle.std.specs.Char.{to_ascii_uppercase}
@@ -9,13 +10,15 @@ use Rattle.words.specs.declared.items.Item.TheVariants.{Spelled, Wrong}
 use Rattle.words.specs.declared.vocabulary.Kind.{Kind}
 use Rattle.words.specs.declared.vocabulary.Kind.TheVariants.{Name, Reserved}
 use Rattle.words.specs.declared.vocabulary.ReservedWord.{ReservedWord}
+use Rattle.words.specs.declared.limits.TheConstants.{LONGEST_NAME}
 use Rattle.words.specs.declared.vocabulary.TheConstants.{RESERVED_WORDS}
 
--- the characters of a name or a number, from the bytes of its word: `$` is ignored, and small letters read as capitals
+-- the characters of a name or a number, from the bytes of its word: `$` is ignored, and a small letter is read
+-- as its capital
 abbrev pub name_of : List ℕ → List ℕ
 name_of text = map to_ascii_uppercase (filter (λ b. not (b == 36)) text)
 
--- the reserved words and how they are written: the table of the module `vocabulary`
+-- how each reserved word is written: the table of the module `vocabulary`
 unfoldable pub reserved_words : List (List ℕ × ReservedWord)
 reserved_words = map (λ entry. (entry.0.now, entry.1)) RESERVED_WORDS
 
@@ -28,10 +31,12 @@ word_in (entry ∷ table) name = if bytes_eq entry.0 name then Some (entry.1) el
 unfoldable pub reserved_of : List ℕ → Option ReservedWord
 reserved_of name = word_in reserved_words name
 
--- a name of at most 31 characters is a word: a reserved one or another
+-- what a name with these characters is: a reserved word, or a name like any other
 abbrev pub kind_of_name : List ℕ → Kind
 kind_of_name name = option_map_or Reserved (reserved_of name) Name
 
 -- a word that begins with a letter, whose bytes are the text
 abbrev pub name_item : List ℕ → Item
-name_item text = if nat_lt 31 (length (name_of text)) then Wrong LongName else Spelled (kind_of_name (name_of text)) (length text)
+name_item text =
+    if nat_lt LONGEST_NAME (length (name_of text)) then Wrong LongName
+    else Spelled (kind_of_name (name_of text)) (length text)

@@ -1,15 +1,17 @@
 -- Numbers (PL/M-80 Programming Manual, on whole number constants).
-use Rattle.std.specs.Prelude.{ℕ, ◌+◌, ◌-◌, ◌*◌, ◌==◌, ◌&&◌, ◌||◌, Option, None, Some, List, length, take, slice_index, fold, if◌then◌else◌, nat_lt, nat_le}
+use Rattle.std.specs.Prelude.{ℕ, ◌+◌, ◌-◌, ◌*◌, ◌==◌, ◌&&◌, ◌||◌, nat_lt, nat_le, if◌then◌else◌}
+use Rattle.std.specs.Prelude.{Option, None, Some, List, length, take, slice_index, fold}
 use Rattle.std.specs.List.{list_all}
 use Rattle.std.specs.Option.{option_map_or}
 use Rattle.std.specs.Char.{is_ascii_digit}
 use Rattle.words.specs.declared.items.Cause.TheVariants.{BadNumber}
 use Rattle.words.specs.declared.items.Item.{Item}
 use Rattle.words.specs.declared.items.Item.TheVariants.{Spelled, Wrong}
+use Rattle.words.specs.declared.limits.TheConstants.{GREATEST_NUMBER}
 use Rattle.words.specs.declared.vocabulary.Kind.TheVariants.{Number}
 use Rattle.words.specs.Names.{name_of}
 
--- the base that a number's last character says: B is 2, O and Q are 8, D is 10, H is 16
+-- the base that the last character of a number stands for: B for 2, O and Q for 8, D for 10, H for 16
 abbrev pub base_of : ℕ → Option ℕ
 base_of c =
     if c == 66 then Some 2
@@ -26,10 +28,11 @@ digit_value c = if is_ascii_digit c then c - 48 else c - 55
 abbrev pub value_of : ℕ → List ℕ → ℕ
 value_of base digits = fold (λ value digit. value * base + digit_value digit) 0 digits
 
--- the number that the digits are, if each is a digit of the base and the value is at most 65535
+-- the number that the digits are, if each is a digit of the base and the value is not too great
 abbrev pub number_in : ℕ → List ℕ → Option ℕ
 number_in base digits =
-    if list_all (λ digit. nat_lt (digit_value digit) base) digits && nat_le (value_of base digits) 65535
+    if list_all (λ digit. nat_lt (digit_value digit) base) digits
+    && nat_le (value_of base digits) GREATEST_NUMBER
     then Some (value_of base digits)
     else None
 
@@ -44,4 +47,5 @@ number_of characters = number_with (base_of (slice_index characters (length char
 
 -- a word that begins with a digit, whose bytes are the text
 abbrev pub number_item : List ℕ → Item
-number_item text = option_map_or (λ value. Spelled (Number value) (length text)) (number_of (name_of text)) (Wrong BadNumber)
+number_item text =
+    option_map_or (λ value. Spelled (Number value) (length text)) (number_of (name_of text)) (Wrong BadNumber)

@@ -1,5 +1,6 @@
 -- Strings and comments (PL/M-80 Programming Manual, on string constants and on comments).
-use Rattle.std.specs.Prelude.{ℕ, ◌+◌, Bool, true, false, not, ◌==◌, ◌&&◌, List, [], ◌∷◌, drop, if◌then◌else◌, Result, Ok, Err}
+use Rattle.std.specs.Prelude.{ℕ, ◌+◌, Bool, true, false, not, ◌==◌, ◌&&◌, if◌then◌else◌}
+use Rattle.std.specs.Prelude.{List, [], ◌∷◌, drop, Result, Ok, Err}
 use Rattle.words.specs.declared.items.Cause.{Cause}
 use Rattle.words.specs.declared.items.Cause.TheVariants.{BadCharacter, NotClosed}
 use Rattle.words.specs.declared.items.Item.{Item}
@@ -7,7 +8,7 @@ use Rattle.words.specs.declared.items.Item.TheVariants.{Blank, Spelled, Wrong}
 use Rattle.words.specs.declared.vocabulary.Kind.TheVariants.{String}
 use Rattle.words.specs.Characters.{is_printable, is_comment_byte}
 
--- an end that lies so many bytes further
+-- an end, counted from so many bytes before
 abbrev pub further : ℕ → Result ℕ Cause → Result ℕ Cause
 further count (Ok length) = Ok (count + length)
 further count (Err cause) = Err cause
@@ -22,7 +23,8 @@ string_end quoted (b ∷ text) =
     else (if is_printable b then further 1 (string_end false text)
     else Err BadCharacter))
 
--- How many bytes of the text the rest of a comment takes. `starred` says that a `*` of the comment stands just before.
+-- How many bytes of the text the rest of a comment takes. `starred` says that a `*` of the comment stands
+-- just before the text.
 abbrev pub comment_end : Bool → List ℕ → Result ℕ Cause
 comment_end starred [] = Err NotClosed
 comment_end starred (b ∷ text) =
@@ -40,7 +42,8 @@ abbrev pub comment_item : Result ℕ Cause → Item
 comment_item (Ok length) = Blank (2 + length)
 comment_item (Err cause) = Wrong cause
 
--- the bytes between the quotes of a string, where `quoted` says that a quote stands just before: of two quotes one stays
+-- the bytes between the quotes of a string, where `quoted` says that a quote stands just before: of two quotes
+-- in a row one stays
 abbrev pub unquoted : Bool → List ℕ → List ℕ
 unquoted quoted [] = []
 unquoted quoted (b ∷ text) =

@@ -3,28 +3,28 @@
 ghost use Rattle.std.specs.Prelude.{◌≡◌, ◌==◌, length, count_by, take_while};
 ghost use Rattle.words.specs.Characters.{is_word_byte, is_blank, is_printable, is_comment_byte};
 
-// A letter, a digit or `$`.
+// Whether a byte continues a name or a number: a letter, a digit or `$`.
 fn is_word_byte(b: u8) -> bool
     ensures { result ≡ is_word_byte b }
 {
     b.is_ascii_alphabetic() || b.is_ascii_digit() || b == b'$'
 }
 
-// Space, tab, CR or LF.
+// Whether a byte separates words: space, tab, CR or LF.
 pub(crate) fn is_blank(b: u8) -> bool
     ensures { result ≡ is_blank b }
 {
     b == b' ' || b == b'\t' || b == b'\r' || b == b'\n'
 }
 
-// What a string may hold.
+// Whether a string may have this byte.
 pub(crate) fn is_printable(b: u8) -> bool
     ensures { result ≡ is_printable b }
 {
     b >= b' ' && b <= b'~'
 }
 
-// What a comment may hold.
+// Whether a comment may have this byte.
 pub(crate) fn is_comment_byte(b: u8) -> bool
     ensures { result ≡ is_comment_byte b }
 {
@@ -55,7 +55,7 @@ pub(crate) fn count_of_blanks(text: &[u8]) -> usize
     text.len()
 }
 
-// How many LFs are in a text.
+// How many line feeds are in a text.
 pub(crate) fn count_of_line_feeds(text: &[u8]) -> usize
     ensures { result ≡ count_by (λ b. b == 10) text.now }
 {

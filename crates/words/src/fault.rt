@@ -1,23 +1,51 @@
-//! Why a text is no list of words.
+//! Why a source text is not a list of words.
 
+ghost use Rattle.std.specs.Prelude.{◌≡◌};
+ghost use Rattle.words.specs.Fault.{number_of, line_of};
+
+use crate::limits::{GREATEST_NUMBER, LONGEST_NAME};
 use thiserror::Error;
 
-/// Why a text is no list of words. `line` is the line on which the offending item begins, counted from 1.
+/// Why a source text is not a list of words. `line` is the line on which the word or comment at fault begins, counted
+/// from 1.
 #[derive(Clone, Copy, Debug, PartialEq, Eq, Error)]
 pub enum Fault {
-    /// A byte that no word, blank or comment has there.
-    #[error("C1")]
+    /// A character that begins no word, or that a string or a comment may not have.
+    #[error("line {line}: a character that is not valid here")]
     Character { line: u32 },
-    /// A string or a comment that the text ends in.
-    #[error("C2")]
+    /// A string or a comment that is not closed.
+    #[error("line {line}: a string or a comment that is not closed")]
     Unclosed { line: u32 },
-    /// A word that begins with a digit, and is no number from 0 to 65535.
-    #[error("C3")]
+    /// A number that is too great, or one with a character that is not a digit of its base.
+    #[error("line {line}: a number over {most}, or a digit that its base does not have", most = GREATEST_NUMBER)]
     Number { line: u32 },
-    /// A name of more than 31 characters.
-    #[error("C4")]
+    /// A name that is too long.
+    #[error("line {line}: a name of more than {most} characters", most = LONGEST_NAME)]
     Name { line: u32 },
-    /// There was no memory on the host.
-    #[error("MEMORY")]
-    Memory,
+}
+
+impl Fault {
+    /// The number under which the fault is reported: `C1` to `C4`.
+    pub fn number(&self) -> &'static str
+        ensures { result.now ≡ number_of self.now }
+    {
+        match self {
+            Fault::Character { .. } => "C1",
+            Fault::Unclosed { .. } => "C2",
+            Fault::Number { .. } => "C3",
+            Fault::Name { .. } => "C4",
+        }
+    }
+
+    /// The line on which the word or comment at fault begins, counted from 1.
+    pub fn line(&self) -> u32
+        ensures { result ≡ line_of self.now }
+    {
+        match self {
+            Fault::Character { line } => *line,
+            Fault::Unclosed { line } => *line,
+            Fault::Number { line } => *line,
+            Fault::Name { line } => *line,
+        }
+    }
 }

@@ -1,8 +1,9 @@
 //! What stands at one place of a text.
 
 ghost use Rattle.std.specs.Prelude.{◌≡◌, false, length};
-ghost use Rattle.words.specs.Items.{item_at, comment_or_mark, FitsIn};
+ghost use Rattle.words.specs.Items.{item_at, comment_or_mark};
 ghost use Rattle.words.specs.Strings.{string_end, string_item};
+ghost use Rattle.words.specs.internal.Fits.{FitsIn};
 
 use crate::characters::{count_of_blanks, is_blank, run_of_word_bytes};
 use crate::marks::mark_item;
@@ -11,7 +12,7 @@ use crate::numbers::number_item;
 use crate::strings::{comment_end, string_end};
 use crate::vocabulary::Kind;
 
-/// Why there is no word.
+/// Why no word stands at a place.
 #[derive(Clone, Copy, Debug, PartialEq, Eq)]
 pub enum Cause {
     BadCharacter,
@@ -27,9 +28,9 @@ pub enum Item {
     Ending,
     /// A run of blanks, or a comment.
     Blank(usize),
-    /// A word.
+    /// A word of this kind.
     Spelled(Kind, usize),
-    /// No word.
+    /// Neither a word nor a blank.
     Wrong(Cause),
 }
 
@@ -41,7 +42,7 @@ pub(crate) fn next_item(text: &[u8]) -> Item
     item_at(text)
 }
 
-// The item with which a text begins, kind by kind.
+// The same, by the first byte.
 fn item_at(text: &[u8]) -> Item
     ensures { result ≡ item_at text.now }
 {
@@ -61,7 +62,7 @@ fn item_at(text: &[u8]) -> Item
     }
 }
 
-// A string, whose opening quote stands before the text.
+// The item of a string, after its opening quote.
 fn string_item(text: &[u8]) -> Item
     ensures { result ≡ string_item (string_end false text.now) }
 {
@@ -71,7 +72,8 @@ fn string_item(text: &[u8]) -> Item
     }
 }
 
-// A comment, a mark, or a byte that begins no word, where the text begins with this byte.
+// The item of a text that begins with this byte, which is no blank, letter, digit or quote: a comment, its longest
+// mark, or a fault.
 fn comment_or_mark(first: u8, rest: &[u8]) -> Item
     ensures { result ≡ comment_or_mark first rest.now }
 {

@@ -1,17 +1,21 @@
 //! The words of a PL/M-80 source text: names, reserved words, numbers, strings and marks.
 #![tactic(auto)]
 
-pub mod characters;
-pub mod fault;
-pub mod items;
+mod characters;
+mod fault;
+mod items;
 pub mod laws;
-pub mod marks;
-pub mod names;
-pub mod numbers;
-pub mod scanner;
-pub mod strings;
-pub mod vocabulary;
+mod limits;
+mod marks;
+mod names;
+mod numbers;
+mod scanner;
+mod strings;
+mod vocabulary;
+mod word;
 
 pub use fault::Fault;
-pub use scanner::{Word, scan};
+pub use limits::{GREATEST_NUMBER, LONGEST_NAME, LONGEST_SOURCE};
+pub use scanner::scan;
 pub use vocabulary::{Kind, Mark, ReservedWord};
+pub use word::Word;

@@ -6,7 +6,7 @@ ghost use Rattle.words.specs.Marks.{mark_at, mark_item};
 use crate::items::{Cause, Item};
 use crate::vocabulary::{Kind, Mark};
 
-// A mark, or a byte that begins no word, where the text begins with this byte.
+// The item of a text that begins with this byte, which begins no other word: its longest mark, or a fault.
 pub(crate) fn mark_item(first: u8, rest: &[u8]) -> Item
     ensures { result ≡ mark_item (first ∷ rest.now) }
 {
@@ -21,7 +21,7 @@ pub(crate) fn mark_item(first: u8, rest: &[u8]) -> Item
     }
 }
 
-// The mark of two bytes.
+// The mark that is written with these two bytes.
 #[tactic(auto, unfolding(crate::specs::Marks::mark_at))]
 fn long_mark(first: u8, second: u8) -> Option<Mark>
     ensures { (text : List ℕ) → MatchOption result
@@ -37,7 +37,7 @@ fn long_mark(first: u8, second: u8) -> Option<Mark>
     }
 }
 
-// The mark of one byte.
+// The mark that is written with this one byte.
 #[tactic(auto, unfolding(crate::specs::Marks::mark_at))]
 fn short_mark(b: u8) -> Option<Mark>
     ensures { MatchOption result

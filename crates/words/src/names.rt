@@ -5,12 +5,10 @@ ghost use Rattle.std.specs.Str.{bytes_eq};
 ghost use Rattle.words.specs.Names.{name_of, reserved_of, name_item, word_in};
 
 use crate::items::{Cause, Item};
+use crate::limits::LONGEST_NAME;
 use crate::vocabulary::{Kind, RESERVED_WORDS, ReservedWord};
 
-/// How many characters a name may have.
-const LONGEST_NAME: usize = 31;
-
-// The item that a word is which begins with a letter.
+// The item of a word that begins with a letter.
 pub(crate) fn name_item(text: &[u8]) -> Item
     ensures { result ≡ name_item text.now }
 {
@@ -24,14 +22,14 @@ pub(crate) fn name_item(text: &[u8]) -> Item
     }
 }
 
-// How many characters the word of a name has.
+// How many characters a name has: its `$` don't count.
 fn count_of_characters(text: &[u8]) -> usize
     ensures { result ≡ length (name_of text.now) }
 {
     text.iter().filter(|b| **b != b'$').count()
 }
 
-// The reserved word that a word of so many characters spells, if it spells one.
+// The reserved word with the characters of this text, of which there are so many, if there is one.
 #[tactic(auto, unfolding(crate::specs::Names::reserved_of, crate::specs::Names::reserved_words))]
 fn reserved_word(text: &[u8], count: usize) -> Option<ReservedWord>
     requires { count ≡ length (name_of text.now) }
@@ -40,7 +38,7 @@ fn reserved_word(text: &[u8], count: usize) -> Option<ReservedWord>
     find_word(&RESERVED_WORDS, text, count)
 }
 
-// The word of a table that a word of so many characters spells, if it spells one.
+// The entry of a table with the characters of this text, of which there are so many, if there is one.
 fn find_word(table: &[(&[u8], ReservedWord)], text: &[u8], count: usize) -> Option<ReservedWord>
     requires { count ≡ length (name_of text.now) }
     ensures { result ≡ word_in (map (λ entry. (entry.0.now, entry.1)) table.now) (name_of text.now) }
@@ -53,8 +51,8 @@ fn find_word(table: &[(&[u8], ReservedWord)], text: &[u8], count: usize) -> Opti
     None
 }
 
-// Whether a word of so many characters has just these.
-#[tactic(auto, using(crate::proofs::NameLemmas::other_length))]
+// Whether the characters of a text, of which there are so many, are these.
+#[tactic(auto, using(crate::proofs::NamesLemmas::other_length))]
 fn has_characters(text: &[u8], count: usize, characters: &[u8]) -> bool
     requires { count ≡ length (name_of text.now) }
     ensures { result ≡ bytes_eq characters.now (name_of text.now) }

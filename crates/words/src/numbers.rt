@@ -6,9 +6,10 @@ ghost use Rattle.words.specs.Names.{name_of};
 ghost use Rattle.words.specs.Numbers.{base_of, digit_value, number_in, number_of, number_item};
 
 use crate::items::{Cause, Item};
+use crate::limits::GREATEST_NUMBER;
 use crate::vocabulary::Kind;
 
-// The item that a word is which begins with a digit.
+// The item of a word that begins with a digit.
 pub(crate) fn number_item(text: &[u8]) -> Item
     ensures { result ≡ number_item text.now }
 {
@@ -18,7 +19,7 @@ pub(crate) fn number_item(text: &[u8]) -> Item
     }
 }
 
-// The number that a word spells, if it spells one.
+// The number that a word stands for, in the base that its last character names, if it is one.
 fn number_of(text: &[u8]) -> Option<u16>
     ensures { result ≡ number_of (name_of text.now) }
 {
@@ -32,7 +33,7 @@ fn number_of(text: &[u8]) -> Option<u16>
     }
 }
 
-// A word without the `$` at its end.
+// A word without the `$` at its end, so that its last byte is its last character.
 fn up_to_last_character(text: &[u8]) -> &[u8]
     ensures same { name_of result.now ≡ name_of text.now }
     ensures last { 0 < length result.now → slice_index result.now (length result.now - 1) ≢ 36 }
@@ -44,7 +45,7 @@ fn up_to_last_character(text: &[u8]) -> &[u8]
     &text[..count]
 }
 
-// The base that a character says at the end of a number.
+// The base that a character at the end of a number stands for.
 fn base_of(character: u8) -> Option<u32>
     ensures value { result ≡ base_of character }
     ensures range { IfSome result (λ base. (0 < base) × (base ≤ 16)) }
@@ -58,7 +59,7 @@ fn base_of(character: u8) -> Option<u32>
     }
 }
 
-// The number that the characters of a word are in a base.
+// The number that the characters of a word are in a base, if they are its digits and the number is not too great.
 fn number_in(base: u32, text: &[u8]) -> Option<u16>
     requires positive { 0 < base }
     requires most { base ≤ 16 }
@@ -72,7 +73,7 @@ fn number_in(base: u32, text: &[u8]) -> Option<u16>
                 return None;
             }
             value = value * base + digit;
-            if value > 65535 {
+            if value > GREATEST_NUMBER {
                 return None;
             }
         }
@@ -80,7 +81,7 @@ fn number_in(base: u32, text: &[u8]) -> Option<u16>
     Some(value as u16)
 }
 
-// The value of a character as a digit, 10 and more for a letter.
+// The value of a character as a digit: 10 for A, 11 for B and so on.
 fn digit_value(b: u8) -> u32
     ensures { result ≡ digit_value (to_ascii_uppercase b) }
 {

@@ -1,31 +1,25 @@
 //! The scanner.
 
-ghost use Rattle.std.specs.Prelude.{◌≡◌, ◌≢◌, ◌≤◌, [], ◌∷◌, ◌++◌, length, OnOk, IfOk, IfErr};
-ghost use Rattle.words.specs.Spelling.{lexeme_of, lexemes_of, fault_of, Spells, IsFirstFault, AreSlices, StartsRise};
+ghost use Rattle.std.specs.Prelude.{◌≡◌, ◌≤◌, length, IfOk};
+ghost use Rattle.failure.specs.Failure.{IfFault};
+ghost use Rattle.words.specs.Spelling.{lexemes_of, fault_of, Spells, IsFirstFault, AreSlices, StartsRise};
 
 use crate::characters::count_of_line_feeds;
 use crate::fault::Fault;
 use crate::items::{Cause, Item, next_item};
-use crate::vocabulary::Kind;
+use crate::limits::LONGEST_SOURCE;
+use crate::word::Word;
+use failure::Failure;
 use std::alloc::Global;
 
-/// A word of a text: what it is, its bytes, the place of its first byte, counted from 0, and its line, counted from 1.
-#[derive(Clone, Copy, Debug, PartialEq, Eq)]
-pub struct Word<'a> {
-    pub kind: Kind,
-    pub text: &'a [u8],
-    pub start: u32,
-    pub line: u32,
-}
-
-/// The words that a text spells, in order, or its first fault. Each word's text is the slice of the source at its
-/// start. One pass, which takes memory for the words alone.
-pub fn scan<'a>(alloc: Global, source: &'a [u8]) -> Result<Vec<Word<'a>>, Fault>
-    requires { length source.now ≤ 1048576 }
+/// Splits a source text into its words. They come in order, each with the slice of the source that it is. A text
+/// that is not a list of words is refused with its first fault. One pass, which takes memory for the words alone.
+pub fn scan<'a>(alloc: Global, source: &'a [u8]) -> Result<Vec<Word<'a>>, Failure<Fault>>
+    requires { length source.now ≤ LONGEST_SOURCE }
     ensures spells { IfOk result (λ words. Spells source.now (lexemes_of words.items)) }
     ensures slices { IfOk result (λ words. AreSlices source.now (lexemes_of words.items)) }
     ensures rising { IfOk result (λ words. StartsRise (lexemes_of words.items)) }
-    ensures fault { IfErr result (λ fault. fault ≢ Fault.Memory → IsFirstFault source.now fault) }
+    ensures fault { IfFault result (IsFirstFault source.now) }
 {
     let mut words = Vec::new(alloc);
     let mut start = 0;
@@ -33,20 +27,19 @@ pub fn scan<'a>(alloc: Global, source: &'a [u8]) -> Result<Vec<Word<'a>>, Fault>
     loop {
         match next_item(&source[start..]) {
             Item::Ending => return Ok(words),
-            Item::Wrong(cause) => return Err(fault_of(cause, line)),
+            Item::Wrong(cause) => return Err(Failure::Fault(fault_of(cause, line))),
             Item::Blank(length) => {
                 line += count_of_line_feeds(&source[start..start + length]) as u32;
                 start += length;
             }
             Item::Spelled(kind, length) => {
                 let text = &source[start..start + length];
-                let word = Word {
+                words.push(Word {
                     kind,
                     text,
                     start: start as u32,
                     line,
-                };
-                push_word(&mut words, word)?;
+                })?;
                 line += count_of_line_feeds(text) as u32;
                 start += length;
             }
@@ -54,18 +47,7 @@ pub fn scan<'a>(alloc: Global, source: &'a [u8]) -> Result<Vec<Word<'a>>, Fault>
     }
 }
 
-// Adds a word at the end.
-fn push_word<'a>(words: &mut Vec<Word<'a>>, word: Word<'a>) -> Result<(), Fault>
-    ensures ok { OnOk result (lexemes_of words.new.items ≡ lexemes_of words.old.items ++ lexeme_of word.entry ∷ []) }
-    ensures err { IfErr result (λ fault. fault ≡ Fault.Memory) }
-{
-    match words.push(word) {
-        Ok(()) => Ok(()),
-        Err(_) => Err(Fault::Memory),
-    }
-}
-
-// The fault on a line.
+// The fault that a cause is on a line.
 fn fault_of(cause: Cause, line: u32) -> Fault
     ensures { result ≡ fault_of cause line }
 {

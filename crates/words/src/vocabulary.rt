@@ -1,6 +1,6 @@
 //! The kinds of words, the reserved words and the marks.
 
-/// A reserved word.
+/// A reserved word, which is no name.
 #[derive(Clone, Copy, Debug, PartialEq, Eq)]
 pub enum ReservedWord {
     Address,
@@ -44,7 +44,7 @@ pub enum ReservedWord {
     Xor,
 }
 
-/// A mark.
+/// A mark: an operator or a separator, written with one or two special characters.
 #[derive(Clone, Copy, Debug, PartialEq, Eq)]
 pub enum Mark {
     /// `=`
@@ -83,7 +83,7 @@ pub enum Mark {
     AssignSign,
 }
 
-/// What a word is. A name is known by its characters, a string by its bytes, both of which stand in the word's text.
+/// What a word is. The characters of a name and the bytes of a string stand in the word's text.
 #[derive(Clone, Copy, Debug, PartialEq, Eq)]
 pub enum Kind {
     Name,
@@ -93,8 +93,8 @@ pub enum Kind {
     Mark(Mark),
 }
 
-/// The reserved words and how they are written.
-pub static RESERVED_WORDS: [(&[u8], ReservedWord); 39] = [
+/// How each reserved word is written.
+pub(crate) static RESERVED_WORDS: [(&[u8], ReservedWord); 39] = [
     (b"ADDRESS", ReservedWord::Address),
     (b"AND", ReservedWord::And),
     (b"AT", ReservedWord::At),

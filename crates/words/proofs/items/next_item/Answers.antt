@@ -1,6 +1,6 @@
 use Rattle.std.proofs.Common.{sym, subst, length}
-use Rattle.words.specs.Items.{FitsIn}
-use Rattle.words.proofs.ItemLemmas.{item_fits}
+use Rattle.words.specs.internal.Fits.{FitsIn}
+use Rattle.words.proofs.ItemsLemmas.{item_fits}
 use Rattle.words.proofs.items.next_item.Goals as goal
 
 pub returns-clause-fits : goal.returns-clause-fits

@@ -1,4 +1,4 @@
-use Rattle.words.proofs.Tables.{longest_mark}
+use Rattle.words.proofs.LawsTables.{longest_mark}
 use Rattle.words.proofs.laws.longest_mark.Goals as goal
 
 pub returns : goal.returns

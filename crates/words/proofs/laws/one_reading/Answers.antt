@@ -1,4 +1,4 @@
-use Rattle.words.proofs.Readings.{one_reading}
+use Rattle.words.proofs.LawsReadings.{one_reading}
 use Rattle.words.proofs.laws.one_reading.Goals as goal
 
 pub returns : goal.returns

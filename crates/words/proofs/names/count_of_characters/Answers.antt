@@ -1,4 +1,4 @@
-use Rattle.words.proofs.NameLemmas.{length-name_of}
+use Rattle.words.proofs.NamesLemmas.{length-name_of}
 use Rattle.std.proofs.Common.{rules}
 use Rattle.words.proofs.names.count_of_characters.Goals as goal
 

@@ -1,9 +1,8 @@
 use Rattle.std.proofs.Common.{◌≡◌, [], ◌∷◌, ◌++◌, sym, ap, ◌∙◌, subst, rules}
 use Rattle.std.proofs.lemmas.List.{append-nil, append_assoc}
 use Rattle.words.specs.declared.items.Item.TheVariants.{Ending, Blank, Spelled, Wrong}
-use Rattle.words.specs.Spelling.{lexemes_of, lexeme_at, line_of, fault_of, IsFirstFault, Spells, SpellsFrom, at_end, after_blank, word_then, fault_here, fault_after_blank, fault_after_word}
-use Rattle.words.proofs.SpellingLemmas.{line_after, item_here, word_here}
-use Rattle.words.proofs.Readings.{slices, rising}
+use Rattle.words.specs.Spelling.{lexemes_of, lexeme_at, line_at, fault_of, IsFirstFault, Spells, SpellsFrom, at_end, after_blank, word_then, fault_here, fault_after_blank, fault_after_word}
+use Rattle.words.proofs.ScannerLemmas.{lexemes_of-push, line_after, item_here, word_here, slices, rising}
 use Rattle.words.proofs.scanner.scan.Goals as goal
 
 pub returns-in-Ending : goal.returns-in-Ending
@@ -15,10 +14,10 @@ returns-in-Ending c =
     record { spells = spelled; slices = slices source words spelled; rising = rising source words spelled; fault = tt }
 
 pub returns-in-Wrong-clause-fault : goal.returns-in-Wrong-clause-fault
-returns-in-Wrong-clause-fault c _ =
+returns-in-Wrong-clause-fault c =
     let source = c.args.source.now in
     let is = item_here source c.loop-words.start (Wrong c.in-Wrong.cause) c.in-Wrong.ensures.item in
-    let same : fault_of c.in-Wrong.cause (line_of source c.loop-words.start) ≡ c.fault_of.result = ap (fault_of c.in-Wrong.cause) (sym c.loop-words.invariant.line) ∙ sym c.fault_of.ensures in
+    let same : fault_of c.in-Wrong.cause (line_at source c.loop-words.start) ≡ c.fault_of.result = ap (fault_of c.in-Wrong.cause) (sym c.loop-words.invariant.line) ∙ sym c.fault_of.ensures in
     subst (IsFirstFault source) same (c.loop-words.invariant.fault _ (fault_here is))
 
 pub loop-words-preserved-in-Blank : goal.loop-words-preserved-in-Blank
@@ -41,11 +40,11 @@ loop-words-preserved c =
     let kind = c.in-Spelled.kind in
     let taken = c.in-Spelled.length in
     let is = item_here source start (Spelled kind taken) c.in-Spelled.ensures.item in
-    let word : lexemes_of c.push_word.new.words.items ≡ lexemes_of c.loop-words.words.items ++ lexeme_at source start kind taken ∷ [] =
-    c.in_ok-push_word-in-Spelled.ensures.ok ∙ ap (λ w. lexemes_of c.loop-words.words.items ++ w ∷ []) (word_here source start taken c.loop-words.line kind c.loop-words.invariant.line) in
+    let longer : lexemes_of c.push.new.self.items ≡ lexemes_of c.loop-words.words.items ++ lexeme_at source start kind taken ∷ [] =
+    lexemes_of-push c.loop-words.words.items c.push.new.self.items _ c.in_ok-push-in-Spelled.ensures.items ∙ ap (λ w. lexemes_of c.loop-words.words.items ++ w ∷ []) (word_here source start taken c.loop-words.line kind c.loop-words.invariant.line) in
     record {
       in_range = search rules;
       line = line_after source start taken _ _ c.loop-words.invariant.line c.count_of_line_feeds-in-Spelled.ensures;
-      words = λ rest spells. subst (SpellsFrom source 0) (sym (append_assoc (lexemes_of c.loop-words.words.items) (lexeme_at source start kind taken ∷ []) rest) ∙ ap (λ words. words ++ rest) (sym word)) (c.loop-words.invariant.words (lexeme_at source start kind taken ∷ rest) (word_then is spells));
+      words = λ rest spells. subst (SpellsFrom source 0) (sym (append_assoc (lexemes_of c.loop-words.words.items) (lexeme_at source start kind taken ∷ []) rest) ∙ ap (λ words. words ++ rest) (sym longer)) (c.loop-words.invariant.words (lexeme_at source start kind taken ∷ rest) (word_then is spells));
       fault = λ fault found. c.loop-words.invariant.fault fault (fault_after_word is found);
     }

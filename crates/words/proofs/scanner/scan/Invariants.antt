@@ -1,13 +1,13 @@
 use Rattle.std.proofs.Common.{◌≡◌, ◌≤◌, ◌-◌, List, ◌++◌, length}
 use Rattle.words.specs.declared.fault.Fault.{Fault}
-use Rattle.words.specs.Spelling.{Lexeme, lexemes_of, line_of, SpellsFrom, FaultFrom}
+use Rattle.words.specs.Spelling.{Lexeme, lexemes_of, line_at, SpellsFrom, FaultFrom}
 use Rattle.words.proofs.scanner.scan.Given as goal
 
 -- the words so far, and those from here on, are those of the whole text, and so is a fault
 abbrev pub invariant-loop-words : goal.invariant-loop-words
 invariant-loop-words l = record {
   in_range : l.start ≤ length l.source;
-  line : l.line ≡ line_of l.source l.start;
+  line : l.line ≡ line_at l.source l.start;
   words : (rest : List Lexeme) → SpellsFrom l.source l.start rest → SpellsFrom l.source 0 (lexemes_of l.words.items ++ rest);
   fault : (fault : Fault) → FaultFrom l.source l.start fault → FaultFrom l.source 0 fault;
 }

@@ -3,8 +3,8 @@ use Rattle.std.specs.Option.{option_copied}
 use Rattle.words.specs.Names.{name_of}
 use Rattle.words.specs.Spelling.{lexeme_of, lexemes_of}
 use Rattle.literally.specs.Definitions.{text_in}
-use Rattle.literally.specs.Held.{words_for, Agree, StandsFor}
-use Rattle.literally.proofs.HeldLemmas.{stands}
+use Rattle.literally.specs.internal.Held.{words_for, Agree, StandsFor}
+use Rattle.literally.proofs.DefinitionsHeld.{stands}
 use Rattle.literally.proofs.definitions.Definitions.text_for.Goals as goal
 
 pub returns-in-Some : goal.returns-in-Some

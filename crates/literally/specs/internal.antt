@@ -1,0 +1,5 @@
+-- What private functions and proofs cite.
+pub mod Examples
+pub mod Held
+pub mod Keys
+pub mod Steps

@@ -1,0 +1,3 @@
+-- What private functions and proofs cite.
+pub mod Examples
+pub mod Fits
