@@ -10,7 +10,8 @@ use Rattle.frontend.specs.declared.served.Output.{Output}
 use Rattle.frontend.specs.Served.{line_of_reference, number_among, output_before, output_in, outputs_in, port_in}
 
 pub line_of_parts : (reference : Reference) → line_of_reference (reference_tree reference) ≡ (out-Reference reference).name.place.line
-line_of_parts (Reference' name shape arguments member) = refl
+line_of_parts (Reference' name shape inner None') = search (rules, the_lemmas, row_trees_are)
+line_of_parts (Reference' name shape inner (Some' p member its_shape its_own)) = search (rules, the_lemmas, row_trees_are)
 
 -- the port, if there is no member, the name is OUTPUT and there is one number in parentheses
 abbrev port_of_parts : Reference → Option Number
@@ -19,8 +20,8 @@ port_of_parts reference =
     else (if bytes_eq (out-Reference reference).name.name (codes "OUTPUT") then number_among (argument_trees (out-Reference reference).arguments.items) else None)
 
 pub port_in_parts : (reference : Reference) → port_in (reference_tree reference) ≡ port_of_parts reference
-port_in_parts (Reference' name shape arguments None') = search (rules, the_lemmas, row_trees_are)
-port_in_parts (Reference' name shape arguments (Some' p member its_shape its_arguments)) = search (rules, the_lemmas, row_trees_are)
+port_in_parts (Reference' name shape inner None') = search (rules, the_lemmas, row_trees_are)
+port_in_parts (Reference' name shape inner (Some' p member its_shape its_own)) = search (rules, the_lemmas, row_trees_are)
 
 pub none_among_two : (arguments : List Expression) → 2 ≤ length arguments → number_among (argument_trees arguments) ≡ None
 none_among_two [] at_least = absurd (omega (arith, at_least))

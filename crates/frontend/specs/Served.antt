@@ -35,13 +35,12 @@ number_among others = None
 
 -- the port of `OUTPUT(number)`, if a reference is that
 abbrev pub port_in : ReferenceTree → Option Number
-port_in (ReferenceTo name arguments NoMember) =
-    if bytes_eq name.name (codes "OUTPUT") then number_among arguments else None
+port_in (ReferenceTo name inner NoMember) = if bytes_eq name.name (codes "OUTPUT") then number_among inner else None
 port_in reference = None
 
 -- the line of a reference: that of its name
 abbrev pub line_of_reference : ReferenceTree → ℕ
-line_of_reference (ReferenceTo name arguments member) = name.place.line
+line_of_reference (ReferenceTo name inner part) = name.place.line
 
 -- the output of a number to a port, if there are both
 abbrev pub output_to : ℕ → Option Number → Option Number → Option Output
