@@ -1,9 +1,6 @@
-pub mod ServedLemmas
-pub mod Service
 pub mod CodeLemmas
 pub mod Standing
 pub mod Ending
-pub mod SourceRuns
 pub mod Simulation
 pub mod ExecutionLemmas
 pub mod SourcesLemmas

@@ -21,7 +21,7 @@ use Rattle.tool.specs.Code.{statements_code, program_code, code_bytes}
 use Rattle.tool.specs.Headline.{IsBeginning, Agrees, DoesWhatItSays}
 use Rattle.tool.proofs.Standing.{StandsAt, byte_moved, stands_moved, stands_loaded}
 use Rattle.tool.proofs.Ending.{EndsWith, running, halted, halted_ends, step_first}
-use Rattle.tool.proofs.SourceRuns.{outputs, ended_run, run_ends}
+use Rattle.source_meaning.proofs.RunLemmas.{outputs, ended_run, run_ends}
 
 -- there is always a halt at the end
 halt_left : (ss : List Statement) → 1 ≤ length (code_bytes (statements_code ss))

@@ -1,6 +1,9 @@
 pub use Rattle.mem80.specs.Memory
 pub use Rattle.ports.specs.Events
 pub use Rattle.ports.specs.Input
+pub use Rattle.failure.specs.Failure
+pub use Rattle.frontend.specs.Reading
+pub use Rattle.frontend.specs.Causes
 pub use Rattle.command_line.specs.Command
 pub use Rattle.files.specs.Files
 pub use Rattle.report.specs.Report
@@ -11,9 +14,7 @@ pub mod Headline
 pub mod Placing
 pub mod Construction
 pub mod Execution
-pub mod Served
-pub mod Outputs
-pub mod Reading
-pub mod Causes
 pub mod Sources
+pub mod Refusals
+pub mod Faults
 pub mod internal

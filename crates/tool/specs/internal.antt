@@ -1,1 +1,2 @@
 pub mod Inside
+pub mod Compiling

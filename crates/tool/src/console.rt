@@ -76,11 +76,7 @@ fn run_file<F: Files, O: Write, E: Write>(
 ) -> Ending {
     match files.read_file(file) {
         Ok(text) => run_text(alloc, file, text.as_slice(), out, err),
-        Err(Failure::Fault(fault)) => {
-            let number = fault.number();
-            let _ = writeln!(err, "{number} {file} 0");
-            Ending::Refused
-        }
+        Err(Failure::Fault(fault)) => refuse(fault.number(), file, 0, err),
         Err(Failure::Memory) => refuse_memory(err),
     }
 }
@@ -95,7 +91,8 @@ fn run_text<O: Write, E: Write>(
 ) -> Ending {
     let built = match build(alloc, &[Source { name, text }], &Plan::usual()) {
         Ok(built) => built,
-        Err(fault) => return refuse_source(&fault, name, err),
+        Err(Failure::Fault(fault)) => return refuse_source(&fault, name, err),
+        Err(Failure::Memory) => return refuse_memory(err),
     };
     let Ok(memory) = Memory::new(alloc) else {
         return refuse_memory(err);
@@ -128,20 +125,22 @@ fn ending_of(end: End) -> Ending {
 
 // Prints why a source is refused: the number of the fault, the file or a dash, and the line.
 fn refuse_source<E: Write>(fault: &ToolFault, name: &str, err: &mut E) -> Ending {
-    let place = if fault.is_of_a_file() { name } else { "-" };
-    let line = fault.line();
-    let _ = writeln!(err, "{fault} {place} {line}");
-    Ending::Refused
+    let place = if fault.file().is_some() { name } else { "-" };
+    refuse(fault.number(), place, fault.line(), err)
 }
 
 // Standard output could not be written.
 fn refuse_output<E: Write>(err: &mut E) -> Ending {
-    let _ = writeln!(err, "U3 - 0");
-    Ending::Refused
+    refuse("U3", "-", 0, err)
 }
 
-// Memory was refused.
+// Memory ran out.
 fn refuse_memory<E: Write>(err: &mut E) -> Ending {
-    let _ = writeln!(err, "MEMORY - 0");
+    refuse("MEMORY", "-", 0, err)
+}
+
+// Prints a number, where it was found and the line.
+fn refuse<E: Write>(number: &str, place: &str, line: u32, err: &mut E) -> Ending {
+    let _ = writeln!(err, "{number} {place} {line}");
     Ending::Refused
 }

@@ -1,0 +1,23 @@
+-- What a source that is too long is answered.
+use Rattle.std.specs.Prelude.{◌≡◌, ℕ, ◌<◌, ◌⊎◌, Result, Ok, Err}
+use Rattle.failure.specs.declared.Failure.{Failure}
+use Rattle.failure.specs.declared.Failure.TheVariants.{Fault, Memory}
+use Rattle.frontend.specs.declared.read.ReadFault.TheVariants.{TooLong}
+use Rattle.tool.specs.declared.sources.ToolFault.{ToolFault}
+use Rattle.tool.specs.declared.sources.ToolFault.TheVariants.{TooManySources, Source, CodeTooLong, NotServed, Join, Placement}
+use Rattle.tool.specs.Construction.{Construction}
+
+-- a fault is that this source is too long, that a source before it has a fault, or that there are too many
+abbrev pub IsRefusal : ℕ → ToolFault → Type 0
+IsRefusal file TooManySources = Unit {0}
+IsRefusal file (Source other fault) = (other < file) ⊎ ((other ≡ file) × (fault ≡ TooLong))
+IsRefusal file (CodeTooLong other) = other < file
+IsRefusal file (NotServed other line) = ⊥
+IsRefusal file (Join fault) = ⊥
+IsRefusal file (Placement fault) = ⊥
+
+-- sources are refused for this one or for one before it, or memory ran out
+abbrev pub IsRefusedBy : ℕ → Result Construction (Failure ToolFault) → Type 0
+IsRefusedBy file (Ok built) = ⊥
+IsRefusedBy file (Err (Fault fault)) = IsRefusal file fault
+IsRefusedBy file (Err Memory) = Unit {0}
