@@ -1,8 +1,6 @@
-//! Runs a program of 8080 instructions for a number of steps: `bench_machine [tight|mixed] [steps]`. `bench/machine`
-//! times it beside another machine.
+//! Runs a program of 8080 instructions for a number of steps: `bench_machine [tight|mixed] [steps]`.
+//! `bench/machine` times it beside another machine.
 #![tactic(auto)]
-
-ghost use Rattle.std.specs.Prelude.{length, ◌+◌, ◌≤◌};
 
 use anyhow::{Context, Result, bail};
 use cpu8080::{End, Machine};
@@ -21,7 +19,8 @@ const MIXED: [u8; 27] = [
     0x00, 0x30, 0x01, 0x40, 0x00, 0xCD, 0x50, 0x01, 0xC3, 0x03, 0x01,
 ];
 
-// At 130H: PUSH B; MOV B,H; MOV C,L; LXI H,0; MVI A,16; DAD H; XCHG; DAD H; XCHG; JNC 140H; DAD B; DCR A; JNZ 138H; POP B; RET.
+// At 130H: PUSH B; MOV B,H; MOV C,L; LXI H,0; MVI A,16; DAD H; XCHG; DAD H; XCHG; JNC 140H; DAD B; DCR A; JNZ
+// 138H; POP B; RET.
 const MULTIPLY: [u8; 22] = [
     0xC5, 0x44, 0x4D, 0x21, 0x00, 0x00, 0x3E, 0x10, 0x29, 0xEB, 0x29, 0xEB, 0xD2, 0x40, 0x01, 0x09,
     0x3D, 0xC2, 0x38, 0x01, 0xC1, 0xC9,
@@ -32,15 +31,7 @@ const MOVE: [u8; 13] = [
     0xF5, 0x7E, 0x12, 0x23, 0x13, 0x0B, 0x78, 0xB1, 0xC2, 0x51, 0x01, 0xF1, 0xC9,
 ];
 
-// Puts bytes into a memory, from an address on.
-fn put(memory: &mut Memory, start: u16, bytes: &[u8])
-    requires { start + length bytes.now ≤ 65536 }
-{
-    for (place, byte) in bytes.iter().enumerate() {
-        memory.set(start + place as u16, *byte);
-    }
-}
-
+// How a run ended, in a word.
 fn word_of(end: End) -> &'static str {
     match end {
         End::Halted => "HALT",
@@ -57,11 +48,11 @@ fn main(rt: HostRuntime) -> Result<()> {
     let steps = steps.parse::<u64>().context("the number of steps")?;
     let mut memory = Memory::new(rt.alloc())?;
     match program {
-        "tight" => put(&mut memory, 0x100, &TIGHT),
+        "tight" => memory.load(0x100, &TIGHT),
         "mixed" => {
-            put(&mut memory, 0x100, &MIXED);
-            put(&mut memory, 0x130, &MULTIPLY);
-            put(&mut memory, 0x150, &MOVE);
+            memory.load(0x100, &MIXED);
+            memory.load(0x130, &MULTIPLY);
+            memory.load(0x150, &MOVE);
         }
         _ => bail!("the programs are tight and mixed"),
     }

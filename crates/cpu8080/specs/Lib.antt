@@ -2,6 +2,6 @@ pub use Rattle.isa8080.specs.State
 pub use Rattle.isa8080.specs.Code
 pub use Rattle.isa8080.specs.Act
 pub use Rattle.isa8080.specs.Step
-pub mod Finish
 pub mod Machine
 pub mod Runs
+pub mod internal

@@ -1,19 +1,20 @@
 //! The operations of the accumulator and the counters.
 
-ghost use Rattle.std.specs.Prelude.{◌≡◌, ◌+◌, ◌%◌, not, slice_index, slice_set};
+ghost use Rattle.std.specs.Prelude.{◌≡◌, ◌+◌, not, slice_index, slice_set};
 ghost use Rattle.isa8080.specs.declared.instr.Pair.TheVariants.{Bc, De, Hl};
 ghost use Rattle.isa8080.specs.declared.instr.Operation.TheVariants.{Add, AddWithCarry, Subtract, SubtractWithBorrow, And, ExclusiveOr, Or, Compare};
-ghost use Rattle.isa8080.specs.State.{pair_of, with_pair};
+ghost use Rattle.isa8080.specs.State.{pair_of, with_pair, wrap};
 ghost use Rattle.isa8080.specs.Arithmetic.{increment_of, decrement_of};
-ghost use Rattle.cpu8080.specs.Finish.{accumulated, double_added};
+ghost use Rattle.cpu8080.specs.internal.Finish.{accumulated, double_added};
 
-use crate::words::{bc, de, hl, set_bc, set_de, set_hl};
-use isa8080::{Flags, Registers};
+use crate::flags::{LazyFlags, MachineRegisters};
+use crate::pairs::{bc, de, hl, set_bc, set_de, set_hl};
+use alu8080::ConditionBits;
 use mem80::Memory;
 
 /// ADD: adds a byte.
 #[inline(always)]
-pub fn add(byte: u8, registers: &mut Registers)
+pub fn add(byte: u8, registers: &mut MachineRegisters)
     ensures { registers.new ≡ accumulated Add byte registers.old }
 {
     let (value, flags) = alu8080::add(registers.a, byte, false);
@@ -21,9 +22,9 @@ pub fn add(byte: u8, registers: &mut Registers)
     registers.flags = flags;
 }
 
-/// ADC: adds a byte and CY.
+/// ADC: adds a byte and CY, for sums of more than one byte.
 #[inline(always)]
-pub fn add_with_carry(byte: u8, registers: &mut Registers)
+pub fn add_with_carry(byte: u8, registers: &mut MachineRegisters)
     ensures { registers.new ≡ accumulated AddWithCarry byte registers.old }
 {
     let (value, flags) = alu8080::add(registers.a, byte, registers.flags.cy());
@@ -33,7 +34,7 @@ pub fn add_with_carry(byte: u8, registers: &mut Registers)
 
 /// SUB: subtracts a byte.
 #[inline(always)]
-pub fn subtract(byte: u8, registers: &mut Registers)
+pub fn subtract(byte: u8, registers: &mut MachineRegisters)
     ensures { registers.new ≡ accumulated Subtract byte registers.old }
 {
     let (value, flags) = alu8080::subtract(registers.a, byte, false);
@@ -41,9 +42,9 @@ pub fn subtract(byte: u8, registers: &mut Registers)
     registers.flags = flags;
 }
 
-/// SBB: subtracts a byte and CY.
+/// SBB: subtracts a byte and the borrow in CY, for differences of more than one byte.
 #[inline(always)]
-pub fn subtract_with_borrow(byte: u8, registers: &mut Registers)
+pub fn subtract_with_borrow(byte: u8, registers: &mut MachineRegisters)
     ensures { registers.new ≡ accumulated SubtractWithBorrow byte registers.old }
 {
     let (value, flags) = alu8080::subtract(registers.a, byte, registers.flags.cy());
@@ -51,9 +52,9 @@ pub fn subtract_with_borrow(byte: u8, registers: &mut Registers)
     registers.flags = flags;
 }
 
-/// ANA: keeps the bits of a byte.
+/// ANA: keeps the bits of the accumulator that a byte has.
 #[inline(always)]
-pub fn and(byte: u8, registers: &mut Registers)
+pub fn and(byte: u8, registers: &mut MachineRegisters)
     ensures { registers.new ≡ accumulated And byte registers.old }
 {
     let (value, flags) = alu8080::and(registers.a, byte);
@@ -61,9 +62,9 @@ pub fn and(byte: u8, registers: &mut Registers)
     registers.flags = flags;
 }
 
-/// XRA: turns the bits of a byte.
+/// XRA: inverts the bits of the accumulator that a byte has.
 #[inline(always)]
-pub fn exclusive_or(byte: u8, registers: &mut Registers)
+pub fn exclusive_or(byte: u8, registers: &mut MachineRegisters)
     ensures { registers.new ≡ accumulated ExclusiveOr byte registers.old }
 {
     let (value, flags) = alu8080::xor(registers.a, byte);
@@ -71,9 +72,9 @@ pub fn exclusive_or(byte: u8, registers: &mut Registers)
     registers.flags = flags;
 }
 
-/// ORA: sets the bits of a byte.
+/// ORA: sets the bits of the accumulator that a byte has.
 #[inline(always)]
-pub fn or(byte: u8, registers: &mut Registers)
+pub fn or(byte: u8, registers: &mut MachineRegisters)
     ensures { registers.new ≡ accumulated Or byte registers.old }
 {
     let (value, flags) = alu8080::or(registers.a, byte);
@@ -81,26 +82,26 @@ pub fn or(byte: u8, registers: &mut Registers)
     registers.flags = flags;
 }
 
-/// CMP: sets the flags as a subtraction does.
+/// CMP: sets the flags as a subtraction does, and leaves the accumulator.
 #[inline(always)]
-pub fn compare(byte: u8, registers: &mut Registers)
+pub fn compare(byte: u8, registers: &mut MachineRegisters)
     ensures { registers.new ≡ accumulated Compare byte registers.old }
 {
     registers.flags = alu8080::compare(registers.a, byte);
 }
 
-/// CMC: turns CY.
+/// CMC: inverts CY.
 #[inline(always)]
-pub fn complement_carry(flags: &mut Flags)
+pub fn complement_carry(flags: &mut LazyFlags)
     ensures { flags.new ≡ record flags.old { cy = not flags.old.cy } }
 {
     let carry = flags.cy();
     flags.set_cy(!carry);
 }
 
-/// INR M.
+/// INR M: counts the byte at the address in H and L up.
 #[inline(always)]
-pub fn increment_memory(registers: &mut Registers, memory: &mut Memory)
+pub fn increment_memory(registers: &mut MachineRegisters, memory: &mut Memory)
     ensures registers { registers.new
         ≡ (let byte = slice_index memory.old (pair_of Hl registers.old) in
         record registers.old { flags = (increment_of byte registers.old.flags).flags }) }
@@ -113,9 +114,9 @@ pub fn increment_memory(registers: &mut Registers, memory: &mut Memory)
     memory.set(address, value);
 }
 
-/// DCR M.
+/// DCR M: counts the byte at the address in H and L down.
 #[inline(always)]
-pub fn decrement_memory(registers: &mut Registers, memory: &mut Memory)
+pub fn decrement_memory(registers: &mut MachineRegisters, memory: &mut Memory)
     ensures registers { registers.new
         ≡ (let byte = slice_index memory.old (pair_of Hl registers.old) in
         record registers.old { flags = (decrement_of byte registers.old.flags).flags }) }
@@ -128,36 +129,36 @@ pub fn decrement_memory(registers: &mut Registers, memory: &mut Memory)
     memory.set(address, value);
 }
 
-/// Adds a word to the one in B and C, modulo 65536.
+/// INX B and DCX B: adds a 16-bit value to the one in B and C, and sets no flag.
 #[inline(always)]
-pub fn add_to_bc(word: u16, registers: &mut Registers)
-    ensures { registers.new ≡ with_pair Bc ((pair_of Bc registers.old + word) % 65536) registers.old }
+pub fn add_to_bc(word: u16, registers: &mut MachineRegisters)
+    ensures { registers.new ≡ with_pair Bc (wrap (pair_of Bc registers.old + word)) registers.old }
 {
     let sum = bc(registers).wrapping_add(word);
     set_bc(sum, registers);
 }
 
-/// Adds a word to the one in D and E, modulo 65536.
+/// INX D and DCX D: adds a 16-bit value to the one in D and E, and sets no flag.
 #[inline(always)]
-pub fn add_to_de(word: u16, registers: &mut Registers)
-    ensures { registers.new ≡ with_pair De ((pair_of De registers.old + word) % 65536) registers.old }
+pub fn add_to_de(word: u16, registers: &mut MachineRegisters)
+    ensures { registers.new ≡ with_pair De (wrap (pair_of De registers.old + word)) registers.old }
 {
     let sum = de(registers).wrapping_add(word);
     set_de(sum, registers);
 }
 
-/// Adds a word to the one in H and L, modulo 65536.
+/// INX H and DCX H: adds a 16-bit value to the one in H and L, and sets no flag.
 #[inline(always)]
-pub fn add_to_hl(word: u16, registers: &mut Registers)
-    ensures { registers.new ≡ with_pair Hl ((pair_of Hl registers.old + word) % 65536) registers.old }
+pub fn add_to_hl(word: u16, registers: &mut MachineRegisters)
+    ensures { registers.new ≡ with_pair Hl (wrap (pair_of Hl registers.old + word)) registers.old }
 {
     let sum = hl(registers).wrapping_add(word);
     set_hl(sum, registers);
 }
 
-/// DAD: adds a word to the one in H and L.
+/// DAD: adds a 16-bit value to the one in H and L, and sets the carry alone.
 #[inline(always)]
-pub fn double_add(word: u16, registers: &mut Registers)
+pub fn double_add(word: u16, registers: &mut MachineRegisters)
     ensures { registers.new ≡ double_added word registers.old }
 {
     let (sum, carry) = alu8080::double_add(hl(registers), word);
@@ -165,9 +166,9 @@ pub fn double_add(word: u16, registers: &mut Registers)
     registers.flags.set_cy(carry);
 }
 
-/// XCHG: exchanges the words in H and L and in D and E.
+/// XCHG: exchanges H and L with D and E.
 #[inline(always)]
-pub fn exchange(registers: &mut Registers)
+pub fn exchange(registers: &mut MachineRegisters)
     ensures { registers.new
         ≡ record registers.old {
           h = registers.old.d;

@@ -1,16 +1,17 @@
 //! The 8080: a machine that carries out its instructions, with registers and flags changed in place.
 #![tactic(auto)]
 
+mod accumulate_group;
 mod accumulator;
-mod arithmetic;
-mod control;
 mod execute;
+mod first_group;
+mod flags;
+mod last_group;
 mod machine;
-mod moves;
+mod move_group;
+mod pairs;
 mod port;
-mod rest;
-mod single;
+mod remaining;
 mod stack;
-mod words;
 
 pub use machine::{End, Machine, Step};

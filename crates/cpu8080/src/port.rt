@@ -1,18 +1,19 @@
 //! IN and OUT.
 
-ghost use Rattle.std.specs.Prelude.{◌≡◌, ◌+◌, ◌%◌, OnOk, OnErr};
+ghost use Rattle.std.specs.Prelude.{◌≡◌, ◌+◌, OnOk, OnErr};
 ghost use Rattle.mem80.specs.Memory.{byte_at};
 ghost use Rattle.ports.specs.Events.{read_event, write_event, AddsEvent, CountsFailure};
 ghost use Rattle.ports.specs.Input.{input_value};
-ghost use Rattle.isa8080.specs.declared.registers.Registers.{Registers};
+ghost use Rattle.isa8080.specs.State.{wrap};
+ghost use Rattle.isa8080.specs.declared.registers.RegisterFile.{RegisterFile};
 
-use isa8080::Registers;
+use crate::flags::MachineRegisters;
 use mem80::Memory;
 use ports::{PortFault, Ports};
 
 /// IN: reads the port whose number is at the program counter into the accumulator.
 pub fn input<P: Ports>(
-    registers: &mut Registers,
+    registers: &mut MachineRegisters,
     memory: &Memory,
     ports: &mut P,
 ) -> Result<(), PortFault>
@@ -20,7 +21,7 @@ pub fn input<P: Ports>(
         (registers.new
         ≡ record registers.old {
           a = input_value (P.script ports.old) (P.events ports.old) (byte_at memory.now registers.old.pc);
-          pc = (registers.old.pc + 1) % 65536;
+          pc = wrap (registers.old.pc + 1);
         }) }
     ensures event { OnOk result
         (AddsEvent
@@ -43,11 +44,11 @@ pub fn input<P: Ports>(
 
 /// OUT: writes the accumulator to the port whose number is at the program counter.
 pub fn output<P: Ports>(
-    registers: &mut Registers,
+    registers: &mut MachineRegisters,
     memory: &Memory,
     ports: &mut P,
 ) -> Result<(), PortFault>
-    ensures ok { OnOk result (registers.new ≡ record registers.old { pc = (registers.old.pc + 1) % 65536 }) }
+    ensures ok { OnOk result (registers.new ≡ record registers.old { pc = wrap (registers.old.pc + 1) }) }
     ensures event { OnOk result
         (AddsEvent
         (P.events ports.old)

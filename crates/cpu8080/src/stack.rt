@@ -1,20 +1,20 @@
 //! The stack, and the jumps, calls and returns.
 
-ghost use Rattle.std.specs.Prelude.{◌≡◌, ◌+◌, ◌%◌, if◌then◌else◌, slice_set};
+ghost use Rattle.std.specs.Prelude.{◌≡◌, ◌+◌, if◌then◌else◌, slice_set};
 ghost use Rattle.mem80.specs.Memory.{word_at};
-ghost use Rattle.isa8080.specs.declared.registers.Registers.{Registers};
+ghost use Rattle.isa8080.specs.declared.registers.RegisterFile.{RegisterFile};
 ghost use Rattle.isa8080.specs.declared.instr.Pair.TheVariants.{Hl};
-ghost use Rattle.isa8080.specs.State.{high_byte, low_byte, pair_of, with_pair};
-ghost use Rattle.cpu8080.specs.Finish.{memory_pushed};
+ghost use Rattle.isa8080.specs.State.{high_byte, low_byte, pair_of, with_pair, wrap, two_less};
+ghost use Rattle.cpu8080.specs.internal.Finish.{memory_pushed};
 
-use crate::words::{fetch_word, hl, put_word, set_hl, word_in};
-use isa8080::Registers;
+use crate::flags::MachineRegisters;
+use crate::pairs::{fetch_word, hl, put_word, set_hl, word_in};
 use mem80::Memory;
 
-/// Puts a word on the stack.
+/// PUSH: puts a 16-bit value on the stack.
 #[inline(always)]
-pub fn push(word: u16, registers: &mut Registers, memory: &mut Memory)
-    ensures registers { registers.new ≡ record registers.old { sp = (registers.old.sp + 65534) % 65536 } }
+pub fn push(word: u16, registers: &mut MachineRegisters, memory: &mut Memory)
+    ensures registers { registers.new ≡ record registers.old { sp = two_less registers.old.sp } }
     ensures memory { memory.new ≡ memory_pushed word registers.old memory.old }
 {
     memory.set(registers.sp.wrapping_sub(1), (word / 256) as u8);
@@ -22,25 +22,25 @@ pub fn push(word: u16, registers: &mut Registers, memory: &mut Memory)
     memory.set(registers.sp, (word % 256) as u8);
 }
 
-/// Takes a word from the stack.
+/// POP: takes a 16-bit value from the stack.
 #[inline(always)]
-pub fn pop(registers: &mut Registers, memory: &Memory) -> u16
+pub fn pop(registers: &mut MachineRegisters, memory: &Memory) -> u16
     ensures word { result ≡ word_at memory.now registers.old.sp }
-    ensures after { registers.new ≡ record registers.old { sp = (registers.old.sp + 2) % 65536 } }
+    ensures after { registers.new ≡ record registers.old { sp = wrap (registers.old.sp + 2) } }
 {
     let word = word_in(registers.sp, memory);
     registers.sp = registers.sp.wrapping_add(2);
     word
 }
 
-/// Exchanges the word in H and L with the one on top of the stack.
+/// XTHL: exchanges the 16-bit value in H and L with the one on top of the stack.
 #[inline(always)]
-pub fn exchange_top(registers: &mut Registers, memory: &mut Memory)
+pub fn exchange_top(registers: &mut MachineRegisters, memory: &mut Memory)
     ensures registers { registers.new ≡ with_pair Hl (word_at memory.old registers.old.sp) registers.old }
     ensures memory { memory.new
         ≡ slice_set
         (slice_set memory.old registers.old.sp (low_byte (pair_of Hl registers.old)))
-        ((registers.old.sp + 1) % 65536)
+        (wrap (registers.old.sp + 1))
         (high_byte (pair_of Hl registers.old)) }
 {
     let word = word_in(registers.sp, memory);
@@ -48,13 +48,13 @@ pub fn exchange_top(registers: &mut Registers, memory: &mut Memory)
     set_hl(word, registers);
 }
 
-/// Goes on at the word behind the code, or behind that word.
+/// JMP and the conditional jumps: goes on at the address in the instruction, or after the instruction.
 #[inline(always)]
-pub fn jump_if(condition: bool, registers: &mut Registers, memory: &Memory)
+pub fn jump_if(condition: bool, registers: &mut MachineRegisters, memory: &Memory)
     ensures { registers.new
         ≡ (if condition
         then record registers.old { pc = word_at memory.now registers.old.pc }
-        else record registers.old { pc = (registers.old.pc + 2) % 65536 }) }
+        else record registers.old { pc = wrap (registers.old.pc + 2) }) }
 {
     if condition {
         registers.pc = word_in(registers.pc, memory);
@@ -63,12 +63,15 @@ pub fn jump_if(condition: bool, registers: &mut Registers, memory: &Memory)
     }
 }
 
-/// Goes on at the address on the stack, or behind the code.
+/// RET and the conditional returns: goes on at the address on top of the stack, or after the instruction.
 #[inline(always)]
-pub fn return_if(condition: bool, registers: &mut Registers, memory: &Memory)
+pub fn return_if(condition: bool, registers: &mut MachineRegisters, memory: &Memory)
     ensures { registers.new
         ≡ (if condition
-        then record registers.old { pc = word_at memory.now registers.old.sp; sp = (registers.old.sp + 2) % 65536 }
+        then record registers.old {
+          pc = word_at memory.now registers.old.sp;
+          sp = wrap (registers.old.sp + 2);
+        }
         else registers.old) }
 {
     if condition {
@@ -76,11 +79,11 @@ pub fn return_if(condition: bool, registers: &mut Registers, memory: &Memory)
     }
 }
 
-/// Puts the program counter on the stack, and goes on at an address.
+/// CALL and RST: puts the program counter on the stack, for the return, and goes on at an address.
 #[inline(always)]
-pub fn call(address: u16, registers: &mut Registers, memory: &mut Memory)
+pub fn call(address: u16, registers: &mut MachineRegisters, memory: &mut Memory)
     ensures registers { registers.new
-        ≡ record registers.old { pc = address; sp = (registers.old.sp + 65534) % 65536 } }
+        ≡ record registers.old { pc = address; sp = two_less registers.old.sp } }
     ensures memory { memory.new ≡ memory_pushed registers.old.pc registers.old memory.old }
 {
     let back = registers.pc;
@@ -88,19 +91,19 @@ pub fn call(address: u16, registers: &mut Registers, memory: &mut Memory)
     registers.pc = address;
 }
 
-/// Calls the address behind the code, or goes on behind it.
+/// CALL and the conditional calls: calls the address in the instruction, or goes on after the instruction.
 #[inline(always)]
-pub fn call_if(condition: bool, registers: &mut Registers, memory: &mut Memory)
+pub fn call_if(condition: bool, registers: &mut MachineRegisters, memory: &mut Memory)
     ensures registers { registers.new
         ≡ (if condition
         then record registers.old {
           pc = word_at memory.old registers.old.pc;
-          sp = (registers.old.sp + 65534) % 65536;
+          sp = two_less registers.old.sp;
         }
-        else record registers.old { pc = (registers.old.pc + 2) % 65536 }) }
+        else record registers.old { pc = wrap (registers.old.pc + 2) }) }
     ensures memory { memory.new
         ≡ (if condition
-        then memory_pushed ((registers.old.pc + 2) % 65536) registers.old memory.old
+        then memory_pushed (wrap (registers.old.pc + 2)) registers.old memory.old
         else memory.old) }
 {
     let address = fetch_word(registers, memory);

@@ -1,3 +1,4 @@
-pub mod Decodes
-pub mod Reading
-pub mod Undocumented
+pub mod EncodingLemmas
+pub mod DecodingLemmas
+pub mod Endings
+pub mod Rows

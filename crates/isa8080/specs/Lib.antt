@@ -5,7 +5,6 @@ pub mod Flags
 pub mod State
 pub mod Arithmetic
 pub mod Code
-pub mod Reading
 pub mod Act
 pub mod Step
-pub mod Rows
+pub mod internal

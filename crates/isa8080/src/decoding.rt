@@ -1,25 +1,26 @@
-//! From bytes to the instruction that they begin with. A code has three octal digits: the first tells one of four
-//! groups, the middle one, here the row, is mostly that of a register, a pair or a condition, the last one the kind.
-#![tactic(auto, using(crate::proofs::Reading::reads))]
+//! From bytes to the instruction that they begin with (8080 Assembly Language Programming Manual, appendix
+//! "Instruction summary"). A code has three octal digits: the first tells one of four groups, the middle one,
+//! here the row, is mostly that of a register, a pair or a condition, the last one the kind.
+#![tactic(auto, using(crate::proofs::DecodingLemmas::reads))]
 
 ghost use Rattle.std.specs.Prelude.{◌≡◌, ◌≢◌, ◌+◌, ◌*◌, ◌%◌, ◌<◌, ◌≤◌, ◌↔◌, IsNone, Contains, slice_index};
 ghost use Rattle.isa8080.specs.State.{word};
 ghost use Rattle.isa8080.specs.Code.{condition_code, first_instruction, operand_code, operation_code, pair_code, register_code, restart_number, stack_code, undocumented};
-ghost use Rattle.isa8080.specs.Reading.{Reads};
+ghost use Rattle.isa8080.specs.internal.Reading.{Reads};
 
 use crate::instr::{
     Condition, IndexPair, Instr, Operand, Operation, Pair, Register, Restart, StackPair,
 };
 
-/// The instruction that these bytes begin with, and its length. What stands behind it doesn't matter. `None` is for a
-/// first byte that no instruction has.
-#[tactic(auto, using(crate::proofs::Reading::of_three_bytes))]
+/// The instruction that these bytes begin with, and its length. The bytes after it don't matter. `None` is
+/// for a first byte that no instruction has.
+#[tactic(auto, using(crate::proofs::DecodingLemmas::of_three_bytes))]
 pub fn decode(bytes: [u8; 3]) -> Option<(Instr, u8)>
     ensures instruction { result ≡ first_instruction bytes }
     ensures none { IsNone result ↔ Contains undocumented (slice_index bytes 0) }
 {
     let code = bytes[0];
-    match code / 64 {
+    match code / 0x40 {
         0 => first_group(code, bytes[1], bytes[2]),
         1 => move_group(code, bytes[1], bytes[2]),
         2 => accumulate_group(code, bytes[1], bytes[2]),
@@ -27,9 +28,9 @@ pub fn decode(bytes: [u8; 3]) -> Option<(Instr, u8)>
     }
 }
 
-// The codes 000 to 077, octal.
+// The codes 00H to 3FH: loads, stores, counters and rotates.
 fn first_group(code: u8, low: u8, high: u8) -> Option<(Instr, u8)>
-    requires { code < 64 }
+    requires { code < 0x40 }
     ensures { Reads code low high result }
 {
     let row = code / 8;
@@ -84,10 +85,11 @@ fn accumulator_and_carry(row: u8, low: u8, high: u8) -> Option<(Instr, u8)>
     }
 }
 
-// The codes 100 to 177, octal: a move from the last digit to the row, and a halt where both are memory.
+// The codes 40H to 7FH: a move from the operand of the last digit to that of the row, and a halt where both
+// are memory.
 fn move_group(code: u8, low: u8, high: u8) -> Option<(Instr, u8)>
-    requires from { 64 ≤ code }
-    requires to { code < 128 }
+    requires from { 0x40 ≤ code }
+    requires to { code < 0x80 }
     ensures { Reads code low high result }
 {
     match (operand(code / 8 % 8), operand(code % 8)) {
@@ -97,19 +99,19 @@ fn move_group(code: u8, low: u8, high: u8) -> Option<(Instr, u8)>
     }
 }
 
-// The codes 200 to 277, octal: an operation with the accumulator.
+// The codes 80H to BFH: an operation with the accumulator.
 fn accumulate_group(code: u8, low: u8, high: u8) -> Option<(Instr, u8)>
-    requires from { 128 ≤ code }
-    requires to { code < 192 }
+    requires from { 0x80 ≤ code }
+    requires to { code < 0xC0 }
     ensures { Reads code low high result }
 {
     let operation = operation(code / 8 % 8);
     Some((Instr::Accumulate(operation, operand(code % 8)), 1))
 }
 
-// The codes 300 to 377, octal.
+// The codes C0H to FFH: jumps, calls, returns, the stack, ports and operations with a byte.
 fn last_group(code: u8, low: u8, high: u8) -> Option<(Instr, u8)>
-    requires { 192 ≤ code }
+    requires { 0xC0 ≤ code }
     ensures { Reads code low high result }
 {
     let row = code / 8 % 8;
@@ -133,7 +135,7 @@ fn last_group(code: u8, low: u8, high: u8) -> Option<(Instr, u8)>
 fn return_group(row: u8, low: u8, high: u8) -> Option<(Instr, u8)>
     requires odd { row % 2 ≡ 1 }
     requires small { row < 8 }
-    ensures { Reads (192 + 8 * row + 1) low high result }
+    ensures { Reads (0xC0 + 8 * row + 1) low high result }
 {
     match row {
         1 => Some((Instr::Ret, 1)),
@@ -146,7 +148,7 @@ fn return_group(row: u8, low: u8, high: u8) -> Option<(Instr, u8)>
 // The codes of the last group whose last digit is 3: JMP, ports, exchanges and interrupts.
 fn port_group(row: u8, low: u8, high: u8) -> Option<(Instr, u8)>
     requires { row < 8 }
-    ensures { Reads (192 + 8 * row + 3) low high result }
+    ensures { Reads (0xC0 + 8 * row + 3) low high result }
 {
     match row {
         0 => Some((Instr::Jmp(joined(low, high)), 3)),
@@ -160,7 +162,7 @@ fn port_group(row: u8, low: u8, high: u8) -> Option<(Instr, u8)>
     }
 }
 
-// The word with these bytes.
+// The 16-bit value with these bytes.
 fn joined(low: u8, high: u8) -> u16
     ensures { result ≡ word high low }
 {

@@ -1,6 +1,7 @@
-//! From an instruction to its bytes (8080 Assembly Language Programming Manual, appendix "Instruction summary").
+//! From an instruction to its bytes (8080 Assembly Language Programming Manual, appendix "Instruction
+//! summary").
 
-ghost use Rattle.std.specs.Prelude.{◌≡◌, ℕ, ◌-◌, ◌<◌, Some, List, [], ◌∷◌, ◌++◌, length, replicate};
+ghost use Rattle.std.specs.Prelude.{◌≡◌, ℕ, ◌-◌, ◌<◌, ◌≤◌, Some, List, [], ◌∷◌, ◌++◌, length, replicate};
 ghost use Rattle.isa8080.specs.State.{high_byte, low_byte};
 ghost use Rattle.isa8080.specs.Code.{bytes_of, condition_code, first_instruction, index_code, operand_code, operation_code, pair_code, register_code, restart_number, stack_code};
 
@@ -8,14 +9,16 @@ use crate::instr::{
     Condition, IndexPair, Instr, Operand, Operation, Pair, Register, Restart, StackPair,
 };
 
-/// The bytes of an instruction and their number, from 1 to 3. The places behind them are 0. Whatever bytes stand behind
-/// them, they are read as the instruction again.
-#[tactic(auto, using(crate::proofs::Decodes::read_back))]
+/// The bytes of an instruction and their number, from 1 to 3; the places after them are 0. Whatever bytes
+/// follow, they are read as the instruction again.
+#[tactic(auto, using(crate::proofs::EncodingLemmas::read_back))]
 pub fn encode(instr: Instr) -> ([u8; 3], u8)
     ensures bytes { result.0 ≡ bytes_of instr ++ replicate (3 - result.1) 0 }
     ensures size { result.1 ≡ length (bytes_of instr) }
-    ensures read_back { (behind : List ℕ)
-        → first_instruction (bytes_of instr ++ behind) ≡ Some (instr, result.1) }
+    ensures at_least { 1 ≤ result.1 }
+    ensures at_most { result.1 ≤ 3 }
+    ensures read_back { (after : List ℕ)
+        → first_instruction (bytes_of instr ++ after) ≡ Some (instr, result.1) }
 {
     encoded(instr)
 }
@@ -24,6 +27,8 @@ pub fn encode(instr: Instr) -> ([u8; 3], u8)
 fn encoded(instr: Instr) -> ([u8; 3], u8)
     ensures bytes { result.0 ≡ bytes_of instr ++ replicate (3 - result.1) 0 }
     ensures size { result.1 ≡ length (bytes_of instr) }
+    ensures at_least { 1 ≤ result.1 }
+    ensures at_most { result.1 ≤ 3 }
 {
     match instr {
         Instr::Nop => one(0x00),
@@ -87,7 +92,7 @@ fn one(code: u8) -> ([u8; 3], u8)
     ([code, 0, 0], 1)
 }
 
-// A code with a byte behind it.
+// The code of an instruction with a byte.
 fn two(code: u8, byte: u8) -> ([u8; 3], u8)
     ensures bytes { result.0 ≡ code ∷ byte ∷ 0 ∷ [] }
     ensures size { result.1 ≡ 2 }
@@ -95,7 +100,7 @@ fn two(code: u8, byte: u8) -> ([u8; 3], u8)
     ([code, byte, 0], 2)
 }
 
-// A code with a word behind it, low byte first.
+// The code of an instruction with a 16-bit value, low byte first.
 fn three(code: u8, word: u16) -> ([u8; 3], u8)
     ensures bytes { result.0 ≡ code ∷ low_byte word ∷ high_byte word ∷ [] }
     ensures size { result.1 ≡ 3 }

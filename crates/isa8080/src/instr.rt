@@ -1,7 +1,8 @@
-//! The instructions of the 8080, one form for each of its 244 codes (8080 Assembly Language Programming Manual, chapter 2).
+//! The instructions of the 8080, one form for each of its 244 codes (8080 Assembly Language Programming
+//! Manual, chapter 2).
 
 /// One of the seven registers of a byte.
-#[derive(Clone, Copy, Debug, PartialEq, Eq)]
+#[derive(Clone, Copy, PartialEq, Eq)]
 pub enum Register {
     B,
     C,
@@ -13,14 +14,14 @@ pub enum Register {
 }
 
 /// A register, or the byte of memory at the address in H and L, which is written M.
-#[derive(Clone, Copy, Debug, PartialEq, Eq)]
+#[derive(Clone, Copy, PartialEq, Eq)]
 pub enum Operand {
     Of(Register),
     M,
 }
 
-/// A pair of registers that holds a word, or the stack pointer.
-#[derive(Clone, Copy, Debug, PartialEq, Eq)]
+/// A pair of registers that holds a 16-bit value, or the stack pointer.
+#[derive(Clone, Copy, PartialEq, Eq)]
 pub enum Pair {
     Bc,
     De,
@@ -29,14 +30,14 @@ pub enum Pair {
 }
 
 /// A pair that holds the address of STAX and LDAX.
-#[derive(Clone, Copy, Debug, PartialEq, Eq)]
+#[derive(Clone, Copy, PartialEq, Eq)]
 pub enum IndexPair {
     IndexBc,
     IndexDe,
 }
 
 /// What PUSH and POP move: a pair of registers, or A and the flag byte.
-#[derive(Clone, Copy, Debug, PartialEq, Eq)]
+#[derive(Clone, Copy, PartialEq, Eq)]
 pub enum StackPair {
     StackBc,
     StackDe,
@@ -45,7 +46,7 @@ pub enum StackPair {
 }
 
 /// A condition of a jump, a call or a return.
-#[derive(Clone, Copy, Debug, PartialEq, Eq)]
+#[derive(Clone, Copy, PartialEq, Eq)]
 pub enum Condition {
     NotZero,
     Zero,
@@ -58,7 +59,7 @@ pub enum Condition {
 }
 
 /// An operation of a byte with the accumulator.
-#[derive(Clone, Copy, Debug, PartialEq, Eq)]
+#[derive(Clone, Copy, PartialEq, Eq)]
 pub enum Operation {
     Add,
     AddWithCarry,
@@ -71,7 +72,7 @@ pub enum Operation {
 }
 
 /// The number of a restart, from 0 to 7.
-#[derive(Clone, Copy, Debug, PartialEq, Eq)]
+#[derive(Clone, Copy, PartialEq, Eq)]
 pub enum Restart {
     N0,
     N1,
@@ -84,7 +85,7 @@ pub enum Restart {
 }
 
 /// An instruction with its operands.
-#[derive(Clone, Copy, Debug, PartialEq, Eq)]
+#[derive(Clone, Copy, PartialEq, Eq)]
 pub enum Instr {
     Nop,
     Lxi(Pair, u16),

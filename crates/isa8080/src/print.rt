@@ -1,5 +1,5 @@
-//! Instructions as an assembler writes them: the mnemonic, and behind a space the operands with commas between. Bytes
-//! have two and words four hexadecimal digits.
+//! Instructions as an assembler writes them: the mnemonic, and after a space the operands with commas
+//! between. Bytes have two hexadecimal digits, and 16-bit values four.
 
 use crate::instr::{
     Condition, IndexPair, Instr, Operand, Operation, Pair, Register, Restart, StackPair,
@@ -15,7 +15,7 @@ impl fmt::Display for Instr {
     }
 }
 
-// Writes the operands, behind a space where there are any.
+// Writes the operands, after a space where there are any.
 fn write_operands<W: fmt::Write>(f: &mut fmt::Formatter<W>, operands: Operands) -> fmt::Result {
     match operands {
         Operands::None => Ok(()),
@@ -208,7 +208,7 @@ fn operation_name(operation: Operation) -> &'static str {
     }
 }
 
-// With the byte behind the code.
+// With the byte after the code.
 fn immediate_name(operation: Operation) -> &'static str {
     match operation {
         Operation::Add => "ADI",

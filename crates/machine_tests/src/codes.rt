@@ -1,4 +1,4 @@
-//! Codes and texts of instructions.
+//! Texts of instructions, and their bytes, from the manual's examples.
 
 use isa8080::{
     Condition, IndexPair, Instr, Operand, Operation, Pair, Register, Restart, StackPair, decode,
@@ -6,64 +6,83 @@ use isa8080::{
 };
 use std::test::Fail;
 
-// The codes that no instruction has.
-const UNDOCUMENTED: [u8; 12] = [
-    0x08, 0x10, 0x18, 0x20, 0x28, 0x30, 0x38, 0xCB, 0xD9, 0xDD, 0xED, 0xFD,
-];
-
 #[test]
-fn all_codes_but_twelve_are_instructions(rt: HostRuntime) -> Result<(), Fail> {
-    for code in 0..=255_u8 {
-        match decode([code, 0x34, 0x12]) {
-            None => assert!(rt; UNDOCUMENTED.contains(&code), "at {code}"),
-            Some((instr, size)) => {
-                assert!(rt; !UNDOCUMENTED.contains(&code), "at {code}");
-                let (bytes, length) = encode(instr);
-                assert_eq!(rt; length, size, "at {code}");
-                assert_eq!(rt; bytes[0], code, "at {code}");
-                assert_eq!(rt; bytes[1], if size > 1 { 0x34 } else { 0 }, "at {code}");
-                assert_eq!(rt; bytes[2], if size > 2 { 0x12 } else { 0 }, "at {code}");
-            }
-        }
+fn texts_with_operands(rt: HostRuntime) -> Result<(), Fail> {
+    let a = Operand::Of(Register::A);
+    for (instr, text) in [
+        (Instr::Mvi(a, 8), "MVI A,08"),
+        (Instr::Lxi(Pair::Bc, 0x0101), "LXI B,0101"),
+        (Instr::Lxi(Pair::Hl, 0xBEEF), "LXI H,BEEF"),
+        (Instr::Lxi(Pair::Sp, 0xF400), "LXI SP,F400"),
+        (Instr::Mov(Register::A, Operand::M), "MOV A,M"),
+        (Instr::Mov(Register::C, Operand::Of(Register::E)), "MOV C,E"),
+        (Instr::MovToMemory(Register::B), "MOV M,B"),
+        (Instr::Stax(IndexPair::IndexDe), "STAX D"),
+        (Instr::Ldax(IndexPair::IndexBc), "LDAX B"),
+        (Instr::Sta(0x4000), "STA 4000"),
+        (Instr::Lhld(0x00A5), "LHLD 00A5"),
+        (Instr::Inx(Pair::De), "INX D"),
+        (Instr::Dad(Pair::Sp), "DAD SP"),
+        (Instr::Inr(Operand::M), "INR M"),
+        (Instr::Push(StackPair::Psw), "PUSH PSW"),
+        (Instr::Pop(StackPair::StackHl), "POP H"),
+        (Instr::Out(1), "OUT 01"),
+        (Instr::In(0xFE), "IN FE"),
+        (Instr::Rst(Restart::N7), "RST 7"),
+    ] {
+        assert_eq!(rt; instr.to_string(rt.alloc())?.as_str(), text);
     }
     Ok(())
 }
 
 #[test]
-fn texts_of_instructions(rt: HostRuntime) -> Result<(), Fail> {
-    let rows = [
-        (Instr::Mvi(Operand::Of(Register::A), 8), "MVI A,08"),
-        (Instr::Mvi(Operand::M, 255), "MVI M,FF"),
-        (Instr::Lxi(Pair::Hl, 0x101), "LXI H,0101"),
-        (Instr::Lxi(Pair::Sp, 0xF400), "LXI SP,F400"),
-        (Instr::Stax(IndexPair::IndexDe), "STAX D"),
-        (Instr::Mov(Register::B, Operand::Of(Register::C)), "MOV B,C"),
-        (Instr::Mov(Register::L, Operand::M), "MOV L,M"),
-        (Instr::MovToMemory(Register::E), "MOV M,E"),
-        (Instr::Accumulate(Operation::Compare, Operand::M), "CMP M"),
-        (
-            Instr::AccumulateImmediate(Operation::SubtractWithBorrow, 1),
-            "SBI 01",
-        ),
-        (
-            Instr::AccumulateImmediate(Operation::ExclusiveOr, 16),
-            "XRI 10",
-        ),
-        (Instr::ReturnIf(Condition::NotZero), "RNZ"),
-        (Instr::JumpIf(Condition::ParityOdd, 0x100), "JPO 0100"),
-        (Instr::CallIf(Condition::Minus, 0xABCD), "CM ABCD"),
-        (Instr::Rst(Restart::N7), "RST 7"),
-        (Instr::Push(StackPair::Psw), "PUSH PSW"),
-        (Instr::Pop(StackPair::StackBc), "POP B"),
-        (Instr::Out(5), "OUT 05"),
-        (Instr::Jmp(0), "JMP 0000"),
+fn texts_of_mnemonics(rt: HostRuntime) -> Result<(), Fail> {
+    let b = Operand::Of(Register::B);
+    for (instr, text) in [
+        (Instr::Nop, "NOP"),
         (Instr::Xchg, "XCHG"),
         (Instr::Hlt, "HLT"),
-        (Instr::Daa, "DAA"),
-    ];
-    for (instr, text) in rows {
-        let printed = format!(in rt.alloc(); "{instr}")?;
-        assert_eq!(rt; printed.as_str(), text);
+        (Instr::Jmp(0x0100), "JMP 0100"),
+        (Instr::JumpIf(Condition::NotZero, 0x0100), "JNZ 0100"),
+        (Instr::JumpIf(Condition::Minus, 0x0100), "JM 0100"),
+        (Instr::Call(0x0104), "CALL 0104"),
+        (Instr::CallIf(Condition::ParityEven, 0x1234), "CPE 1234"),
+        (Instr::Ret, "RET"),
+        (Instr::ReturnIf(Condition::NotZero), "RNZ"),
+        (Instr::ReturnIf(Condition::ParityOdd), "RPO"),
+        (Instr::Accumulate(Operation::Add, b), "ADD B"),
+        (
+            Instr::Accumulate(Operation::SubtractWithBorrow, Operand::M),
+            "SBB M",
+        ),
+        (Instr::Accumulate(Operation::ExclusiveOr, b), "XRA B"),
+        (Instr::AccumulateImmediate(Operation::Add, 5), "ADI 05"),
+        (
+            Instr::AccumulateImmediate(Operation::Subtract, 0x10),
+            "SUI 10",
+        ),
+        (
+            Instr::AccumulateImmediate(Operation::Compare, 0xFF),
+            "CPI FF",
+        ),
+    ] {
+        assert_eq!(rt; instr.to_string(rt.alloc())?.as_str(), text);
     }
+    Ok(())
+}
+
+#[test]
+fn encodes_and_decodes(rt: HostRuntime) -> Result<(), Fail> {
+    for (instr, bytes, size) in [
+        (Instr::Call(0x0104), [0xCD, 0x04, 0x01], 3),
+        (Instr::Hlt, [0x76, 0, 0], 1),
+        (Instr::Mvi(Operand::Of(Register::A), 8), [0x3E, 0x08, 0], 2),
+        (Instr::Out(4), [0xD3, 0x04, 0], 2),
+        (Instr::Ret, [0xC9, 0, 0], 1),
+    ] {
+        assert!(rt; encode(instr) == (bytes, size));
+        assert!(rt; decode(bytes) == Some((instr, size)));
+    }
+    assert!(rt; decode([0x08, 0, 0]).is_none());
     Ok(())
 }

@@ -3,9 +3,10 @@
 
 #[cfg(test)]
 mod codes;
-pub mod faulty;
+mod faulty;
 #[cfg(test)]
 mod machine;
-pub mod program;
 #[cfg(test)]
 mod scripts;
+
+pub use faulty::FaultyPorts;

@@ -1,7 +1,6 @@
 //! Programs on the machine.
 
 use crate::faulty::FaultyPorts;
-use crate::program::put;
 use cpu8080::{End, Machine, Step};
 use isa8080::decode;
 use mem80::Memory;
@@ -12,7 +11,7 @@ use std::test::Fail;
 // A machine that starts at 100H, where these bytes stand.
 fn machine_with(alloc: Global, bytes: &[u8; 16]) -> Result<Machine<Script>, Fail> {
     let mut memory = Memory::new(alloc)?;
-    put(&mut memory, 0x100, bytes);
+    memory.load(0x100, bytes);
     Ok(Machine::new(memory, Script::new(alloc), 0x100))
 }
 
@@ -74,7 +73,7 @@ fn a_port_that_fails_and_works_again(rt: HostRuntime) -> Result<(), Fail> {
         0xDB, 0x01, 0x47, 0xDB, 0x01, 0x4F, 0x78, 0x91, 0xD3, 0x05, 0x76,
     ];
     let mut memory = Memory::new(rt.alloc())?;
-    put(&mut memory, 0x100, &bytes);
+    memory.load(0x100, &bytes);
     let mut script = Script::new(rt.alloc());
     script.push_input(1, 9)?;
     script.push_input(1, 4)?;
@@ -106,72 +105,5 @@ fn undocumented_codes_stop_and_change_nothing(rt: HostRuntime) -> Result<(), Fai
         assert_eq!(rt; machine.memory().get(0x100), code, "at {code}");
         assert_eq!(rt; machine.ports().events().len(), 0, "at {code}");
     }
-    Ok(())
-}
-
-// What DAA makes of a byte and the flags AC and CY, by the digits: the manual's two steps.
-fn adjusted(a: u8, ac: bool, cy: bool) -> (u8, bool, bool) {
-    let low_digit = a % 16;
-    let adds_six = low_digit > 9 || ac;
-    let adds_sixty = a / 16 > 9 || (a / 16 == 9 && low_digit > 9) || cy;
-    let mut sum = u32::from(a);
-    if adds_six {
-        sum += 6;
-    }
-    if adds_sixty {
-        sum += 0x60;
-    }
-    ((sum % 256) as u8, adds_six && low_digit > 9, adds_sixty)
-}
-
-// LXI SP,108H; POP PSW; DAA; PUSH PSW; HLT, with A and a flag byte at 108H.
-#[test]
-fn decimal_adjustment_of_every_byte(rt: HostRuntime) -> Result<(), Fail> {
-    for a in 0..=255_u8 {
-        for (ac, cy) in [(false, false), (false, true), (true, false), (true, true)] {
-            let flags = if ac { 0x10 } else { 0 } + if cy { 1 } else { 0 };
-            let mut bytes = [0; 16];
-            bytes[..7].copy_from_slice(&[0x31, 0x08, 0x01, 0xF1, 0x27, 0xF5, 0x76]);
-            bytes[8] = flags;
-            bytes[9] = a;
-            let mut machine = machine_with(rt.alloc(), &bytes)?;
-            assert_eq!(rt; machine.run(9), End::Halted);
-            let (value, half, carry) = adjusted(a, ac, cy);
-            let registers = machine.registers();
-            assert_eq!(rt; registers.a, value, "DAA of {a} with {flags}");
-            assert_eq!(rt; registers.flags.cy(), carry, "DAA of {a} with {flags}");
-            assert_eq!(rt; registers.flags.ac(), half, "DAA of {a} with {flags}");
-            assert_eq!(rt; registers.flags.z(), value == 0, "DAA of {a} with {flags}");
-            assert_eq!(rt; registers.flags.s(), value > 127, "DAA of {a} with {flags}");
-            assert_eq!(rt;
-                machine.memory().get(0x109),
-                value,
-                "DAA of {a} with {flags}"
-            );
-        }
-    }
-    Ok(())
-}
-
-// The rows of the manual's flags: SUB A with 3EH, INR A of FFH with CY, DAD H of 8000H.
-#[test]
-fn flags_of_worked_rows(rt: HostRuntime) -> Result<(), Fail> {
-    let mut bytes = [0; 16];
-    bytes[..4].copy_from_slice(&[0x3E, 0x3E, 0x97, 0x76]);
-    let mut machine = machine_with(rt.alloc(), &bytes)?;
-    assert_eq!(rt; machine.run(9), End::Halted);
-    assert_eq!(rt; machine.registers().a, 0);
-    assert_eq!(rt; machine.registers().flags.byte(), 0x56);
-    bytes[..5].copy_from_slice(&[0x3E, 0xFF, 0x37, 0x3C, 0x76]);
-    let mut machine = machine_with(rt.alloc(), &bytes)?;
-    assert_eq!(rt; machine.run(9), End::Halted);
-    assert_eq!(rt; machine.registers().a, 0);
-    assert_eq!(rt; machine.registers().flags.byte(), 0x57);
-    bytes[..5].copy_from_slice(&[0x21, 0x00, 0x80, 0x29, 0x76]);
-    let mut machine = machine_with(rt.alloc(), &bytes)?;
-    assert_eq!(rt; machine.run(9), End::Halted);
-    assert_eq!(rt; machine.registers().h, 0);
-    assert_eq!(rt; machine.registers().flags.cy(), true);
-    assert_eq!(rt; machine.registers().flags.z(), false);
     Ok(())
 }

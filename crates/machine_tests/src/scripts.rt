@@ -24,3 +24,16 @@ fn inputs_come_by_port_and_in_order(rt: HostRuntime) -> Result<(), Fail> {
     assert_eq!(rt; script.events().last().copied(), Some(last));
     Ok(())
 }
+
+// No clause says that there is memory for an event: a body that always failed would prove.
+#[test]
+fn every_port_answers(rt: HostRuntime) -> Result<(), Fail> {
+    let mut script = Script::new(rt.alloc());
+    for port in 0..=255_u8 {
+        script.push_input(port, port)?;
+        assert_eq!(rt; script.input(port)?, port);
+        script.output(port, port)?;
+    }
+    assert_eq!(rt; script.events().len(), 512);
+    Ok(())
+}

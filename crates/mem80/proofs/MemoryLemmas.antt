@@ -31,9 +31,16 @@ loaded_is_memory memory bytes start is fit within =
     let short : start ≤ length memory = omega (arith, is.size) in
     record {
       size =
-          omega
-          (arith, is.size, length-append (take start memory) (bytes ++ after), length-append bytes after, length-take-le start memory short, length-drop (start + length bytes) memory);
+          omega (
+            arith,
+            is.size,
+            length-append (take start memory) (bytes ++ after),
+            length-append bytes after,
+            length-take-le start memory short,
+            length-drop (start + length bytes) memory,
+          );
       bytes =
           All-append P (take start memory) (bytes ++ after) (All-take P start memory is.bytes)
-          (All-append P bytes after (All-from_get_or P bytes 0 (λ i below. fit i)) (All-drop P (start + length bytes) memory is.bytes));
+          (All-append P bytes after (All-from_get_or P bytes 0 (λ i below. fit i))
+          (All-drop P (start + length bytes) memory is.bytes));
     }

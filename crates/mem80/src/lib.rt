@@ -1,4 +1,5 @@
-//! The byte memory of an 8080: 65,536 places of one byte each, ranges of places, and pieces of bytes with a place.
+//! The byte memory of an 8080: 65,536 places of one byte each, ranges of places, and pieces of bytes with a
+//! place.
 #![tactic(auto)]
 
 mod memory;

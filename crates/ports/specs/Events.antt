@@ -14,6 +14,10 @@ write_event port value = record { write = true; port = port; value = value }
 abbrev pub AddsEvent : List Event → List Event → Event → Type 0
 AddsEvent old new event = new ≡ old ++ event ∷ []
 
+-- events are a beginning of others
+abbrev pub IsBeginning : List Event → List Event → Type 0
+IsBeginning events all = (rest : List Event) × (all ≡ events ++ rest)
+
 -- a failing call adds one to the count, which stays at its greatest value
 abbrev pub CountsFailure : ℕ → ℕ → Type 0
 CountsFailure old new = new ≡ min (old + 1) (2 ^ 64 - 1)

@@ -2,7 +2,8 @@
 use Rattle.std.specs.Prelude.{◌≡◌, ℕ, ◌<◌, ◌==◌, Bool, ◌&&◌, not, List, [], ◌∷◌, ◌++◌, count_by, slice_index_or, if◌then◌else◌, All}
 use Rattle.ports.specs.declared.event.Event.{Event}
 
--- the queue of a port: the script lists the queues from port 0 on, and a port past its end has the empty queue
+-- the queue of a port: the script lists the queues from port 0 on, and a port past its end has the empty
+-- queue
 abbrev pub queue_of : List (List ℕ) → ℕ → List ℕ
 queue_of script port = slice_index_or script port []
 
@@ -25,4 +26,5 @@ input_value script events port = slice_index_or (queue_of script port) (reads_of
 -- one queue has a byte more at its end
 abbrev pub AddsByte : List (List ℕ) → List (List ℕ) → ℕ → ℕ → Type 0
 AddsByte old new port byte =
-    (other : ℕ) → queue_of new other ≡ (if other == port then queue_of old other ++ byte ∷ [] else queue_of old other)
+    (other : ℕ)
+    → queue_of new other ≡ (if other == port then queue_of old other ++ byte ∷ [] else queue_of old other)

@@ -1,5 +1,4 @@
 pub mod Events
 pub mod Input
-pub mod Kept
-pub mod Queues
 pub mod Session
+pub mod internal

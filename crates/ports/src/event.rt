@@ -23,8 +23,9 @@ pub struct Event {
 #[error("a port failed")]
 pub struct PortFault;
 
-/// The 256 ports of a machine. Their meaning is a script, which is one queue of bytes for each port, the events so
-/// far, and a count of the failures, which stays at 18446744073709551615 once it is there.
+/// The 256 ports of a machine, which IN reads and OUT writes. Their meaning is a script, which is one queue
+/// of bytes for each port, the events so far, and a count of the failures, which stays at
+/// 18446744073709551615 once it is there.
 pub trait Ports {
     ghost script: { Self → List (List ℕ) };
 
@@ -32,8 +33,8 @@ pub trait Ports {
 
     ghost failures: { Self → ℕ };
 
-    /// Reads a port: byte k of its queue after k reads of it, or 255 past the end of the queue. An `Ok` adds one
-    /// event, and an `Err` one failure and no event.
+    /// Reads a port: byte k of its queue after k reads of it, or 255 past the end of the queue. An `Ok` adds
+    /// one event, and an `Err` one failure and no event.
     fn input(&mut self, port: u8) -> Result<u8, PortFault>
         ensures value { IfOk result (λ v. v ≡ input_value (script self.old) (events self.old) port) }
         ensures ok { IfOk result (λ v. AddsEvent (events self.old) (events self.new) (read_event port v)) }

@@ -1,8 +1,9 @@
-//! The ports of a machine: the trait that a processor reads and writes through, its events, and a script of inputs.
+//! The ports of a machine: the trait that a processor reads and writes through, its events, and a script of
+//! inputs.
 #![tactic(auto)]
 
-pub mod event;
-pub mod script;
+mod event;
+mod script;
 
 pub use event::{Event, PortFault, Ports};
 pub use script::Script;

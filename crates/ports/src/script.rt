@@ -1,20 +1,25 @@
 //! Ports that read from queues and keep what happened.
 
 ghost use Rattle.std.specs.Prelude.{◌≡◌, ℕ, ◌<◌, [], length, slice_index, slice_index_or, IfOk, OnOk, OnErr};
+ghost use Rattle.ports.specs.declared.script.TheConstants.{PORTS};
 ghost use Rattle.ports.specs.Events.{AddsEvent, CountsFailure};
 ghost use Rattle.ports.specs.Input.{AddsByte, input_value};
-ghost use Rattle.ports.specs.Queues.{bytes_of, AreEmpty};
+ghost use Rattle.ports.specs.internal.Queues.{bytes_of, AreEmpty};
 
 use crate::event::{Event, PortFault, Ports};
-use std::alloc::Global;
+use std::alloc::{AllocError, Global};
 use std::marker::Model;
 
-/// A script: a queue of bytes for each port, and the events so far. It fails only for want of memory.
+/// How many ports an 8080 has.
+const PORTS: usize = 256;
+
+/// Ports of which each reads from a queue of bytes, and which keep the events so far. A read or a write fails
+/// only where the host has no memory for its event.
 #[derive(Drop)]
 pub struct Script {
     alloc: Global,
     queues: Vec<Vec<u8>>,
-    reads: [u64; 256],
+    reads: [u64; PORTS],
     log: Vec<Event>,
     failed: u64,
 }
@@ -24,7 +29,7 @@ impl Model for Script {
 
     ghost Value = { Session };
 
-    ghost use Rattle.ports.specs.Kept.{session_of, KeepsReads};
+    ghost use Rattle.ports.specs.internal.Fields.{session_of, KeepsReads};
 
     ghost view = { session_of };
 
@@ -47,8 +52,9 @@ impl Script {
         }
     }
 
-    /// Adds a byte at the end of a port's queue. It fails only for want of memory, and a fault changes nothing.
-    pub fn push_input(&mut self, port: u8, byte: u8) -> Result<(), PortFault>
+    /// Adds a byte at the end of a port's queue, which a later read of that port gives. Out of memory, it
+    /// changes nothing.
+    pub fn push_input(&mut self, port: u8, byte: u8) -> Result<(), AllocError>
         ensures ok { OnOk result (AddsByte self.old.script self.new.script port byte) }
         ensures events { self.new.events ≡ self.old.events }
         ensures failures { self.new.failures ≡ self.old.failures }
@@ -89,7 +95,7 @@ impl Ports for Script {
 
     ghost failures = { λ s. s.failures };
 
-    #[tactic(auto, using(crate::proofs::Counts::counts_read))]
+    #[tactic(auto, using(crate::proofs::ScriptLemmas::counts_read))]
     fn input(&mut self, port: u8) -> Result<u8, PortFault> {
         let value = self.next_input(port);
         let read = Event {
@@ -129,10 +135,10 @@ fn add_event(log: &mut Vec<Event>, failed: &mut u64, event: Event) -> Result<(),
 }
 
 // A count of 0 for each port.
-fn no_reads() -> [u64; 256]
-    ensures { (port : ℕ) → port < 256 → slice_index result port ≡ 0 }
+fn no_reads() -> [u64; PORTS]
+    ensures { (port : ℕ) → port < PORTS → slice_index result port ≡ 0 }
 {
-    [0; 256]
+    [0; PORTS]
 }
 
 // The byte of a queue after so many reads, or 255 past its end.
@@ -143,27 +149,27 @@ fn byte_at(queue: &[u8], reads: u64) -> u8
 }
 
 // A queue for each port, with no byte.
-fn empty_queues(alloc: Global) -> Result<Vec<Vec<u8>>, PortFault>
-    ensures size { IfOk result (λ queues. length queues.items ≡ 256) }
+fn empty_queues(alloc: Global) -> Result<Vec<Vec<u8>>, AllocError>
+    ensures size { IfOk result (λ queues. length queues.items ≡ PORTS) }
     ensures empty { IfOk result (λ queues. AreEmpty queues.items) }
 {
     let mut queues = Vec::new(alloc);
-    for _ in 0..256_usize {
-        queues.push(Vec::new(alloc)).map_err(|_| PortFault)?;
+    for _ in 0..PORTS {
+        queues.push(Vec::new(alloc))?;
     }
     Ok(queues)
 }
 
-// Adds a byte at the end of one of the queues. A fault changes nothing.
-#[tactic(auto, using(crate::proofs::Queues::adds_byte_at, crate::proofs::Queues::same_bytes_at))]
-fn push_at(queues: &mut Vec<Vec<u8>>, port: u8, byte: u8) -> Result<(), PortFault>
-    requires { length queues.old.items ≡ 256 }
+// Adds a byte at the end of one of the queues. Out of memory, it changes nothing.
+#[tactic(auto, using(crate::proofs::ScriptLemmas::adds_byte_at, crate::proofs::ScriptLemmas::same_bytes_at))]
+fn push_at(queues: &mut Vec<Vec<u8>>, port: u8, byte: u8) -> Result<(), AllocError>
+    requires { length queues.old.items ≡ PORTS }
     ensures ok { OnOk result (AddsByte (bytes_of queues.old.items) (bytes_of queues.new.items) port byte) }
     ensures err { OnErr result (bytes_of queues.new.items ≡ bytes_of queues.old.items) }
-    ensures size { length queues.new.items ≡ 256 }
+    ensures size { length queues.new.items ≡ PORTS }
 {
     match queues[port as usize].push(byte) {
         Ok(()) => Ok(()),
-        Err(_) => Err(PortFault),
+        Err(failed) => Err(AllocError::from(failed)),
     }
 }

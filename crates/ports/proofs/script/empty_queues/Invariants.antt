@@ -1,5 +1,5 @@
 use Rattle.std.proofs.Common.{◌≡◌, length}
-use Rattle.ports.specs.Queues.{AreEmpty}
+use Rattle.ports.specs.internal.Queues.{AreEmpty}
 use Rattle.ports.proofs.script.empty_queues.Given as goal
 
 abbrev pub invariant-loop : goal.invariant-loop

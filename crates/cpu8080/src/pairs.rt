@@ -1,0 +1,127 @@
+//! 16-bit values in pairs of registers and in memory.
+
+ghost use Rattle.std.specs.Prelude.{◌≡◌, ◌+◌, slice_set};
+ghost use Rattle.mem80.specs.Memory.{byte_at, word_at};
+ghost use Rattle.isa8080.specs.declared.instr.Pair.TheVariants.{Bc, De, Hl};
+ghost use Rattle.isa8080.specs.declared.instr.StackPair.TheVariants.{Psw};
+ghost use Rattle.isa8080.specs.State.{word as word_of, high_byte, low_byte, pair_of, with_pair, pushed_of, with_popped, wrap};
+
+use crate::flags::{LazyFlags, MachineRegisters};
+use isa8080::Flags;
+use mem80::Memory;
+
+// The 16-bit value of a high and a low byte.
+#[inline(always)]
+fn word(high: u8, low: u8) -> u16
+    ensures { result ≡ word_of high low }
+{
+    high as u16 * 256 + low as u16
+}
+
+/// The 16-bit value in B and C.
+#[inline(always)]
+pub fn bc(registers: &MachineRegisters) -> u16
+    ensures { result ≡ pair_of Bc registers.now }
+{
+    word(registers.b, registers.c)
+}
+
+/// The 16-bit value in D and E.
+#[inline(always)]
+pub fn de(registers: &MachineRegisters) -> u16
+    ensures { result ≡ pair_of De registers.now }
+{
+    word(registers.d, registers.e)
+}
+
+/// The 16-bit value in H and L.
+#[inline(always)]
+pub fn hl(registers: &MachineRegisters) -> u16
+    ensures { result ≡ pair_of Hl registers.now }
+{
+    word(registers.h, registers.l)
+}
+
+/// The 16-bit value of the accumulator and the flag byte.
+#[inline(always)]
+pub fn psw(registers: &MachineRegisters) -> u16
+    ensures { result ≡ pushed_of Psw registers.now }
+{
+    word(registers.a, registers.flags.flags().byte())
+}
+
+/// Puts a 16-bit value in B and C.
+#[inline(always)]
+pub fn set_bc(word: u16, registers: &mut MachineRegisters)
+    ensures { registers.new ≡ with_pair Bc word registers.old }
+{
+    registers.b = (word / 256) as u8;
+    registers.c = (word % 256) as u8;
+}
+
+/// Puts a 16-bit value in D and E.
+#[inline(always)]
+pub fn set_de(word: u16, registers: &mut MachineRegisters)
+    ensures { registers.new ≡ with_pair De word registers.old }
+{
+    registers.d = (word / 256) as u8;
+    registers.e = (word % 256) as u8;
+}
+
+/// Puts a 16-bit value in H and L.
+#[inline(always)]
+pub fn set_hl(word: u16, registers: &mut MachineRegisters)
+    ensures { registers.new ≡ with_pair Hl word registers.old }
+{
+    registers.h = (word / 256) as u8;
+    registers.l = (word % 256) as u8;
+}
+
+/// Puts a 16-bit value in the accumulator and the flags.
+#[inline(always)]
+pub fn set_psw(word: u16, registers: &mut MachineRegisters)
+    ensures { registers.new ≡ with_popped Psw word registers.old }
+{
+    registers.a = (word / 256) as u8;
+    registers.flags = LazyFlags::from_flags(Flags::from_byte((word % 256) as u8));
+}
+
+/// The 16-bit value at an address, its low byte first.
+#[inline(always)]
+pub fn word_in(address: u16, memory: &Memory) -> u16
+    ensures { result ≡ word_at memory.now address }
+{
+    word(memory.get(address.wrapping_add(1)), memory.get(address))
+}
+
+/// Puts a 16-bit value at an address, its low byte first.
+#[inline(always)]
+pub fn put_word(address: u16, word: u16, memory: &mut Memory)
+    ensures { memory.new
+        ≡ slice_set (slice_set memory.old address (low_byte word)) (wrap (address + 1)) (high_byte word) }
+{
+    memory.set(address, (word % 256) as u8);
+    memory.set(address.wrapping_add(1), (word / 256) as u8);
+}
+
+/// The byte at the program counter, which goes on by one.
+#[inline(always)]
+pub fn fetch(registers: &mut MachineRegisters, memory: &Memory) -> u8
+    ensures byte { result ≡ byte_at memory.now registers.old.pc }
+    ensures after { registers.new ≡ record registers.old { pc = wrap (registers.old.pc + 1) } }
+{
+    let byte = memory.get(registers.pc);
+    registers.pc = registers.pc.wrapping_add(1);
+    byte
+}
+
+/// The 16-bit value at the program counter, which goes on by two.
+#[inline(always)]
+pub fn fetch_word(registers: &mut MachineRegisters, memory: &Memory) -> u16
+    ensures word { result ≡ word_at memory.now registers.old.pc }
+    ensures after { registers.new ≡ record registers.old { pc = wrap (registers.old.pc + 2) } }
+{
+    let word = word_in(registers.pc, memory);
+    registers.pc = registers.pc.wrapping_add(2);
+    word
+}

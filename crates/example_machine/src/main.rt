@@ -1,0 +1,63 @@
+//! Drives an 8080 with devices of one's own: a program that counts is put in memory and run, and what it printed is
+//! shown.
+#![tactic(auto)]
+
+mod devices;
+
+ghost use Rattle.std.specs.Prelude.{◌+◌, ◌*◌, ◌<◌, length};
+ghost use Rattle.mem80.specs.declared.memory.TheConstants.{MEMORY_SIZE};
+
+use anyhow::Result;
+use cpu8080::{End, Machine};
+use devices::{COUNTER, Devices, PRINTER};
+use isa8080::{Condition, Instr, Operation, encode};
+use mem80::Memory;
+
+// Where the program starts, and where it halts.
+const START: u16 = 0x100;
+
+const HALT: u16 = 0x10E;
+
+// Prints the counter's values as digits, until it gives 10.
+const PROGRAM: [Instr; 7] = [
+    Instr::In(COUNTER),
+    Instr::AccumulateImmediate(Operation::Compare, 10),
+    Instr::JumpIf(Condition::Zero, HALT),
+    Instr::AccumulateImmediate(Operation::Add, b'0'),
+    Instr::Out(PRINTER),
+    Instr::Jmp(START),
+    Instr::Hlt,
+];
+
+// Puts a program into memory, one instruction after another.
+fn put_program(memory: &mut Memory, start: u16, program: &[Instr])
+    requires { start + 3 * length program.now < MEMORY_SIZE }
+{
+    let mut address = start;
+    for instr in program {
+        let (bytes, size) = encode(*instr);
+        memory.load(address, &bytes);
+        address += size as u16;
+    }
+}
+
+// How a run ended, in a word.
+fn word_of(end: End) -> &'static str {
+    match end {
+        End::Halted => "halted",
+        End::Illegal => "stopped at an illegal code",
+        End::PortFault => "stopped at a port that failed",
+        End::Limit => "still running",
+    }
+}
+
+fn main(rt: HostRuntime) -> Result<()> {
+    let mut memory = Memory::new(rt.alloc())?;
+    put_program(&mut memory, START, &PROGRAM);
+    let mut machine = Machine::new(memory, Devices::new(rt.alloc()), START);
+    let end = machine.run(1000);
+    println!(rt; "printed: {}", machine.ports().paper())?;
+    println!(rt; "events: {}", machine.ports().log().len())?;
+    println!(rt; "the machine has {}", word_of(end))?;
+    Ok(())
+}
