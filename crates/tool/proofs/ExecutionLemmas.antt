@@ -1,10 +1,12 @@
 -- What a run of the machine says of its source.
-use Rattle.std.proofs.Common.{◌≡◌, ℕ, zero, suc, ◌+◌, ◌-◌, ◌≤◌, List, sym, ap, ◌∙◌, subst, arith, ⊎_elim}
+use Rattle.std.proofs.Common.{◌≡◌, ℕ, ◌+◌, ◌-◌, ◌≤◌, List, sym, ap, ◌∙◌, subst, arith, ⊎_elim}
 use Rattle.std.proofs.lemmas.Bool.{cases_lt}
 use Rattle.ports.specs.declared.event.Event.{Event}
-use Rattle.isa8080.specs.declared.registers.Status.TheVariants.{Halted}
+use Rattle.ports.specs.Events.{IsBeginning}
+use Rattle.isa8080.specs.declared.registers.Status.TheVariants.{Running, Halted}
 use Rattle.isa8080.specs.State.{State}
-use Rattle.isa8080.specs.Step.{step_of, step_by, state_after}
+use Rattle.isa8080.specs.Step.{state_after}
+use Rattle.isa8080.proofs.Endings.{stays_state, state_after_sum}
 use Rattle.cpu8080.specs.declared.machine.End.{End}
 use Rattle.cpu8080.specs.declared.machine.End.TheVariants as end
 use Rattle.cpu8080.specs.Machine.{Machine}
@@ -13,27 +15,15 @@ use Rattle.source_meaning.specs.Outcome.{Ended}
 use Rattle.source_meaning.specs.Run.{Run}
 use Rattle.tool.specs.declared.built.Image.{Image}
 use Rattle.tool.specs.Execution.{started, IsFaithful}
-use Rattle.tool.specs.Headline.{Agrees, IsBeginning}
+use Rattle.tool.specs.Headline.{Agrees}
 use Rattle.tool.specs.Image.{machine_run}
-
--- a halted state stays
-stays : (script : List (List ℕ)) (s : State) → s.status ≡ Halted → step_of script s ≡ s
-unfolding step_of
-stays script s halted = ap (λ status. step_by script status s) halted
-
-stays_after : (script : List (List ℕ)) (s : State) (j d : ℕ) → (state_after script j s).status ≡ Halted → state_after script (d + j) s ≡ state_after script j s
-unfolding state_after
-stays_after script s j zero halted = ap (λ k. state_after script k s) (omega arith)
-stays_after script s j (suc d) halted =
-    let next : suc d + j ≡ suc (d + j) = omega arith in
-    ap (λ k. state_after script k s) next
-    ∙ ap (step_of script) (stays_after script s j d halted)
-    ∙ stays script (state_after script j s) halted
 
 stays_until : (script : List (List ℕ)) (s : State) (j k : ℕ) → j ≤ k → (state_after script j s).status ≡ Halted → state_after script k s ≡ state_after script j s
 stays_until script s j k le halted =
     let split : k ≡ (k - j) + j = omega arith in
-    ap (λ n. state_after script n s) split ∙ stays_after script s j (k - j) halted
+    ap (λ n. state_after script n s) split
+    ∙ state_after_sum script (k - j) j s
+    ∙ stays_state script (k - j) (state_after script j s) Halted halted (λ e. let bad : Halted ≡ Running = e in cc)
 
 -- two halts of one run are the same state
 one_halt : (script : List (List ℕ)) (s : State) (j k : ℕ) → (state_after script j s).status ≡ Halted → (state_after script k s).status ≡ Halted → state_after script j s ≡ state_after script k s

@@ -1,6 +1,5 @@
 pub mod CodeLemmas
 pub mod Standing
-pub mod Ending
-pub mod Simulation
+pub mod BuiltLemmas
 pub mod ExecutionLemmas
 pub mod SourcesLemmas

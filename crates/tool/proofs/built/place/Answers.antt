@@ -1,5 +1,5 @@
 use Rattle.std.proofs.Common.{◌≡◌, ◌+◌, ◌%◌, refl, sym, ap, ◌∙◌, arith, length, true}
-use Rattle.tool.proofs.Simulation.{code_agrees}
+use Rattle.tool.proofs.BuiltLemmas.{code_agrees}
 use Rattle.tool.proofs.built.place.Goals as goal
 
 pub invariant_of-result : goal.invariant_of-result

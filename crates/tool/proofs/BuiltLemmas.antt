@@ -1,13 +1,12 @@
 -- The code of a program does on the machine what the program means.
 use Rattle.std.proofs.Common.{◌≡◌, ◌≢◌, ℕ, ◌+◌, ◌%◌, ◌≤◌, List, [], ◌∷◌, ◌++◌, length, refl, sym, ap, ◌∙◌, subst, arith, append-nil, append_assoc}
 use Rattle.ports.specs.declared.event.Event.{Event}
-use Rattle.ports.specs.Events.{write_event}
+use Rattle.ports.specs.Events.{IsBeginning, write_event}
 use Rattle.mem80.specs.Memory.{byte_at}
-use Rattle.isa8080.specs.declared.registers.Registers.{Registers}
 use Rattle.isa8080.specs.declared.registers.Status.TheVariants.{Running, Illegal}
-use Rattle.isa8080.specs.State.{State, low_byte}
+use Rattle.isa8080.specs.State.{State, Registers, low_byte}
 use Rattle.isa8080.specs.Code.{form_of}
-use Rattle.isa8080.specs.Step.{carry_out, step_of, state_after, initial_registers, initial_state}
+use Rattle.isa8080.specs.Step.{carry_out, running, step_of, state_after, initial_registers, initial_state}
 use Rattle.source_meaning.specs.declared.program.Joined.{Joined}
 use Rattle.source_meaning.specs.declared.program.Placement.{Placement}
 use Rattle.source_meaning.specs.declared.program.Expression.TheVariants.{Number}
@@ -18,9 +17,9 @@ use Rattle.source_meaning.specs.Run.{Run, source_run}
 use Rattle.tool.specs.declared.built.Image.{Image}
 use Rattle.tool.specs.Image.{loaded, machine_run}
 use Rattle.tool.specs.Code.{statements_code, program_code, code_bytes}
-use Rattle.tool.specs.Headline.{IsBeginning, Agrees, DoesWhatItSays}
+use Rattle.tool.specs.Headline.{Agrees, DoesWhatItSays}
 use Rattle.tool.proofs.Standing.{StandsAt, byte_moved, stands_moved, stands_loaded}
-use Rattle.tool.proofs.Ending.{EndsWith, running, halted, halted_ends, step_first}
+use Rattle.isa8080.proofs.Endings.{EndsWith, halted, halted_ends, step_first}
 use Rattle.source_meaning.proofs.RunLemmas.{outputs, ended_run, run_ends}
 
 -- there is always a halt at the end
