@@ -10,6 +10,7 @@ use Rattle.words.specs.declared.items.Item.TheVariants.{Spelled, Wrong}
 use Rattle.words.specs.declared.vocabulary.Kind.TheVariants.{Name, Reserved, Number, Mark}
 use Rattle.words.specs.declared.vocabulary.Mark.{Mark as AMark}
 use Rattle.words.specs.declared.vocabulary.ReservedWord.{ReservedWord}
+use Rattle.words.specs.declared.limits.TheConstants.{LONGEST_NAME}
 use Rattle.words.specs.Characters.{is_blank, is_word_byte}
 use Rattle.words.specs.Items.{item_at}
 use Rattle.words.specs.Marks.{mark_at, mark_item}
@@ -31,7 +32,10 @@ or_second : (a b : Bool) → (a || b) ≡ false → b ≡ false
 or_second true b free = absurd (cc)
 or_second false b free = free
 
-either : (b : Bool) (x y : Item) → (b ≡ true → IsNoString x) → (b ≡ false → IsNoString y) → IsNoString (cond b x y)
+either : (b : Bool) (x y : Item)
+    → (b ≡ true → IsNoString x)
+    → (b ≡ false → IsNoString y)
+    → IsNoString (cond b x y)
 either true x y left right = left refl
 either false x y left right = right refl
 
@@ -40,9 +44,10 @@ no_string_of_reserved None = refl
 no_string_of_reserved (Some word) = refl
 
 no_string_of_name : (text : List ℕ) → IsNoString (name_item text)
-no_string_of_name text = either (nat_lt 31 (length (name_of text))) (Wrong LongName) (Spelled (kind_of_name (name_of text)) (length text)) (λ _. record { other = tt }) (λ _. record { other = no_string_of_reserved (reserved_of (name_of text)) })
+no_string_of_name text = either (nat_lt LONGEST_NAME (length (name_of text))) (Wrong LongName) (Spelled (kind_of_name (name_of text)) (length text)) (λ _. record { other = tt }) (λ _. record { other = no_string_of_reserved (reserved_of (name_of text)) })
 
-no_string_of_number : (found : Option ℕ) (taken : ℕ) → IsNoString (option_map_or (λ value. Spelled (Number value) taken) found (Wrong BadNumber))
+no_string_of_number : (found : Option ℕ) (taken : ℕ)
+    → IsNoString (option_map_or (λ value. Spelled (Number value) taken) found (Wrong BadNumber))
 no_string_of_number None taken = record { other = tt }
 no_string_of_number (Some value) taken = record { other = refl }
 
@@ -50,7 +55,8 @@ no_string_of_comment : (end : Result ℕ Cause) → IsNoString (comment_item end
 no_string_of_comment (Ok taken) = record { other = tt }
 no_string_of_comment (Err cause) = record { other = tt }
 
-no_string_of_mark : (found : Option (List ℕ × AMark)) → IsNoString (option_map_or (λ mark. Spelled (Mark mark.1) (length mark.0)) found (Wrong BadCharacter))
+no_string_of_mark : (found : Option (List ℕ × AMark))
+    → IsNoString (option_map_or (λ mark. Spelled (Mark mark.1) (length mark.0)) found (Wrong BadCharacter))
 no_string_of_mark None = record { other = tt }
 no_string_of_mark (Some mark) = record { other = refl }
 
@@ -80,23 +86,35 @@ HasNoString [] = Unit {0}
 HasNoString (word ∷ words) = (is_string word.kind ≡ false) × HasNoString words
 
 -- a text without a quote spells no string
-spells_no_string : {text : List ℕ} {place : ℕ} {words : List Lexeme} → has_quote text ≡ false → SpellsFrom text place words → HasNoString words
+spells_no_string : {text : List ℕ} {place : ℕ} {words : List Lexeme}
+    → has_quote text ≡ false
+    → SpellsFrom text place words
+    → HasNoString words
 spells_no_string free (at_end here) = tt
 spells_no_string free (after_blank here rest) = spells_no_string free rest
 spells_no_string {text} free (word_then {place = place} {length = taken} {kind = kind} here rest) =
     let item = subst IsNoString here (no_string_at (drop place text) (free_after place text free)) in
     (item.other, spells_no_string free rest)
 
-no_string_at_use : (used : Lexeme) (words : List Lexeme) → HasNoString words → HasNoString (map (at_use used) words)
+no_string_at_use : (used : Lexeme) (words : List Lexeme)
+    → HasNoString words
+    → HasNoString (map (at_use used) words)
 no_string_at_use used [] none = tt
 no_string_at_use used (word ∷ words) none = (none.0, no_string_at_use used words none.1)
 
-no_string_append : (front back : List Lexeme) → HasNoString front → HasNoString back → HasNoString (front ++ back)
+no_string_append : (front back : List Lexeme)
+    → HasNoString front
+    → HasNoString back
+    → HasNoString (front ++ back)
 no_string_append [] back none others = others
 no_string_append (word ∷ front) back none others = (none.0, no_string_append front back none.1 others)
 
 -- what words become holds no string, if they hold none, and no text in force holds a quote
-pub becomes_no_string : {output : List Lexeme} {depth count : ℕ} {words now : List Lexeme} → ((word : Lexeme) (text : List ℕ) → in_force output word ≡ Some text → has_quote text ≡ false) → HasNoString words → Becomes output depth words now count → HasNoString now
+pub becomes_no_string : {output : List Lexeme} {depth count : ℕ} {words now : List Lexeme}
+    → ((word : Lexeme) (text : List ℕ) → in_force output word ≡ Some text → has_quote text ≡ false)
+    → HasNoString words
+    → Becomes output depth words now count
+    → HasNoString now
 becomes_no_string free none no_words = tt
 becomes_no_string free none (stays is rest) = (none.0, becomes_no_string free none.1 rest)
 becomes_no_string free none (replaced {text = text} {word = word} {inner = inner} {front = front} {back = back} is spells room inside rest) =

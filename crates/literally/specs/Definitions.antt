@@ -1,5 +1,6 @@
 -- Definitions: a name, LITERALLY and a string, in a row.
-use Rattle.std.specs.Prelude.{ℕ, ◌-◌, ◌==◌, ◌&&◌, Bool, true, false, List, [], ◌∷◌, length, reverse, Option, None, Some, slice_range, if◌then◌else◌}
+use Rattle.std.specs.Prelude.{ℕ, ◌-◌, ◌==◌, ◌&&◌, Bool, true, false, if◌then◌else◌}
+use Rattle.std.specs.Prelude.{List, [], ◌∷◌, length, reverse, slice_range, Option, None, Some}
 use Rattle.std.specs.List.{list_any}
 use Rattle.std.specs.Option.{option_map}
 use Rattle.std.specs.Str.{bytes_eq}
@@ -30,12 +31,13 @@ text_of string = slice_range string.text 1 (length string.text - 1)
 abbrev pub has_quote : List ℕ → Bool
 has_quote text = list_any (λ b. b == 39) text
 
--- the name that these words leave to be defined, the last of them first: LITERALLY, and a name before it
+-- the name that a string after these words defines, the last of them first: LITERALLY, and a name before it
 abbrev pub name_before : List Lexeme → Option (List ℕ)
-name_before (literally ∷ name ∷ before) = if is_literally literally.kind && is_name name.kind then Some (name_of name.text) else None
+name_before (literally ∷ name ∷ before) =
+    if is_literally literally.kind && is_name name.kind then Some (name_of name.text) else None
 name_before words = None
 
--- the name of the definition that a word completes, if it completes one, the words before it given with the last of them first
+-- the name of the definition that a word completes, if it completes one, after these words, the last of them first
 abbrev pub name_defined : Lexeme → List Lexeme → Option (List ℕ)
 name_defined word before = if is_string word.kind then name_before before else None
 

@@ -13,8 +13,8 @@ use Rattle.literally.specs.Definitions.{in_force, definition_by, has_quote, is_l
 abbrev pub at_use : Lexeme → Lexeme → Lexeme
 at_use used word = record { kind = word.kind; text = word.text; start = used.start; line = used.line }
 
--- What words at a depth become after an output, and how many words are processed. A word for which no definition is
--- in force stays. Another is replaced by what the words of its text become, one deeper.
+-- What words at a depth become after an output, and how many words are processed. A word for which no definition
+-- is in force stays. Another is replaced by what the words of its text become, one deeper.
 pub data Becomes (output : List Lexeme) : ℕ → List Lexeme → List Lexeme → ℕ → Type 0 where
   no_words : {depth : ℕ}
       → Becomes output depth [] [] 0
@@ -44,7 +44,7 @@ pub data IsTooDeep (output : List Lexeme) : ℕ → List Lexeme → Type 0 where
       → IsTooDeep output depth words
       → IsTooDeep output depth (word ∷ words)
 
--- At least so many words are processed for words at a depth, those of the texts that they stand for among them.
+-- At least so many words are processed for words at a depth, those of the texts that they stand for included.
 pub data ProcessesAtLeast (output : List Lexeme) : ℕ → List Lexeme → ℕ → Type 0 where
   none_yet : {depth : ℕ} {words : List Lexeme}
       → ProcessesAtLeast output depth words 0
@@ -103,7 +103,8 @@ pub data FaultFrom : List Lexeme → ℕ → List Lexeme → Fault → Type 0 wh
       → definition_by word (reverse output) ≡ Some (name, text)
       → has_quote text ≡ true
       → FaultFrom output processed (word ∷ words) (Quote word.line)
-  bad_text : {output words : List Lexeme} {processed : ℕ} {word : Lexeme} {name text : List ℕ} {fault : TextFault}
+  bad_text : {output words : List Lexeme} {processed : ℕ} {word : Lexeme}
+      {name text : List ℕ} {fault : TextFault}
       → definition_by word (reverse output) ≡ Some (name, text)
       → has_quote text ≡ false
       → IsFirstFault text fault

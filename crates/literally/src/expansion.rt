@@ -15,10 +15,11 @@ use failure::Failure;
 use std::alloc::{AllocError, Global};
 use words::{Kind, ReservedWord, Word};
 
-/// Replaces each name that LITERALLY defines by the words of its text, and the names among these again. A definition is
-/// a name, LITERALLY and a string, in a row in the output, where they stay; it holds for the words after it. A replacing
-/// word has the start and the line of the word that it replaces. Words that have no expansion are refused with a fault.
-/// Time and memory are those of the words processed: the words of the list, and those of each text as often as it is used.
+/// Replaces each name that LITERALLY defines by the words of its text, and again the names among these. A definition
+/// is a name, LITERALLY and a string in a row in the output. These three words stay, and the definition holds for the
+/// words after them. A replacing word has the start and the line of the word that it replaces. Words that have no
+/// expansion are refused with a fault. Time and memory grow with the number of words that are processed: those of the
+/// list, and those of each text as often as it is used.
 pub fn expand<'a>(alloc: Global, words: &[Word<'a>]) -> Result<Vec<Word<'a>>, Failure<Fault>>
     ensures expansion { IfOk result (λ output. Expands (lexemes_of words.now) (lexemes_of output.items)) }
     ensures fault { IfFault result (IsFault (lexemes_of words.now)) }
@@ -39,8 +40,8 @@ pub fn expand<'a>(alloc: Global, words: &[Word<'a>]) -> Result<Vec<Word<'a>>, Fa
     Ok(output)
 }
 
-// Adds to the output what a word of the list becomes, and answers how many words are processed then. The words after it
-// tell whether it is to be defined again.
+// Adds to the output what a word of the list becomes, and answers how many words are then processed. The words after
+// it tell whether it is to be defined again.
 fn expand_word<'a>(
     alloc: Global,
     definitions: &mut Definitions<'a>,
@@ -54,8 +55,8 @@ fn expand_word<'a>(
     ensures added { IfOk result
         (Adds (lexemes_of output.old.items) processed (lexeme_of word.entry) (lexemes_of output.new.items)) }
     ensures sound { OnOk result (IsSound (lexemes_of output.old.items) (lexeme_of word.entry)) }
-    ensures once { OnOk result
-        (is_defined_again (lexemes_of output.old.items) (lexeme_of word.entry) (lexemes_of after.now) ≡ false) }
+    ensures once { OnOk result (is_defined_again
+        (lexemes_of output.old.items) (lexeme_of word.entry) (lexemes_of after.now) ≡ false) }
     ensures held { OnOk result (AreHeld (lexemes_of output.new.items) definitions.new.texts) }
     ensures fault { IfFault result
         (FaultFrom (lexemes_of output.old.items) processed (lexeme_of word.entry ∷ lexemes_of after.now)) }
@@ -74,7 +75,8 @@ fn expand_word<'a>(
     }
 }
 
-// Adds to the output what the text of a word of the list becomes, and answers how many words are processed then.
+// Adds to the output what a word of the list becomes that stands for a text, and answers how many words are then
+// processed. The texts that are not done wait on a stack.
 fn replace<'a, 'd>(
     alloc: Global,
     definitions: &'d Definitions<'a>,
@@ -155,7 +157,8 @@ fn begins_with_literally(words: &[Word]) -> bool
 
 // Adds a word at the end.
 fn push_word<'a>(words: &mut Vec<Word<'a>>, word: Word<'a>) -> Result<(), AllocError>
-    ensures { OnOk result (lexemes_of words.new.items ≡ lexemes_of words.old.items ++ lexeme_of word.entry ∷ []) }
+    ensures { OnOk result
+        (lexemes_of words.new.items ≡ lexemes_of words.old.items ++ lexeme_of word.entry ∷ []) }
 {
     words.push(word)?;
     Ok(())

@@ -6,8 +6,8 @@ ghost use Rattle.literally.specs.Fault.{number_of, line_of};
 use crate::limits::{DEEPEST, MOST_WORDS};
 use thiserror::Error;
 
-/// Why a list of words has no expansion. `line` is that of the word of the list at which the fault is found, counted
-/// from 1.
+/// Why a list of words has no expansion. `line` is that of the word of the list at which the fault is found,
+/// counted from 1.
 #[derive(Clone, Copy, Debug, PartialEq, Eq, Error)]
 pub enum Fault {
     /// The text of a definition is not a list of words. Its line is that of the string.
@@ -28,7 +28,7 @@ pub enum Fault {
 }
 
 impl Fault {
-    /// The number under which the fault is reported: `C5`, `C6`, or that of the fault of a text, `C1` to `C4`.
+    /// The number under which the fault is reported: `C5` or `C6`, or that of the fault of a text, `C1` to `C4`.
     pub fn number(&self) -> &'static str
         ensures { result.now ≡ number_of self.now }
     {

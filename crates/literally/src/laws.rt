@@ -1,4 +1,4 @@
-//! The law that follows from the definition of expansions. The function does nothing: its contract is the law.
+//! A law that follows from the definition of expansions. The function does nothing: its contract is the law.
 
 ghost use Rattle.std.specs.Prelude.{List};
 ghost use Rattle.words.specs.Spelling.{Lexeme};

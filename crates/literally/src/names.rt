@@ -1,4 +1,4 @@
-//! Names as keys.
+//! Names as keys of the map of definitions.
 
 ghost use Rattle.std.specs.Prelude.{◌≡◌, ◌≢◌, ◌<◌, ◌≤◌, length, drop, slice_index};
 ghost use Rattle.std.specs.List.{flat_map};
@@ -11,8 +11,8 @@ ghost use Rattle.literally.specs.internal.Keys.{name_respects};
 
 use std::hash::{Hash, Hasher};
 
-/// A name by the bytes of its word. Two are equal where their characters are: `$` is ignored, and small letters read as
-/// capitals.
+/// A name, known by the bytes of its word. Names are equal where their characters are: `$` is ignored, and a small
+/// letter is read as its capital.
 #[derive(Clone, Copy, Debug)]
 pub(crate) struct Name<'a> {
     pub(crate) text: &'a [u8],
@@ -46,7 +46,7 @@ impl<'a> Hash for Name<'a> {
     }
 }
 
-// Whether two words of names have the same characters.
+// Whether two words are the same name.
 fn have_equal_characters(text: &[u8], other: &[u8]) -> bool
     ensures { result ≡ bytes_eq (name_of text.now) (name_of other.now) }
 {
@@ -63,7 +63,7 @@ fn have_equal_characters(text: &[u8], other: &[u8]) -> bool
     next_character(other, place) == other.len()
 }
 
-// The place of the first character of a name from a place on, or the end of its word.
+// The place of the next character of a name that counts, from a place on, or the end of its word.
 fn next_character(text: &[u8], from: usize) -> usize
     requires { from ≤ length text.now }
     ensures range { result ≤ length text.now }

@@ -24,25 +24,37 @@ use Rattle.words.specs.Numbers.{number_item, number_of}
 use Rattle.words.specs.internal.Fits.{FitsIn}
 use Rattle.words.specs.Strings.{further, string_end, string_item, comment_end, comment_item}
 
--- either way of a test
-fits_if : (size : ℕ) (b : Bool) (x y : Item) → (b ≡ true → FitsIn size x) → (b ≡ false → FitsIn size y) → FitsIn size (cond b x y)
+-- both branches of a test
+fits_if : (size : ℕ) (b : Bool) (x y : Item)
+    → (b ≡ true → FitsIn size x)
+    → (b ≡ false → FitsIn size y)
+    → FitsIn size (cond b x y)
 fits_if size true x y left right = left refl
 fits_if size false x y left right = right refl
 
-fits_option : (size : ℕ) {A : Type 0} (f : A → Item) (o : Option A) (other : Item) → ((a : A) → o ≡ Some a → FitsIn size (f a)) → FitsIn size other → FitsIn size (option_map_or f o other)
+fits_option : (size : ℕ) {A : Type 0} (f : A → Item) (o : Option A) (other : Item)
+    → ((a : A) → o ≡ Some a → FitsIn size (f a))
+    → FitsIn size other
+    → FitsIn size (option_map_or f o other)
 fits_option size f None other each none = none
 fits_option size f (Some a) other each none = each a refl
 
 -- a run that begins with its first byte
-run_fits : (p : ℕ → Bool) (first : ℕ) (text : List ℕ) → p first ≡ true → (0 < length (take_while p (first ∷ text))) × (length (take_while p (first ∷ text)) ≤ length (first ∷ text))
+run_fits : (p : ℕ → Bool) (first : ℕ) (text : List ℕ)
+    → p first ≡ true
+    → (0 < length (take_while p (first ∷ text))) × (length (take_while p (first ∷ text)) ≤ length (first ∷ text))
 run_fits p first text passes =
     let run : length (take_while p (first ∷ text)) ≡ 1 + prefix_len p text = length-prefix_len p (first ∷ text) ∙ ap (λ b. cond b (1 + prefix_len p text) 0) passes in
     (omega arith, omega (arith, prefix_len-le-length p text))
 
-name_fits : (size : ℕ) (text : List ℕ) → (0 < length text) × (length text ≤ size) → FitsIn size (name_item text)
+name_fits : (size : ℕ) (text : List ℕ)
+    → (0 < length text) × (length text ≤ size)
+    → FitsIn size (name_item text)
 name_fits size text fits = fits_if size (nat_lt LONGEST_NAME (length (name_of text))) (Wrong LongName) (Spelled (kind_of_name (name_of text)) (length text)) (λ _. tt) (λ _. fits)
 
-number_fits : (size : ℕ) (text : List ℕ) → (0 < length text) × (length text ≤ size) → FitsIn size (number_item text)
+number_fits : (size : ℕ) (text : List ℕ)
+    → (0 < length text) × (length text ≤ size)
+    → FitsIn size (number_item text)
 number_fits size text fits = fits_option size (λ value. Spelled (Number value) (length text)) (number_of (name_of text)) (Wrong BadNumber) (λ _ _. fits) tt
 
 -- at most so many bytes
@@ -53,7 +65,10 @@ further_ends : (size : ℕ) (end : Result ℕ Cause) → EndsIn size end → End
 further_ends size (Ok length) ends = omega arith
 further_ends size (Err cause) ends = tt
 
-ends_if : (size : ℕ) (b : Bool) (x y : Result ℕ Cause) → EndsIn size x → EndsIn size y → EndsIn size (cond b x y)
+ends_if : (size : ℕ) (b : Bool) (x y : Result ℕ Cause)
+    → EndsIn size x
+    → EndsIn size y
+    → EndsIn size (cond b x y)
 ends_if size true x y left right = left
 ends_if size false x y left right = right
 
@@ -79,7 +94,9 @@ string_fits : (size : ℕ) (end : Result ℕ Cause) → EndsIn size end → Fits
 string_fits size (Ok length) ends = (omega arith, omega arith)
 string_fits size (Err cause) ends = tt
 
-comment_fits : (size : ℕ) (end : Result ℕ Cause) → EndsIn size end → FitsIn (suc (suc size)) (comment_item end)
+comment_fits : (size : ℕ) (end : Result ℕ Cause)
+    → EndsIn size end
+    → FitsIn (suc (suc size)) (comment_item end)
 comment_fits size (Ok length) ends = (omega arith, omega arith)
 comment_fits size (Err cause) ends = tt
 
@@ -95,20 +112,30 @@ or_middle : (a b c : Bool) → b ≡ true → (a || b || c) ≡ true
 or_middle true b c holds = refl
 or_middle false b c holds = ap (λ b. b || c) holds
 
--- what a search finds passes its test, and what all pass
-found_if : {A : Type 0} (p q : A → Bool) (b : Bool) (rest : Option A) (y x : A) → p y ≡ b → q y ≡ true → (rest ≡ Some x → (p x ≡ true) × (q x ≡ true)) → cond b (Some y) rest ≡ Some x → (p x ≡ true) × (q x ≡ true)
+-- what a search finds passes its test, and a test that all elements pass
+found_if : {A : Type 0} (p q : A → Bool) (b : Bool) (rest : Option A) (y x : A)
+    → p y ≡ b
+    → q y ≡ true
+    → (rest ≡ Some x → (p x ≡ true) × (q x ≡ true))
+    → cond b (Some y) rest ≡ Some x
+    → (p x ≡ true) × (q x ≡ true)
 found_if p q true rest y x passes all later is =
     let same : y ≡ x = cc in
     (ap p (sym same) ∙ passes, ap q (sym same) ∙ all)
 found_if p q false rest y x passes all later is = later is
 
-found : {A : Type 0} (p q : A → Bool) (xs : List A) (x : A) → list_all q xs ≡ true → find p xs ≡ Some x → (p x ≡ true) × (q x ≡ true)
+found : {A : Type 0} (p q : A → Bool) (xs : List A) (x : A)
+    → list_all q xs ≡ true
+    → find p xs ≡ Some x
+    → (p x ≡ true) × (q x ≡ true)
 found p q [] x all is = absurd (cc)
 found p q (y ∷ ys) x all is =
     found_if p q (p y) (find p ys) y x refl (and_first (q y) (list_all q ys) all) (found p q ys x (and_second (q y) (list_all q ys) all)) is
 
 -- a mark of the table that the text begins with
-mark_in_text : (text : List ℕ) (mark : List ℕ × Mark) → mark_at text ≡ Some mark → (0 < length mark.0) × (length mark.0 ≤ length text)
+mark_in_text : (text : List ℕ) (mark : List ℕ × Mark)
+    → mark_at text ≡ Some mark
+    → (0 < length mark.0) × (length mark.0 ≤ length text)
 unfolding mark_at
 mark_in_text text mark is =
     let facts = found (λ mark. starts_with nat_eq text mark.0) (λ mark. nat_lt 0 (length mark.0)) marks mark refl is in

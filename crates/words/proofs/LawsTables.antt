@@ -22,7 +22,9 @@ lengths_fall (mark ∷ table) = list_all (λ later. nat_le (length later.0) (len
 abbrev Outlasts : (List ℕ × Mark → Bool) → Option (List ℕ × Mark) → List ℕ × Mark → Type 0
 Outlasts p taken mark = IsTrue (p mark) → IsSomeAnd taken (λ found. length mark.0 ≤ length found.0)
 
-all_shorter : (p : List ℕ × Mark → Bool) (first : List ℕ × Mark) (table : List (List ℕ × Mark)) → list_all (λ later. nat_le (length later.0) (length first.0)) table ≡ true → AllByRecursion (Outlasts p (Some first)) table
+all_shorter : (p : List ℕ × Mark → Bool) (first : List ℕ × Mark) (table : List (List ℕ × Mark))
+    → list_all (λ later. nat_le (length later.0) (length first.0)) table ≡ true
+    → AllByRecursion (Outlasts p (Some first)) table
 all_shorter p first [] shorter = tt
 all_shorter p first (mark ∷ table) shorter =
     let test : Bool = nat_le (length mark.0) (length first.0) in
@@ -31,15 +33,22 @@ all_shorter p first (mark ∷ table) shorter =
     let fits : length mark.0 ≤ length first.0 = grind (arith, nat_tests) in
     (λ _. fits, all_shorter p first table (and_second test others shorter))
 
-outlasts_if : (p : List ℕ × Mark → Bool) (first : List ℕ × Mark) (table : List (List ℕ × Mark)) (b : Bool) → p first ≡ b → list_all (λ later. nat_le (length later.0) (length first.0)) table ≡ true → AllByRecursion (Outlasts p (find p table)) table → AllByRecursion (Outlasts p (cond b (Some first) (find p table))) (first ∷ table)
+outlasts_if : (p : List ℕ × Mark → Bool) (first : List ℕ × Mark) (table : List (List ℕ × Mark)) (b : Bool)
+    → p first ≡ b
+    → list_all (λ later. nat_le (length later.0) (length first.0)) table ≡ true
+    → AllByRecursion (Outlasts p (find p table)) table
+    → AllByRecursion (Outlasts p (cond b (Some first) (find p table))) (first ∷ table)
 outlasts_if p first table true is shorter rest = (λ _. omega arith, all_shorter p first table shorter)
 outlasts_if p first table false is shorter rest = (λ passes. absurd (false≢true (sym is ∙ passes)), rest)
 
-outlasts : (p : List ℕ × Mark → Bool) (table : List (List ℕ × Mark)) → lengths_fall table ≡ true → AllByRecursion (Outlasts p (find p table)) table
+outlasts : (p : List ℕ × Mark → Bool) (table : List (List ℕ × Mark))
+    → lengths_fall table ≡ true
+    → AllByRecursion (Outlasts p (find p table)) table
 outlasts p [] falls = tt
 outlasts p (mark ∷ table) falls = outlasts_if p mark table (p mark) refl (and_first _ _ falls) (outlasts p table (and_second _ _ falls))
 
-pub longest_mark : (text : List ℕ) → All (Outlasts (λ mark. starts_with nat_eq text mark.0) (mark_at text)) marks
+pub longest_mark : (text : List ℕ)
+    → All (Outlasts (λ mark. starts_with nat_eq text mark.0) (mark_at text)) marks
 unfolding mark_at
 longest_mark text = All-from_recursion (Outlasts (λ mark. starts_with nat_eq text mark.0) (mark_at text)) marks (outlasts (λ mark. starts_with nat_eq text mark.0) marks refl)
 
@@ -52,13 +61,18 @@ abbrev all_differ : List (List ℕ × ReservedWord) → Bool
 all_differ [] = true
 all_differ (entry ∷ table) = list_all (λ later. not (bytes_eq entry.0 later.0)) table && all_differ table
 
-past_other : (entry : List ℕ × ReservedWord) (table rest : List (List ℕ × ReservedWord)) → list_all (λ later. not (bytes_eq entry.0 later.0)) rest ≡ true → AllByRecursion (λ later. word_in table later.0 ≡ Some later.1) rest → AllByRecursion (λ later. word_in (entry ∷ table) later.0 ≡ Some later.1) rest
+past_other : (entry : List ℕ × ReservedWord) (table rest : List (List ℕ × ReservedWord))
+    → list_all (λ later. not (bytes_eq entry.0 later.0)) rest ≡ true
+    → AllByRecursion (λ later. word_in table later.0 ≡ Some later.1) rest
+    → AllByRecursion (λ later. word_in (entry ∷ table) later.0 ≡ Some later.1) rest
 past_other entry table [] differs found = tt
 past_other entry table (later ∷ rest) differs found =
     let other : bytes_eq entry.0 later.0 ≡ false = not_true _ (and_first _ _ differs) in
     (ap (λ b. cond b (Some (entry.1)) (word_in table later.0)) other ∙ found.0, past_other entry table rest (and_second _ _ differs) found.1)
 
-each_found : (table : List (List ℕ × ReservedWord)) → all_differ table ≡ true → AllByRecursion (λ entry. word_in table entry.0 ≡ Some entry.1) table
+each_found : (table : List (List ℕ × ReservedWord))
+    → all_differ table ≡ true
+    → AllByRecursion (λ entry. word_in table entry.0 ≡ Some entry.1) table
 each_found [] differ = tt
 each_found (entry ∷ table) differ =
     let same : bytes_eq entry.0 entry.0 ≡ true = (bytes_eq-Decides entry.0 entry.0).1 refl in

@@ -10,7 +10,7 @@ use Rattle.std.specs.Str.{bytes_eq}
 use Rattle.std.proofs.lemmas.Slice.Eq.{bytes_eq-Decides}
 use Rattle.words.specs.Names.{name_of}
 
--- as many characters as bytes that are no `$`
+-- a name has as many characters as bytes other than `$`
 pub length-name_of : (text : List ℕ) → length (name_of text) ≡ count_by (λ b. not (eqb b 36)) text
 length-name_of text = length-map (filter (λ b. not (eqb b 36)) text) to_ascii_uppercase ∙ length-filter (λ b. not (eqb b 36)) text
 
@@ -18,7 +18,7 @@ pub name_of-append : (front back : List ℕ) → name_of (front ++ back) ≡ nam
 name_of-append front back =
     ap (map to_ascii_uppercase) (filter-append (λ b. not (eqb b 36)) front back) ∙ map-append to_ascii_uppercase (filter (λ b. not (eqb b 36)) front) (filter (λ b. not (eqb b 36)) back)
 
--- a byte that is no `$` is one character
+-- a byte other than `$` is one character
 pub name_of-character : (b : ℕ) → b ≢ 36 → name_of (b ∷ []) ≡ to_ascii_uppercase b ∷ []
 name_of-character b significant =
     let fails : eqb b 36 ≡ false = grind (arith, nat_tests) in
@@ -28,6 +28,6 @@ not_true : (b : Bool) → (b ≡ true → ⊥) → b ≡ false
 not_true true never = absurd (never refl)
 not_true false never = refl
 
--- lists of two lengths are not equal
+-- lists of different lengths are not equal
 pub other_length : (xs ys : List ℕ) → length xs ≢ length ys → bytes_eq xs ys ≡ false
 other_length xs ys differ = not_true (bytes_eq xs ys) (λ same. differ (ap length ((bytes_eq-Decides xs ys).0 same)))

@@ -1,4 +1,4 @@
--- Rows of the definitions, each computed.
+-- Examples of the definitions, each computed.
 use Rattle.std.specs.Prelude.{◌≡◌, ℕ, List, [], ◌∷◌, None, Some, true, codes, refl}
 use Rattle.std.proofs.Common.{arith}
 use Rattle.words.specs.declared.vocabulary.Kind.{Kind}
@@ -24,7 +24,9 @@ string text = at_first String text
 
 -- ONE LITERALLY 'TWO' TWO LITERALLY '2'
 abbrev defined : List Lexeme
-defined = name (codes "ONE") ∷ literally ∷ string (codes "'TWO'") ∷ name (codes "TWO") ∷ literally ∷ string (codes "'2'") ∷ []
+defined =
+    name (codes "ONE") ∷ literally ∷ string (codes "'TWO'") ∷
+    name (codes "TWO") ∷ literally ∷ string (codes "'2'") ∷ []
 
 first : in_force defined (name (codes "ONE")) ≡ Some (codes "TWO")
 first = refl
@@ -38,10 +40,16 @@ other_spelling = refl
 no_definition : in_force defined (name (codes "THREE")) ≡ None
 no_definition = refl
 
-reserved_word : in_force (at_first (Reserved Declare) (codes "DECLARE") ∷ literally ∷ string (codes "'X'") ∷ []) (at_first (Reserved Declare) (codes "DECLARE")) ≡ None
+abbrev declare : Lexeme
+declare = at_first (Reserved Declare) (codes "DECLARE")
+
+reserved_word : in_force (declare ∷ literally ∷ string (codes "'X'") ∷ []) declare ≡ None
 reserved_word = refl
 
-not_in_a_row : in_force (name (codes "ONE") ∷ literally ∷ name (codes "X") ∷ string (codes "'TWO'") ∷ []) (name (codes "ONE")) ≡ None
+abbrev apart : List Lexeme
+apart = name (codes "ONE") ∷ literally ∷ name (codes "X") ∷ string (codes "'TWO'") ∷ []
+
+not_in_a_row : in_force apart (name (codes "ONE")) ≡ None
 not_in_a_row = refl
 
 again : is_defined_again defined (name (codes "ONE")) (literally ∷ []) ≡ true
@@ -57,4 +65,7 @@ number = spelled refl (end_of_text refl)
 
 -- ONE becomes 2, for which three words are processed
 expansion : Becomes defined 0 (name (codes "ONE") ∷ []) (at_first (Number 2) (codes "2") ∷ []) 3
-expansion = replaced refl two (omega arith) (replaced refl number (omega arith) (stays refl no_words) no_words) no_words
+expansion =
+    replaced refl two (omega arith)
+    (replaced refl number (omega arith) (stays refl no_words) no_words)
+    no_words

@@ -11,6 +11,8 @@ use Rattle.words.specs.Names.{name_of}
 abbrev pub writes_of : List ℕ → HashWrites
 writes_of text = flat_map u8 (name_of text)
 
--- names that are equal write alike
-pub name_respects : (text other : List ℕ) → bytes_eq (name_of text) (name_of other) ≡ true → writes_of text ≡ writes_of other
+-- equal names write the same
+pub name_respects : (text other : List ℕ)
+    → bytes_eq (name_of text) (name_of other) ≡ true
+    → writes_of text ≡ writes_of other
 name_respects text other same = ap (flat_map u8) ((bytes_eq-Decides (name_of text) (name_of other)).0 same)

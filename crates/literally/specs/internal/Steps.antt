@@ -5,7 +5,7 @@ use Rattle.literally.specs.declared.fault.Fault.{Fault}
 use Rattle.literally.specs.declared.limits.TheConstants.{MOST_WORDS}
 use Rattle.literally.specs.Expansion.{Becomes, FaultFrom}
 
--- with a word after it an output is this whole one, and this is the count of words processed
+-- what a word becomes makes an output this whole one, and this is then the count of words processed
 abbrev pub Adds : List Lexeme → ℕ → Lexeme → List Lexeme → ℕ → Type 0
 Adds output processed word whole count =
     (now : List Lexeme)
@@ -17,4 +17,5 @@ Adds output processed word whole count =
 
 -- whatever follows the word, the list has this fault
 abbrev pub IsFaultAt : List Lexeme → ℕ → Lexeme → Fault → Type 0
-IsFaultAt output processed word fault = (words : List Lexeme) → FaultFrom output processed (word ∷ words) fault
+IsFaultAt output processed word fault =
+    (words : List Lexeme) → FaultFrom output processed (word ∷ words) fault

@@ -1,4 +1,4 @@
-use Rattle.std.proofs.Common.{◌∷◌, ◌+◌, length, get_or, take, drop, ◌-◌, sym, subst}
+use Rattle.std.proofs.Common.{◌∷◌, ◌+◌, length, take, drop, ◌-◌, sym, subst}
 use Rattle.std.proofs.lemmas.Result.{err_from_is_err_and}
 use Rattle.words.specs.Spelling.{lexeme_of, lexemes_of}
 use Rattle.literally.specs.Expansion.{ExpandsFrom, FaultFrom, IsFault, at_end}

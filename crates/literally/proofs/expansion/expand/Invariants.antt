@@ -6,7 +6,7 @@ use Rattle.literally.specs.Expansion.{ExpandsFrom, FaultFrom, Expands, IsFault}
 use Rattle.literally.specs.internal.Held.{AreHeld}
 use Rattle.literally.proofs.expansion.expand.Given as goal
 
--- what the words that are left make of the output is what all make, and so is a fault
+-- what the words that are left make of the output is what all words make, and their fault is that of all
 abbrev pub invariant-loop-i : goal.invariant-loop-i
 invariant-loop-i l = record {
   in_range : l.processed ≤ MOST_WORDS;

@@ -13,6 +13,6 @@ invariant-loop-words l = record {
   waits : Waits (lexemes_of l.fn.output.items) l.fn.processed (lexeme_of l.used) (reverse (map (λ text. map (at_use (lexeme_of l.used)) (lexemes_of text.now)) l.pending.items)) (lexemes_of l.output.items) l.processed;
 }
 
--- each turn has processed a word, or is done with a text
+-- each turn processes a word, or is done with a text
 abbrev pub decreases-loop-words : goal.decreases-loop-words
 decreases-loop-words l = 2 * (MOST_WORDS - l.processed) + length l.pending.items

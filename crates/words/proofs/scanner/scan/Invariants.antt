@@ -3,7 +3,7 @@ use Rattle.words.specs.declared.fault.Fault.{Fault}
 use Rattle.words.specs.Spelling.{Lexeme, lexemes_of, line_at, SpellsFrom, FaultFrom}
 use Rattle.words.proofs.scanner.scan.Given as goal
 
--- the words so far, and those from here on, are those of the whole text, and so is a fault
+-- the words so far with those from here on are those of the whole text, and a fault from here on is its first
 abbrev pub invariant-loop-words : goal.invariant-loop-words
 invariant-loop-words l = record {
   in_range : l.start ≤ length l.source;

@@ -1,11 +1,11 @@
-use Rattle.std.proofs.Common.{◌≡◌, ◌≢◌, false, true, ◌∷◌, reverse, sym, ◌∙◌, ap, subst}
+use Rattle.std.proofs.Common.{◌≡◌, false, true, ◌∷◌, reverse, sym, ◌∙◌, ap, subst}
 use Rattle.words.specs.Names.{name_of}
 use Rattle.words.specs.Spelling.{lexeme_of, lexemes_of, Spells, IsFirstFault}
 use Rattle.literally.specs.Definitions.{has_quote, text_of}
 use Rattle.literally.specs.declared.fault.Fault.TheVariants.{Text}
-use Rattle.literally.specs.Expansion.{FaultFrom, on_line}
+use Rattle.literally.specs.Expansion.{FaultFrom, quote_in_text, bad_text, on_line}
 use Rattle.literally.proofs.Failures.{of_fault}
-use Rattle.literally.proofs.DefinitionsHeld.{definition_is, held_then, sound_by, fault_of_quote, fault_of_text}
+use Rattle.literally.proofs.DefinitionsHeld.{definition_is, held_then, sound_by}
 use Rattle.literally.proofs.definitions.Definitions.define.Goals as goal
 
 pub returns-then-has_quote-clause-fault : goal.returns-then-has_quote-clause-fault
@@ -14,7 +14,7 @@ returns-then-has_quote-clause-fault c processed words =
     let output = lexemes_of c.args.output.now in
     let is = definition_is (λ n. name_of n.text.now) c.in-Some.name word (reverse output) c.in-Some.ensures in
     let holds : has_quote (text_of word) ≡ true = ap has_quote (sym c.text_of-text.ensures) ∙ sym c.if-has_quote.ensures in
-    fault_of_quote output processed word words _ is holds
+    quote_in_text is holds
 
 pub returns-in_ok-insert-in-Ok : goal.returns-in_ok-insert-in-Ok
 returns-in_ok-insert-in-Ok c =
@@ -37,4 +37,4 @@ returns-in-Err-Fault-clause-fault c processed words =
     let free : has_quote (text_of word) ≡ false = ap has_quote (sym c.text_of-text.ensures) ∙ sym c.if-has_quote.ensures in
     let first : IsFirstFault (text_of word) c.in-Err-Fault.fault =
     subst (λ t. IsFirstFault t c.in-Err-Fault.fault) c.text_of-text.ensures (of_fault (IsFirstFault c.text_of-text.result.now) c.in-Err-Fault.field-0 c.in-Err-Fault.fault c.in-Err-Fault.field-0-is c.in-Err-Fault.ensures.fault) in
-    subst (λ fault. FaultFrom output processed (word ∷ words) (Text fault)) (sym (c.on_line.ensures ∙ ap (on_line word.line) c.in-Err-Fault.fault-is)) (fault_of_text output processed word words _ c.in-Err-Fault.fault is free first)
+    subst (λ fault. FaultFrom output processed (word ∷ words) (Text fault)) (sym (c.on_line.ensures ∙ ap (on_line word.line) c.in-Err-Fault.fault-is)) (bad_text is free first)
