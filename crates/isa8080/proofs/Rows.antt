@@ -1,4 +1,4 @@
--- Worked rows, computed on the definitions.
+-- Worked rows, computed on the definitions: what docs/machine.md says of them.
 use Rattle.std.specs.Prelude.{◌≡◌, ℕ, true, false, List, [], refl}
 use Rattle.std.specs.Int.Count.{ones}
 use Rattle.isa8080.specs.declared.registers.Flags.{Flags}

@@ -7,6 +7,8 @@ mod faulty;
 #[cfg(test)]
 mod machine;
 #[cfg(test)]
+mod operations;
+#[cfg(test)]
 mod scripts;
 
 pub use faulty::FaultyPorts;

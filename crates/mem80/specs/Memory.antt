@@ -11,6 +11,7 @@ pub record IsMemory (memory : List ℕ) : Type 0 where
 unfoldable pub zeros : List ℕ
 zeros = replicate MEMORY_SIZE 0
 
+-- a memory of zeros
 abbrev pub IsZeroed : List ℕ → Type 0
 IsZeroed memory = memory ≡ zeros
 
