@@ -5,11 +5,16 @@ use Rattle.syntax.specs.internal.Giving.{FailsBy}
 use Rattle.syntax.specs.internal.Statements.{at_the_end}
 use Rattle.syntax.specs.internal.Looking.{Cause, Unexpected, ◌>>=◌}
 
-pub fails_bind : {A B : Type 0} (cause : Option Cause) (read : Result A Cause) (next : A → Result B Cause) → FailsBy cause read → FailsBy cause (read >>= next)
+pub fails_bind : {A B : Type 0} (cause : Option Cause) (read : Result A Cause) (next : A → Result B Cause)
+    → FailsBy cause read
+    → FailsBy cause (read >>= next)
 fails_bind None read next fails = tt
 fails_bind (Some cause) read next fails = ap (λ r. r >>= next) fails
 
--- something behind what must be the end
-pub fails_behind : {A : Type 0} (cause : Option Cause) (tree : A) (rest : List Symbol) → rest ≢ [] → cause ≡ Some Unexpected → FailsBy cause (at_the_end tree rest)
-fails_behind cause tree [] more unexpected = absurd (more refl)
-fails_behind cause tree (symbol ∷ rest) more unexpected = rw unexpected refl
+-- something after what must be the end
+pub fails_after : {A : Type 0} (cause : Option Cause) (tree : A) (rest : List Symbol)
+    → rest ≢ []
+    → cause ≡ Some Unexpected
+    → FailsBy cause (at_the_end tree rest)
+fails_after cause tree [] more unexpected = absurd (more refl)
+fails_after cause tree (symbol ∷ rest) more unexpected = rw unexpected refl

@@ -1,23 +1,23 @@
 -- What is read where there is room.
-use Rattle.std.proofs.Common.{◌≡◌, ℕ, zero, suc, ◌<◌, ◌-◌, true, false, List, [], ◌∷◌, drop, Option, Some, None, Ok, Err, refl, ◌∙◌, ap, arith}
+use Rattle.std.proofs.Common.{◌≡◌, ℕ, zero, suc, ◌<◌, ◌-◌, true, false, List, [], ◌∷◌, drop, Option, Some, None, Ok, Err, refl, sym, ◌∙◌, ap, arith}
 use Rattle.words.specs.declared.vocabulary.ReservedWord.TheVariants.{Declare}
-use Rattle.trees.specs.Symbols.{Symbol, NameSymbol, NumberSymbol, StringSymbol, ReservedSymbol, PlacedSymbol, MarkSymbol, UnknownSymbol}
-use Rattle.trees.specs.Trees.{ElementTree, DeclarationTree, DeclareTree}
-use Rattle.syntax.specs.internal.Declarations.{elements}
+use Rattle.trees.specs.Symbols.{Symbol, NameSymbol, NumberSymbol, StringSymbol, ReservedSymbol, PlacedSymbol, MarkSymbol, SemicolonSymbol, UnknownSymbol}
 use Rattle.syntax.specs.internal.Expressions.{expression, reference}
 use Rattle.syntax.specs.internal.Giving.{FailsBy}
-use Rattle.syntax.specs.internal.Inside.{block_in, statement_inside}
+use Rattle.syntax.specs.internal.Inside.{block_in, kind_inside, statement_inside}
 use Rattle.syntax.specs.internal.Looking.{Cause, Unexpected, TooDeep, Reading, ◌>>=◌, at_word}
-use Rattle.syntax.specs.internal.Statements.{assignment, beginning_of, statement, statement_by, declaration, declare_or, procedure}
+use Rattle.syntax.specs.internal.Statements.{assignment, beginning_of, labels_before, after_labels, labelled, statement, kind_by, declaration, declare, declare_or, procedure}
 
 -- a symbol that the grammar doesn't have is no target of an assignment
-unknown_target : (room : ℕ) (rest : List Symbol) → Err Unexpected ≡ assignment (expression room) (UnknownSymbol ∷ rest)
+unknown_target : (room : ℕ) (rest : List Symbol)
+    → Err Unexpected ≡ assignment (expression room) (UnknownSymbol ∷ rest)
 unfolding assignment reference
 unknown_target room rest = refl
 
 -- what a statement begins with, where a symbol that the grammar doesn't have is taken for a name
 by_beginning : (room : ℕ) (symbols : List Symbol)
-    → statement_by (expression room) (statement true room) (block_in room) (beginning_of symbols) symbols ≡ statement_inside room symbols
+    → kind_by (expression room) (statement true room) (block_in room) (beginning_of symbols) symbols ≡
+    kind_inside room symbols
 by_beginning room [] = refl
 by_beginning room (NameSymbol name ∷ rest) = refl
 by_beginning room (NumberSymbol number ∷ rest) = refl
@@ -25,16 +25,22 @@ by_beginning room (StringSymbol string ∷ rest) = refl
 by_beginning room (ReservedSymbol word ∷ rest) = refl
 by_beginning room (PlacedSymbol word place ∷ rest) = refl
 by_beginning room (MarkSymbol mark ∷ rest) = refl
+by_beginning room (SemicolonSymbol place ∷ rest) = refl
 by_beginning room (UnknownSymbol ∷ rest) = unknown_target room rest
 
-pub statement_in : (room : ℕ) (symbols : List Symbol) → 0 < room → statement true room symbols ≡ statement_inside (room - 1) symbols
+pub statement_in : (room : ℕ) (symbols : List Symbol)
+    → 0 < room
+    → statement true room symbols ≡ statement_inside (room - 1) symbols
 unfolding statement
 statement_in zero symbols more = absurd (omega arith)
 statement_in (suc room) symbols more =
     let same : room ≡ suc room - 1 = omega arith in
-    by_beginning room symbols ∙ ap (λ inner. statement_inside inner symbols) same
+    ap (labelled (labels_before symbols)) (by_beginning room (after_labels symbols))
+    ∙ ap (λ inner. statement_inside inner symbols) same
 
-pub declaration_in : (room : ℕ) (symbols : List Symbol) → 0 < room → declaration true room symbols ≡ declare_or (procedure true (block_in (room - 1))) symbols
+pub declaration_in : (room : ℕ) (symbols : List Symbol)
+    → 0 < room
+    → declaration true room symbols ≡ declare_or (procedure true (block_in (room - 1))) symbols
 unfolding declaration
 declaration_in zero symbols more = absurd (omega arith)
 declaration_in (suc room) symbols more =
@@ -42,34 +48,24 @@ declaration_in (suc room) symbols more =
     ap (λ inner. declare_or (procedure true (block_in inner)) symbols) same
 
 -- no room
-pub statement-deep : (cause : Option Cause) (room : ℕ) (s : List Symbol) → room ≡ 0 → cause ≡ Some TooDeep → FailsBy cause (statement true room s)
+pub statement-deep : (cause : Option Cause) (room : ℕ) (s : List Symbol)
+    → room ≡ 0
+    → cause ≡ Some TooDeep
+    → FailsBy cause (statement true room s)
 unfolding statement
 statement-deep cause room s none deep = rw (deep, none) refl
 
-pub declaration-deep : (cause : Option Cause) (room : ℕ) (s : List Symbol) → room ≡ 0 → false ≡ at_word Declare s → cause ≡ Some TooDeep
+pub declaration-deep : (cause : Option Cause) (room : ℕ) (s : List Symbol)
+    → room ≡ 0
+    → false ≡ at_word Declare s
+    → cause ≡ Some TooDeep
     → FailsBy cause (declaration true room s)
 unfolding declaration declare_or
 declaration-deep cause room s none other deep = rw (deep, none, ← other) refl
 
 -- DECLARE, with its elements
-declares : List Symbol → Reading DeclarationTree
-declares s = do
-  found ← elements s
-  Ok (DeclareTree found.0, found.1)
-
-declaration-declares : (room : ℕ) (s t : List Symbol) → true ≡ at_word Declare s → t ≡ drop 1 s → declaration true room s ≡ declares t
-unfolding declaration declare_or declares
-declaration-declares zero s t declare dropped = rw (← declare, dropped) refl
-declaration-declares (suc room) s t declare dropped = rw (← declare, dropped) refl
-
-pub declare-ok : (room : ℕ) (s t r : List Symbol) (all : List ElementTree) → true ≡ at_word Declare s → t ≡ drop 1 s → elements t ≡ Ok (all, r)
-    → declaration true room s ≡ Ok (DeclareTree all, r)
-unfolding declares
-declare-ok room s t r all declare dropped e = declaration-declares room s t declare dropped ∙ ap (λ found. found >>= (λ (f : List ElementTree × List Symbol). Ok (DeclareTree f.0, f.1))) e
-
-pub declare-fails : (cause : Option Cause) (room : ℕ) (s t : List Symbol) → true ≡ at_word Declare s → t ≡ drop 1 s → FailsBy cause (elements t)
-    → FailsBy cause (declaration true room s)
-unfolding declares
-declare-fails None room s t declare dropped fails = tt
-declare-fails (Some cause) room s t declare dropped fails =
-    declaration-declares room s t declare dropped ∙ ap (λ found. found >>= (λ (f : List ElementTree × List Symbol). Ok (DeclareTree f.0, f.1))) fails
+pub declaration-declares : (room : ℕ) (s t : List Symbol) → true ≡ at_word Declare s → t ≡ drop 1 s
+    → declaration true room s ≡ declare t
+unfolding declaration declare_or
+declaration-declares zero s t declared dropped = rw (← declared, dropped) refl
+declaration-declares (suc room) s t declared dropped = rw (← declared, dropped) refl

@@ -9,6 +9,7 @@ pub mod ExpressionSound
 pub mod ExpressionVerdicts
 pub mod Giving
 pub mod Insides
+pub mod Labels
 pub mod ItemLaws
 pub mod ListLaws
 pub mod ListedItems
@@ -19,7 +20,7 @@ pub mod OperatorLaws
 pub mod Operators
 pub mod Parsed
 pub mod RestrictedLaws
-pub mod SpelledLengths
+pub mod StatementLengths
 pub mod StatementLaws
 pub mod StatementLoops
 pub mod StatementSoundness

@@ -1,6 +1,7 @@
 pub mod Looking
 pub mod Lists
 pub mod Expressions
+pub mod Measured
 pub mod Declarations
 pub mod Statements
 pub mod Inside

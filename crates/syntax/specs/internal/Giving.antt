@@ -35,6 +35,10 @@ Gives view (Ok x) rest read = read ≡ Ok (view x, rest)
 Gives view (Err failure) rest read = Fails failure read
 
 -- the same where nothing but the symbols that are left is told
-abbrev pub Leaves : {X : Type 0} → Result X (Failure Fault) → List Symbol → Result (List Symbol) Cause → Type 0
+abbrev pub Leaves : {X : Type 0}
+    → Result X (Failure Fault)
+    → List Symbol
+    → Result (List Symbol) Cause
+    → Type 0
 Leaves (Ok x) rest read = read ≡ Ok rest
 Leaves (Err failure) rest read = Fails failure read

@@ -2,28 +2,21 @@
 use Rattle.std.specs.Prelude.{ℕ, List, ◌++◌, Option, None, Some, Ok, Err, if◌then◌else◌}
 use Rattle.trees.specs.Symbols.{Symbol}
 use Rattle.trees.specs.declared.expression.BinaryOperator.{BinaryOperator}
-use Rattle.trees.specs.declared.identifier.Identifier.{Identifier}
-use Rattle.trees.specs.Trees.{ConstantTree, NumberConstant, StringConstant, ExpressionTree, ReferenceTree}
-use Rattle.syntax.specs.internal.Expressions.{arguments, member_of, goes_on}
-use Rattle.syntax.specs.internal.Looking.{Reading, ◌>>=◌, number, string}
+use Rattle.trees.specs.Trees.{ConstantTree, NumberConstant, StringConstant}
+use Rattle.syntax.specs.internal.Expressions.{goes_on}
+use Rattle.syntax.specs.internal.Looking.{Parser, Reading, ◌>>=◌, number, string}
 
 -- a number as a constant
-abbrev pub number_constant : List Symbol → Reading ConstantTree
+abbrev pub number_constant : Parser ConstantTree
 number_constant symbols = do
   found ← number symbols
   Ok (NumberConstant found.0, found.1)
 
 -- a string as a constant
-abbrev pub string_constant : List Symbol → Reading ConstantTree
+abbrev pub string_constant : Parser ConstantTree
 string_constant symbols = do
   found ← string symbols
   Ok (StringConstant found.0, found.1)
-
--- a reference behind its name
-abbrev pub reference_behind : (ℕ → List Symbol → Reading ExpressionTree) → Identifier → List Symbol → Reading ReferenceTree
-reference_behind inner base symbols = do
-  found ← arguments inner symbols
-  member_of inner base found.0 found.1
 
 -- an operator that goes on with an expression of a level, where what comes out must stand at another
 abbrev pub operator_on : ℕ → ℕ → Option BinaryOperator → Option BinaryOperator
