@@ -102,7 +102,8 @@ fn failure_of(error: clap::Error) -> Failure<LineFault>
 
 // The order in what a parse found.
 fn order_in<'a>(matches: &ArgMatches<'a>) -> Option<Order<'a>>
-    ensures { option_map file_in_order result ≡ option_and_then file_of_match (subcommand_rows_of matches.now) }
+    ensures { option_map file_in_order result
+        ≡ option_and_then file_of_match (subcommand_rows_of matches.now) }
 {
     let run = matches.subcommand_matches("run")?;
     let file = run.get_str("FILE")?;

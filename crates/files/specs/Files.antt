@@ -35,9 +35,11 @@ BeginsFile old new name = ChangesFiles old new (with_file name [])
 
 -- the file of this name grows by these bytes; where there was none it has these bytes
 abbrev pub GrowsFile : Option Directory → Option Directory → List ℕ → List ℕ → Type 0
-GrowsFile old new name bytes = ChangesFiles old new (λ files. with_file name (unwrap_or (files name) [] ++ bytes) files)
+GrowsFile old new name bytes =
+    ChangesFiles old new (λ files. with_file name (unwrap_or (files name) [] ++ bytes) files)
 
--- a fault of the device adds one to the count of failures, which stays at its greatest value, and out of memory none
+-- a fault of the device adds one to the count of failures, which stays at its greatest value; out of memory adds
+-- none
 abbrev pub Counts : Failure FileFault → ℕ → ℕ → Type 0
 Counts (Fault fault) old new = CountsFailure old new
 Counts Memory old new = new ≡ old

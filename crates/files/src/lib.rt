@@ -48,7 +48,8 @@ pub trait Files {
     /// Adds bytes from the front of `bytes` to the end of a file, and answers how many: at least one, where there are
     /// any.
     fn append(&mut self, name: &str, bytes: &[u8]) -> Result<usize, Failure<FileFault>>
-        ensures ok { IfOk result (λ count. GrowsFile (files self.old) (files self.new) name.now (take count bytes.now)) }
+        ensures ok { IfOk result
+            (λ count. GrowsFile (files self.old) (files self.new) name.now (take count bytes.now)) }
         ensures bound { IfOk result (λ count. count ≤ length bytes.now) }
         ensures some { IfOk result (λ count. 0 < length bytes.now → 0 < count) }
         ensures err { OnErr result (KeepsFiles (files self.old) (files self.new)) }

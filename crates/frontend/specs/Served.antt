@@ -35,7 +35,8 @@ number_among others = None
 
 -- the port of `OUTPUT(number)`, if a reference is that
 abbrev pub port_in : ReferenceTree → Option Number
-port_in (ReferenceTo name inner NoMember) = if bytes_eq name.name (codes "OUTPUT") then number_among inner else None
+port_in (ReferenceTo name inner NoMember) =
+    if bytes_eq name.name (codes "OUTPUT") then number_among inner else None
 port_in reference = None
 
 -- the line of a reference: that of its name
@@ -45,7 +46,9 @@ line_of_reference (ReferenceTo name inner part) = name.place.line
 -- the output of a number to a port, if there are both
 abbrev pub output_to : ℕ → Option Number → Option Number → Option Output
 output_to line port value =
-    option_and_then (λ number. option_map (λ other. record { line = line; port = number; value = other }) value) port
+    option_and_then
+    (λ number. option_map (λ other. record { line = line; port = number; value = other }) value)
+    port
 
 -- the output that a statement is, if it is `OUTPUT(number) = number;` without labels
 abbrev pub output_in : StatementTree → Option Output

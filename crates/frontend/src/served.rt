@@ -92,7 +92,8 @@ fn line_of_subject(subject: &Subject) -> u32 {
 // The outputs that statements are, or the line of the first that is none.
 #[tactic(auto, using(crate::proofs::ServedLemmas::after_none, crate::proofs::ServedLemmas::after_one_more, crate::proofs::ServedLemmas::after_no_output))]
 fn outputs_of(alloc: Global, statements: &[Statement]) -> Result<Vec<Output>, Failure<Unserved>>
-    ensures outputs { IfOk result (λ outputs. outputs_in (statement_trees statements.now) ≡ Some outputs.items) }
+    ensures outputs { IfOk result
+        (λ outputs. outputs_in (statement_trees statements.now) ≡ Some outputs.items) }
     ensures refused { IfFault result (λ _. outputs_in (statement_trees statements.now) ≡ None) }
 {
     let mut outputs = Vec::new(alloc);

@@ -71,7 +71,8 @@ fn put_lines(text: &mut [u8], events: &[Event]) -> usize
 // Writes the lines of a few events at once.
 fn write_group<W: Write>(events: &[Event], out: &mut W) -> Result<(), Failure<WriteFault>>
     requires { length events.now ≤ GROUP }
-    ensures ok { OnOk result (Appends (W.contents out.old) (W.contents out.new) (flat_map line_of events.now)) }
+    ensures ok { OnOk result
+        (Appends (W.contents out.old) (W.contents out.new) (flat_map line_of events.now)) }
     ensures err { OnErr result
         (AppendsBeginning (W.contents out.old) (W.contents out.new) (flat_map line_of events.now)) }
 {
@@ -87,7 +88,8 @@ pub fn report<W: Write>(
     last: &str,
     out: &mut W,
 ) -> Result<(), Failure<WriteFault>>
-    ensures ok { OnOk result (Appends (W.contents out.old) (W.contents out.new) (report_of events.now last.now)) }
+    ensures ok { OnOk result
+        (Appends (W.contents out.old) (W.contents out.new) (report_of events.now last.now)) }
     ensures err { OnErr result
         (AppendsBeginning (W.contents out.old) (W.contents out.new) (report_of events.now last.now)) }
 {

@@ -44,7 +44,7 @@ module _ (script : List (List ℕ)) (m : List ℕ) where
   hlt_step : (r : Registers) (events : List Event) → byte_at m r.pc ≡ 0x76 → step_of script (running r m events) ≡ halted (record r { pc = (r.pc + 1) % 65536 }) m events
   hlt_step r events here = at_code r events 0x76 here
 
-  -- the registers behind LXI SP, whatever word it loads
+  -- the registers after LXI SP, whatever word it loads
   lxi_sp_step : (r : Registers) (events : List Event) → byte_at m r.pc ≡ 0x31 → (sp : ℕ) × (step_of script (running r m events) ≡ running (record r { sp = sp; pc = (r.pc + 3) % 65536 }) m events)
   lxi_sp_step r events here = (_, at_code r events 0x31 here)
 

@@ -17,7 +17,7 @@ byte_moved memory p q b e h = ap (λ a. byte_at memory a) e ∙ h
 pub stands_moved : (memory bytes : List ℕ) (p q : ℕ) → q ≡ p → StandsAt memory p bytes → StandsAt memory q bytes
 stands_moved memory bytes p q e h = subst (λ a. StandsAt memory a bytes) (sym e) h
 
--- the middle of a list stands behind its front
+-- the middle of a list stands after its front
 stands_between : (front bytes back : List ℕ) → StandsAt (front ++ (bytes ++ back)) (length front) bytes
 stands_between front [] back = tt
 stands_between front (b ∷ bs) back =

@@ -15,11 +15,12 @@ pub record Construction : Type 0 where
   pub placement : Placement
   pub image : Image
 
--- the image does what the program says, with the stack of the plan; code and stack lie lawfully where the plan says, and
--- the image has its code where the placement has it
+-- the image does what the program says, with the stack of the plan; code and stack lie lawfully where the plan says,
+-- and the image has its code where the placement has it
 pub record IsConstruction (built : Construction) : Type 0 where
   pub headline : DoesWhatItSays built.program built.placement built.plan.stack_size built.image
   pub lawful : IsLawful built.placement
   pub code_as_planned : built.placement.code.start ≡ built.plan.code
   pub stack_as_planned : built.placement.stack ≡ stack_range built.plan
-  pub code_as_placed : built.placement.code ≡ record { start = built.image.code.start; len = length built.image.code.bytes }
+  pub code_as_placed : built.placement.code
+      ≡ record { start = built.image.code.start; len = length built.image.code.bytes }

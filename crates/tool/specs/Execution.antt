@@ -12,7 +12,8 @@ use Rattle.tool.specs.Construction.{Construction}
 use Rattle.tool.specs.declared.built.Image.{Image}
 use Rattle.tool.specs.Image.{loaded}
 
--- the machine at its start: an image loaded into a memory, and ports with a script, events and a count of failures
+-- the machine at its start: an image loaded into a memory, and ports with a script, events and a count of
+-- failures
 abbrev pub started : Image → List ℕ → List (List ℕ) → List Event → ℕ → Machine
 started image memory script events failures =
     record {

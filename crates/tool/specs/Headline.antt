@@ -13,8 +13,8 @@ use Rattle.source_meaning.specs.Run.{Run, source_run, NeverOutside}
 use Rattle.tool.specs.declared.built.Image.{Image}
 use Rattle.tool.specs.Image.{machine_run}
 
--- the machine performs exactly the source's reads and writes, and halts exactly if the source ends: the source with
--- budget n, and the machine after k steps
+-- the machine performs exactly the source's reads and writes, and halts exactly if the source ends: the source
+-- with budget n, and the machine after k steps
 pub record Agrees (source : ℕ → Run) (machine : ℕ → State) : Type 0 where
   pub keeps_up : (n : ℕ) → (k : ℕ) × ((machine k).events ≡ (source n).events)
   pub runs_no_further : (k : ℕ) → (n : ℕ) × IsBeginning (machine k).events (source n).events
@@ -26,8 +26,8 @@ pub record Agrees (source : ℕ → Run) (machine : ℕ → State) : Type 0 wher
       → (n : ℕ) × ((source n).end ≡ Ended)
   pub never_illegal : (k : ℕ) → (machine k).status ≢ Illegal
 
--- the image does what the program says, from every memory and with every script and all events before it, where the
--- program with this room on the stack never goes outside
+-- the image does what the program says, from every memory and with every script and all events before it, where
+-- the program with this room on the stack never goes outside
 abbrev pub DoesWhatItSays : Joined → Placement → ℕ → Image → Type 0
 DoesWhatItSays program placement room image =
     (memory : List ℕ) (script : List (List ℕ)) (events : List Event)

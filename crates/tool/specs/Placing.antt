@@ -26,7 +26,8 @@ OnePassesEnd plan length = PassesEnd (code_range plan length) ⊎ PassesEnd (sta
 -- code of so many bytes can't lie as planned: that one passes the end is looked for first
 abbrev pub HasPlacementCause : PlacementFault → Plan → ℕ → Type 0
 HasPlacementCause TooHigh plan length = OnePassesEnd plan length
-HasPlacementCause Overlap plan length = ¬ OnePassesEnd plan length × Meets (code_range plan length) (stack_range plan)
+HasPlacementCause Overlap plan length =
+    ¬ OnePassesEnd plan length × Meets (code_range plan length) (stack_range plan)
 
 -- the number of a fault
 abbrev pub number_of : PlacementFault → List ℕ

@@ -54,8 +54,8 @@ HasCause (NotServed file line) texts plan = 1 < length texts
 HasCause (Join fault) texts plan = HasNoMain texts
 HasCause (Placement fault) texts plan = HasNoPlace fault texts plan
 
--- A text alone has no fault but that it may not be served: it is the source of statements whose code is not too long, or a
--- module that is not served.
+-- A text alone has no fault but that it may not be served: it is the source of statements whose code is not too
+-- long, or a module that is not served.
 pub data IsWithoutFault (text : List ℕ) (plan : Plan) : Type 0 where
   compiled : {statements : List Statement}
       → IsSourceOf text statements
@@ -73,8 +73,8 @@ is_of_service (Source file (read_faults.NotServed line)) = true
 is_of_service (NotServed file line) = true
 is_of_service fault = false
 
--- How many of so many sources come before a fault in the order in which faults are looked for. That something is not
--- served comes after the other faults of sources, and the faults of the whole program come last.
+-- How many of so many sources come before a fault in the order in which faults are looked for. That something is
+-- not served comes after the other faults of sources, and the faults of the whole program come last.
 abbrev pub sources_before : ToolFault → ℕ → ℕ
 sources_before TooManySources count = 0
 sources_before (Source file fault) count = if is_of_service (Source file fault) then count else file
@@ -82,3 +82,7 @@ sources_before (CodeTooLong file) count = file
 sources_before (NotServed file line) count = count
 sources_before (Join fault) count = count
 sources_before (Placement fault) count = count
+
+-- each source that comes before a fault has none
+abbrev pub IsInOrder : ToolFault → List (List ℕ) → Plan → Type 0
+IsInOrder fault texts plan = AreWithoutFault (sources_before fault (length texts)) texts plan

@@ -15,8 +15,9 @@ use ports::Ports;
 /// the program never goes outside, the events are a beginning of those of its source, and a machine that halted has
 /// them all.
 pub fn execute<P: Ports>(built: &Built, memory: Memory, ports: P, limit: u64) -> (End, Machine<P>)
-    ensures run { let start = started built.now.image memory (P.script ports) (P.events ports) (P.failures ports) in
-        IsRun limit start result.0 result.1 }
+    ensures run { IsRun limit
+        (started built.now.image memory (P.script ports) (P.events ports) (P.failures ports))
+        result.0 result.1 }
     ensures script { result.1.script ≡ P.script ports }
     ensures faithful { let source = source_of built.now memory (P.script ports) (P.events ports) in
         IsScript (P.script ports) → NeverOutside source → IsFaithful source result.0 result.1 }

@@ -6,8 +6,8 @@ ghost use Rattle.failure.specs.Failure.{IfFault};
 ghost use Rattle.frontend.specs.Reading.{IsSourceOf};
 ghost use Rattle.tool.specs.Code.{code_of};
 ghost use Rattle.tool.specs.Headline.{DoesWhatItSays};
-ghost use Rattle.tool.specs.Sources.{texts_of, text_of, AreWithoutFault, HasCause, IsProgramOf, IsWithoutFault};
-ghost use Rattle.tool.specs.Sources.{is_of_service, sources_before};
+ghost use Rattle.tool.specs.Sources.{texts_of, text_of, HasCause, IsInOrder, IsProgramOf, IsWithoutFault};
+ghost use Rattle.tool.specs.Sources.{is_of_service};
 ghost use Rattle.tool.specs.Refusals.{IsRefusedBy};
 ghost use Rattle.tool.specs.internal.Compiling.{HasCompileCause};
 
@@ -103,9 +103,9 @@ pub fn build(alloc: Global, sources: &[Source], plan: &Plan) -> Result<Built, Fa
     ensures headline { IfOk result
         (λ built. DoesWhatItSays built.program built.placement built.plan.stack_size built.image) }
     ensures refused { IfFault result (λ fault. HasCause fault (texts_of sources.now) plan.now) }
-    ensures order { IfFault result
-        (λ fault. AreWithoutFault (sources_before fault (length sources.now)) (texts_of sources.now) plan.now) }
-    ensures too_many { MOST_SOURCES < length sources.now → result ≡ Err (Failure.Fault ToolFault.TooManySources) }
+    ensures order { IfFault result (λ fault. IsInOrder fault (texts_of sources.now) plan.now) }
+    ensures too_many { MOST_SOURCES < length sources.now
+        → result ≡ Err (Failure.Fault ToolFault.TooManySources) }
     ensures too_long { (file : ℕ) → file < length sources.now
         → LONGEST_SOURCE < length (text_of (texts_of sources.now) file) → IsRefusedBy file result }
 {
@@ -122,8 +122,7 @@ fn build_few(alloc: Global, sources: &[Source], plan: &Plan) -> Result<Built, Fa
     ensures program { IfOk result (λ built. IsProgramOf (texts_of sources.now) built.program) }
     ensures plan { IfOk result (λ built. built.plan ≡ plan.now) }
     ensures refused { IfFault result (λ fault. HasCause fault (texts_of sources.now) plan.now) }
-    ensures order { IfFault result
-        (λ fault. AreWithoutFault (sources_before fault (length sources.now)) (texts_of sources.now) plan.now) }
+    ensures order { IfFault result (λ fault. IsInOrder fault (texts_of sources.now) plan.now) }
 {
     match sources {
         [] => Err(Failure::Fault(ToolFault::Join(JoinFault::NoMain))),
@@ -138,8 +137,7 @@ fn build_one(alloc: Global, text: &[u8], plan: &Plan) -> Result<Built, Failure<T
     ensures program { IfOk result (λ built. IsProgramOf (text.now ∷ []) built.program) }
     ensures plan { IfOk result (λ built. built.plan ≡ plan.now) }
     ensures refused { IfFault result (λ fault. HasCause fault (text.now ∷ []) plan.now) }
-    ensures order { IfFault result
-        (λ fault. AreWithoutFault (sources_before fault 1) (text.now ∷ []) plan.now) }
+    ensures order { IfFault result (λ fault. IsInOrder fault (text.now ∷ []) plan.now) }
 {
     let compiled = compile(alloc, 0, text, plan)?;
     let program = match join(Statements::from_vec(compiled.statements)) {
@@ -164,8 +162,7 @@ fn refuse_several(
     ensures program { IfOk result (λ built. IsProgramOf (texts_of sources.now) built.program) }
     ensures plan { IfOk result (λ built. built.plan ≡ plan.now) }
     ensures refused { IfFault result (λ fault. HasCause fault (texts_of sources.now) plan.now) }
-    ensures order { IfFault result
-        (λ fault. AreWithoutFault (sources_before fault (length sources.now)) (texts_of sources.now) plan.now) }
+    ensures order { IfFault result (λ fault. IsInOrder fault (texts_of sources.now) plan.now) }
 {
     let mut unserved = None;
     for (file, source) in sources.iter().enumerate() {
@@ -184,7 +181,8 @@ fn unserved_in(
     plan: &Plan,
 ) -> Result<Option<ToolFault>, Failure<ToolFault>>
     ensures well { IfOk result (λ _. IsWithoutFault text.now plan.now) }
-    ensures cause { IfOk result (λ found. IfSome found (λ fault. HasCompileCause fault file text.now plan.now)) }
+    ensures cause { IfOk result
+        (λ found. IfSome found (λ fault. HasCompileCause fault file text.now plan.now)) }
     ensures service { IfOk result (λ found. IfSome found (λ fault. is_of_service fault ≡ true)) }
     ensures refused { IfFault result (λ fault. HasCompileCause fault file text.now plan.now) }
     ensures other { IfFault result (λ fault. is_of_service fault ≡ false) }
@@ -222,7 +220,8 @@ fn compile(
     plan: &Plan,
 ) -> Result<Compiled, Failure<ToolFault>>
     ensures source { IfOk result (λ compiled. IsSourceOf text.now compiled.statements.items) }
-    ensures code { IfOk result (λ compiled. compiled.code.items ≡ code_of plan.now compiled.statements.items) }
+    ensures code { IfOk result
+        (λ compiled. compiled.code.items ≡ code_of plan.now compiled.statements.items) }
     ensures fits { IfOk result (λ compiled. length compiled.code.items ≤ MOST_CODE) }
     ensures refused { IfFault result (λ fault. HasCompileCause fault file text.now plan.now) }
 {

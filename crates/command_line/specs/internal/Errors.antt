@@ -11,5 +11,6 @@ use Rattle.command_line.specs.declared.LineFault.TheVariants.{Help, Wrong}
 -- the failure that an error of `clap` is: help, out of memory, or wrong words
 abbrev pub IsFailureFor : Error → Failure LineFault → Type 0
 IsFailureFor error (Fault (Help held)) = (held ≡ error) × (kind_of error ≡ DisplayHelp)
-IsFailureFor error (Fault (Wrong held)) = (held ≡ error) × (kind_of error ≢ DisplayHelp) × (kind_of error ≢ OutOfMemory)
+IsFailureFor error (Fault (Wrong held)) =
+    (held ≡ error) × (kind_of error ≢ DisplayHelp) × (kind_of error ≢ OutOfMemory)
 IsFailureFor error Memory = kind_of error ≡ OutOfMemory

@@ -1,6 +1,6 @@
 -- What a function of the parser returned is what reading the symbols gives, unless memory ran out.
 use Rattle.std.specs.Prelude.{◌≡◌, List, Option, None, Some, Result, Ok, Err}
-use Rattle.words.specs.declared.scanner.Word as scanned
+use Rattle.words.specs.declared.word.Word as scanned
 use Rattle.words.specs.Spelling.{lexemes_of}
 use Rattle.trees.specs.Symbols.{Symbol, symbols_of}
 use Rattle.failure.specs.declared.Failure.{Failure}
