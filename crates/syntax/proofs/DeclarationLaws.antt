@@ -1,6 +1,6 @@
 -- What is read as a list of elements or as the head of a procedure is spelled so, and what is spelled so is
 -- read.
-use Rattle.std.proofs.Common.{◌≡◌, inl, inr, false, List, [], ◌∷◌, drop, length, Option, Some, None, Ok, refl, sym, ◌∙◌, ap, subst, arith}
+use Rattle.std.proofs.Common.{◌≡◌, inl, inr, false, List, [], ◌∷◌, drop, length, Option, Some, None, Ok, refl, sym, ◌∙◌, ap, arith}
 use Rattle.std.specs.List.{AllByRecursion}
 use Rattle.words.specs.declared.vocabulary.Mark.TheVariants as marks
 use Rattle.words.specs.declared.vocabulary.ReservedWord.TheVariants as words
@@ -15,12 +15,12 @@ use Rattle.trees.specs.Spelling.{optional, between_commas, scalar_symbols, linka
 use Rattle.trees.specs.Symbols.{Symbol, NameSymbol, ReservedSymbol, MarkSymbol, SemicolonSymbol}
 use Rattle.trees.specs.Trees.{ElementTree, HeadingTree}
 use Rattle.syntax.proofs.ListLaws.{items-sound}
-use Rattle.syntax.proofs.LookingLemmas.{if_false, if_cases, bind_ok, bind_at, same_reading, place_of_word-is, mark-ok, word-ok, name-ok}
+use Rattle.syntax.proofs.ReaderLemmas.{if_false, if_cases, bind_ok, bind_at, place_of_word-is, mark-ok, word-ok, name-ok}
 use Rattle.syntax.specs.internal.Declarations.{next_scalar, result_type, next_linkage, linkage, element, parameters, reentrant_of, reentrant, heading}
 use Rattle.syntax.specs.internal.Lists.{Keeps, Shrinks, items}
-use Rattle.syntax.specs.internal.Looking.{at_mark, place_of_word, mark, word, name}
-use Rattle.syntax.proofs.ItemLaws.{list-reads, optional-lengthens, between_commas-lengthens, scalar-lengthens, names-sound, names-reads, linkage-spelled, linkage-reads, EndsItem, element-sound, element-reads, names-lengthens, linkage-lengthens, element-lengthens, element-keeps}
-use Rattle.syntax.proofs.RestrictedLaws.{Spelled, respelled, Lengthens, result_type-spelled, result_type-reads}
+use Rattle.syntax.specs.internal.Reader.{at_mark, place_of_word, mark, word, name}
+use Rattle.syntax.proofs.DeclarationItems.{list-reads, optional-lengthens, between_commas-lengthens, scalar-lengthens, names-sound, names-reads, linkage-spelled, linkage-reads, EndsItem, element-sound, element-reads, names-lengthens, linkage-lengthens, element-lengthens, element-keeps}
+use Rattle.syntax.proofs.DeclarationParts.{Spelled, respelled, Lengthens, result_type-spelled, result_type-reads}
 
 -- the elements that DECLARE declares are spelled so
 pub elements-sound : (s r : List Symbol) (es : List ElementTree) → items element s ≡ Ok (es, r)

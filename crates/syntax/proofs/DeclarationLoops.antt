@@ -9,14 +9,14 @@ use Rattle.trees.specs.Trees.{ConstantTree, OffsetTree, ElementTree, SubjectTree
 use Rattle.trees.specs.declared.declaration.Offset.{Offset}
 use Rattle.trees.specs.Views.{constant_tree, offset_tree}
 use Rattle.syntax.specs.internal.Declarations.{next_sign, all_offsets, names, subject, base, item_after, item, element_of, element, element_after, group_element, subject_of}
-use Rattle.syntax.specs.internal.Looking.{Cause, Reading, ◌>>=◌, at_word, next_name, constant, string}
-use Rattle.syntax.specs.internal.Parts.{behind}
-use Rattle.syntax.proofs.RestrictedLaws.{all_offsets-step}
-use Rattle.syntax.proofs.LookingLemmas.{read}
+use Rattle.syntax.specs.internal.Reader.{Cause, Reading, ◌>>=◌, at_word, next_name, constant, string}
+use Rattle.syntax.specs.internal.Lists.{after_items}
+use Rattle.syntax.proofs.DeclarationParts.{all_offsets-step}
+use Rattle.syntax.proofs.ReaderLemmas.{read}
 
 -- one more offset, and then others
 after_items-offset : (before : List OffsetTree) (o : OffsetTree) (others : Reading (List OffsetTree))
-    → behind before (others >>= (λ found. Ok (o ∷ found.0, found.1))) ≡ behind (before ++ o ∷ []) others
+    → after_items before (others >>= (λ found. Ok (o ∷ found.0, found.1))) ≡ after_items (before ++ o ∷ []) others
 after_items-offset before o (Ok found) =
     ap (λ l. Ok (l, found.1)) (sym (append_assoc before (o ∷ []) found.0))
 after_items-offset before o (Err cause) = refl
@@ -25,24 +25,24 @@ after_items-offset before o (Err cause) = refl
 pub offsets-more : (before : List OffsetTree) (g : Sign) (c : ConstantTree) (s r : List Symbol)
     → next_sign s ≡ Some g
     → constant (drop 1 s) ≡ Ok (c, r)
-    → behind before (all_offsets s)
-    ≡ behind (before ++ record { sign = g; constant = c } ∷ []) (all_offsets r)
+    → after_items before (all_offsets s)
+    ≡ after_items (before ++ record { sign = g; constant = c } ∷ []) (all_offsets r)
 offsets-more before g c s r sign e =
-    ap (behind before) (all_offsets-step s)
+    ap (after_items before) (all_offsets-step s)
     ∙ rw (sign, e) (after_items-offset before (record { sign = g; constant = c }) (all_offsets r))
 
 -- a sign and no constant
 pub offsets-fail : (before : List OffsetTree) (g : Sign) (s : List Symbol) (cause : Cause)
-    → next_sign s ≡ Some g → constant (drop 1 s) ≡ Err cause → behind before (all_offsets s) ≡ Err cause
-offsets-fail before g s cause sign e = ap (behind before) (all_offsets-step s) ∙ rw (sign, e) refl
+    → next_sign s ≡ Some g → constant (drop 1 s) ≡ Err cause → after_items before (all_offsets s) ≡ Err cause
+offsets-fail before g s cause sign e = ap (after_items before) (all_offsets-step s) ∙ rw (sign, e) refl
 
 -- no sign
 pub offsets-end : (before : List OffsetTree) (s : List Symbol)
     → next_sign s ≡ None
-    → behind before (all_offsets s) ≡ Ok (before, s)
-offsets-end before s none = ap (behind before) (all_offsets-step s) ∙ rw none (simp append-nil)
+    → after_items before (all_offsets s) ≡ Ok (before, s)
+offsets-end before s none = ap (after_items before) (all_offsets-step s) ∙ rw none (simp append-nil)
 
-pub after_items-nothing : {A : Type 0} (others : Reading (List A)) → behind [] others ≡ others
+pub after_items-nothing : {A : Type 0} (others : Reading (List A)) → after_items [] others ≡ others
 after_items-nothing (Ok found) = refl
 after_items-nothing (Err cause) = refl
 
@@ -89,14 +89,14 @@ pub ruleset element_is = (element-named, element-grouped)
 -- offsets go on by a sign and a constant
 pub offsets_go_on : (whole : Reading (List OffsetTree)) (found more : List Offset) (next : Offset)
     (s after r : List Symbol)
-    → whole ≡ behind (map offset_tree found) (all_offsets s)
+    → whole ≡ after_items (map offset_tree found) (all_offsets s)
     → Some next.sign ≡ next_sign s
     → after ≡ drop 1 s
     → constant after ≡ Ok (constant_tree next.constant, r)
     → more ≡ found ++ next ∷ []
-    → whole ≡ behind (map offset_tree more) (all_offsets r)
+    → whole ≡ after_items (map offset_tree more) (all_offsets r)
 offsets_go_on whole found more next s after r is at skipped e pushed =
     is ∙ offsets-more (map offset_tree found) next.sign (constant_tree next.constant) s r (sym at)
     (ap constant (sym skipped) ∙ e)
-    ∙ ap (λ l. behind l (all_offsets r))
+    ∙ ap (λ l. after_items l (all_offsets r))
     (sym (ap (map offset_tree) pushed ∙ map-append offset_tree found (next ∷ [])))

@@ -1,5 +1,5 @@
 -- The laws of reading expressions, passed on from one place. Declares nothing.
-pub use Rattle.syntax.proofs.Depths.{
+pub use Rattle.syntax.proofs.ExpressionDepths.{
   depth_fault,
   depth_fault-within,
   depth_fault-over,
@@ -38,4 +38,4 @@ pub use Rattle.syntax.proofs.ExpressionSound.{
   reference-keeps,
   arguments-keeps,
 }
-pub use Rattle.syntax.proofs.OperatorLaws.{operators-enough, all_operators-step}
+pub use Rattle.syntax.proofs.ExpressionOperators.{operators-enough, all_operators-step}

@@ -12,16 +12,16 @@ use Rattle.trees.specs.internal.Forms.{left_level, unary_level_of, operand_level
 use Rattle.trees.specs.Nesting.{expression_height, reference_height, member_height, arguments_height, targets_height}
 use Rattle.trees.specs.Spelling.{more_after_commas, between_commas, constant_symbols, binary_symbol}
 use Rattle.trees.specs.internal.Spelling.{expression_symbols, reference_symbols, member_of_symbols, arguments_symbols, more_arguments_symbols}
-use Rattle.trees.specs.Symbols.{Symbol, NameSymbol, MarkSymbol}
+use Rattle.trees.specs.Symbols.{Symbol, MarkSymbol}
 use Rattle.trees.specs.Trees.{ConstantTree, NumberConstant, StringConstant, ExpressionTree, ConstantLeaf, ReferenceLeaf, LocationLeaf, ListLeaf, ParenthesizedNode, AssignmentNode, UnaryNode, BinaryNode, ReferenceTree, ReferenceTo, MemberTree, NoMember, MemberOf, ArgumentTrees, NoArguments, MoreArguments}
 use Rattle.syntax.specs.internal.Expressions.{ExpressionParser, next_operator, top_level, goes_on, arguments_of, arguments, member_of, reference, location, parenthesized, primary, operand, operator_then, all_operators, expression, expression_less}
 use Rattle.syntax.specs.internal.Lists.{items, Keeps}
-use Rattle.syntax.specs.internal.Looking.{Parser, Reading, Cause, TooDeep, ◌>>=◌, at_mark, constant}
-use Rattle.syntax.proofs.Depths.{depth_fault, depth_fault-within, depth_fault-over, depth_fault-same, depth_fault-suc, depth_fault-max, after, bind_gave, after-gave, after-read, after-deep}
+use Rattle.syntax.specs.internal.Reader.{Parser, Reading, Cause, TooDeep, ◌>>=◌, at_mark, constant}
+use Rattle.syntax.proofs.ExpressionDepths.{depth_fault, depth_fault-within, depth_fault-over, depth_fault-same, depth_fault-suc, depth_fault-max, after, bind_gave, after-gave, after-read, after-deep}
 use Rattle.syntax.proofs.ExpressionSound.{expression-keeps, reference-keeps, constant-long, expression-top, expression-at}
 use Rattle.syntax.proofs.ListLaws.{items-reads, Reads, gave, earlier, first_fault}
-use Rattle.syntax.proofs.LookingLemmas.{next_operator-at, if_true, if_false, read, constant-at, constant-ok}
-use Rattle.syntax.proofs.OperatorLaws.{all_operators-step}
+use Rattle.syntax.proofs.ReaderLemmas.{next_operator-at, if_true, if_false, read, constant-at, constant-ok}
+use Rattle.syntax.proofs.ExpressionOperators.{all_operators-step}
 
 -- what ends a reference: neither arguments nor a member
 abbrev pub EndsReference : List Symbol → Type 0

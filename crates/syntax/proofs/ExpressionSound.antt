@@ -17,9 +17,9 @@ use Rattle.trees.specs.Symbols.{Symbol, NameSymbol, ReservedSymbol, MarkSymbol}
 use Rattle.trees.specs.Trees.{ConstantTree, NumberConstant, StringConstant, ExpressionTree, ConstantLeaf, ReferenceLeaf, LocationLeaf, ListLeaf, ParenthesizedNode, AssignmentNode, UnaryNode, BinaryNode, ReferenceTree, ReferenceTo, MemberTree, NoMember, MemberOf, ArgumentTrees, NoArguments, MoreArguments}
 use Rattle.syntax.specs.internal.Expressions.{ExpressionParser, next_operator, top_level, goes_on, arguments_of, arguments, member_of, reference, location, assigned, closed, parenthesized, primary, operand, operator_then, operators, all_operators, expression, expression_less}
 use Rattle.syntax.specs.internal.Lists.{items, Keeps, Shrinks}
-use Rattle.syntax.specs.internal.Looking.{Parser, TooDeep, ◌>>=◌, at_mark, at_word, mark, name, next_name, constant}
+use Rattle.syntax.specs.internal.Reader.{Parser, TooDeep, ◌>>=◌, at_mark, at_word, mark, name, next_name, constant}
 use Rattle.syntax.proofs.ListLaws.{IsSound, items-sound}
-use Rattle.syntax.proofs.LookingLemmas.{at_mark-is, at_word-is, next_operator-is, if_cases, if_ok, bind_ok, read, same_reading, mark-ok, name-ok, constant-ok}
+use Rattle.syntax.proofs.ReaderLemmas.{at_mark-is, at_word-is, next_operator-is, if_cases, if_ok, bind_ok, read, same_reading, mark-ok, name-ok, constant-ok}
 
 -- what holds of what was read
 moved : {A : Type 0} (P : A → List Symbol → Type 0) (a b : A) (r q : List Symbol)

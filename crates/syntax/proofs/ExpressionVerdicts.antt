@@ -1,5 +1,5 @@
 -- What reading expressions, and what is declared, gives, and how it ends.
-use Rattle.std.proofs.Common.{◌≡◌, ℕ, Bool, true, false, nat_le, List, ◌∷◌, Some, None, if◌then◌else◌, refl, ◌∙◌, ap, arith}
+use Rattle.std.proofs.Common.{◌≡◌, ℕ, Bool, true, false, nat_le, List, Some, None, if◌then◌else◌, refl, ◌∙◌, ap, arith}
 use Rattle.std.proofs.lemmas.Bool.{leb-true, leb-false}
 use Rattle.std.specs.List.{AllByRecursion}
 use Rattle.words.specs.declared.vocabulary.Mark.TheVariants.{LeftParenthesis}
@@ -13,12 +13,12 @@ use Rattle.trees.specs.Trees.{ExpressionTree, ReferenceTree, ArgumentTrees, Elem
 use Rattle.syntax.specs.internal.Declarations.{element, heading}
 use Rattle.syntax.specs.internal.Lists.{items}
 use Rattle.syntax.specs.internal.Expressions.{expression, reference, arguments}
-use Rattle.syntax.specs.internal.Looking.{TooDeep, Reading, at_mark}
+use Rattle.syntax.specs.internal.Reader.{TooDeep, Reading, at_mark}
 use Rattle.syntax.proofs.DeclarationLaws.{elements-sound, heading-sound}
 use Rattle.syntax.proofs.ExpressionLaws.{depth_fault, EndsReference, EndsExpression, expression-sound, reference-sound, arguments-sound, expression-reads, reference-reads, arguments-reads}
 use Rattle.syntax.proofs.ListLaws.{gave}
-use Rattle.syntax.proofs.VerdictLists.{GetsSpelled}
-use Rattle.syntax.proofs.Verdicts.{Verdict, fits, too_deep}
+use Rattle.syntax.proofs.StatementVerdictLists.{GetsSpelled}
+use Rattle.syntax.proofs.StatementVerdictRules.{Verdict, fits, too_deep}
 
 pub expression-gets : (room : ℕ)
     → GetsSpelled expression_symbols (IsExpression expr_level) (expression room expr_level)

@@ -6,8 +6,8 @@ use Rattle.trees.specs.Forms.{IsNotEmpty}
 use Rattle.trees.specs.Spelling.{more_after_commas, between_commas}
 use Rattle.trees.specs.Symbols.{Symbol, MarkSymbol}
 use Rattle.syntax.specs.internal.Lists.{more_items, all_more_items, items, many_items, many, Keeps, Shrinks}
-use Rattle.syntax.specs.internal.Looking.{Parser, Cause, Unexpected, Reading, ◌>>=◌, at_mark}
-use Rattle.syntax.proofs.LookingLemmas.{at_mark-is, if_true, if_false, if_cases, if_ok, bind_ok, bind_at, bind_fails, read, same_reading}
+use Rattle.syntax.specs.internal.Reader.{Parser, Cause, Unexpected, Reading, ◌>>=◌, at_mark}
+use Rattle.syntax.proofs.ReaderLemmas.{at_mark-is, if_true, if_false, if_cases, if_ok, bind_ok, bind_at, bind_fails, read, same_reading}
 
 -- an item, and then others
 abbrev pub item_then : {A : Type 0} → (Parser A) → (Parser (List A)) → Parser (List A)

@@ -1,6 +1,5 @@
 -- The laws of reading statements and declarations.
-use Rattle.std.proofs.Common.{◌≡◌, ℕ, ◌<◌, Bool, List, length, Ok, arith}
-use Rattle.trees.specs.Symbols.{Symbol}
+use Rattle.std.proofs.Common.{ℕ, Bool}
 use Rattle.syntax.specs.internal.Lists.{Shrinks}
 use Rattle.syntax.specs.internal.Statements.{block, statement, declaration}
 use Rattle.syntax.proofs.StatementLengths.{statement-shorter, declaration-shorter}

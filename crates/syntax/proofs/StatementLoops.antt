@@ -6,14 +6,14 @@ use Rattle.trees.specs.declared.statement.Statement.{Statement}
 use Rattle.trees.specs.Symbols.{Symbol}
 use Rattle.trees.specs.Trees.{StatementTree, StatementTrees, MoreStatements, DeclarationTree, DeclarationTrees, MoreDeclarations}
 use Rattle.trees.specs.Views.{statement_tree, statement_trees, declaration_tree, declaration_trees}
-use Rattle.syntax.specs.internal.Giving.{FailsBy}
+use Rattle.syntax.specs.internal.Results.{FailsBy}
 use Rattle.syntax.specs.internal.Inside.{statements_before, after_statements, declarations_before, after_declarations}
 use Rattle.syntax.specs.internal.Lists.{many, many_items, Shrinks}
-use Rattle.syntax.specs.internal.Looking.{Parser, Cause, Unexpected, Reading, ◌>>=◌, at_word}
+use Rattle.syntax.specs.internal.Reader.{Parser, Cause, Unexpected, Reading, ◌>>=◌, at_word}
 use Rattle.syntax.specs.internal.Statements.{statement, declaration, statements, declarations, statements_of, declarations_of, ends_declarations}
 use Rattle.syntax.proofs.ListLaws.{item_then, many-step, many-end, many-nothing, Starts}
 use Rattle.syntax.proofs.StatementLaws.{statement-shrinks, declaration-shrinks}
-use Rattle.syntax.proofs.LookingLemmas.{read, if_true, if_false}
+use Rattle.syntax.proofs.ReaderLemmas.{read, if_true, if_false}
 
 -- a statement is read only where there is room
 statement-starts : (room : ℕ) → Starts (statement true room)

@@ -15,15 +15,14 @@ use Rattle.trees.specs.Spelling.{between_commas, optional, name_symbols, element
 use Rattle.trees.specs.Symbols.{Symbol, NameSymbol, NumberSymbol, StringSymbol, ReservedSymbol, PlacedSymbol, MarkSymbol, SemicolonSymbol, UnknownSymbol}
 use Rattle.trees.specs.Trees.{ExpressionTree, ArgumentTrees, ReferenceTree, IterationTree, StatementTree, LabelledStatement, StatementKindTree, IfStatement, IterateStatement, ElseTree, NoElse, ElseStatement, StatementTrees, DeclarationTree, DeclareTree, ProcedureTree, DeclarationTrees}
 use Rattle.trees.proofs.Derivations.{expression-derived, arguments-derived, targets-derived}
-use Rattle.syntax.specs.declared.statements.Beginning.TheVariants as beginnings
 use Rattle.syntax.specs.internal.Expressions.{expression, reference, arguments}
 use Rattle.syntax.specs.internal.Lists.{items, many, many_items}
-use Rattle.syntax.specs.internal.Looking.{Parser, TooDeep, Reading, at_mark, at_word, next_name, mark, semicolon, word, name}
+use Rattle.syntax.specs.internal.Reader.{Parser, TooDeep, Reading, at_mark, at_word, next_name, mark, semicolon, word, name}
 use Rattle.syntax.specs.internal.Statements.{BlockParser, at_semicolon, labels_before, after_labels, statements_of, declarations_of, ends_declarations, statements, declarations, block, end_of_do, body_of_do, end_name, ending, assignment, call, return_value, otherwise, conditional, step, iteration, simple_do, while_do, case_do, iterative_do, do_statement, halt, goto, beginning_of, kind_by, statement_by, procedure, declare, declare_or, statement, declaration}
 use Rattle.syntax.proofs.ExpressionVerdicts.{expression-gets, reference-gets, arguments-gets, elements-gets, heading-gets}
-use Rattle.syntax.proofs.LookingLemmas.{at_mark-is, at_word-is, mark-ok, semicolon-ok, word-ok, name-ok, next_name-is}
-use Rattle.syntax.proofs.VerdictLists.{items-gets}
-use Rattle.syntax.proofs.Verdicts.{Gets, gets_ok, gets_nothing, gets_bind, gets_if, gets_more}
+use Rattle.syntax.proofs.ReaderLemmas.{at_mark-is, at_word-is, mark-ok, semicolon-ok, word-ok, name-ok, next_name-is}
+use Rattle.syntax.proofs.StatementVerdictLists.{items-gets}
+use Rattle.syntax.proofs.StatementVerdictRules.{Gets, gets_ok, gets_nothing, gets_bind, gets_if, gets_more}
 
 -- single symbols
 pub mark-gets : (m : Mark) (s : List Symbol) → Gets (λ r. s ≡ MarkSymbol m ∷ r) (mark m s)

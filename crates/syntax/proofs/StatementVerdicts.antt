@@ -12,24 +12,24 @@ use Rattle.trees.specs.declared.identifier.Place.{Place}
 use Rattle.trees.specs.Derivation.{DerivesExpression, whole, with_member, DerivesArguments, no_arguments, some_arguments, DerivesTargets, last_target, next_target, DerivesStatement, labelled, unlabelled, DerivesKind, null, assignment as assignment_line, call as call_line, return, return_value as return_value_line, halt, goto as goto_line, if_then, if_then_else, simple_do as simple_do_line, do_while, iterative_do as iterative_do_line, iterative_do_by, do_case, DerivesStatements, no_statement, next_statement, DerivesDeclaration, declare as declare_line, procedure as procedure_line, DerivesDeclarations, no_declaration, next_declaration}
 use Rattle.trees.specs.Forms.{expr_level, IsNotEmpty, IsElement, ends_in_open_if, is_open_if}
 use Rattle.trees.specs.internal.Forms.{IsReference}
-use Rattle.trees.specs.Nesting.{expression_height, reference_height, arguments_height, targets_height, optional_height, iteration_height, statement_height, kind_height, statements_height, declaration_height, declarations_height, IsEndName, StatementEndsMatch, KindEndsMatch, StatementsEndsMatch, DeclarationEndsMatch, DeclarationsEndsMatch}
+use Rattle.trees.specs.Nesting.{expression_height, reference_height, arguments_height, targets_height, iteration_height, statement_height, kind_height, statements_height, declaration_height, declarations_height, IsEndName, StatementEndsMatch, KindEndsMatch, StatementsEndsMatch, DeclarationEndsMatch, DeclarationsEndsMatch}
 use Rattle.trees.specs.Spelling.{between_commas, optional, name_symbols, element_symbols, heading_symbols, ending_symbols}
 use Rattle.trees.specs.internal.Spelling.{expression_symbols, reference_symbols}
-use Rattle.trees.specs.Symbols.{Symbol, NameSymbol, NumberSymbol, StringSymbol, ReservedSymbol, PlacedSymbol, MarkSymbol, SemicolonSymbol, UnknownSymbol}
+use Rattle.trees.specs.Symbols.{Symbol, NameSymbol, ReservedSymbol, MarkSymbol, SemicolonSymbol}
 use Rattle.trees.specs.Trees.{NumberConstant, StringConstant, ExpressionTree, ConstantLeaf, ReferenceLeaf, LocationLeaf, ListLeaf, ParenthesizedNode, AssignmentNode, UnaryNode, BinaryNode, ReferenceTree, ReferenceTo, ArgumentTrees, ElementTree, HeadingTree, IterationTree, StatementTree, LabelledStatement, StatementKindTree, NullStatement, AssignmentStatement, CallStatement, HaltStatement, GotoStatement, IfStatement, NoElse, ElseStatement, DoStatement, WhileStatement, IterateStatement, CaseStatement, ReturnStatement, StatementTrees, NoStatements, MoreStatements, DeclarationTree, DeclareTree, ProcedureTree, DeclarationTrees, NoDeclarations, MoreDeclarations}
 use Rattle.trees.proofs.Derivations.{expression-spelled, arguments-spelled, targets-spelled}
 use Rattle.syntax.specs.declared.statements.Beginning.TheVariants as beginnings
 use Rattle.syntax.specs.internal.Expressions.{expression, reference, arguments}
 use Rattle.syntax.specs.internal.Lists.{items, many, many_items}
-use Rattle.syntax.specs.internal.Looking.{Parser, TooDeep, OtherEndName, Reading, at_mark, at_word}
+use Rattle.syntax.specs.internal.Reader.{Parser, TooDeep, OtherEndName, at_mark, at_word}
 use Rattle.syntax.specs.internal.Statements.{BlockParser, at_semicolon, labels_before, after_labels, statements_of, beginning_of, declarations_of, ends_declarations, statements, declarations, block, body_of_do, ending, assignment, return_value, conditional, iteration, simple_do, while_do, case_do, iterative_do, do_statement, call, goto, kind_by, statement_by, procedure, declare, declare_or, statement, declaration}
 use Rattle.syntax.proofs.DeclarationLaws.{elements-reads, heading-reads}
 use Rattle.syntax.proofs.ExpressionLaws.{EndsReference, EndsExpression, reference-long}
 use Rattle.syntax.proofs.ExpressionVerdicts.{expression-verdict, reference-verdict, arguments-verdict}
-use Rattle.syntax.proofs.LookingLemmas.{if_true, if_false}
+use Rattle.syntax.proofs.ReaderLemmas.{if_true, if_false}
 use Rattle.syntax.proofs.StatementLengths.{statement-shorter, declaration-shorter}
-use Rattle.syntax.proofs.VerdictLists.{greatest, items-verdict}
-use Rattle.syntax.proofs.Verdicts.{Verdict, fits, too_deep, other_name, verdict_ok, verdict_bind, verdict_then, verdict_last, verdict_same, verdict_as, verdict_inside}
+use Rattle.syntax.proofs.StatementVerdictLists.{greatest, items-verdict}
+use Rattle.syntax.proofs.StatementVerdictRules.{Verdict, fits, too_deep, other_name, verdict_ok, verdict_bind, verdict_then, verdict_last, verdict_same, verdict_as, verdict_inside}
 
 -- how statements end, where no ELSE stands after an IF without one, and how declarations end
 abbrev pub HasStatementVerdicts : Bool → ℕ → Parser StatementTree → Type 0

@@ -4,9 +4,9 @@ ghost use Rattle.std.specs.Prelude.{◌≡◌, Ok, map};
 ghost use Rattle.std.specs.Option.{option_map};
 ghost use Rattle.trees.specs.Views.{origin_tree, restricted_tree, item_type_tree, at_tree, value_list_tree, subject_tree, item_tree, element_tree, heading_tree, offset_tree};
 ghost use Rattle.syntax.specs.internal.Declarations.{origin, next_sign, all_offsets, restricted, next_scalar, scalar, result_type, count, dimension_inside, dimension, member, item_type, next_linkage, linkage, at, next_storage, value_list, base, names, item_after, element_after, element, parameters, reentrant, heading};
-ghost use Rattle.syntax.specs.internal.Giving.{Gives};
+ghost use Rattle.syntax.specs.internal.Results.{Gives};
 ghost use Rattle.syntax.specs.internal.Lists.{items};
-ghost use Rattle.syntax.specs.internal.Looking.{name};
+ghost use Rattle.syntax.specs.internal.Reader.{name};
 
 use crate::fault::Fault;
 use crate::reader::Reader;
@@ -146,7 +146,7 @@ impl<'a> Reader<'a> {
     }
 
     // BYTE | ADDRESS | STRUCTURE `(` member {`,` member} `)`
-    #[tactic(auto, using(crate::proofs::ListedItems::listed), unfolding(crate::specs::internal::Declarations::item_type))]
+    #[tactic(auto, using(crate::proofs::ListItems::listed), unfolding(crate::specs::internal::Declarations::item_type))]
     fn take_item_type(&mut self) -> Result<ItemType, Failure<Fault>>
         ensures { Gives item_type_tree result self.new (item_type self.old) }
     {
@@ -207,7 +207,7 @@ impl<'a> Reader<'a> {
     }
 
     // [INITIAL `(` restricted {`,` restricted} `)` | DATA `(` restricted {`,` restricted} `)`]
-    #[tactic(auto, using(crate::proofs::ListedItems::listed), unfolding(crate::specs::internal::Declarations::value_list))]
+    #[tactic(auto, using(crate::proofs::ListItems::listed), unfolding(crate::specs::internal::Declarations::value_list))]
     fn take_value_list(&mut self) -> Result<Option<ValueList>, Failure<Fault>>
         ensures { Gives (option_map value_list_tree) result self.new (value_list self.old) }
     {
@@ -233,7 +233,7 @@ impl<'a> Reader<'a> {
     }
 
     // `(` name {`,` name} `)`
-    #[tactic(auto, using(crate::proofs::ListedItems::listed), unfolding(crate::specs::internal::Declarations::names))]
+    #[tactic(auto, using(crate::proofs::ListItems::listed), unfolding(crate::specs::internal::Declarations::names))]
     fn take_names(&mut self) -> Result<Vec<Identifier>, Failure<Fault>>
         ensures { Gives (λ found. found.items) result self.new (names self.old) }
     {

@@ -2,14 +2,13 @@
 
 ghost use Rattle.std.specs.Prelude.{◌≡◌, ◌<◌, ◌≤◌, ◌+◌, suc, map, IfOk};
 ghost use Rattle.trees.specs.declared.module.TheConstants.{NESTING_LIMIT};
-ghost use Rattle.syntax.specs.internal.Expressions.{arguments, reference_after, reference, location, assigned, closed, parenthesized, primary, operand, all_operators, expression, expression_less, next_operator};
+ghost use Rattle.syntax.specs.internal.Expressions.{arguments, reference_after, reference, location, assigned, closed, parenthesized, primary, operand, all_operators, expression, expression_less, next_operator, operator_on};
 ghost use Rattle.trees.specs.Forms.{expr_level};
 ghost use Rattle.trees.specs.Trees.{ReferenceLeaf};
-ghost use Rattle.syntax.specs.internal.Giving.{Gives};
+ghost use Rattle.syntax.specs.internal.Results.{Gives};
 ghost use Rattle.syntax.specs.internal.Lists.{items};
 ghost use Rattle.syntax.specs.internal.Measured.{measured_tree, measured_reference, measured_arguments, measured_items};
-ghost use Rattle.syntax.specs.internal.Looking.{constant, name};
-ghost use Rattle.syntax.specs.internal.Parts.{operator_on};
+ghost use Rattle.syntax.specs.internal.Reader.{constant, name};
 
 use crate::fault::Fault;
 use crate::measured::{
@@ -24,7 +23,7 @@ use words::{Mark, ReservedWord};
 impl<'a> Reader<'a> {
     /// An expression at a level, of no more levels than the room.
     #[cycle(expression)]
-    #[tactic(auto, using(crate::proofs::Operators::expression_at, crate::proofs::Operators::expression_none))]
+    #[tactic(auto, using(crate::proofs::ExpressionLoops::expression_at, crate::proofs::ExpressionLoops::expression_none))]
     pub(crate) fn expression(&mut self, level: u8, room: u8) -> Result<Measured, Failure<Fault>>
         requires { room ≤ NESTING_LIMIT }
         ensures gives { Gives measured_tree result self.new (expression room level self.old) }
@@ -39,7 +38,7 @@ impl<'a> Reader<'a> {
 
     // Operators that may stand at a level, with what stands after them, after a left operand.
     #[cycle(expression)]
-    #[tactic(auto, using(crate::proofs::Operators::operators_deep, crate::proofs::Operators::operators_end))]
+    #[tactic(auto, using(crate::proofs::ExpressionLoops::operators_deep, crate::proofs::ExpressionLoops::operators_end))]
     fn operators(&mut self, level: u8, room: u8, left: Measured) -> Result<Measured, Failure<Fault>>
         requires room { room < NESTING_LIMIT }
         requires left { left.height ≤ room + 1 }
@@ -97,7 +96,7 @@ impl<'a> Reader<'a> {
 
     // A constant, a reference, a location or an expression in parentheses.
     #[cycle(expression)]
-    #[tactic(auto, using(crate::proofs::Operators::primary_constant, crate::proofs::Operators::primary_parenthesized, crate::proofs::Operators::primary_location))]
+    #[tactic(auto, using(crate::proofs::ExpressionLoops::primary_constant, crate::proofs::ExpressionLoops::primary_parenthesized, crate::proofs::ExpressionLoops::primary_location))]
     fn primary(&mut self, room: u8) -> Result<Measured, Failure<Fault>>
         requires { room < NESTING_LIMIT }
         ensures gives { Gives measured_tree result self.new
@@ -143,7 +142,7 @@ impl<'a> Reader<'a> {
 
     // What stands after an opening parenthesis and the reference that is assigned to.
     #[cycle(expression)]
-    #[tactic(auto, using(crate::proofs::Operators::expression_less_at))]
+    #[tactic(auto, using(crate::proofs::ExpressionLoops::expression_less_at))]
     fn assigned(&mut self, target: MeasuredReference, room: u8) -> Result<Measured, Failure<Fault>>
         requires room { room < NESTING_LIMIT }
         requires target { target.height < room }
@@ -159,7 +158,7 @@ impl<'a> Reader<'a> {
 
     // What stands after a period: a reference, or constants in parentheses.
     #[cycle(expression)]
-    #[tactic(auto, using(crate::proofs::ListedItems::listed), unfolding(crate::specs::internal::Expressions::location, crate::specs::internal::Expressions::reference))]
+    #[tactic(auto, using(crate::proofs::ListItems::listed), unfolding(crate::specs::internal::Expressions::location, crate::specs::internal::Expressions::reference))]
     fn location(&mut self, room: u8) -> Result<Measured, Failure<Fault>>
         requires { room < NESTING_LIMIT }
         ensures gives { Gives measured_tree result self.new (location (expression room) self.old) }
@@ -211,7 +210,7 @@ impl<'a> Reader<'a> {
 
     /// Arguments in parentheses that take no more levels than the room, or none.
     #[cycle(expression)]
-    #[tactic(auto, using(crate::proofs::Arguments::arguments_of_map))]
+    #[tactic(auto, using(crate::proofs::MeasuredHeights::arguments_of_map))]
     pub(crate) fn arguments(&mut self, room: u8) -> Result<MeasuredArguments, Failure<Fault>>
         requires { room ≤ NESTING_LIMIT }
         ensures gives { Gives measured_arguments result self.new (arguments (expression room) self.old) }

@@ -308,7 +308,7 @@ impl MeasuredArguments {
     }
 
     /// One more argument.
-    #[tactic(auto, using(crate::proofs::Arguments::arguments_height_push))]
+    #[tactic(auto, using(crate::proofs::MeasuredHeights::arguments_height_push))]
     pub(crate) fn push(&mut self, next: Measured) -> Result<(), AllocError>
         ensures view { OnOk result (self.new.items.items ≡ self.old.items.items ++ next.expression ∷ []) }
         ensures height { OnOk result (self.new.height ≡ max self.old.height next.height) }

@@ -8,9 +8,9 @@ ghost use Rattle.trees.specs.Derivation.{Derives, DerivesAtMostOne, DerivesButFo
 ghost use Rattle.trees.specs.Trees.{ModuleTree};
 ghost use Rattle.trees.specs.Views.{module_tree};
 ghost use Rattle.syntax.specs.Faults.{IsOfDepth, IsOfEndName, IsRefused};
-ghost use Rattle.syntax.specs.internal.Giving.{cause_of};
+ghost use Rattle.syntax.specs.internal.Results.{cause_of};
 ghost use Rattle.syntax.specs.internal.Inside.{Makes, block_trees};
-ghost use Rattle.syntax.specs.internal.Looking.{Unexpected};
+ghost use Rattle.syntax.specs.internal.Reader.{Unexpected};
 ghost use Rattle.syntax.specs.internal.Statements.{module_of, whole_module};
 
 use crate::fault::Fault;
@@ -47,7 +47,7 @@ fn module_of(name: Identifier, place: Place, body: Block, end_name: Option<Ident
 
 impl<'a> Reader<'a> {
     // name `:` DO `;` {declaration} {statement} END [name] `;`, and nothing after it.
-    #[tactic(auto, using(crate::proofs::Giving::fails_bind, crate::proofs::Giving::fails_after), unfolding(crate::specs::internal::Statements::whole_module))]
+    #[tactic(auto, using(crate::proofs::ReaderResults::fails_bind, crate::proofs::ReaderResults::fails_after), unfolding(crate::specs::internal::Statements::whole_module))]
     fn take_module(&mut self, room: u8) -> Result<Module, Failure<Fault>>
         requires { room ≤ NESTING_LIMIT }
         ensures { Makes module_tree result (whole_module true room self.old) }

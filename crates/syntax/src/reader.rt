@@ -6,9 +6,8 @@ ghost use Rattle.trees.specs.Symbols.{symbol_of, MarkSymbol, ReservedSymbol};
 ghost use Rattle.words.specs.Strings.{characters_of, unquoted};
 ghost use Rattle.trees.specs.Views.{constant_tree, string_tree};
 ghost use Rattle.syntax.specs.internal.Expressions.{operator_of, next_operator};
-ghost use Rattle.syntax.specs.internal.Giving.{left_of, cause_of, Gives, Leaves};
-ghost use Rattle.syntax.specs.internal.Looking.{Cause, Unexpected, TooDeep, at_mark, at_word, is_semicolon, keeps_place, place_of_word, next_semicolon, next_name, mark, word, semicolon, taken, name, number, string, constant};
-ghost use Rattle.syntax.specs.internal.Parts.{string_constant, number_constant};
+ghost use Rattle.syntax.specs.internal.Results.{left_of, cause_of, Gives, Leaves};
+ghost use Rattle.syntax.specs.internal.Reader.{Cause, Unexpected, TooDeep, at_mark, at_word, is_semicolon, keeps_place, place_of_word, next_semicolon, next_name, mark, word, semicolon, taken, name, number, string, constant, string_constant, number_constant};
 
 use crate::fault::Fault;
 use failure::Failure;
@@ -29,7 +28,7 @@ pub(crate) struct Reader<'a> {
 impl<'a> Model for Reader<'a> {
     ghost use Rattle.std.specs.Prelude.{List};
     ghost use Rattle.trees.specs.Symbols.{Symbol};
-    ghost use Rattle.syntax.specs.internal.Giving.{left_of};
+    ghost use Rattle.syntax.specs.internal.Results.{left_of};
 
     ghost Value = { List Symbol };
 

@@ -8,10 +8,10 @@ ghost use Rattle.trees.specs.Forms.{expr_level};
 ghost use Rattle.trees.specs.Symbols.{symbol_of};
 ghost use Rattle.trees.specs.Views.{expression_tree, reference_tree, argument_trees, statement_tree, kind_tree, else_tree, statement_trees, declaration_tree, declaration_trees, iteration_tree};
 ghost use Rattle.syntax.specs.internal.Expressions.{expression, reference, arguments};
-ghost use Rattle.syntax.specs.internal.Giving.{cause_of, Gives, Leaves};
+ghost use Rattle.syntax.specs.internal.Results.{cause_of, Gives, Leaves};
 ghost use Rattle.syntax.specs.internal.Inside.{block_in, block_trees, condition, is_name_symbol, kind_inside, next_beginning};
 ghost use Rattle.syntax.specs.internal.Lists.{all_more_items};
-ghost use Rattle.syntax.specs.internal.Looking.{Unexpected, next_name};
+ghost use Rattle.syntax.specs.internal.Reader.{Unexpected, next_name};
 ghost use Rattle.syntax.specs.internal.Statements.{at_semicolon, beginning_at, next_label, labels_before, after_labels, begins_procedure, ends_declarations, end_of_do, end_name, ending, assignment, call, return_value, halt, goto, otherwise, conditional, step, iteration, body_of_do, do_statement, statements, declarations, procedure, declare, statement, declaration};
 
 use crate::fault::Fault;
@@ -63,7 +63,7 @@ fn is_name(word: &Word) -> bool
 }
 
 // What a statement begins with at a word. A word that is a name of other characters is found by whoever takes it.
-#[tactic(auto, using(crate::proofs::Beginnings::next_beginning_reserved, crate::proofs::Beginnings::next_beginning_name))]
+#[tactic(auto, using(crate::proofs::StatementBeginnings::next_beginning_reserved, crate::proofs::StatementBeginnings::next_beginning_name))]
 fn beginning_with(word: &Word) -> Beginning
     ensures { result ≡ next_beginning (symbol_of (lexeme_of word.now) ∷ []) }
 {
@@ -115,7 +115,7 @@ impl<'a> Reader<'a> {
     }
 
     // END `;`
-    #[tactic(auto, using(crate::proofs::Giving::fails_bind))]
+    #[tactic(auto, using(crate::proofs::ReaderResults::fails_bind))]
     fn take_end_of_do(&mut self) -> Result<(), Failure<Fault>>
         ensures { Leaves result self.new (end_of_do self.old) }
     {
@@ -125,7 +125,7 @@ impl<'a> Reader<'a> {
     }
 
     /// END [name] `;`, where what ends has a name of its own.
-    #[tactic(auto, using(crate::proofs::Giving::fails_bind), unfolding(crate::specs::internal::Statements::ending))]
+    #[tactic(auto, using(crate::proofs::ReaderResults::fails_bind), unfolding(crate::specs::internal::Statements::ending))]
     pub(crate) fn take_ending(
         &mut self,
         own: &Identifier,
@@ -138,7 +138,7 @@ impl<'a> Reader<'a> {
     }
 
     // [name] `;`, after END.
-    #[tactic(auto, using(crate::proofs::Giving::fails_bind))]
+    #[tactic(auto, using(crate::proofs::ReaderResults::fails_bind))]
     fn take_end_name(&mut self, own: Identifier) -> Result<Option<Identifier>, Failure<Fault>>
         ensures { Gives (λ found. found) result self.new (end_name true own (next_name self.old) self.old) }
     {
@@ -160,7 +160,7 @@ impl<'a> Reader<'a> {
         }
     }
 
-    // expr
+    // expression
     fn take_expression(&mut self, room: u8) -> Result<Expression, Failure<Fault>>
         requires { room ≤ NESTING_LIMIT }
         ensures { Gives expression_tree result self.new (expression room expr_level self.old) }
@@ -178,7 +178,7 @@ impl<'a> Reader<'a> {
         Ok(found.reference)
     }
 
-    // [args]
+    // [arguments]
     fn take_arguments(&mut self, room: u8) -> Result<Vec<Expression>, Failure<Fault>>
         requires { room ≤ NESTING_LIMIT }
         ensures { Gives (λ found. argument_trees found.items) result self.new
@@ -188,8 +188,8 @@ impl<'a> Reader<'a> {
         Ok(found.items)
     }
 
-    // reference {`,` reference} `=` expr `;`
-    #[tactic(auto, using(crate::proofs::Giving::fails_bind), unfolding(crate::specs::internal::Statements::assignment))]
+    // reference {`,` reference} `=` expression `;`
+    #[tactic(auto, using(crate::proofs::ReaderResults::fails_bind), unfolding(crate::specs::internal::Statements::assignment))]
     fn take_assignment(&mut self, room: u8) -> Result<StatementKind, Failure<Fault>>
         requires { room ≤ NESTING_LIMIT }
         ensures { Gives kind_tree result self.new (assignment (expression room) self.old) }
@@ -203,7 +203,7 @@ impl<'a> Reader<'a> {
     }
 
     // {`,` reference}
-    #[tactic(auto, using(crate::proofs::TargetLoop::target_loop))]
+    #[tactic(auto, using(crate::proofs::StatementTargets::target_loop))]
     fn take_more_targets(&mut self, room: u8) -> Result<Vec<Reference>, Failure<Fault>>
         requires { room ≤ NESTING_LIMIT }
         ensures { Gives (λ found. map reference_tree found.items) result self.new
@@ -219,8 +219,8 @@ impl<'a> Reader<'a> {
         Ok(targets)
     }
 
-    // name [args] `;`, after CALL.
-    #[tactic(auto, using(crate::proofs::Giving::fails_bind), unfolding(crate::specs::internal::Statements::call))]
+    // name [arguments] `;`, after CALL.
+    #[tactic(auto, using(crate::proofs::ReaderResults::fails_bind), unfolding(crate::specs::internal::Statements::call))]
     fn take_call(&mut self, place: Place, room: u8) -> Result<StatementKind, Failure<Fault>>
         requires { room ≤ NESTING_LIMIT }
         ensures { Gives kind_tree result self.new (call (expression room) place self.old) }
@@ -232,8 +232,8 @@ impl<'a> Reader<'a> {
         Ok(StatementKind::call(self.alloc, place, procedure)?)
     }
 
-    // [expr] `;`, after RETURN.
-    #[tactic(auto, using(crate::proofs::Giving::fails_bind), unfolding(crate::specs::internal::Statements::return_value))]
+    // [expression] `;`, after RETURN.
+    #[tactic(auto, using(crate::proofs::ReaderResults::fails_bind), unfolding(crate::specs::internal::Statements::return_value))]
     fn take_return(&mut self, place: Place, room: u8) -> Result<StatementKind, Failure<Fault>>
         requires { room ≤ NESTING_LIMIT }
         ensures { Gives kind_tree result self.new (return_value (expression room) place self.old) }
@@ -248,7 +248,7 @@ impl<'a> Reader<'a> {
     }
 
     // `;`, after HALT.
-    #[tactic(auto, using(crate::proofs::Giving::fails_bind))]
+    #[tactic(auto, using(crate::proofs::ReaderResults::fails_bind))]
     fn take_halt(&mut self, place: Place) -> Result<StatementKind, Failure<Fault>>
         ensures { Gives kind_tree result self.new (halt place self.old) }
     {
@@ -257,7 +257,7 @@ impl<'a> Reader<'a> {
     }
 
     // name `;`, after GOTO.
-    #[tactic(auto, using(crate::proofs::Giving::fails_bind), unfolding(crate::specs::internal::Statements::goto))]
+    #[tactic(auto, using(crate::proofs::ReaderResults::fails_bind), unfolding(crate::specs::internal::Statements::goto))]
     fn take_goto(&mut self, place: Place) -> Result<StatementKind, Failure<Fault>>
         ensures { Gives kind_tree result self.new (goto place self.old) }
     {
@@ -266,8 +266,8 @@ impl<'a> Reader<'a> {
         Ok(StatementKind::goto(self.alloc, place, label)?)
     }
 
-    // name `=` expr TO expr [BY expr] `;`
-    #[tactic(auto, using(crate::proofs::Giving::fails_bind), unfolding(crate::specs::internal::Statements::iteration))]
+    // name `=` expression TO expression [BY expression] `;`
+    #[tactic(auto, using(crate::proofs::ReaderResults::fails_bind), unfolding(crate::specs::internal::Statements::iteration))]
     fn take_iteration(&mut self, room: u8) -> Result<Iteration, Failure<Fault>>
         requires { room ≤ NESTING_LIMIT }
         ensures { Gives iteration_tree result self.new (iteration (expression room) self.old) }
@@ -287,8 +287,8 @@ impl<'a> Reader<'a> {
         })
     }
 
-    // [BY expr]
-    #[tactic(auto, using(crate::proofs::Giving::fails_bind))]
+    // [BY expression]
+    #[tactic(auto, using(crate::proofs::ReaderResults::fails_bind))]
     fn take_step(&mut self, room: u8) -> Result<Option<Expression>, Failure<Fault>>
         requires { room ≤ NESTING_LIMIT }
         ensures { Gives (λ found. option_map expression_tree found) result self.new
@@ -302,8 +302,8 @@ impl<'a> Reader<'a> {
         Ok(Some(step))
     }
 
-    // expr `;`
-    #[tactic(auto, using(crate::proofs::Giving::fails_bind))]
+    // expression `;`
+    #[tactic(auto, using(crate::proofs::ReaderResults::fails_bind))]
     fn take_condition(&mut self, room: u8) -> Result<Expression, Failure<Fault>>
         requires { room ≤ NESTING_LIMIT }
         ensures { Gives expression_tree result self.new (condition (expression room) self.old) }
@@ -325,7 +325,7 @@ impl<'a> Reader<'a> {
     }
 
     // The label that stands here, if one does: a name before a colon.
-    #[tactic(auto, using(crate::proofs::Labels::label_rules))]
+    #[tactic(auto, using(crate::proofs::StatementLabels::label_rules))]
     fn next_label(&self) -> Option<Identifier>
         ensures { result ≡ next_label self.now }
     {
@@ -336,7 +336,7 @@ impl<'a> Reader<'a> {
     }
 
     // The labels before a statement.
-    #[tactic(auto, using(crate::proofs::Labels::label_rules))]
+    #[tactic(auto, using(crate::proofs::StatementLabels::label_rules))]
     fn take_labels(&mut self) -> Result<Vec<Identifier>, Failure<Fault>>
         ensures ok { IfOk result (λ found. found.items ≡ labels_before self.old) }
         ensures left { IfOk result (λ found. self.new ≡ after_labels self.old) }
@@ -354,7 +354,7 @@ impl<'a> Reader<'a> {
 
     /// A statement of no more levels than the room. Its labels take none.
     #[cycle(statement)]
-    #[tactic(auto, using(crate::proofs::Giving::fails_bind, crate::proofs::Insides::statement_in))]
+    #[tactic(auto, using(crate::proofs::ReaderResults::fails_bind, crate::proofs::StatementInsides::statement_in))]
     fn take_statement(&mut self, room: u8) -> Result<Statement, Failure<Fault>>
         requires { room ≤ NESTING_LIMIT }
         ensures { Gives statement_tree result self.new (statement true room self.old) }
@@ -369,7 +369,7 @@ impl<'a> Reader<'a> {
 
     // A statement without labels whose parts fit into a room.
     #[cycle(statement)]
-    #[tactic(auto, using(crate::proofs::Giving::fails_bind))]
+    #[tactic(auto, using(crate::proofs::ReaderResults::fails_bind))]
     fn take_kind(&mut self, room: u8) -> Result<StatementKind, Failure<Fault>>
         requires { room ≤ NESTING_LIMIT }
         ensures { Gives kind_tree result self.new (kind_inside room self.old) }
@@ -394,9 +394,9 @@ impl<'a> Reader<'a> {
         }
     }
 
-    // expr THEN statement [ELSE statement], after IF.
+    // expression THEN statement [ELSE statement], after IF.
     #[cycle(statement)]
-    #[tactic(auto, using(crate::proofs::Giving::fails_bind), unfolding(crate::specs::internal::Statements::conditional))]
+    #[tactic(auto, using(crate::proofs::ReaderResults::fails_bind), unfolding(crate::specs::internal::Statements::conditional))]
     fn take_if(&mut self, place: Place, room: u8) -> Result<StatementKind, Failure<Fault>>
         requires { room ≤ NESTING_LIMIT }
         ensures { Gives kind_tree result self.new
@@ -411,7 +411,7 @@ impl<'a> Reader<'a> {
 
     // [ELSE statement]
     #[cycle(statement)]
-    #[tactic(auto, using(crate::proofs::Giving::fails_bind))]
+    #[tactic(auto, using(crate::proofs::ReaderResults::fails_bind))]
     fn take_otherwise(&mut self, room: u8) -> Result<Option<Statement>, Failure<Fault>>
         requires { room ≤ NESTING_LIMIT }
         ensures { Gives else_tree result self.new (otherwise (statement true room) self.old) }
@@ -426,7 +426,7 @@ impl<'a> Reader<'a> {
 
     // What stands after DO.
     #[cycle(statement)]
-    #[tactic(auto, using(crate::proofs::Giving::fails_bind), unfolding(crate::specs::internal::Statements::do_statement, crate::specs::internal::Statements::simple_do, crate::specs::internal::Statements::while_do, crate::specs::internal::Statements::case_do, crate::specs::internal::Statements::iterative_do))]
+    #[tactic(auto, using(crate::proofs::ReaderResults::fails_bind), unfolding(crate::specs::internal::Statements::do_statement, crate::specs::internal::Statements::simple_do, crate::specs::internal::Statements::while_do, crate::specs::internal::Statements::case_do, crate::specs::internal::Statements::iterative_do))]
     fn take_do(&mut self, place: Place, room: u8) -> Result<StatementKind, Failure<Fault>>
         requires { room ≤ NESTING_LIMIT }
         ensures { Gives kind_tree result self.new
@@ -457,7 +457,7 @@ impl<'a> Reader<'a> {
 
     // {statement} END `;`
     #[cycle(statement)]
-    #[tactic(auto, using(crate::proofs::Giving::fails_bind), unfolding(crate::specs::internal::Statements::body_of_do))]
+    #[tactic(auto, using(crate::proofs::ReaderResults::fails_bind), unfolding(crate::specs::internal::Statements::body_of_do))]
     fn take_body(&mut self, room: u8) -> Result<Vec<Statement>, Failure<Fault>>
         requires { room ≤ NESTING_LIMIT }
         ensures { Gives (λ found. statement_trees found.items) result self.new
@@ -488,7 +488,7 @@ impl<'a> Reader<'a> {
 
     /// {declaration} {statement}
     #[cycle(statement)]
-    #[tactic(auto, using(crate::proofs::Giving::fails_bind), unfolding(crate::specs::internal::Statements::block))]
+    #[tactic(auto, using(crate::proofs::ReaderResults::fails_bind), unfolding(crate::specs::internal::Statements::block))]
     pub(crate) fn take_block(&mut self, room: u8) -> Result<Block, Failure<Fault>>
         requires { room ≤ NESTING_LIMIT }
         ensures { Gives block_trees result self.new (block_in room self.old) }
@@ -520,7 +520,7 @@ impl<'a> Reader<'a> {
 
     // A declaration of no more levels than the room.
     #[cycle(statement)]
-    #[tactic(auto, using(crate::proofs::Giving::fails_bind, crate::proofs::Insides::declaration_in), unfolding(crate::specs::internal::Statements::declare_or))]
+    #[tactic(auto, using(crate::proofs::ReaderResults::fails_bind, crate::proofs::StatementInsides::declaration_in), unfolding(crate::specs::internal::Statements::declare_or))]
     fn take_declaration(&mut self, room: u8) -> Result<Declaration, Failure<Fault>>
         requires { room ≤ NESTING_LIMIT }
         ensures { Gives declaration_tree result self.new (declaration true room self.old) }
@@ -536,7 +536,7 @@ impl<'a> Reader<'a> {
     }
 
     // element {`,` element} `;`, after DECLARE.
-    #[tactic(auto, using(crate::proofs::Giving::fails_bind, crate::proofs::ListedItems::listed), unfolding(crate::specs::internal::Statements::declare))]
+    #[tactic(auto, using(crate::proofs::ReaderResults::fails_bind, crate::proofs::ListItems::listed), unfolding(crate::specs::internal::Statements::declare))]
     fn take_declare(&mut self) -> Result<Declaration, Failure<Fault>>
         ensures { Gives declaration_tree result self.new (declare self.old) }
     {
@@ -547,7 +547,7 @@ impl<'a> Reader<'a> {
 
     // A procedure whose inside fits into a room.
     #[cycle(statement)]
-    #[tactic(auto, using(crate::proofs::Giving::fails_bind), unfolding(crate::specs::internal::Statements::procedure))]
+    #[tactic(auto, using(crate::proofs::ReaderResults::fails_bind), unfolding(crate::specs::internal::Statements::procedure))]
     fn take_procedure(&mut self, room: u8) -> Result<Declaration, Failure<Fault>>
         requires { room ≤ NESTING_LIMIT }
         ensures { Gives declaration_tree result self.new (procedure true (block_in room) self.old) }

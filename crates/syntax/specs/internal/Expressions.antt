@@ -12,7 +12,7 @@ use Rattle.trees.specs.internal.Forms.{left_level, unary_level_of}
 use Rattle.trees.specs.Nesting.{expression_height}
 use Rattle.trees.specs.Symbols.{Symbol, MarkSymbol, ReservedSymbol}
 use Rattle.trees.specs.Trees.{ExpressionTree, ConstantLeaf, ReferenceLeaf, LocationLeaf, ListLeaf, ParenthesizedNode, AssignmentNode, UnaryNode, BinaryNode, ReferenceTree, ReferenceTo, MemberTree, NoMember, MemberOf, ArgumentTrees, NoArguments, MoreArguments}
-use Rattle.syntax.specs.internal.Looking.{Parser, Unexpected, TooDeep, ◌>>=◌, at_mark, at_word, mark, name, next_name, constant}
+use Rattle.syntax.specs.internal.Reader.{Parser, Unexpected, TooDeep, ◌>>=◌, at_mark, at_word, mark, name, next_name, constant}
 use Rattle.syntax.specs.internal.Lists.{items}
 
 -- how an expression at a level is read
@@ -51,6 +51,11 @@ top_level tree = primary_level
 -- whether an operator goes on with an expression of a level, where what comes out must stand at another
 abbrev pub goes_on : ℕ → ℕ → BinaryOperator → Bool
 goes_on level top operator = nat_le level (level_of operator) && nat_le (left_level (level_of operator)) top
+
+-- an operator that goes on with an expression of a level, where what comes out must stand at another
+abbrev pub operator_on : ℕ → ℕ → Option BinaryOperator → Option BinaryOperator
+operator_on level top None = None
+operator_on level top (Some operator) = if goes_on level top operator then Some operator else None
 
 -- the trees of a list of arguments
 abbrev pub arguments_of : List ExpressionTree → ArgumentTrees

@@ -1,4 +1,4 @@
--- What the parser reads inside of statements and declarations, where names behind END are compared.
+-- What the parser reads inside of statements and declarations, where names after END are compared.
 use Rattle.std.specs.Prelude.{◌≡◌, ℕ, Bool, true, false, List, [], ◌∷◌, Result, Ok, Err}
 use Rattle.trees.specs.declared.statement.Block.{Block}
 use Rattle.trees.specs.declared.statement.Declaration.{Declaration}
@@ -12,8 +12,8 @@ use Rattle.syntax.specs.declared.fault.Fault.{Fault}
 use Rattle.syntax.specs.declared.statements.Beginning.{Beginning}
 use Rattle.syntax.specs.declared.statements.Beginning.TheVariants.{Name}
 use Rattle.syntax.specs.internal.Expressions.{ExpressionParser, expression}
-use Rattle.syntax.specs.internal.Giving.{Fails}
-use Rattle.syntax.specs.internal.Looking.{Parser, Reading, Cause, ◌>>=◌, semicolon}
+use Rattle.syntax.specs.internal.Results.{Fails}
+use Rattle.syntax.specs.internal.Reader.{Parser, Reading, Cause, ◌>>=◌, semicolon}
 use Rattle.syntax.specs.internal.Statements.{BlockParser, labels_before, after_labels, labelled, statement, declaration, kind_by, beginning_of, block}
 
 -- {declaration} {statement}, in a room
@@ -38,7 +38,7 @@ statement_inside room symbols = labelled (labels_before symbols) (kind_inside ro
 abbrev pub block_trees : Block → DeclarationTrees × StatementTrees
 block_trees block = (block_declarations block, block_statements block)
 
--- expr `;`
+-- expression `;`
 abbrev pub condition : ExpressionParser → Parser ExpressionTree
 condition inner symbols = do
   found ← inner expr_level symbols

@@ -1,9 +1,9 @@
 -- How the parser reads lists. The numbers bound how many items there can be: the symbols that are left are
 -- always enough.
-use Rattle.std.specs.Prelude.{◌≡◌, ℕ, zero, suc, ◌≤◌, ◌<◌, Bool, List, [], ◌∷◌, drop, length, Ok, Err, if◌then◌else◌}
+use Rattle.std.specs.Prelude.{◌≡◌, ℕ, zero, suc, ◌≤◌, ◌<◌, Bool, List, [], ◌∷◌, ◌++◌, drop, length, Ok, Err, if◌then◌else◌}
 use Rattle.words.specs.declared.vocabulary.Mark.TheVariants.{Comma}
 use Rattle.trees.specs.Symbols.{Symbol}
-use Rattle.syntax.specs.internal.Looking.{Parser, Unexpected, ◌>>=◌, at_mark}
+use Rattle.syntax.specs.internal.Reader.{Parser, Reading, Unexpected, ◌>>=◌, at_mark}
 
 -- {`,` item}
 abbrev pub more_items : {A : Type 0} → Parser A → ℕ → Parser (List A)
@@ -25,6 +25,11 @@ items item symbols = do
   first ← item symbols
   others ← all_more_items item first.1
   Ok (first.0 ∷ others.0, others.1)
+
+-- what is read after items, with these before it
+abbrev pub after_items : {A : Type 0} → List A → Reading (List A) → Reading (List A)
+after_items before (Ok others) = Ok (before ++ others.0, others.1)
+after_items before (Err cause) = Err cause
 
 -- {item}, up to where a list ends
 abbrev pub many_items : {A : Type 0} → (List Symbol → Bool) → Parser A → ℕ → Parser (List A)

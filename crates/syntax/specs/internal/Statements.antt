@@ -1,4 +1,4 @@
--- How the parser reads statements, declarations and modules. Names behind END are compared only where it is strict.
+-- How the parser reads statements, declarations and modules. Names after END are compared only where it is strict.
 use Rattle.std.specs.Prelude.{ℕ, zero, suc, Bool, true, false, not, ◌&&◌, ◌||◌, List, [], ◌∷◌, drop, Option, Some, None, Result, Ok, Err, if◌then◌else◌}
 use Rattle.std.specs.Str.{bytes_eq}
 use Rattle.words.specs.declared.vocabulary.Mark.TheVariants as marks
@@ -11,7 +11,7 @@ use Rattle.trees.specs.Symbols.{Symbol, NameSymbol, SemicolonSymbol, PlacedSymbo
 use Rattle.trees.specs.Trees.{ExpressionTree, IterationTree, StatementTree, LabelledStatement, StatementKindTree, NullStatement, AssignmentStatement, CallStatement, ReturnStatement, HaltStatement, GotoStatement, IfStatement, ElseTree, NoElse, ElseStatement, DoStatement, WhileStatement, IterateStatement, CaseStatement, StatementTrees, NoStatements, MoreStatements, DeclarationTree, DeclareTree, ProcedureTree, DeclarationTrees, NoDeclarations, MoreDeclarations, ModuleTree}
 use Rattle.syntax.specs.declared.statements.Beginning.{Beginning}
 use Rattle.syntax.specs.declared.statements.Beginning.TheVariants as beginnings
-use Rattle.syntax.specs.internal.Looking.{Parser, Reading, Cause, Unexpected, TooDeep, OtherEndName, ◌>>=◌, at_mark, at_word, place_of_word, next_name, mark, semicolon, word, name, taken}
+use Rattle.syntax.specs.internal.Reader.{Parser, Reading, Cause, Unexpected, TooDeep, OtherEndName, ◌>>=◌, at_mark, at_word, place_of_word, next_name, mark, semicolon, word, name, taken}
 use Rattle.syntax.specs.internal.Lists.{items, many}
 use Rattle.syntax.specs.internal.Expressions.{ExpressionParser, expression, reference, arguments}
 use Rattle.syntax.specs.internal.Declarations.{element, heading}
@@ -130,7 +130,7 @@ ending strict own symbols = do
   later ← word words.End symbols
   end_name strict own (next_name later) later
 
--- reference {`,` reference} `=` expr `;`
+-- reference {`,` reference} `=` expression `;`
 unfoldable pub assignment : ExpressionParser → Parser StatementKindTree
 assignment inner symbols = do
   targets ← items (reference inner) symbols
@@ -139,7 +139,7 @@ assignment inner symbols = do
   end ← semicolon value.1
   Ok (AssignmentStatement targets.0 value.0, end.1)
 
--- name [args] `;`, after CALL
+-- name [arguments] `;`, after CALL
 unfoldable pub call : ExpressionParser → Place → Parser StatementKindTree
 call inner place symbols = do
   procedure ← name symbols
@@ -147,7 +147,7 @@ call inner place symbols = do
   end ← semicolon found.1
   Ok (CallStatement place procedure.0 found.0, end.1)
 
--- [expr] `;`, after RETURN
+-- [expression] `;`, after RETURN
 unfoldable pub return_value : ExpressionParser → Place → Parser StatementKindTree
 return_value inner place symbols =
     if at_semicolon symbols then Ok (ReturnStatement place None, drop 1 symbols)
@@ -164,7 +164,7 @@ otherwise inner symbols =
       Ok (ElseStatement found.0, found.1))
     else Ok (NoElse, symbols)
 
--- expr THEN statement [ELSE statement], after IF
+-- expression THEN statement [ELSE statement], after IF
 unfoldable pub conditional : ExpressionParser → Parser StatementTree → Place → Parser StatementKindTree
 conditional expressions inner place symbols = do
   condition ← expressions expr_level symbols
@@ -173,7 +173,7 @@ conditional expressions inner place symbols = do
   other ← otherwise inner body.1
   Ok (IfStatement place condition.0 body.0 other.0, other.1)
 
--- [BY expr]
+-- [BY expression]
 abbrev pub step : ExpressionParser → Parser (Option ExpressionTree)
 step inner symbols =
     if at_word words.By symbols then (do
@@ -181,7 +181,7 @@ step inner symbols =
       Ok (Some (found.0), found.1))
     else Ok (None, symbols)
 
--- name `=` expr TO expr [BY expr] `;`
+-- name `=` expression TO expression [BY expression] `;`
 unfoldable pub iteration : ExpressionParser → Parser IterationTree
 iteration inner symbols = do
   its_variable ← name symbols
@@ -200,7 +200,7 @@ simple_do inside place symbols = do
   rest ← end_of_do found.1
   Ok (DoStatement place found.0.0 found.0.1, rest)
 
--- expr `;` {statement} END `;`, after DO WHILE
+-- expression `;` {statement} END `;`, after DO WHILE
 unfoldable pub while_do : ExpressionParser → Parser StatementTree → Place → Parser StatementKindTree
 while_do expressions inner place symbols = do
   condition ← expressions expr_level symbols
@@ -208,7 +208,7 @@ while_do expressions inner place symbols = do
   body ← body_of_do inner start.1
   Ok (WhileStatement place condition.0 body.0, body.1)
 
--- expr `;` {statement} END `;`, after DO CASE
+-- expression `;` {statement} END `;`, after DO CASE
 unfoldable pub case_do : ExpressionParser → Parser StatementTree → Place → Parser StatementKindTree
 case_do expressions inner place symbols = do
   choice ← expressions expr_level symbols
@@ -216,7 +216,7 @@ case_do expressions inner place symbols = do
   body ← body_of_do inner start.1
   Ok (CaseStatement place choice.0 body.0, body.1)
 
--- name `=` expr TO expr [BY expr] `;` {statement} END `;`, after DO
+-- name `=` expression TO expression [BY expression] `;` {statement} END `;`, after DO
 unfoldable pub iterative_do : ExpressionParser → Parser StatementTree → Place → Parser StatementKindTree
 iterative_do expressions inner place symbols = do
   head ← iteration expressions symbols

@@ -1,5 +1,5 @@
-use Rattle.syntax.proofs.ModuleLaws.{derives_at_most_one}
-use Rattle.syntax.proofs.Parsed.{made_of_words, parsed-derives, refused-derives_none, deep-refused, end_name-refused}
+use Rattle.syntax.proofs.ParserLaws.{derives_at_most_one}
+use Rattle.syntax.proofs.ParserResults.{made_of_words, parsed-derives, refused-derives_none, deep-refused, end_name-refused}
 use Rattle.syntax.proofs.parser.parse.Goals as goal
 
 pub returns-clause-ok : goal.returns-clause-ok

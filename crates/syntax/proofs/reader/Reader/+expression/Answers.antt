@@ -3,8 +3,8 @@ use Rattle.trees.specs.Forms.{expr_level}
 use Rattle.trees.specs.Views.{expression_tree}
 use Rattle.syntax.specs.internal.Expressions.{expression}
 use Rattle.syntax.proofs.ExpressionSound.{expression-keeps}
-use Rattle.syntax.proofs.Loops.{list_more, list_ends, list_fails, gives_exit}
-use Rattle.syntax.proofs.Operators.{shorter_after, operators_go_on, operators_do_not_go_on, primary_reads, primary_fails}
+use Rattle.syntax.proofs.ListLoops.{list_more, list_ends, list_fails, gives_exit}
+use Rattle.syntax.proofs.ExpressionLoops.{shorter_after, operators_go_on, operators_do_not_go_on, primary_reads, primary_fails}
 use Rattle.syntax.proofs.reader.Reader.+expression.Goals as goal
 
 pub expressions-returns-in_err-next-clause-gives : goal.expressions-returns-in_err-next-clause-gives

@@ -2,8 +2,7 @@ use Rattle.std.proofs.Common.{◌≡◌, ◌≤◌, ◌+◌, ◌*◌, suc, map, 
 use Rattle.trees.specs.Forms.{expr_level}
 use Rattle.trees.specs.Views.{expression_tree}
 use Rattle.syntax.specs.internal.Expressions.{expression, all_operators}
-use Rattle.syntax.specs.internal.Lists.{items, all_more_items}
-use Rattle.syntax.specs.internal.Parts.{behind}
+use Rattle.syntax.specs.internal.Lists.{items, all_more_items, after_items}
 use Rattle.syntax.proofs.reader.Reader.+expression.Given as goal
 
 abbrev pub decreases-expression : goal.decreases-expression
@@ -39,7 +38,7 @@ decreases-expressions l = 10 * l.room + 2
 abbrev pub invariant-expressions-more : goal.invariant-expressions-more
 invariant-expressions-more l = record {
   all : items (expression l.room expr_level) l.fn.self
-      ≡ behind (map expression_tree l.found.items.items)
+      ≡ after_items (map expression_tree l.found.items.items)
       (all_more_items (expression l.room expr_level) l.self);
   fits : l.found.height ≤ l.room;
 }

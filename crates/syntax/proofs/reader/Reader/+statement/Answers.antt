@@ -1,6 +1,6 @@
 use Rattle.std.proofs.Common.{not, sym, ◌∙◌, ap}
 use Rattle.std.proofs.lemmas.Result.{err_from_is_err_and}
-use Rattle.syntax.proofs.Insides.{statement-deep, declaration-deep, declaration-declares}
+use Rattle.syntax.proofs.StatementInsides.{statement-deep, declaration-deep, declaration-declares}
 use Rattle.syntax.proofs.StatementLoops.{statements-fails, statements-fails_at_end, declarations-fails}
 use Rattle.syntax.proofs.reader.Reader.+statement.Goals as goal
 

@@ -1,4 +1,4 @@
-use Rattle.syntax.proofs.Loops.{list_more, list_ends, list_fails, gives_exit}
+use Rattle.syntax.proofs.ListLoops.{list_more, list_ends, list_fails, gives_exit}
 use Rattle.syntax.proofs.reader.Reader.take_list.Goals as goal
 
 pub returns-in_err-next : goal.returns-in_err-next

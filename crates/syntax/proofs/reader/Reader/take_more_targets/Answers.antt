@@ -1,6 +1,6 @@
 use Rattle.std.proofs.Common.{sym, ◌∙◌}
 use Rattle.std.proofs.lemmas.Result.{err_from_is_err_and}
-use Rattle.syntax.proofs.TargetLoop.{targets-fails}
+use Rattle.syntax.proofs.StatementTargets.{targets-fails}
 use Rattle.syntax.proofs.reader.Reader.take_more_targets.Goals as goal
 
 pub returns-in_err-target : goal.returns-in_err-target

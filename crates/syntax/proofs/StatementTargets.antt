@@ -7,19 +7,18 @@ use Rattle.trees.specs.Symbols.{Symbol}
 use Rattle.trees.specs.Trees.{ReferenceTree}
 use Rattle.trees.specs.Views.{reference_tree}
 use Rattle.syntax.specs.internal.Expressions.{expression, reference}
-use Rattle.syntax.specs.internal.Giving.{FailsBy}
-use Rattle.syntax.specs.internal.Lists.{all_more_items, Keeps}
-use Rattle.syntax.specs.internal.Looking.{Cause, Reading, at_mark}
-use Rattle.syntax.specs.internal.Parts.{behind}
+use Rattle.syntax.specs.internal.Results.{FailsBy}
+use Rattle.syntax.specs.internal.Lists.{all_more_items, Keeps, after_items}
+use Rattle.syntax.specs.internal.Reader.{Cause, Reading, at_mark}
 use Rattle.syntax.proofs.ExpressionLaws.{reference-shrinks}
-use Rattle.syntax.proofs.Loops.{more-step, more-fails, more-ends}
+use Rattle.syntax.proofs.ListLoops.{more-step, more-fails, more-ends}
 
 reference-keeps : (room : ℕ) → Keeps (reference (expression room))
 reference-keeps room s r t e =
     let smaller : length r < length s = reference-shrinks room s r t e in omega arith
 
 -- nothing before
-pub no_targets_before : (others : Reading (List ReferenceTree)) → others ≡ behind [] others
+pub no_targets_before : (others : Reading (List ReferenceTree)) → others ≡ after_items [] others
 no_targets_before (Ok found) = refl
 no_targets_before (Err cause) = refl
 
@@ -27,17 +26,17 @@ no_targets_before (Err cause) = refl
 pub targets-more : (room : ℕ) (made : List Reference) (x : Reference) (s r : List Symbol)
     → at_mark Comma s ≡ true
     → reference (expression room) (drop 1 s) ≡ Ok (reference_tree x, r)
-    → behind (map reference_tree made) (all_more_items (reference (expression room)) s) ≡ behind
+    → after_items (map reference_tree made) (all_more_items (reference (expression room)) s) ≡ after_items
     (map reference_tree (made ++ x ∷ [])) (all_more_items (reference (expression room)) r)
 targets-more room made x s r comma e =
     more-step (reference (expression room)) (reference-keeps room) (map reference_tree made)
     (reference_tree x) s r comma e
-    ∙ ap (λ before. behind before (all_more_items (reference (expression room)) r))
+    ∙ ap (λ before. after_items before (all_more_items (reference (expression room)) r))
     (sym (map-append reference_tree made (x ∷ [])))
 
 -- what fails where a target must be, fails as a whole
 pub targets-fails : (cause : Option Cause) (room : ℕ) (made : List Reference) (start s t : List Symbol)
-    → all_more_items (reference (expression room)) start ≡ behind (map reference_tree made)
+    → all_more_items (reference (expression room)) start ≡ after_items (map reference_tree made)
     (all_more_items (reference (expression room)) s)
     → true ≡ at_mark Comma s
     → t ≡ drop 1 s
@@ -50,7 +49,7 @@ targets-fails (Some cause) room made start s t so_far comma dropped fails =
 
 -- no comma
 pub targets-end : (room : ℕ) (made : List Reference) (s : List Symbol) → at_mark Comma s ≡ false
-    → behind (map reference_tree made) (all_more_items (reference (expression room)) s) ≡ Ok
+    → after_items (map reference_tree made) (all_more_items (reference (expression room)) s) ≡ Ok
     (map reference_tree made, s)
 targets-end room made s stops =
     more-ends (reference (expression room)) (reference-keeps room) (map reference_tree made) s stops

@@ -1,7 +1,7 @@
--- How reading ends: what holds of all that is read, and whether depth or a name behind END is in the way.
+-- How reading ends: what holds of all that is read, and whether depth or a name after END is in the way.
 use Rattle.std.proofs.Common.{◌≡◌, ℕ, suc, max, ◌≤◌, ◌<◌, Bool, true, false, Result, Ok, Err, if◌then◌else◌, refl, ◌∙◌, subst, arith}
-use Rattle.syntax.specs.internal.Looking.{Cause, TooDeep, OtherEndName, ◌>>=◌}
-use Rattle.syntax.proofs.LookingLemmas.{bind_ok, bind_at, bind_fails}
+use Rattle.syntax.specs.internal.Reader.{Cause, TooDeep, OtherEndName, ◌>>=◌}
+use Rattle.syntax.proofs.ReaderLemmas.{bind_ok, bind_at, bind_fails}
 
 -- whatever is read has this property
 pub record Gets {A : Type 0} (P : A → Type 0) (read : Result A Cause) : Type 0 where
@@ -36,8 +36,8 @@ pub gets_more : {A : Type 0} {P Q : A → Type 0} {r : Result A Cause}
     → Gets Q r
 gets_more h next = record { holds = λ a e. next a (h.holds a e) }
 
--- Reading gives what is wanted, if that is no deeper than the room and the names behind END are right where that is asked.
--- It fails for the depth only if that is over the room, and for a name behind END only if one is not right.
+-- Reading gives what is wanted, if that is no deeper than the room and the names after END are right where that is asked.
+-- It fails for the depth only if that is over the room, and for a name after END only if one is not right.
 pub data Verdict {A : Type 0} (read : Result A Cause) (wanted : A) (strict : Bool) (room height : ℕ)
     (Ends : Type 0) : Type 0 where
   fits : read ≡ Ok wanted
@@ -70,7 +70,7 @@ verdict_bind {r = r} f (too_deep e l) later = too_deep (bind_fails r f TooDeep e
 verdict_bind {r = r} f (other_name e s not) later =
     other_name (bind_fails r f OtherEndName e) s (λ both. not both.0)
 
--- behind what is read for sure
+-- after what is read for sure
 pub verdict_then : {A B : Type 0} {r : Result A Cause} {a : A} {b : B} {strict : Bool} {room height : ℕ}
     {Ends : Type 0}
     → (f : A → Result B Cause)
@@ -81,7 +81,7 @@ verdict_then {r = r} {a = a} f e (fits e' l ends) = fits (bind_at r f a e ∙ e'
 verdict_then {r = r} {a = a} f e (too_deep e' l) = too_deep (bind_at r f a e ∙ e') l
 verdict_then {r = r} {a = a} f e (other_name e' s not) = other_name (bind_at r f a e ∙ e') s not
 
--- where nothing behind it can be in the way
+-- where nothing after it can be in the way
 pub verdict_last : {A B : Type 0} {r : Result A Cause} {a : A} {b : B} {strict : Bool} {room height : ℕ}
     {Ends : Type 0}
     → (f : A → Result B Cause)

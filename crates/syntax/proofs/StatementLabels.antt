@@ -1,11 +1,9 @@
 -- Labels before a statement.
 use Rattle.std.proofs.Common.{◌≡◌, ◌≢◌, ◌<◌, ℕ, Bool, true, false, List, [], ◌∷◌, ◌++◌, drop, length, Option, Some, None, if◌then◌else◌, refl, sym, ◌∙◌, ap, arith, append_assoc}
-use Rattle.words.specs.declared.vocabulary.Mark.{Mark}
 use Rattle.words.specs.declared.vocabulary.Mark.TheVariants as marks
 use Rattle.trees.specs.declared.identifier.Identifier.{Identifier}
-use Rattle.trees.specs.declared.identifier.Place.{Place}
-use Rattle.trees.specs.Symbols.{Symbol, NameSymbol, mark_symbol}
-use Rattle.syntax.specs.internal.Looking.{at_mark, next_name}
+use Rattle.trees.specs.Symbols.{Symbol, NameSymbol}
+use Rattle.syntax.specs.internal.Reader.{at_mark}
 use Rattle.syntax.specs.internal.Statements.{next_label, labels_before, after_labels}
 
 -- no name

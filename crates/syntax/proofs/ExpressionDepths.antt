@@ -2,9 +2,9 @@
 use Rattle.std.proofs.Common.{◌≡◌, ◌⊎◌, inl, inr, ⊎_elim, ℕ, suc, ◌≤◌, ◌<◌, max, nat_le, List, Option, Some, None, Result, Err, if◌then◌else◌, refl, sym, ◌∙◌, ap, arith, le-leb}
 use Rattle.std.proofs.lemmas.Bool.{cases_lt, lt-leb}
 use Rattle.trees.specs.Symbols.{Symbol}
-use Rattle.syntax.specs.internal.Looking.{Reading, Cause, TooDeep, ◌>>=◌}
+use Rattle.syntax.specs.internal.Reader.{Reading, Cause, TooDeep, ◌>>=◌}
 use Rattle.syntax.proofs.ListLaws.{gave, earlier}
-use Rattle.syntax.proofs.LookingLemmas.{if_true, if_false, read}
+use Rattle.syntax.proofs.ReaderLemmas.{if_true, if_false, read}
 
 -- the fault of so many levels in a room
 abbrev pub depth_fault : ℕ → ℕ → Option Cause

@@ -1,14 +1,14 @@
 -- What reading lists gives, and how it ends.
-use Rattle.std.proofs.Common.{◌≡◌, ℕ, zero, suc, max, ◌≤◌, ◌<◌, Bool, true, false, List, [], ◌∷◌, drop, length, refl, arith}
+use Rattle.std.proofs.Common.{◌≡◌, ℕ, zero, suc, max, ◌≤◌, ◌<◌, Bool, false, List, [], ◌∷◌, drop, length, refl, arith}
 use Rattle.std.specs.List.{AllByRecursion}
 use Rattle.words.specs.declared.vocabulary.Mark.TheVariants.{Comma}
 use Rattle.trees.specs.Forms.{IsNotEmpty}
 use Rattle.trees.specs.Spelling.{more_after_commas, between_commas}
 use Rattle.trees.specs.Symbols.{Symbol, MarkSymbol}
 use Rattle.syntax.specs.internal.Lists.{more_items, all_more_items, items}
-use Rattle.syntax.specs.internal.Looking.{Parser, Reading, at_mark}
-use Rattle.syntax.proofs.LookingLemmas.{at_mark-is, if_true, if_false}
-use Rattle.syntax.proofs.Verdicts.{Gets, gets_ok, gets_nothing, gets_bind, gets_if, Verdict, verdict_ok, verdict_bind, verdict_last, verdict_same}
+use Rattle.syntax.specs.internal.Reader.{Parser, at_mark}
+use Rattle.syntax.proofs.ReaderLemmas.{at_mark-is, if_false}
+use Rattle.syntax.proofs.StatementVerdictRules.{Gets, gets_ok, gets_bind, gets_if, Verdict, verdict_ok, verdict_bind, verdict_last, verdict_same}
 
 -- the greatest of the heights
 abbrev pub greatest : {A : Type 0} → (A → ℕ) → List A → ℕ

@@ -3,19 +3,18 @@ use Rattle.std.proofs.Common.{◌≡◌, ◌<◌, Bool, true, false, List, [], �
 use Rattle.std.proofs.lemmas.List.{map-append, map-id}
 use Rattle.words.specs.declared.vocabulary.Mark.TheVariants.{Comma}
 use Rattle.trees.specs.Symbols.{Symbol}
-use Rattle.syntax.specs.internal.Lists.{all_more_items, items, Keeps, Shrinks}
-use Rattle.syntax.specs.internal.Looking.{Parser, Cause, Reading, ◌>>=◌, at_mark, constant, next_constant}
-use Rattle.syntax.proofs.LookingLemmas.{taken-ok}
+use Rattle.syntax.specs.internal.Lists.{all_more_items, items, Keeps, Shrinks, after_items}
+use Rattle.syntax.specs.internal.Reader.{Parser, Cause, Reading, ◌>>=◌, at_mark, constant, next_constant}
+use Rattle.syntax.proofs.ReaderLemmas.{taken-ok}
 use Rattle.std.specs.Prelude.{IsErrAnd}
 use Rattle.failure.specs.declared.Failure.{Failure}
 use Rattle.syntax.specs.declared.fault.Fault.{Fault}
-use Rattle.syntax.specs.internal.Giving.{FailsBy, Fails, Gives}
-use Rattle.syntax.specs.internal.Parts.{behind}
+use Rattle.syntax.specs.internal.Results.{FailsBy, Fails, Gives}
 use Rattle.syntax.proofs.ListLaws.{all_more_items-step}
 
 -- one more item, and then others
 after_items-more : {A : Type 0} (before : List A) (a : A) (others : Reading (List A))
-    → behind before (others >>= (λ o. Ok (a ∷ o.0, o.1))) ≡ behind (before ++ a ∷ []) others
+    → after_items before (others >>= (λ o. Ok (a ∷ o.0, o.1))) ≡ after_items (before ++ a ∷ []) others
 after_items-more before a (Ok o) = ap (λ l. Ok (l, o.1)) (sym (append_assoc before (a ∷ []) o.0))
 after_items-more before a (Err cause) = refl
 
@@ -23,32 +22,32 @@ after_items-more before a (Err cause) = refl
 pub more-step : {A : Type 0} (item : Parser A) → Keeps item → (before : List A) (a : A) (s r : List Symbol)
     → at_mark Comma s ≡ true
     → item (drop 1 s) ≡ Ok (a, r)
-    → behind before (all_more_items item s) ≡ behind (before ++ a ∷ []) (all_more_items item r)
+    → after_items before (all_more_items item s) ≡ after_items (before ++ a ∷ []) (all_more_items item r)
 more-step item keeps before a s r comma e =
-    ap (behind before) (all_more_items-step item keeps s)
+    ap (after_items before) (all_more_items-step item keeps s)
     ∙ rw (comma, e) (after_items-more before a (all_more_items item r))
 
 -- a comma and no item
 pub more-fails : {A : Type 0} (item : Parser A)
     → Keeps item
     → (before : List A) (s : List Symbol) (cause : Cause)
-    → at_mark Comma s ≡ true → item (drop 1 s) ≡ Err cause → behind before (all_more_items item s) ≡ Err cause
+    → at_mark Comma s ≡ true → item (drop 1 s) ≡ Err cause → after_items before (all_more_items item s) ≡ Err cause
 more-fails item keeps before s cause comma e =
-    ap (behind before) (all_more_items-step item keeps s) ∙ rw (comma, e) refl
+    ap (after_items before) (all_more_items-step item keeps s) ∙ rw (comma, e) refl
 
 -- no comma
 pub more-ends : {A : Type 0} (item : Parser A) → Keeps item → (before : List A) (s : List Symbol)
-    → at_mark Comma s ≡ false → behind before (all_more_items item s) ≡ Ok (before, s)
+    → at_mark Comma s ≡ false → after_items before (all_more_items item s) ≡ Ok (before, s)
 more-ends item keeps before s other =
-    ap (behind before) (all_more_items-step item keeps s) ∙ rw other (simp append-nil)
+    ap (after_items before) (all_more_items-step item keeps s) ∙ rw other (simp append-nil)
 
 -- an item, and then others
 pub items-first : {A : Type 0} (item : Parser A) (a : A) (s r : List Symbol)
-    → item s ≡ Ok (a, r) → items item s ≡ behind (a ∷ []) (all_more_items item r)
+    → item s ≡ Ok (a, r) → items item s ≡ after_items (a ∷ []) (all_more_items item r)
 items-first item a s r e = rw e (go a (all_more_items item r))
   where
     go : {A : Type 0} (a : A) (others : Reading (List A))
-        → (others >>= (λ o. Ok (a ∷ o.0, o.1))) ≡ behind (a ∷ []) others
+        → (others >>= (λ o. Ok (a ∷ o.0, o.1))) ≡ after_items (a ∷ []) others
     go a (Ok o) = refl
     go a (Err cause) = refl
 
@@ -64,23 +63,23 @@ pub list_more : {A X : Type 0} (item : Parser A)
     → Keeps item
     → (view : X → A) (whole : Reading (List A)) (found more : List X) (next : X) (s after r : List Symbol)
     (comma : Bool)
-    → whole ≡ behind (map view found) (all_more_items item s)
+    → whole ≡ after_items (map view found) (all_more_items item s)
     → comma ≡ at_mark Comma s
     → comma ≡ true
     → after ≡ drop 1 s
     → item after ≡ Ok (view next, r)
     → more ≡ found ++ next ∷ []
-    → whole ≡ behind (map view more) (all_more_items item r)
+    → whole ≡ after_items (map view more) (all_more_items item r)
 list_more item keeps view whole found more next s after r comma is at true_is skipped e pushed =
     is ∙ more-step item keeps (map view found) (view next) s r (sym at ∙ true_is) (ap item (sym skipped) ∙ e)
-    ∙ ap (λ l. behind l (all_more_items item r))
+    ∙ ap (λ l. after_items l (all_more_items item r))
     (sym (ap (map view) pushed ∙ map-append view found (next ∷ [])))
 
 -- a list ends where no comma is
 pub list_ends : {A X : Type 0} (item : Parser A)
     → Keeps item
     → (view : X → A) (whole : Reading (List A)) (found kept : List X) (s : List Symbol) (comma : Bool)
-    → whole ≡ behind (map view found) (all_more_items item s)
+    → whole ≡ after_items (map view found) (all_more_items item s)
     → comma ≡ at_mark Comma s
     → comma ≡ false
     → kept ≡ found
@@ -93,7 +92,7 @@ pub list_fails : {A X : Type 0} (item : Parser A)
     → Keeps item
     → (view : X → A) (whole : Reading (List A)) (found : List X) (s after : List Symbol) (comma : Bool)
     (cause : Option Cause)
-    → whole ≡ behind (map view found) (all_more_items item s)
+    → whole ≡ after_items (map view found) (all_more_items item s)
     → comma ≡ at_mark Comma s
     → comma ≡ true
     → after ≡ drop 1 s

@@ -7,7 +7,7 @@ use Rattle.failure.specs.declared.Failure.{Failure}
 use Rattle.failure.specs.declared.Failure.TheVariants as failures
 use Rattle.syntax.specs.declared.fault.Fault.{Fault}
 use Rattle.syntax.specs.declared.fault.Fault.TheVariants.{Word, Depth, EndName}
-use Rattle.syntax.specs.internal.Looking.{Cause, Unexpected, TooDeep, OtherEndName, Reading}
+use Rattle.syntax.specs.internal.Reader.{Cause, Unexpected, TooDeep, OtherEndName, Reading}
 
 -- the symbols of words
 abbrev pub left_of : List scanned.Word → List Symbol

@@ -178,3 +178,15 @@ number symbols = Err Unexpected
 abbrev pub string : Parser StringTree
 string (StringSymbol found ∷ rest) = Ok (found, rest)
 string symbols = Err Unexpected
+
+-- a number as a constant
+abbrev pub number_constant : Parser ConstantTree
+number_constant symbols = do
+  found ← number symbols
+  Ok (NumberConstant found.0, found.1)
+
+-- a string as a constant
+abbrev pub string_constant : Parser ConstantTree
+string_constant symbols = do
+  found ← string symbols
+  Ok (StringConstant found.0, found.1)

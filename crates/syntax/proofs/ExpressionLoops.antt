@@ -5,15 +5,14 @@ use Rattle.trees.specs.declared.expression.BinaryOperator.{BinaryOperator}
 use Rattle.trees.specs.declared.identifier.Identifier.{Identifier}
 use Rattle.trees.specs.Forms.{level_of}
 use Rattle.trees.specs.Nesting.{expression_height}
-use Rattle.trees.specs.Symbols.{Symbol, NameSymbol, NumberSymbol, StringSymbol, ReservedSymbol, PlacedSymbol, MarkSymbol, SemicolonSymbol, UnknownSymbol}
+use Rattle.trees.specs.Symbols.{Symbol, NameSymbol}
 use Rattle.trees.specs.Trees.{ExpressionTree, ConstantLeaf, ReferenceLeaf, BinaryNode, ReferenceTree}
-use Rattle.syntax.specs.internal.Expressions.{ExpressionParser, expression, operand, primary, parenthesized, location, reference_after, reference, expression_less, all_operators, operator_then, next_operator, goes_on, top_level}
-use Rattle.syntax.specs.internal.Looking.{Parser, Cause, TooDeep, Reading, ◌>>=◌, at_mark, next_name, constant}
-use Rattle.syntax.specs.internal.Giving.{FailsBy}
-use Rattle.syntax.specs.internal.Parts.{operator_on}
-use Rattle.syntax.proofs.LookingLemmas.{bind_at, bind_fails}
+use Rattle.syntax.specs.internal.Expressions.{ExpressionParser, expression, operand, primary, parenthesized, location, reference_after, reference, expression_less, all_operators, operator_then, next_operator, goes_on, top_level, operator_on}
+use Rattle.syntax.specs.internal.Reader.{Parser, Cause, TooDeep, Reading, ◌>>=◌, at_mark, next_name, constant}
+use Rattle.syntax.specs.internal.Results.{FailsBy}
+use Rattle.syntax.proofs.ReaderLemmas.{bind_at, bind_fails}
 use Rattle.syntax.proofs.ExpressionSound.{expression-keeps, expression-shrinks}
-use Rattle.syntax.proofs.OperatorLaws.{all_operators-step}
+use Rattle.syntax.proofs.ExpressionOperators.{all_operators-step}
 
 -- an operator that goes on
 then-on : (inner : ExpressionParser) (again : ExpressionTree → Parser ExpressionTree) (room level : ℕ)

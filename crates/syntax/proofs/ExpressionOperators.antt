@@ -7,8 +7,8 @@ use Rattle.trees.specs.Symbols.{Symbol}
 use Rattle.trees.specs.Trees.{ExpressionTree, BinaryNode}
 use Rattle.syntax.specs.internal.Expressions.{ExpressionParser, operator_of, next_operator, top_level, goes_on, operator_then, operators, all_operators}
 use Rattle.syntax.specs.internal.Lists.{Keeps}
-use Rattle.syntax.specs.internal.Looking.{Parser, TooDeep}
-use Rattle.syntax.proofs.LookingLemmas.{bind_same, read}
+use Rattle.syntax.specs.internal.Reader.{Parser, TooDeep}
+use Rattle.syntax.proofs.ReaderLemmas.{bind_same, read}
 
 -- what goes on matters only after what is read
 operator_then-same : (inner : ExpressionParser) (again other : ExpressionTree → Parser ExpressionTree)

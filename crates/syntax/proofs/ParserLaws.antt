@@ -1,5 +1,5 @@
 -- The laws of reading modules: what words derive is read, and what is read is derived.
-use Rattle.std.proofs.Common.{◌≡◌, ℕ, max, ◌≤◌, Bool, true, false, List, [], ◌∷◌, Ok, Err, refl, sym, ◌∙◌, ap, subst, arith}
+use Rattle.std.proofs.Common.{◌≡◌, ℕ, max, Bool, true, false, List, [], ◌∷◌, Ok, Err, refl, sym, ◌∙◌, ap, subst, arith}
 use Rattle.words.specs.declared.vocabulary.Mark.TheVariants as marks
 use Rattle.words.specs.declared.vocabulary.ReservedWord.TheVariants as words
 use Rattle.words.specs.Spelling.{Lexeme}
@@ -9,13 +9,13 @@ use Rattle.trees.specs.Nesting.{module_height, ModuleEndsMatch}
 use Rattle.trees.specs.Spelling.{optional, name_symbols, ending_symbols}
 use Rattle.trees.specs.Symbols.{Symbol, NameSymbol, PlacedSymbol, MarkSymbol, SemicolonSymbol, symbols_of}
 use Rattle.trees.specs.Trees.{ModuleTree}
-use Rattle.syntax.specs.internal.Looking.{TooDeep, OtherEndName, place_of_word, taken}
+use Rattle.syntax.specs.internal.Reader.{TooDeep, OtherEndName, place_of_word, taken}
 use Rattle.syntax.specs.internal.Statements.{at_the_end, module_of, whole_module}
-use Rattle.syntax.proofs.LookingLemmas.{taken-ok, place_of_word-is}
+use Rattle.syntax.proofs.ReaderLemmas.{taken-ok, place_of_word-is}
 use Rattle.syntax.proofs.StatementLaws.{body-gets, body-verdict}
 use Rattle.syntax.proofs.StatementSoundness.{mark-gets, semicolon-gets, name-gets, ending-gets, statements-left}
 use Rattle.syntax.proofs.StatementVerdicts.{ending-verdict, ends_of_block, block_of_ends}
-use Rattle.syntax.proofs.Verdicts.{Gets, gets_ok, gets_nothing, gets_bind, Verdict, verdict_bind, verdict_last, verdict_as, verdict_given, verdict_reads, verdict_deep, verdict_other_name}
+use Rattle.syntax.proofs.StatementVerdictRules.{Gets, gets_ok, gets_nothing, gets_bind, Verdict, verdict_bind, verdict_last, verdict_as, verdict_given, verdict_reads, verdict_deep, verdict_other_name}
 
 place-gets : (s : List Symbol)
     → Gets (λ found. s ≡ PlacedSymbol words.Do found.0 ∷ found.1) (taken (place_of_word words.Do s) s)

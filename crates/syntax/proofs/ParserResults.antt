@@ -14,11 +14,11 @@ use Rattle.failure.specs.declared.Failure.TheVariants as failures
 use Rattle.syntax.specs.declared.fault.Fault.{Fault}
 use Rattle.syntax.specs.declared.fault.Fault.TheVariants.{Word, Depth, EndName}
 use Rattle.syntax.specs.Faults.{IsOfDepth, IsOfEndName, IsRefused}
-use Rattle.syntax.specs.internal.Giving.{Fails}
+use Rattle.syntax.specs.internal.Results.{Fails}
 use Rattle.syntax.specs.internal.Inside.{Makes}
-use Rattle.syntax.specs.internal.Looking.{Cause, TooDeep, OtherEndName}
+use Rattle.syntax.specs.internal.Reader.{Cause, TooDeep, OtherEndName}
 use Rattle.syntax.specs.internal.Statements.{whole_module}
-use Rattle.syntax.proofs.ModuleLaws.{module_read-derives, module_derives-reads, module_deep-reads, module_end_name-reads}
+use Rattle.syntax.proofs.ParserLaws.{module_read-derives, module_derives-reads, module_deep-reads, module_end_name-reads}
 
 -- what was made of these words
 abbrev MadeOf : List Lexeme → Result Module (Failure Fault) → Type 0

@@ -17,11 +17,11 @@ use Rattle.trees.specs.Spelling.{optional, between_commas, more_after_commas, or
 use Rattle.trees.specs.Symbols.{Symbol, NameSymbol, ReservedSymbol, PlacedSymbol, MarkSymbol}
 use Rattle.trees.specs.Trees.{ConstantOrigin, LocationOrigin, ItemTypeTree, ScalarItem, StructureItem, AtTree, ValueListTree, SubjectTree, SingleSubject, GroupSubject, ItemTree, ElementTree, LiterallyElement, ItemElement}
 use Rattle.syntax.proofs.ListLaws.{items-sound, items-reads, gave, first_fault}
-use Rattle.syntax.proofs.LookingLemmas.{if_false, if_cases, bind_ok, bind_at, same_reading, at_word-is, place_of_word-is, next_name-is, mark-ok, name-ok, string-ok}
+use Rattle.syntax.proofs.ReaderLemmas.{if_false, if_cases, bind_ok, bind_at, same_reading, at_word-is, place_of_word-is, next_name-is, mark-ok, name-ok, string-ok}
 use Rattle.syntax.specs.internal.Declarations.{next_sign, restricted, scalar, dimension, member, item_type, linkage_of, next_linkage, linkage_then, linkage, at_of, at, storage_of, next_storage, values_of, value_list, base, names, subject_of, subject, item, item_element, element_of, element}
 use Rattle.syntax.specs.internal.Lists.{Keeps, items}
-use Rattle.syntax.specs.internal.Looking.{Parser, at_mark, at_word, place_of_word, next_name, mark, name, string}
-use Rattle.syntax.proofs.RestrictedLaws.{Spelled, respelled, Lengthens, constant-lengthens, offsets-lengthens, restricted-spelled, restricted-reads, scalar-spelled, dimension-spelled, dimension-reads, member-spelled, member-reads}
+use Rattle.syntax.specs.internal.Reader.{Parser, at_mark, at_word, place_of_word, next_name, mark, name, string}
+use Rattle.syntax.proofs.DeclarationParts.{Spelled, respelled, Lengthens, constant-lengthens, offsets-lengthens, restricted-spelled, restricted-reads, scalar-spelled, dimension-spelled, dimension-reads, member-spelled, member-reads}
 
 -- without faults of the items there is none of the list
 no_fault : {A : Type 0} (all : List A) → first_fault (λ _. None) all ≡ None
