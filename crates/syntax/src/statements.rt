@@ -92,9 +92,9 @@ impl<'a> Reader<'a> {
     {
         match self.words() {
             [name, colon, word, ..] => {
-                is_mark(colon.kind, Mark::Colon)
+                is_name(name)
+                    && is_mark(colon.kind, Mark::Colon)
                     && is_reserved(word.kind, ReservedWord::Procedure)
-                    && is_name(name)
             }
             _ => false,
         }
