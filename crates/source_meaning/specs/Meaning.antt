@@ -19,7 +19,8 @@ store (Output port) v around s = Gave tt (record s { events = s.events ++ write_
 
 -- an assignment evaluates its expression first, and then stores the value
 abbrev pub meaning_of_statement : Statement → Surroundings → Situation → Outcome (Unit {0})
-meaning_of_statement (Assignment target e) around s = then_do (value_of e around s) (λ v t. store target v around t)
+meaning_of_statement (Assignment target e) around s =
+    then_do (value_of e around s) (λ v t. store target v around t)
 
 -- statements one after another
 abbrev pub meaning_of_statements : List Statement → Surroundings → Situation → Outcome (Unit {0})

@@ -9,8 +9,8 @@ pub record Situation : Type 0 where
   pub events : List Event
   pub budget : ℕ
 
--- why a part of a run stops what holds it: a RETURN with a value, the end of the program, no budget for one more
--- turn or call, or a step outside the language
+-- why a part of a run stops what holds it: a RETURN with a value, the end of the program, no budget for one
+-- more turn or call, or a step outside the language
 pub data Stop : Type 0 where
   Returned : (value : ℕ) → Stop
   Ended : Stop

@@ -21,20 +21,24 @@ starting_memory program placement memory = memory
 -- takes a charge from the room, or goes outside where there is less
 abbrev pub charged : ℕ → Surroundings → Situation → (Surroundings → Outcome (Unit {0})) → Outcome (Unit {0})
 charged charge around s go =
-    if nat_lt around.room charge then Stopped (Outside Stack) s else go (record around { room = around.room - charge })
+    if nat_lt around.room charge then Stopped (Outside Stack) s
+    else go (record around { room = around.room - charge })
 
 -- a program that comes to the end of its main module has ended
 abbrev pub run_of : Outcome (Unit {0}) → Run
 run_of (Gave a s) = record { end = Ended; events = s.events }
 run_of (Stopped why s) = record { end = why; events = s.events }
 
--- the run of a program at a placement, with this room on the stack, from a given memory, a script and the events that
--- the ports hold already, with a budget of turns and calls. The main module's charge is taken first.
-unfoldable pub source_run : Joined → Placement → ℕ → List ℕ → List (List ℕ) → List Event → ℕ → Run
+-- The run of a program at a placement, with this room on the stack, from a given memory, a script and the events
+-- that the ports hold already, with a budget of turns and calls. The main module's charge is taken first.
+unfoldable pub source_run :
+    Joined → Placement → ℕ → List ℕ → List (List ℕ) → List Event → ℕ → Run
 source_run program placement room memory script events budget =
-    let start : Situation = record { memory = starting_memory program placement memory; events = events; budget = budget } in
+    let memory_then : List ℕ = starting_memory program placement memory in
+    let start : Situation = record { memory = memory_then; events = events; budget = budget } in
     let around : Surroundings = record { script = script; room = room } in
-    run_of (charged (charge_of program.main) around start (λ within. meaning_of_statements program.main within start))
+    run_of
+    (charged (charge_of program.main) around start (λ within. meaning_of_statements program.main within start))
 
 -- no budget takes the program outside
 abbrev pub NeverOutside : (ℕ → Run) → Type 0

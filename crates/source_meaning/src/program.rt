@@ -1,6 +1,6 @@
 //! Programs whose names are resolved and whose types are known, and where they lie.
 
-ghost use Rattle.std.specs.Prelude.{◌≡◌, ◌↔◌, [], IfOk, IsErr};
+ghost use Rattle.std.specs.Prelude.{◌≡◌, ◌↔◌, [], codes, IfOk, IsErr};
 
 use mem80::Range;
 use std::marker::Model;
@@ -76,8 +76,19 @@ pub struct Joined {
 #[derive(Clone, Copy, Debug, PartialEq, Eq, Error)]
 pub enum JoinFault {
     /// No module has a statement at its outer level.
-    #[error("J4")]
+    #[error("no module has a statement at its outer level")]
     NoMain,
+}
+
+impl JoinFault {
+    /// The number of the fault, as `plm` prints it.
+    pub fn number(&self) -> &'static str
+        ensures { result.now ≡ codes "J4" }
+    {
+        match self {
+            JoinFault::NoMain => "J4",
+        }
+    }
 }
 
 /// Joins the one module, given by the statements of its outer level. Takes no memory.

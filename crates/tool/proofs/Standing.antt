@@ -3,7 +3,7 @@ use Rattle.std.proofs.Common.{◌≡◌, ℕ, ◌+◌, ◌≤◌, List, [], ◌�
 use Rattle.std.proofs.Math.Seq.{get_or-append_seam}
 use Rattle.std.proofs.lemmas.List.{length-take-le}
 use Rattle.mem80.specs.Memory.{byte_at}
-use Rattle.tool.specs.Image.{with_bytes}
+use Rattle.mem80.specs.Memory.{with_bytes}
 
 -- these bytes stand from an address on
 abbrev pub StandsAt : List ℕ → ℕ → List ℕ → Type 0
@@ -17,7 +17,7 @@ byte_moved memory p q b e h = ap (λ a. byte_at memory a) e ∙ h
 pub stands_moved : (memory bytes : List ℕ) (p q : ℕ) → q ≡ p → StandsAt memory p bytes → StandsAt memory q bytes
 stands_moved memory bytes p q e h = subst (λ a. StandsAt memory a bytes) (sym e) h
 
--- the middle of a list stands behind its front
+-- the middle of a list stands after its front
 stands_between : (front bytes back : List ℕ) → StandsAt (front ++ (bytes ++ back)) (length front) bytes
 stands_between front [] back = tt
 stands_between front (b ∷ bs) back =

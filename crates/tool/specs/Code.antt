@@ -1,5 +1,6 @@
 -- The code of a program.
-use Rattle.std.specs.Prelude.{ℕ, List, [], ◌∷◌, ◌++◌}
+use Rattle.std.specs.Prelude.{ℕ, ◌+◌, ◌%◌, List, [], ◌∷◌, ◌++◌}
+use Rattle.mem80.specs.declared.memory.TheConstants.{MEMORY_SIZE}
 use Rattle.source_meaning.specs.declared.program.Expression.TheVariants.{Number}
 use Rattle.source_meaning.specs.declared.program.Target.TheVariants.{Output}
 use Rattle.source_meaning.specs.declared.program.Statement.{Statement}
@@ -11,8 +12,9 @@ use Rattle.isa8080.specs.declared.instr.Instr.{Instr}
 use Rattle.isa8080.specs.declared.instr.Instr.TheVariants.{Lxi, Mvi, Out, Hlt}
 use Rattle.isa8080.specs.State.{low_byte}
 use Rattle.isa8080.specs.Code.{bytes_of}
+use Rattle.tool.specs.declared.plan.Plan.{Plan}
 
--- the code of a statement, and behind it other code
+-- the code of a statement, and after it other code
 abbrev pub statement_code : Statement → List Instr → List Instr
 statement_code (Assignment (Output port) (Number n)) rest = Mvi (Of A) (low_byte n) ∷ Out port ∷ rest
 
@@ -29,3 +31,11 @@ program_code stack_end statements = Lxi Sp stack_end ∷ statements_code stateme
 abbrev pub code_bytes : List Instr → List ℕ
 code_bytes [] = []
 code_bytes (i ∷ is) = bytes_of i ++ code_bytes is
+
+-- the address just past the stack of a plan
+abbrev pub stack_end_of : Plan → ℕ
+stack_end_of plan = (plan.stack + plan.stack_size) % MEMORY_SIZE
+
+-- the bytes of the code of statements, with the stack as planned
+abbrev pub code_of : Plan → List Statement → List ℕ
+code_of plan statements = code_bytes (program_code (stack_end_of plan) statements)

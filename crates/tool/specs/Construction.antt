@@ -1,18 +1,26 @@
--- What holds of every built program.
+-- What a contract sees of a built program, and what holds of it.
 use Rattle.std.specs.Prelude.{◌≡◌, length}
+use Rattle.source_meaning.specs.declared.program.Joined.{Joined}
+use Rattle.source_meaning.specs.declared.program.Placement.{Placement}
 use Rattle.source_meaning.specs.Placing.{IsLawful}
-use Rattle.tool.specs.declared.built.Built.TheInside.{Inside}
-use Rattle.tool.specs.Built.{Construction}
+use Rattle.tool.specs.declared.plan.Plan.{Plan}
+use Rattle.tool.specs.declared.built.Image.{Image}
 use Rattle.tool.specs.Headline.{DoesWhatItSays}
-use Rattle.tool.specs.Refusals.{stack_range}
+use Rattle.tool.specs.Placing.{stack_range}
 
-abbrev pub construction_of : Inside → Construction
-construction_of b = record { program = b.program; plan = b.plan; placement = b.placement; image = b.image }
+-- the joined program, the plan, the placement and the image
+pub record Construction : Type 0 where
+  pub program : Joined
+  pub plan : Plan
+  pub placement : Placement
+  pub image : Image
 
--- the image does what the program says, with the stack of the plan, and the program lies lawfully where the plan says
-pub record IsConstruction (b : Inside) : Type 0 where
-  pub headline : DoesWhatItSays b.program b.placement b.plan.stack_size b.image
-  pub lawful : IsLawful b.placement
-  pub code_as_planned : b.placement.code.start ≡ b.plan.code
-  pub stack_as_planned : b.placement.stack ≡ stack_range b.plan
-  pub image_as_placed : b.placement.code ≡ record { start = b.image.code.start; len = length b.image.code.bytes }
+-- the image does what the program says, with the stack of the plan; code and stack lie lawfully where the plan says,
+-- and the image has its code where the placement has it
+pub record IsConstruction (built : Construction) : Type 0 where
+  pub headline : DoesWhatItSays built.program built.placement built.plan.stack_size built.image
+  pub lawful : IsLawful built.placement
+  pub code_as_planned : built.placement.code.start ≡ built.plan.code
+  pub stack_as_planned : built.placement.stack ≡ stack_range built.plan
+  pub code_as_placed : built.placement.code
+      ≡ record { start = built.image.code.start; len = length built.image.code.bytes }

@@ -1,22 +1,34 @@
 -- Runs of an image, and what they say of its source.
 use Rattle.std.specs.Prelude.{◌≡◌, ℕ, List}
 use Rattle.ports.specs.declared.event.Event.{Event}
+use Rattle.ports.specs.Events.{IsBeginning}
 use Rattle.isa8080.specs.Step.{initial_state}
 use Rattle.cpu8080.specs.declared.machine.End.{End}
 use Rattle.cpu8080.specs.declared.machine.End.TheVariants.{Halted}
 use Rattle.cpu8080.specs.Machine.{Machine}
 use Rattle.source_meaning.specs.Outcome.{Ended}
-use Rattle.source_meaning.specs.Run.{Run}
-use Rattle.tool.specs.declared.image.Image.{Image}
-use Rattle.tool.specs.Headline.{IsBeginning}
+use Rattle.source_meaning.specs.Run.{Run, source_run}
+use Rattle.tool.specs.Construction.{Construction}
+use Rattle.tool.specs.declared.built.Image.{Image}
 use Rattle.tool.specs.Image.{loaded}
 
--- the machine at its start: an image loaded into a memory, and ports with a script, events and a count of failures
+-- the machine at its start: an image loaded into a memory, and ports with a script, events and a count of
+-- failures
 abbrev pub started : Image → List ℕ → List (List ℕ) → List Event → ℕ → Machine
 started image memory script events failures =
-    record { state = initial_state (loaded image memory) events image.start; script = script; failures = failures }
+    record {
+      state = initial_state (loaded image memory) events image.start;
+      script = script;
+      failures = failures;
+    }
+
+-- the runs of the source of a built program, by their budgets
+abbrev pub source_of : Construction → List ℕ → List (List ℕ) → List Event → ℕ → Run
+source_of built memory script events =
+    source_run built.program built.placement built.plan.stack_size memory script events
 
 -- what a machine did is a beginning of what the source does, and if it halted the source ended with just that
 pub record IsFaithful (source : ℕ → Run) (end : End) (machine : Machine) : Type 0 where
   pub begins : (n : ℕ) × IsBeginning machine.state.events (source n).events
-  pub ended : end ≡ Halted → (n : ℕ) × ((source n).end ≡ Ended) × ((source n).events ≡ machine.state.events)
+  pub ended : end ≡ Halted
+      → (n : ℕ) × ((source n).end ≡ Ended) × ((source n).events ≡ machine.state.events)

@@ -1,13 +1,10 @@
 -- Images, and the machine that runs one.
-use Rattle.std.specs.Prelude.{ℕ, ◌+◌, List, ◌++◌, length, take, drop}
+use Rattle.std.specs.Prelude.{ℕ, List}
 use Rattle.ports.specs.declared.event.Event.{Event}
+use Rattle.mem80.specs.Memory.{with_bytes}
 use Rattle.isa8080.specs.State.{State}
 use Rattle.isa8080.specs.Step.{state_after, initial_state}
-use Rattle.tool.specs.declared.image.Image.{Image}
-
--- a memory with bytes put from an address on
-abbrev pub with_bytes : List ℕ → ℕ → List ℕ → List ℕ
-with_bytes bytes start memory = take start memory ++ (bytes ++ drop (start + length bytes) memory)
+use Rattle.tool.specs.declared.built.Image.{Image}
 
 -- a memory with an image loaded
 abbrev pub loaded : Image → List ℕ → List ℕ

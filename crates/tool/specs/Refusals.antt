@@ -1,20 +1,23 @@
--- Why a program is refused.
-use Rattle.std.specs.Prelude.{ℕ, ◌+◌, ◌<◌, ◌⊎◌}
-use Rattle.mem80.specs.declared.range.Range.{Range}
-use Rattle.mem80.specs.Range.{Meets}
-use Rattle.tool.specs.declared.plan.Plan.{Plan}
-use Rattle.tool.specs.declared.built.PlacementFault.{PlacementFault}
-use Rattle.tool.specs.declared.built.PlacementFault.TheVariants.{TooHigh, Overlap}
+-- What a source that is too long is answered.
+use Rattle.std.specs.Prelude.{◌≡◌, ℕ, ◌<◌, ◌⊎◌, Result, Ok, Err}
+use Rattle.failure.specs.declared.Failure.{Failure}
+use Rattle.failure.specs.declared.Failure.TheVariants.{Fault, Memory}
+use Rattle.frontend.specs.declared.read.ReadFault.TheVariants.{TooLong}
+use Rattle.tool.specs.declared.sources.ToolFault.{ToolFault}
+use Rattle.tool.specs.declared.sources.ToolFault.TheVariants.{TooManySources, Source, CodeTooLong, NotServed, Join, Placement}
+use Rattle.tool.specs.Construction.{Construction}
 
--- where code of so many bytes lies
-abbrev pub code_range : Plan → ℕ → Range
-code_range plan length = record { start = plan.code; len = length }
+-- a fault is that this source is too long, that a source before it has a fault, or that there are too many
+abbrev pub IsRefusal : ℕ → ToolFault → Type 0
+IsRefusal file TooManySources = Unit {0}
+IsRefusal file (Source other fault) = (other < file) ⊎ ((other ≡ file) × (fault ≡ TooLong))
+IsRefusal file (CodeTooLong other) = other < file
+IsRefusal file (NotServed other line) = ⊥
+IsRefusal file (Join fault) = ⊥
+IsRefusal file (Placement fault) = ⊥
 
--- where the stack lies
-abbrev pub stack_range : Plan → Range
-stack_range plan = record { start = plan.stack; len = plan.stack_size }
-
--- code of so many bytes can't lie as planned
-abbrev pub HasPlacementCause : PlacementFault → Plan → ℕ → Type 0
-HasPlacementCause TooHigh plan length = (65536 < plan.code + length) ⊎ (65536 < plan.stack + plan.stack_size)
-HasPlacementCause Overlap plan length = Meets (code_range plan length) (stack_range plan)
+-- sources are refused for this one or for one before it, or memory ran out
+abbrev pub IsRefusedBy : ℕ → Result Construction (Failure ToolFault) → Type 0
+IsRefusedBy file (Ok built) = ⊥
+IsRefusedBy file (Err (Fault fault)) = IsRefusal file fault
+IsRefusedBy file (Err Memory) = Unit {0}

@@ -1,14 +1,13 @@
 //! Programs that lie at their places.
 
-ghost use Rattle.std.specs.Prelude.{◌≡◌, ◌+◌, ◌≤◌, ◌%◌, length, IfOk, IfErr};
-ghost use Rattle.source_meaning.specs.Placing.{IsLawful};
-ghost use Rattle.tool.specs.Code.{code_bytes, program_code};
-ghost use Rattle.tool.specs.Headline.{DoesWhatItSays};
-ghost use Rattle.tool.specs.Refusals.{HasPlacementCause, code_range, stack_range};
+ghost use Rattle.std.specs.Prelude.{◌≡◌, ◌+◌, ◌≤◌, length, IfErr, IfOk};
+ghost use Rattle.tool.specs.Construction.{IsConstruction};
+ghost use Rattle.tool.specs.Code.{code_of};
+ghost use Rattle.tool.specs.Placing.{HasPlacementCause, number_of};
 
-use crate::image::Image;
+use crate::code::MOST_CODE;
 use crate::plan::Plan;
-use mem80::{Bytes, Piece, Range, overlap};
+use mem80::{Bytes, MEMORY_SIZE, Piece, Range, overlap};
 use source_meaning::{Joined, Placement};
 use std::marker::Model;
 use thiserror::Error;
@@ -16,12 +15,33 @@ use thiserror::Error;
 /// Why a program can't lie as planned.
 #[derive(Clone, Copy, Debug, PartialEq, Eq, Error)]
 pub enum PlacementFault {
-    /// The code or the stack passes 65535.
-    #[error("P2")]
+    /// The code or the stack passes the end of memory.
+    #[error("the code or the stack passes the end of memory")]
     TooHigh,
     /// The code and the stack overlap.
-    #[error("P1")]
+    #[error("the code and the stack overlap")]
     Overlap,
+}
+
+impl PlacementFault {
+    /// The number of the fault, as `plm` prints it.
+    pub fn number(&self) -> &'static str
+        ensures { result.now ≡ number_of self.now }
+    {
+        match self {
+            PlacementFault::TooHigh => "P2",
+            PlacementFault::Overlap => "P1",
+        }
+    }
+}
+
+/// The bytes of a program at their places.
+#[derive(Drop)]
+pub struct Image {
+    /// The code.
+    pub code: Piece,
+    /// The address of the first instruction.
+    pub start: u16,
 }
 
 /// A program, where it lies, and its image, which does what the program says.
@@ -34,15 +54,15 @@ pub struct Built {
 }
 
 impl Model for Built {
-    ghost use Rattle.tool.specs.Built.{Construction};
+    ghost use Rattle.tool.specs.Construction.{Construction};
 
     ghost Value = { Construction };
 
-    ghost use Rattle.tool.specs.Construction.{construction_of, IsConstruction};
+    ghost use Rattle.tool.specs.internal.Inside.{construction_of, IsConstructionInside};
 
     ghost view = { construction_of };
 
-    ghost invariant = { IsConstruction };
+    ghost invariant = { IsConstructionInside };
 }
 
 impl Built {
@@ -56,6 +76,7 @@ impl Built {
     /// The plan that it was placed by.
     pub fn plan(&self) -> &Plan
         ensures shown { result.now ≡ self.now.plan }
+        ensures construction { IsConstruction self.now }
     {
         &self.plan
     }
@@ -63,7 +84,7 @@ impl Built {
     /// Where its code and its stack lie.
     pub fn placement(&self) -> &Placement
         ensures shown { result.now ≡ self.now.placement }
-        ensures lawful { IsLawful self.now.placement }
+        ensures construction { IsConstruction self.now }
     {
         &self.placement
     }
@@ -71,8 +92,7 @@ impl Built {
     /// Its image, which does what the program says.
     pub fn image(&self) -> &Image
         ensures shown { result.now ≡ self.now.image }
-        ensures fits { self.now.image.code.start + length self.now.image.code.bytes ≤ 65536 }
-        ensures headline { DoesWhatItSays self.now.program self.now.placement self.now.plan.stack_size self.now.image }
+        ensures construction { IsConstruction self.now }
     {
         &self.image
     }
@@ -80,8 +100,8 @@ impl Built {
 
 /// Places a program and its code. Takes no memory.
 pub fn place(program: Joined, code: Vec<u8>, plan: Plan) -> Result<Built, PlacementFault>
-    requires code { code.items ≡ code_bytes (program_code ((plan.stack + plan.stack_size) % 65536) program.main) }
-    requires fits { length code.items ≤ 65535 }
+    requires code { code.items ≡ code_of plan program.main }
+    requires fits { length code.items ≤ MOST_CODE }
     ensures program { IfOk result (λ built. built.program ≡ program) }
     ensures plan { IfOk result (λ built. built.plan ≡ plan) }
     ensures refused { IfErr result (λ fault. HasPlacementCause fault plan (length code.items)) }
@@ -94,13 +114,13 @@ pub fn place(program: Joined, code: Vec<u8>, plan: Plan) -> Result<Built, Placem
         start: plan.stack as u32,
         len: plan.stack_size as u32,
     };
-    if end_of(&code_range) > 65536 || end_of(&stack_range) > 65536 {
+    if end_of(&code_range) > MEMORY_SIZE as u64 || end_of(&stack_range) > MEMORY_SIZE as u64 {
         return Err(PlacementFault::TooHigh);
     }
     if overlap(&code_range, &stack_range) {
         return Err(PlacementFault::Overlap);
     }
-    let entry = plan.code;
+    let start = plan.code;
     Ok(Built {
         program,
         plan,
@@ -110,10 +130,10 @@ pub fn place(program: Joined, code: Vec<u8>, plan: Plan) -> Result<Built, Placem
         },
         image: Image {
             code: Piece {
-                start: plan.code,
+                start,
                 bytes: Bytes::from_vec(code),
             },
-            start: entry,
+            start,
         },
     })
 }

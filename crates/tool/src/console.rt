@@ -2,15 +2,16 @@
 
 ghost use Rattle.std.specs.Prelude.{◌≤◌};
 
-use crate::command::{LineFault, Order, command};
 use crate::execution::execute;
-use crate::files::{FileFault, Files};
 use crate::plan::Plan;
-use crate::report::report;
 use crate::sources::{Source, ToolFault, build};
+use command_line::{LineFault, Order, command};
 use cpu8080::End;
+use failure::Failure;
+use files::Files;
 use mem80::Memory;
 use ports::Script;
+use report::report;
 use std::alloc::Global;
 use std::io::Write;
 
@@ -45,7 +46,8 @@ pub fn run_command<F: Files, O: Write, E: Write>(
 {
     let ending = match command(alloc, words) {
         Ok(Order::Run { file }) => run_file(alloc, file, files, out, err),
-        Err(fault) => end_line(&fault, out, err),
+        Err(Failure::Fault(fault)) => end_line(&fault, out, err),
+        Err(Failure::Memory) => refuse_memory(err),
     };
     ending as u8
 }
@@ -61,7 +63,6 @@ fn end_line<O: Write, E: Write>(fault: &LineFault, out: &mut O, err: &mut E) -> 
             let _ = write!(err, "{fault}");
             Ending::WrongLine
         }
-        LineFault::Memory => refuse_memory(err),
     }
 }
 
@@ -75,11 +76,8 @@ fn run_file<F: Files, O: Write, E: Write>(
 ) -> Ending {
     match files.read_file(file) {
         Ok(text) => run_text(alloc, file, text.as_slice(), out, err),
-        Err(FileFault::Device) => {
-            let _ = writeln!(err, "U3 {file} 0");
-            Ending::Refused
-        }
-        Err(FileFault::Memory) => refuse_memory(err),
+        Err(Failure::Fault(fault)) => refuse(fault.number(), file, 0, err),
+        Err(Failure::Memory) => refuse_memory(err),
     }
 }
 
@@ -93,7 +91,8 @@ fn run_text<O: Write, E: Write>(
 ) -> Ending {
     let built = match build(alloc, &[Source { name, text }], &Plan::usual()) {
         Ok(built) => built,
-        Err(fault) => return refuse_source(&fault, name, err),
+        Err(Failure::Fault(fault)) => return refuse_source(&fault, name, err),
+        Err(Failure::Memory) => return refuse_memory(err),
     };
     let Ok(memory) = Memory::new(alloc) else {
         return refuse_memory(err);
@@ -126,20 +125,22 @@ fn ending_of(end: End) -> Ending {
 
 // Prints why a source is refused: the number of the fault, the file or a dash, and the line.
 fn refuse_source<E: Write>(fault: &ToolFault, name: &str, err: &mut E) -> Ending {
-    let place = if fault.is_of_a_file() { name } else { "-" };
-    let line = fault.line();
-    let _ = writeln!(err, "{fault} {place} {line}");
-    Ending::Refused
+    let place = if fault.file().is_some() { name } else { "-" };
+    refuse(fault.number(), place, fault.line(), err)
 }
 
 // Standard output could not be written.
 fn refuse_output<E: Write>(err: &mut E) -> Ending {
-    let _ = writeln!(err, "U3 - 0");
-    Ending::Refused
+    refuse("U3", "-", 0, err)
 }
 
-// Memory was refused.
+// Memory ran out.
 fn refuse_memory<E: Write>(err: &mut E) -> Ending {
-    let _ = writeln!(err, "MEMORY - 0");
+    refuse("MEMORY", "-", 0, err)
+}
+
+// Prints a number, where it was found and the line.
+fn refuse<E: Write>(number: &str, place: &str, line: u32, err: &mut E) -> Ending {
+    let _ = writeln!(err, "{number} {place} {line}");
     Ending::Refused
 }

@@ -1,14 +1,12 @@
 //! Runs of built programs.
 
-ghost use Rattle.mem80.specs.Memory.{IsMemory};
-ghost use Rattle.ports.specs.Input.{IsScript};
-ghost use Rattle.source_meaning.specs.Run.{source_run, NeverOutside};
-ghost use Rattle.cpu8080.specs.Runs.{IsRun};
-ghost use Rattle.tool.specs.Execution.{started, IsFaithful};
 ghost use Rattle.std.specs.Prelude.{◌≡◌};
+ghost use Rattle.ports.specs.Input.{IsScript};
+ghost use Rattle.source_meaning.specs.Run.{NeverOutside};
+ghost use Rattle.cpu8080.specs.Runs.{IsRun};
+ghost use Rattle.tool.specs.Execution.{IsFaithful, source_of, started};
 
 use crate::built::Built;
-use crate::load::load_bytes;
 use cpu8080::{End, Machine};
 use mem80::Memory;
 use ports::Ports;
@@ -17,14 +15,16 @@ use ports::Ports;
 /// the program never goes outside, the events are a beginning of those of its source, and a machine that halted has
 /// them all.
 pub fn execute<P: Ports>(built: &Built, memory: Memory, ports: P, limit: u64) -> (End, Machine<P>)
-    ensures run { IsRun limit (started built.now.image memory (P.script ports) (P.events ports) (P.failures ports)) result.0 result.1 }
+    ensures run { IsRun limit
+        (started built.now.image memory (P.script ports) (P.events ports) (P.failures ports))
+        result.0 result.1 }
     ensures script { result.1.script ≡ P.script ports }
-    ensures faithful { let source = source_run built.now.program built.now.placement built.now.plan.stack_size memory (P.script ports) (P.events ports) in
-        IsMemory memory → IsScript (P.script ports) → NeverOutside source → IsFaithful source result.0 result.1 }
+    ensures faithful { let source = source_of built.now memory (P.script ports) (P.events ports) in
+        IsScript (P.script ports) → NeverOutside source → IsFaithful source result.0 result.1 }
 {
     let image = built.image();
     let mut memory = memory;
-    load_bytes(&mut memory, image.code.start, image.code.bytes.as_slice());
+    memory.load(image.code.start, image.code.bytes.as_slice());
     let mut machine = Machine::new(memory, ports, image.start);
     let end = machine.run(limit);
     (end, machine)

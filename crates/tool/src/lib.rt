@@ -1,28 +1,20 @@
 //! From sources to a running machine: build, execute and the program's commands.
 #![tactic(auto)]
 
-pub mod built;
-pub mod command;
-pub mod console;
-pub mod execution;
-pub mod files;
-pub mod generate;
-pub mod image;
-pub mod load;
-pub mod plan;
-pub mod read;
-pub mod report;
-pub mod served;
-pub mod sources;
-pub mod writing;
+mod built;
+mod code;
+mod console;
+mod execution;
+mod plan;
+mod sources;
 
-pub use built::{Built, PlacementFault};
+pub use built::{Built, Image, PlacementFault};
+pub use command_line::{LineFault, Order, command};
 pub use console::run_command;
 pub use execution::execute;
-pub use files::{FileFault, HostFiles};
-pub use image::Image;
-pub use load::load_bytes;
+pub use files::{FileFault, Files, HostFiles};
+pub use frontend::ReadFault;
 pub use plan::Plan;
-pub use read::ReadFault;
-pub use sources::{Source, ToolFault, build};
+pub use report::report;
+pub use sources::{MOST_SOURCES, Source, ToolFault, build};
 pub use writing::{WriteFault, write_bytes};

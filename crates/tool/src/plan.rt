@@ -1,6 +1,7 @@
 //! Plans.
 
-ghost use Rattle.std.specs.Prelude.{◌≡◌, ◌+◌, ◌%◌};
+ghost use Rattle.std.specs.Prelude.{◌≡◌};
+ghost use Rattle.tool.specs.Code.{stack_end_of};
 
 /// Where the parts of a program are to lie.
 #[derive(Clone, Copy, Debug, PartialEq, Eq)]
@@ -30,7 +31,7 @@ impl Plan {
 
     /// The address just past the stack, which is 0 for a stack that ends at 65536.
     pub fn stack_end(&self) -> u16
-        ensures { result ≡ (self.now.stack + self.now.stack_size) % 65536 }
+        ensures { result ≡ stack_end_of self.now }
     {
         self.stack.wrapping_add(self.stack_size)
     }

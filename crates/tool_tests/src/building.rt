@@ -1,6 +1,7 @@
 //! Plans and sizes.
 
 use cpu8080::End;
+use failure::Failure;
 use mem80::Memory;
 use ports::Script;
 use std::alloc::Global;
@@ -9,15 +10,17 @@ use tool::{Built, Plan, Source, ToolFault, build, execute};
 
 const ANSWER: &str = "M: DO; OUTPUT(1) = 42; END M;";
 
-fn text_of(alloc: Global, answer: &Result<Built, ToolFault>) -> Result<String, Fail> {
+// The number of a fault.
+fn number_of(answer: &Result<Built, Failure<ToolFault>>) -> &'static str {
     match answer {
-        Ok(_) => Ok(String::from_str(alloc, "built")?),
-        Err(fault) => Ok(format!(in alloc; "{fault}")?),
+        Ok(_) => "built",
+        Err(Failure::Fault(fault)) => fault.number(),
+        Err(Failure::Memory) => "MEMORY",
     }
 }
 
 // What `build` answers for copies of one text.
-fn answer_of(alloc: Global, text: &[u8], copies: usize, plan: &Plan) -> Result<String, Fail> {
+fn answer_of(alloc: Global, text: &[u8], copies: usize, plan: &Plan) -> Result<&'static str, Fail> {
     let mut sources = Vec::new(alloc);
     for _ in 0..copies {
         sources.push(Source {
@@ -25,53 +28,83 @@ fn answer_of(alloc: Global, text: &[u8], copies: usize, plan: &Plan) -> Result<S
             text,
         })?;
     }
-    text_of(alloc, &build(alloc, sources.as_slice(), plan))
+    Ok(number_of(&build(alloc, sources.as_slice(), plan)))
 }
 
 #[test]
 fn numbers_of_sources(rt: HostRuntime) -> Result<(), Fail> {
     let plan = Plan::usual();
-    for (copies, answer) in [(0, "J4"), (1, "built"), (2, "N1"), (64, "N1"), (65, "U1")] {
-        let given = answer_of(rt.alloc(), ANSWER.as_bytes(), copies, &plan)?;
-        assert_eq!(rt; given.as_str(), answer, "{copies} sources");
+    for (text, copies, answer) in [
+        (ANSWER, 0, "J4"),
+        (ANSWER, 1, "built"),
+        (ANSWER, 2, "N1"),
+        (ANSWER, 64, "N1"),
+        ("?", 64, "C1"),
+        ("?", 65, "U1"),
+    ] {
+        let given = answer_of(rt.alloc(), text.as_bytes(), copies, &plan)?;
+        assert_eq!(rt; given, answer, "{copies} sources");
     }
     let long = vec![in rt.alloc(); b' '; 1048577]?;
+    assert_eq!(rt; answer_of(rt.alloc(), long.as_slice(), 1, &plan)?, "U2");
     assert_eq!(rt;
-        answer_of(rt.alloc(), long.as_slice(), 1, &plan)?.as_str(),
-        "U2"
-    );
-    assert_eq!(rt;
-        answer_of(rt.alloc(), &long.as_slice()[1..], 1, &plan)?.as_str(),
+        answer_of(rt.alloc(), &long.as_slice()[1..], 1, &plan)?,
         "C7"
     );
     Ok(())
 }
 
-// What `build` answers for two sources, and the line of the fault.
-fn answer_of_two(alloc: Global, first: &str, second: &str) -> Result<String, Fail> {
+// The number, the source and the line of the fault that `build` answers for two sources.
+fn fault_of_two(alloc: Global, first: &[u8], second: &[u8]) -> Result<String, Fail> {
     let sources = [first, second].map(|text| Source {
         name: "a.plm",
-        text: text.as_bytes(),
+        text,
     });
     match build(alloc, &sources, &Plan::usual()) {
-        Ok(_) => Ok(String::from_str(alloc, "built")?),
-        Err(fault) => Ok(format!(in alloc; "{fault} {}", fault.line())?),
+        Err(Failure::Fault(fault)) => {
+            let number = fault.number();
+            let line = fault.line();
+            match fault.file() {
+                Some(file) => Ok(format!(in alloc; "{number} {file} {line}")?),
+                None => Ok(format!(in alloc; "{number} - {line}")?),
+            }
+        }
+        _ => Err(Fail::from("no fault")),
     }
 }
 
 #[test]
 fn faults_of_two_sources(rt: HostRuntime) -> Result<(), Fail> {
     let unserved = "M: DO;\n\nHALT; END M;";
+    let wrong = "M: DO;\nEND N;";
     for (first, second, answer) in [
-        (ANSWER, ANSWER, "N1 1"),
-        (ANSWER, unserved, "N1 3"),
-        (unserved, ANSWER, "N1 3"),
-        (unserved, "M: DO;\nEND N;", "C9 2"),
-        ("M: DO;\nEND N;", "?", "C9 2"),
-        (unserved, "M: DO;\nOUTPUT(256) = 1; END M;", "C15 2"),
+        (ANSWER, ANSWER, "N1 1 1"),
+        (ANSWER, unserved, "N1 1 3"),
+        (unserved, ANSWER, "N1 0 3"),
+        (unserved, wrong, "C9 1 2"),
+        (wrong, "?", "C9 0 2"),
+        (unserved, "M: DO;\nOUTPUT(256) = 1; END M;", "C15 1 2"),
     ] {
-        let given = answer_of_two(rt.alloc(), first, second)?;
+        let given = fault_of_two(rt.alloc(), first.as_bytes(), second.as_bytes())?;
         assert_eq!(rt; given.as_str(), answer, "{first} {second}");
+    }
+    Ok(())
+}
+
+#[test]
+fn faults_of_two_long_sources(rt: HostRuntime) -> Result<(), Fail> {
+    let too_long = vec![in rt.alloc(); b' '; 1048577]?;
+    let long_code = module_of(rt.alloc(), 16383)?;
+    let wrong = b"M: DO;\nEND N;".as_slice();
+    for (first, second, answer) in [
+        (too_long.as_slice(), wrong, "U2 0 0"),
+        (wrong, too_long.as_slice(), "C9 0 2"),
+        (ANSWER.as_bytes(), too_long.as_slice(), "U2 1 0"),
+        (long_code.as_bytes(), wrong, "G1 0 0"),
+        (wrong, long_code.as_bytes(), "C9 0 2"),
+    ] {
+        let given = fault_of_two(rt.alloc(), first, second)?;
+        assert_eq!(rt; given.as_str(), answer);
     }
     Ok(())
 }
@@ -91,6 +124,9 @@ fn places_of_code_and_stack(rt: HostRuntime) -> Result<(), Fail> {
         (256, 64512, 1024, "built"),
         (256, 64513, 1024, "P2"),
         (256, 256, 0, "built"),
+        (65530, 65000, 1024, "P2"),
+        (65000, 65000, 1024, "P2"),
+        (65530, 65500, 36, "P2"),
     ] {
         let plan = Plan {
             code,
@@ -99,11 +135,7 @@ fn places_of_code_and_stack(rt: HostRuntime) -> Result<(), Fail> {
             ..usual
         };
         let given = answer_of(rt.alloc(), ANSWER.as_bytes(), 1, &plan)?;
-        assert_eq!(rt;
-            given.as_str(),
-            answer,
-            "code {code} stack {stack} {stack_size}"
-        );
+        assert_eq!(rt; given, answer, "code {code} stack {stack} {stack_size}");
     }
     Ok(())
 }
@@ -127,15 +159,9 @@ fn the_longest_code(rt: HostRuntime) -> Result<(), Fail> {
         ..Plan::usual()
     };
     let fits = module_of(rt.alloc(), 16382)?;
-    assert_eq!(rt;
-        answer_of(rt.alloc(), fits.as_bytes(), 1, &plan)?.as_str(),
-        "built"
-    );
+    assert_eq!(rt; answer_of(rt.alloc(), fits.as_bytes(), 1, &plan)?, "built");
     let long = module_of(rt.alloc(), 16383)?;
-    assert_eq!(rt;
-        answer_of(rt.alloc(), long.as_bytes(), 1, &plan)?.as_str(),
-        "G1"
-    );
+    assert_eq!(rt; answer_of(rt.alloc(), long.as_bytes(), 1, &plan)?, "G1");
     Ok(())
 }
 

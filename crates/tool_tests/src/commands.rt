@@ -1,6 +1,6 @@
 //! The command line, on sources of a line or a few.
 
-use crate::files::OneFile;
+use crate::one_file::OneFile;
 use crate::runs::{check_refusals, check_runs};
 use std::test::Fail;
 use tool::run_command;
@@ -24,7 +24,7 @@ fn programs_that_run(rt: HostRuntime) -> Result<(), Fail> {
     check_runs(&rt, &PROGRAMS)
 }
 
-// A fault of each call that a source goes through, in their order, and then of what comes behind.
+// A fault of each call that a source goes through, in their order, and then of what comes after them.
 static REFUSALS: [(&str, &str); 8] = [
     ("M: DO; ? END M;", "C1 a.plm 1\n"),
     ("M: DO; DECLARE A LITERALLY 'A';\nA;", "C5 a.plm 2\n"),

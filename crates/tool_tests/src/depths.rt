@@ -4,7 +4,7 @@ use crate::runs::{check_refusal, check_run};
 use std::alloc::Global;
 use std::test::Fail;
 
-// What stands before the levels, opens one, stands within, closes one and stands behind them, and how many there may be.
+// What stands before the levels, opens one, stands within, closes one and stands after them, and how many there may be.
 static LEVELS: [(&str, &str, &str, &str, &str, u8); 13] = [
     ("M: DO; OUTPUT(0) = ", "(", "1", ")", "; END M;", 62),
     ("M: DO; ", "DO; ", "", "END; ", "END M;", 64),
@@ -60,7 +60,7 @@ fn the_line_of_the_depth(rt: HostRuntime) -> Result<(), Fail> {
     check_refusal(&rt, text.as_str(), "C8 a.plm 66\n")
 }
 
-// Definitions of A1 to A`count`, each of which stands for the next, and a use of the first behind them, on line 2.
+// Definitions of A1 to A`count`, each of which stands for the next, and a use of the first after them, on line 2.
 fn chain(alloc: Global, count: u32, last: &str) -> Result<String, Fail> {
     let mut text = String::from_str(alloc, "M: DO; DECLARE ")?;
     for i in 1..count {
@@ -68,8 +68,8 @@ fn chain(alloc: Global, count: u32, last: &str) -> Result<String, Fail> {
         let element = format!(in alloc; "A{i} LITERALLY 'A{next}', ")?;
         text.push_str(element.as_str())?;
     }
-    let behind = format!(in alloc; "A{count} LITERALLY '{last}';\nOUTPUT(0) = A1; END M;")?;
-    text.push_str(behind.as_str())?;
+    let after = format!(in alloc; "A{count} LITERALLY '{last}';\nOUTPUT(0) = A1; END M;")?;
+    text.push_str(after.as_str())?;
     Ok(text)
 }
 
@@ -81,7 +81,7 @@ fn sixteen_texts_deep(rt: HostRuntime) -> Result<(), Fail> {
     check_refusal(&rt, text.as_str(), "C5 a.plm 2\n")
 }
 
-// Definitions of B1 to B`count`, each of which stands for the next eight times, and a use of the first behind them.
+// Definitions of B1 to B`count`, each of which stands for the next eight times, and a use of the first after them.
 fn eights(alloc: Global, count: u8) -> Result<String, Fail> {
     let mut text = String::from_str(alloc, "M: DO; DECLARE A LITERALLY ''")?;
     for i in 1..=count {

@@ -195,7 +195,7 @@ fn procedures_that_are_none(rt: HostRuntime) -> Result<(), Fail> {
     check_refusals(&rt, &PROCEDURES_THAT_ARE_NONE)
 }
 
-static NAMES_BEHIND_END: [(&str, &str); 6] = [
+static NAMES_AFTER_END: [(&str, &str); 6] = [
     ("M: DO; OUTPUT(1) = 2;\nEND N;", "C9 a.plm 2\n"),
     ("M: DO; P: PROCEDURE;\nEND Q; END M;", "C9 a.plm 2\n"),
     ("M: DO; P: PROCEDURE; END P; END M;", "N1 a.plm 1\n"),
@@ -205,20 +205,26 @@ static NAMES_BEHIND_END: [(&str, &str); 6] = [
 ];
 
 #[test]
-fn names_behind_end(rt: HostRuntime) -> Result<(), Fail> {
-    check_refusals(&rt, &NAMES_BEHIND_END)
+fn names_after_end(rt: HostRuntime) -> Result<(), Fail> {
+    check_refusals(&rt, &NAMES_AFTER_END)
 }
 
-static LABELS_AND_GOTO: [(&str, &str); 9] = [
-    ("M: DO; OUTPUT(0) = 1;\nL: A = 1; END M;", "C10 a.plm 2\n"),
-    ("M: DO; L: ; END M;", "C10 a.plm 1\n"),
-    ("M: DO; IF A THEN L: B = 1; END M;", "C10 a.plm 1\n"),
-    ("M: DO; DO; L: END; END M;", "C10 a.plm 1\n"),
-    ("M: DO; OUTPUT(0) = 1;\nGOTO L; END M;", "C10 a.plm 2\n"),
-    ("M: DO; A = GOTO; END M;", "C10 a.plm 1\n"),
+static LABELS_AND_GOTO: [(&str, &str); 15] = [
+    ("M: DO; L:\nEND M;", "C7 a.plm 2\n"),
+    ("M: DO; DO; L: K:\nEND; END M;", "C7 a.plm 2\n"),
+    ("M: DO; L:\nDECLARE A BYTE; END M;", "C7 a.plm 2\n"),
+    ("M: DO; HALT; P:\nPROCEDURE; END P; END M;", "C7 a.plm 2\n"),
+    ("M: DO; L: P:\nPROCEDURE; END P; END M;", "C7 a.plm 2\n"),
+    ("M: DO; P: PROC\n; END P; END M;", "C7 a.plm 2\n"),
+    ("M: DO; A = GOTO; END M;", "C7 a.plm 1\n"),
     ("M: DO; GO TO L; END M;", "C7 a.plm 1\n"),
-    ("M: DO; P: PROC; END P; END M;", "C10 a.plm 1\n"),
-    ("M: BEGIN; END M;", "C10 a.plm 1\n"),
+    ("M: DO; GOTO\n5; END M;", "C7 a.plm 2\n"),
+    ("M: DO; GOTO L\n, K; END M;", "C7 a.plm 2\n"),
+    ("M: DO; 5: HALT; END M;", "C7 a.plm 1\n"),
+    ("M:\nBEGIN; END M;", "C7 a.plm 2\n"),
+    ("M:\nPROCEDURE; END M;", "C7 a.plm 2\n"),
+    ("\nM:\n", "C7 a.plm 2\n"),
+    ("L:\nM: DO; END M;", "C7 a.plm 2\n"),
 ];
 
 #[test]
@@ -265,7 +271,7 @@ static REPLACED_WORDS: [(&str, &str); 6] = [
     ),
     (
         "M: DO; DECLARE J LITERALLY 'GOTO L';\nJ; END M;",
-        "C10 a.plm 2\n",
+        "N1 a.plm 2\n",
     ),
 ];
 

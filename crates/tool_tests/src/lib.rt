@@ -7,9 +7,9 @@ mod building;
 mod commands;
 #[cfg(test)]
 mod depths;
-pub mod files;
 #[cfg(test)]
 mod grammar;
+pub mod one_file;
 #[cfg(test)]
 mod programs;
 #[cfg(test)]

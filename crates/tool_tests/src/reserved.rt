@@ -51,15 +51,10 @@ fn check_word<R: Abort + AllocGlobal>(
     rt: &R,
     before: &str,
     word: &str,
-    behind: &str,
+    after: &str,
 ) -> Result<(), Fail> {
-    let text = format!(in rt.alloc(); "{before}{word}{behind}")?;
-    let fault = if word == "GOTO" {
-        "C10 a.plm 2\n"
-    } else {
-        "C7 a.plm 2\n"
-    };
-    check_refusal(rt, text.as_str(), fault)
+    let text = format!(in rt.alloc(); "{before}{word}{after}")?;
+    check_refusal(rt, text.as_str(), "C7 a.plm 2\n")
 }
 
 #[test]

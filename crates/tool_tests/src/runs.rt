@@ -1,6 +1,6 @@
 //! Runs of `plm` on one source, and what they print.
 
-use crate::files::OneFile;
+use crate::one_file::OneFile;
 use std::process::Abort;
 use std::test::Fail;
 use tool::run_command;

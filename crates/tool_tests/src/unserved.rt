@@ -1,4 +1,4 @@
-//! Modules that are right but not served yet.
+//! Modules that are valid but not served yet.
 
 use crate::runs::check_refusals;
 use std::test::Fail;
@@ -37,7 +37,13 @@ fn assignments_that_are_no_outputs_of_numbers(rt: HostRuntime) -> Result<(), Fai
     check_refusals(&rt, &ASSIGNMENTS_THAT_ARE_NO_OUTPUTS_OF_NUMBERS)
 }
 
-static OTHER_STATEMENTS: [(&str, &str); 14] = [
+static OTHER_STATEMENTS: [(&str, &str); 20] = [
+    ("M: DO; OUTPUT(0) = 1;\nGOTO L; END M;", "N1 a.plm 2\n"),
+    ("M: DO; OUTPUT(0) = 1;\nL: A = 1; END M;", "N1 a.plm 2\n"),
+    ("M: DO;\nL: OUTPUT(0) = 1; END M;", "N1 a.plm 2\n"),
+    ("M: DO;\nL:\nK:\nHALT; END M;", "N1 a.plm 2\n"),
+    ("M: DO;\nL:\n; END M;", "N1 a.plm 2\n"),
+    ("M: DO;\nIF A THEN L: B = 1; END M;", "N1 a.plm 2\n"),
     ("M: DO; \nHALT; END M;", "N1 a.plm 2\n"),
     ("M: DO; \nCALL P; END M;", "N1 a.plm 2\n"),
     ("M: DO; \nCALL P(1, A(2), .B); END M;", "N1 a.plm 2\n"),
@@ -66,15 +72,15 @@ fn other_statements(rt: HostRuntime) -> Result<(), Fail> {
 }
 
 static NULL_STATEMENTS: [(&str, &str); 4] = [
-    ("M:\nDO\n;\n; END M;", "N1 a.plm 2\n"),
-    ("M: DO;\nOUTPUT(1)\n= 2;\n\n; END M;", "N1 a.plm 3\n"),
+    ("M:\nDO\n;\n; END M;", "N1 a.plm 4\n"),
+    ("M: DO;\nOUTPUT(1)\n= 2;\n\n; END M;", "N1 a.plm 5\n"),
     (
         "M: DO; DECLARE A LITERALLY\n'1',\nB LITERALLY\n'2';\n\n; END M;",
-        "N1 a.plm 4\n",
+        "N1 a.plm 6\n",
     ),
     (
         "M: DO; DECLARE T LITERALLY '10';\nOUTPUT(0) =\nT;\n; END M;",
-        "N1 a.plm 3\n",
+        "N1 a.plm 4\n",
     ),
 ];
 

@@ -1,5 +1,5 @@
 use Rattle.std.proofs.Common.{◌≡◌, ◌+◌, ◌%◌, refl, sym, ap, ◌∙◌, arith, length, true}
-use Rattle.tool.proofs.Simulation.{code_agrees}
+use Rattle.tool.proofs.BuiltLemmas.{code_agrees}
 use Rattle.tool.proofs.built.place.Goals as goal
 
 pub invariant_of-result : goal.invariant_of-result
@@ -9,5 +9,5 @@ invariant_of-result c =
       lawful = record { code_fits = omega arith; stack_fits = omega arith; apart = λ meets. let met : c.overlap.result ≡ true = c.overlap.ensures.meets.1 meets in cc };
       code_as_planned = refl;
       stack_as_planned = refl;
-      image_as_placed = ap (λ n. record { start = c.args.plan.code; len = n }) (c.len.ensures ∙ c.args.code.ok.0 ∙ ap length (sym c.from_vec.ensures.same));
+      code_as_placed = ap (λ n. record { start = c.args.plan.code; len = n }) (c.len.ensures ∙ c.args.code.ok.0 ∙ ap length (sym c.from_vec.ensures.same));
     }

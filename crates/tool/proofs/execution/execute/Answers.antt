@@ -1,7 +1,7 @@
 use Rattle.std.proofs.Common.{rules}
 use Rattle.cpu8080.specs.Runs.{IsRun}
 use Rattle.tool.specs.Execution.{started}
-use Rattle.tool.proofs.Faithful.{is_faithful}
+use Rattle.tool.proofs.ExecutionLemmas.{is_faithful}
 use Rattle.tool.proofs.execution.execute.Goals as goal
 
 pub returns-clause-faithful : goal.returns-clause-faithful
@@ -10,4 +10,4 @@ returns-clause-faithful g c =
     let events = g.P.Ports.events c.args.ports in
     let failures = g.P.Ports.failures c.args.ports in
     let run : IsRun c.args.limit (started c.args.built.now.image c.args.memory script events failures) c.run-end.result c.run-end.new.self = search rules in
-    λ is_memory is_script never. is_faithful c.args.built.now.image c.args.memory script events failures _ (c.image-image.ensures.headline c.args.memory script events is_memory is_script never) c.args.limit c.run-end.result c.run-end.new.self run
+    λ is_script never. is_faithful c.args.built.now.image c.args.memory script events failures _ (c.image-image.ensures.construction.headline c.args.memory script events c.load.ensures.memory is_script never) c.args.limit c.run-end.result c.run-end.new.self run

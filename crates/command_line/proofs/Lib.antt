@@ -1,0 +1,4 @@
+pub mod Levels
+pub mod CommandLemmas
+pub mod RunWords
+pub mod PlmWords

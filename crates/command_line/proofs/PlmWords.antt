@@ -1,0 +1,167 @@
+-- The words of a whole command line: without a fault they order a file to be run.
+use Rattle.std.proofs.Common.{◌≡◌, ℕ, List, [], ◌∷◌, Option, Some, None, Bool, true, false, ◌⊎◌, inl, inr, refl, sym, subst, codes, drop, is_some}
+use Rattle.std.specs.Prelude.{find, fold, option_and_then, option_map, if◌then◌else◌, ◌==◌, not, ◌&&◌, ◌||◌}
+use Rattle.std.specs.Option.{option_map_or}
+use Rattle.std.specs.Str.{bytes_eq}
+use Rattle.clap.specs.Words.{App, Kinds, Row, Rule, Shape, Text, fault_of, is_simple}
+use Rattle.clap.specs.Walk.{Names, Waiting, option, positional, waits, done, refused, next, subcommand, plain_word, bundle, long_met, subcommand_or_other, subcommand_met, to_positional, arg_by_index, walked_from, walk, walk_from, nothing_held, answers_to, Held, Walk, Step, Outcome, plain, idle, value, trailing, walked, after_step, word_met, after_flag, short_or_plain, long_or_other, arg_by_long, finished}
+use Rattle.clap.specs.Lexer.{long_of, short_of, strip_byte}
+use Rattle.clap.proofs.OnLiterals.{clap_on_literals}
+use Rattle.clap.specs.Simple.{built, entered, label_of, names_of, rows_at, built_leaf, help_shape, new_shape}
+use Rattle.clap.specs.Faults.{level_fault, entered_fault, other_fault, is_simple_and_free, step_fault, turn_fault, walk_fault, word_fault, check_fault}
+use Rattle.clap.specs.Kinds.{or_else}
+use Rattle.clap.specs.declared.error.ErrorKind.{ErrorKind}
+use Rattle.command_line.specs.Command.{file_of_match, file_to_run, plm_app}
+use Rattle.command_line.proofs.CommandLemmas.{same_text_of}
+use Rattle.command_line.proofs.Levels.{level_passes_by, never, none_of_both}
+use Rattle.command_line.proofs.RunWords.{help_filled, run_built, run_level}
+
+pub plm_is_simple : is_simple plm_app ≡ true
+plm_is_simple = refl
+
+pub plm_is_free : is_simple_and_free plm_app ≡ true
+plm_is_free = refl
+
+-- a step that is no call of the subcommand `help`
+abbrev CallsNoHelp : Step → Type 0
+CallsNoHelp (subcommand name) = bytes_eq name (codes "help") ≡ false
+CallsNoHelp _ = Unit {0}
+
+-- the walk did not stop at the subcommand `help`
+abbrev IsNoHelp : Option (Text × List Text) → Type 0
+IsNoHelp None = Unit {0}
+IsNoHelp (Some p) = bytes_eq p.0 (codes "help") ≡ false
+
+plain_step : (c : List Rule) (waiting : Waiting) (word : Text) (h : Held) → CallsNoHelp (plain_word c waiting word h).1
+plain_step c idle word h = tt
+plain_step c (option id) word h = tt
+plain_step c positional word h = tt
+
+flag_step : (c : List Rule) (waiting : Waiting) (word : Text) (h : Held) (o : Outcome) → CallsNoHelp (after_flag c waiting word h o).1
+flag_step c waiting word h done = tt
+flag_step c waiting word h (waits id) = tt
+flag_step c waiting word h plain = plain_step c waiting word h
+flag_step c waiting word h refused = plain_step c waiting word h
+
+shorts_step : (c : List Rule) (waiting : Waiting) (word : Text) (s : Option Text) (h : Held) → CallsNoHelp (short_or_plain c waiting word s h).1
+shorts_step c waiting word None h = plain_step c waiting word h
+shorts_step c waiting word (Some flags) h = flag_step c waiting word (bundle c flags h).0 (bundle c flags h).1
+
+other_step : (c : List Rule) (waiting : Waiting) (position : ℕ) (word : Text) (h : Held) (t : Bool) (l : Option (Text × Option Text))
+    → CallsNoHelp (if t then (h, trailing position) else long_or_other c waiting word l h).1
+other_step c waiting position word h true l = tt
+other_step c waiting position word h false None = shorts_step c waiting word (short_of word) h
+other_step c waiting position word h false (Some (name, v)) =
+    flag_step c waiting word (long_met c (arg_by_long c name) v h).0 (long_met c (arg_by_long c name) v h).1
+
+help_refused : (t disabled : Bool) (k : ErrorKind) (ks : Kinds) → disabled ≡ false → (if t && not disabled then k ∷ ks else []) ≡ [] → t ≡ false
+help_refused false disabled k ks e fine = refl
+help_refused true false k ks e fine = absurd (never k ks fine)
+help_refused true true k ks e fine = let bad : true ≡ false = e in cc
+
+met_step : (s : Shape) (waiting : Waiting) (position : ℕ) (word : Text) (h : Held) (o : Option Text) → s.disable_help_subcommand ≡ false
+    → other_fault s o word h ≡ [] → CallsNoHelp (subcommand_or_other s.rules o waiting position word h).1
+met_step s waiting position word h None e fine = other_step s.rules waiting position word h (bytes_eq word (45 ∷ 45 ∷ [])) (long_of word)
+met_step s waiting position word h (Some name) e fine = help_refused (bytes_eq name (codes "help")) s.disable_help_subcommand _ _ e fine
+
+word_step : (s : Shape) (names : Names) (t : Bool) (waiting : Waiting) (position : ℕ) (word : Text) (h : Held) → s.disable_help_subcommand ≡ false
+    → word_fault s names t waiting word h ≡ [] → CallsNoHelp (word_met s.rules names t waiting position word h).1
+word_step s names true waiting position word h e fine = tt
+word_step s names false waiting position word h e fine = met_step s waiting position word h (subcommand_met names waiting word) e fine
+
+positional_step : (c : List Rule) (found : Option Rule) (word : Text) (w : Walk) (h : Held) → IsNoHelp w.stopped → IsNoHelp (to_positional c found word w h).stopped
+positional_step c None word w h before = before
+positional_step c (Some a) word w h before = tt
+
+stopped_after : (c : List Rule) (word : Text) (w : Walk) (h : Held) (step : Step) → CallsNoHelp step → IsNoHelp w.stopped → IsNoHelp (after_step c word w h step).stopped
+stopped_after c word w h (next waiting) called before = before
+stopped_after c word w h (trailing position) called before = before
+stopped_after c word w h (subcommand name) called before = called
+stopped_after c word w h value called before = positional_step c (arg_by_index c w.position) word w h before
+
+stopped_from : (s : Shape) (names : Names) (o : Option (Text × List Text)) (w : Walk) (word : Text) → s.disable_help_subcommand ≡ false → IsNoHelp o → IsNoHelp w.stopped
+    → (let met = word_met s.rules names w.is_trailing w.waiting w.position word w.held in
+    if is_some o then [] else or_else (word_fault s names w.is_trailing w.waiting word w.held) (step_fault s w.position met.0 met.1)) ≡ []
+    → IsNoHelp (walked_from s.rules names o w word).stopped
+stopped_from s names (Some p) w word e here before fine = here
+stopped_from s names None w word e here before fine =
+    let met = word_met s.rules names w.is_trailing w.waiting w.position word w.held in
+    let both = none_of_both (word_fault s names w.is_trailing w.waiting word w.held) (step_fault s w.position met.0 met.1) fine in
+    stopped_after s.rules word w met.0 met.1 (word_step s names w.is_trailing w.waiting w.position word w.held e both.0) before
+
+stopped_next : (s : Shape) (names : Names) (w : Walk) (word : Text) → s.disable_help_subcommand ≡ false → IsNoHelp w.stopped → turn_fault s names w word ≡ []
+    → IsNoHelp (walked s.rules names w word).stopped
+unfolding walked
+stopped_next s names w word e before fine = stopped_from s names w.stopped w word e before before fine
+
+plm_walk : (s : Shape) (names : Names) (words : List Text) (w : Walk) → s.disable_help_subcommand ≡ false → IsNoHelp w.stopped → walk_fault s names w words ≡ []
+    → IsNoHelp (fold (walked s.rules names) w words).stopped
+unfolding walk_fault
+plm_walk s names [] w e before fine = before
+plm_walk s names (word ∷ rest) w e before fine =
+    let both = none_of_both (turn_fault s names w word) (walk_fault s names (walked s.rules names w word) rest) fine in
+    plm_walk s names rest (walked s.rules names w word) e (stopped_next s names w word e before both.0) both.1
+
+abbrev top_built : Shape
+top_built = record (new_shape (codes "plm")) { rules = help_filled ∷ []; is_leaf = false; subcommand_required = true; is_built = true }
+
+abbrev plm_built : App
+plm_built = record { top = top_built; subs = run_built ∷ built_leaf help_shape ∷ [] }
+
+built_is : built plm_app ≡ plm_built
+built_is = refl
+
+find_two : (p : Shape → Bool) (x y : Shape) → ((find p (x ∷ y ∷ []) ≡ Some x) ⊎ (p y ≡ true)) ⊎ (find p (x ∷ y ∷ []) ≡ None)
+find_two p x y = go (p x) (p y) refl refl
+  where
+    go : (s t : Bool) → p x ≡ s → p y ≡ t → ((find p (x ∷ y ∷ []) ≡ Some x) ⊎ (p y ≡ true)) ⊎ (find p (x ∷ y ∷ []) ≡ None)
+    go true t e f = inl (inl (rw e refl))
+    go false true e f = inl (inr f)
+    go false false e f = inr (rw (e, f) refl)
+
+help_named : (name : Text) → (bytes_eq (codes "help") name || false) ≡ true → bytes_eq name (codes "help") ≡ false → ⊥
+help_named name e other = go (bytes_eq (codes "help") name) refl e
+  where
+    go : (t : Bool) → bytes_eq (codes "help") name ≡ t → (t || false) ≡ true → ⊥
+    go false is e = let bad : false ≡ true = e in cc
+    go true is e =
+        let bad : true ≡ false = subst (λ (n : Text). bytes_eq n (codes "help") ≡ false) (sym (same_text_of (codes "help") name is)) other in cc
+
+entered_run : (name : Text) (rest : List Text) (rows : List Row) (o : Option Shape)
+    → ((o ≡ Some run_built) ⊎ (answers_to name (codes "help", []) ≡ true)) ⊎ (o ≡ None) → bytes_eq name (codes "help") ≡ false
+    → option_map_or (λ s. level_fault s [] nothing_held rest false []) o [] ≡ []
+    → check_fault top_built rows (is_some (option_map (λ s. rows_at s rest) o)) ≡ []
+    → option_and_then file_of_match (option_map (λ s. rows_at s rest) o) ≡ None → ⊥
+entered_run name rest rows o (inl (inl e)) other below check missing = run_level rest (rw e at below) (rw e at missing)
+entered_run name rest rows o (inl (inr e)) other below check missing = help_named name e other
+entered_run name rest rows o (inr e) other below check missing = never _ _ (rw e at check)
+
+entered_file : (rows : List Row) (stop : Option (Text × List Text)) → IsNoHelp stop → entered_fault plm_built stop ≡ []
+    → check_fault top_built rows (is_some (entered plm_built stop)) ≡ [] → option_and_then file_of_match (entered plm_built stop) ≡ None → ⊥
+entered_file rows None other below check missing = never _ _ check
+entered_file rows (Some (name, rest)) other below check missing =
+    entered_run name rest rows (find (λ s. answers_to name (label_of s)) plm_built.subs) (find_two (λ s. answers_to name (label_of s)) run_built (built_leaf help_shape)) other below check missing
+
+pub file_is_there : (words : List Text) → fault_of plm_app words ≡ [] → file_to_run words ≡ None → ⊥
+file_is_there words fine missing =
+    let given = drop 1 words in
+    let end = walk top_built.rules (names_of plm_built) nothing_held given in
+    let passes = level_passes_by top_built (names_of plm_built) nothing_held given (is_some (entered plm_built end.stopped)) (entered_fault plm_built end.stopped) fine in
+    entered_file (finished top_built.rules end.held) end.stopped (plm_walk top_built (names_of plm_built) given (walk_from nothing_held) refl tt passes.words_pass)
+    passes.below_passes passes.check_passes missing
+
+file_word : (file : Text) → strip_byte 45 file ≡ None → (bytes_eq file (45 ∷ 45 ∷ []) ≡ false) × (long_of file ≡ None) × (short_of file ≡ None)
+file_word [] bare = (refl, refl, refl)
+file_word (c ∷ rest) bare = go (c == 45) refl
+  where
+    go : (t : Bool) → (c == 45) ≡ t → (bytes_eq (c ∷ rest) (45 ∷ 45 ∷ []) ≡ false) × (long_of (c ∷ rest) ≡ None) × (short_of (c ∷ rest) ≡ None)
+    go false e = (rw e refl, rw e refl, rw e refl)
+    go true e = let bad : Some rest ≡ None = rw e at bare in absurd (let worse : Some rest ≡ None = bad in cc)
+
+pub plain_has_no_fault : (name file : Text) → strip_byte 45 file ≡ None → fault_of plm_app (name ∷ codes "run" ∷ file ∷ []) ≡ []
+unfolding clap_on_literals
+plain_has_no_fault name file bare = let (dashes, long, short) = file_word file bare in rw (dashes, long, short) refl
+
+pub plain_runs : (name file : Text) → strip_byte 45 file ≡ None → file_to_run (name ∷ codes "run" ∷ file ∷ []) ≡ Some file
+unfolding clap_on_literals
+plain_runs name file bare = let (dashes, long, short) = file_word file bare in rw (dashes, long, short) refl

@@ -1,0 +1,3 @@
+pub use Rattle.failure.specs.Failure
+pub mod Command
+pub mod internal

@@ -1,0 +1,16 @@
+-- What the errors of `clap` are to the caller.
+use Rattle.std.specs.Prelude.{◌≡◌, ◌≢◌}
+use Rattle.clap.specs.Words.{kind_of}
+use Rattle.clap.specs.declared.error.ErrorKind.TheVariants.{DisplayHelp, OutOfMemory}
+use Rattle.clap.specs.declared.error.Error.{Error}
+use Rattle.failure.specs.declared.Failure.{Failure}
+use Rattle.failure.specs.declared.Failure.TheVariants.{Fault, Memory}
+use Rattle.command_line.specs.declared.LineFault.{LineFault}
+use Rattle.command_line.specs.declared.LineFault.TheVariants.{Help, Wrong}
+
+-- the failure that an error of `clap` is: help, out of memory, or wrong words
+abbrev pub IsFailureFor : Error → Failure LineFault → Type 0
+IsFailureFor error (Fault (Help held)) = (held ≡ error) × (kind_of error ≡ DisplayHelp)
+IsFailureFor error (Fault (Wrong held)) =
+    (held ≡ error) × (kind_of error ≢ DisplayHelp) × (kind_of error ≢ OutOfMemory)
+IsFailureFor error Memory = kind_of error ≡ OutOfMemory

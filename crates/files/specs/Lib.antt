@@ -1,0 +1,3 @@
+pub use Rattle.ports.specs.Events
+pub use Rattle.failure.specs.Failure
+pub mod Files

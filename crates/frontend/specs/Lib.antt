@@ -1,0 +1,10 @@
+pub use Rattle.failure.specs.Failure
+pub use Rattle.words.specs.Spelling
+pub use Rattle.literally.specs.Expansion
+pub use Rattle.trees.specs.Derivation
+pub use Rattle.trees.specs.Trees
+pub mod Served
+pub mod Reading
+pub mod Causes
+pub mod Faults
+pub mod internal

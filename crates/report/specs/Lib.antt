@@ -1,0 +1,3 @@
+pub use Rattle.ports.specs.Events
+pub use Rattle.writing.specs.Writing
+pub mod Report
