@@ -5,5 +5,5 @@
 mod memory;
 mod range;
 
-pub use memory::{MEMORY_SIZE, Memory};
+pub use memory::{MEMORY_SIZE, Memory, Memory80Fault};
 pub use range::{Bytes, Piece, Range, overlap};

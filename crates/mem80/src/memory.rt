@@ -10,6 +10,9 @@ use std::marker::Model;
 /// How many bytes an 8080 can address.
 pub const MEMORY_SIZE: usize = 65536;
 
+/// Why a memory could not be made: the host has none for it.
+pub type Memory80Fault = AllocError;
+
 /// 65,536 bytes, at the addresses 0 to 65535.
 #[derive(Drop)]
 pub struct Memory {
@@ -30,7 +33,7 @@ impl Model for Memory {
 
 impl Memory {
     /// A memory of zeros, on the heap. Fails only where the host has no memory for it.
-    pub fn new(alloc: Global) -> Result<Memory, AllocError>
+    pub fn new(alloc: Global) -> Result<Memory, Memory80Fault>
         ensures zeroed { IfOk result IsZeroed }
     {
         let bytes = Box::new(alloc, [0; MEMORY_SIZE])?;

@@ -7,7 +7,7 @@ ghost use Rattle.ports.specs.Input.{AddsByte, input_value};
 ghost use Rattle.ports.specs.internal.Queues.{bytes_of, AreEmpty};
 
 use crate::event::{Event, PortFault, Ports};
-use std::alloc::{AllocError, Global};
+use std::alloc::Global;
 use std::marker::Model;
 
 /// How many ports an 8080 has.
@@ -54,7 +54,7 @@ impl Script {
 
     /// Adds a byte at the end of a port's queue, which a later read of that port gives. Out of memory, it
     /// changes nothing.
-    pub fn push_input(&mut self, port: u8, byte: u8) -> Result<(), AllocError>
+    pub fn push_input(&mut self, port: u8, byte: u8) -> Result<(), PortFault>
         ensures ok { OnOk result (AddsByte self.old.script self.new.script port byte) }
         ensures events { self.new.events ≡ self.old.events }
         ensures failures { self.new.failures ≡ self.old.failures }
@@ -149,20 +149,20 @@ fn byte_at(queue: &[u8], reads: u64) -> u8
 }
 
 // A queue for each port, with no byte.
-fn empty_queues(alloc: Global) -> Result<Vec<Vec<u8>>, AllocError>
+fn empty_queues(alloc: Global) -> Result<Vec<Vec<u8>>, PortFault>
     ensures size { IfOk result (λ queues. length queues.items ≡ PORTS) }
     ensures empty { IfOk result (λ queues. AreEmpty queues.items) }
 {
     let mut queues = Vec::new(alloc);
     for _ in 0..PORTS {
-        queues.push(Vec::new(alloc))?;
+        queues.push(Vec::new(alloc)).map_err(|_| PortFault)?;
     }
     Ok(queues)
 }
 
 // Adds a byte at the end of one of the queues. Out of memory, it changes nothing.
 #[tactic(auto, using(crate::proofs::ScriptLemmas::adds_byte_at, crate::proofs::ScriptLemmas::same_bytes_at))]
-fn push_at(queues: &mut Vec<Vec<u8>>, port: u8, byte: u8) -> Result<(), AllocError>
+fn push_at(queues: &mut Vec<Vec<u8>>, port: u8, byte: u8) -> Result<(), PortFault>
     requires { length queues.old.items ≡ PORTS }
     ensures ok { OnOk result (AddsByte (bytes_of queues.old.items) (bytes_of queues.new.items) port byte) }
     ensures err { OnErr result (bytes_of queues.new.items ≡ bytes_of queues.old.items) }
@@ -170,6 +170,6 @@ fn push_at(queues: &mut Vec<Vec<u8>>, port: u8, byte: u8) -> Result<(), AllocErr
 {
     match queues[port as usize].push(byte) {
         Ok(()) => Ok(()),
-        Err(failed) => Err(AllocError::from(failed)),
+        Err(_) => Err(PortFault),
     }
 }
