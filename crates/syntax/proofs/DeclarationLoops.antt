@@ -16,7 +16,8 @@ use Rattle.syntax.proofs.ReaderLemmas.{read}
 
 -- one more offset, and then others
 after_items-offset : (before : List OffsetTree) (o : OffsetTree) (others : Reading (List OffsetTree))
-    → after_items before (others >>= (λ found. Ok (o ∷ found.0, found.1))) ≡ after_items (before ++ o ∷ []) others
+    → after_items before (others >>= (λ found. Ok (o ∷ found.0, found.1)))
+    ≡ after_items (before ++ o ∷ []) others
 after_items-offset before o (Ok found) =
     ap (λ l. Ok (l, found.1)) (sym (append_assoc before (o ∷ []) found.0))
 after_items-offset before o (Err cause) = refl

@@ -31,7 +31,9 @@ more-step item keeps before a s r comma e =
 pub more-fails : {A : Type 0} (item : Parser A)
     → Keeps item
     → (before : List A) (s : List Symbol) (cause : Cause)
-    → at_mark Comma s ≡ true → item (drop 1 s) ≡ Err cause → after_items before (all_more_items item s) ≡ Err cause
+    → at_mark Comma s ≡ true
+    → item (drop 1 s) ≡ Err cause
+    → after_items before (all_more_items item s) ≡ Err cause
 more-fails item keeps before s cause comma e =
     ap (after_items before) (all_more_items-step item keeps s) ∙ rw (comma, e) refl
 

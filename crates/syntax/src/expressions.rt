@@ -58,8 +58,8 @@ impl<'a> Reader<'a> {
         Ok(left)
     }
 
-    // The next word, if it is an operator that goes on with an expression of level `top`, where the whole must
-    // stand at `level`.
+    // The next word, if it is an operator that goes on with an expression of level `top`, where the whole
+    // must stand at `level`.
     fn operator_on(&self, level: u8, top: u8) -> Option<BinaryOperator>
         ensures { result ≡ operator_on level top (next_operator self.now) }
     {

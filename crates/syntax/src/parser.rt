@@ -25,7 +25,8 @@ use words::{Mark, ReservedWord, Word};
 pub fn parse(alloc: Global, words: &[Word]) -> Result<Module, Failure<Fault>>
     ensures ok { IfOk result (λ parsed. Derives (lexemes_of words.now) (module_tree parsed)) }
     ensures one_tree { (all : List Lexeme) → DerivesAtMostOne all }
-    ensures refused { IfFault result (λ fault. (tree : ModuleTree) → Derives (lexemes_of words.now) tree → ⊥) }
+    ensures refused { IfFault result
+        (λ fault. (tree : ModuleTree) → Derives (lexemes_of words.now) tree → ⊥) }
     ensures depth { DerivesButForDepth (lexemes_of words.now) → IsRefused result IsOfDepth }
     ensures end_name { DerivesButForEndName (lexemes_of words.now) → IsRefused result IsOfEndName }
 {

@@ -62,8 +62,8 @@ fn is_name(word: &Word) -> bool
     word.kind == Kind::Name && Name::from_text(word.text).is_some()
 }
 
-// What a statement begins with at a word.
-// A word that is said to be a name and has other characters is found by whoever takes it.
+// What a statement begins with at a word. A word that is said to be a name and has other characters is found by
+// whoever takes it.
 #[tactic(auto, using(crate::proofs::StatementBeginnings::next_beginning_reserved, crate::proofs::StatementBeginnings::next_beginning_name))]
 fn beginning_with(word: &Word) -> Beginning
     ensures { result ≡ next_beginning (symbol_of (lexeme_of word.now) ∷ []) }

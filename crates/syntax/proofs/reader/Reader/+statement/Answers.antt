@@ -15,15 +15,18 @@ take_statements-returns-in_err-expect_word t c =
 
 pub take_statements-returns-in_err-statement : goal.take_statements-returns-in_err-statement
 take_statements-returns-in_err-statement t c =
-    let p = err_from_is_err_and c.from_residual-in_err-statement.result c.from_residual-in_err-statement.ensures.1 in
+    let p =
+    err_from_is_err_and c.from_residual-in_err-statement.result c.from_residual-in_err-statement.ensures.1 in
     rw (p.1, p.2)
-    (statements-fails _ _ _ _ _ c.more.invariant c.in_ok-expect_word.ensures.ok (sym c.more-test.true ∙ c.at_word.ensures) c.in_err-statement.ensures)
+    (statements-fails _ _ _ _ _ c.more.invariant c.in_ok-expect_word.ensures.ok
+    (sym c.more-test.true ∙ c.at_word.ensures) c.in_err-statement.ensures)
 
 pub take_declarations-returns-in_err-declaration : goal.take_declarations-returns-in_err-declaration
 take_declarations-returns-in_err-declaration t c =
     let p = err_from_is_err_and c.from_residual.result c.from_residual.ensures.1 in
     rw (p.1, p.2)
-    (declarations-fails _ _ _ _ _ c.more.invariant (ap not (sym c.more-test.true) ∙ c.begins_declaration.ensures) c.in_err-declaration.ensures)
+    (declarations-fails _ _ _ _ _ c.more.invariant
+    (ap not (sym c.more-test.true) ∙ c.begins_declaration.ensures) c.in_err-declaration.ensures)
 
 pub take_declaration-returns-then-room-eq0 : goal.take_declaration-returns-then-room-eq0
 take_declaration-returns-then-room-eq0 t c =
@@ -31,4 +34,5 @@ take_declaration-returns-then-room-eq0 t c =
 
 pub take_declaration-returns-then-at_word : goal.take_declaration-returns-then-at_word
 take_declaration-returns-then-at_word t c =
-    rw (declaration-declares _ _ _ (sym c.if-at_word.true ∙ c.at_word.ensures) c.skip.ensures) c.take_declare.ensures
+    rw (declaration-declares _ _ _ (sym c.if-at_word.true ∙ c.at_word.ensures) c.skip.ensures)
+    c.take_declare.ensures

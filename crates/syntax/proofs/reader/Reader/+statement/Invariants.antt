@@ -37,13 +37,17 @@ abbrev pub decreases-take_statements : goal.decreases-take_statements
 decreases-take_statements l = 10 * l.room + 1
 
 abbrev pub invariant-take_declarations-more : goal.invariant-take_declarations-more
-invariant-take_declarations-more l = declarations (declaration true l.room) l.initial.self ≡ after_declarations l.declarations.items (declarations (declaration true l.room) l.self)
+invariant-take_declarations-more l =
+    declarations (declaration true l.room) l.initial.self
+    ≡ after_declarations l.declarations.items (declarations (declaration true l.room) l.self)
 
 abbrev pub decreases-take_declarations-more : goal.decreases-take_declarations-more
 decreases-take_declarations-more l = length l.self
 
 abbrev pub invariant-take_statements-more : goal.invariant-take_statements-more
-invariant-take_statements-more l = statements (statement true l.room) l.initial.self ≡ after_statements l.statements.items (statements (statement true l.room) l.self)
+invariant-take_statements-more l =
+    statements (statement true l.room) l.initial.self
+    ≡ after_statements l.statements.items (statements (statement true l.room) l.self)
 
 abbrev pub decreases-take_statements-more : goal.decreases-take_statements-more
 decreases-take_statements-more l = length l.self
