@@ -1,5 +1,5 @@
--- When words derive a module: a case for each line of the grammar. In each, the symbols before `rest` are those of
--- the tree.
+-- When words derive a module: a case for each line of the grammar.
+-- In each, the symbols before `rest` are those of the tree.
 use Rattle.std.specs.Prelude.{◌≡◌, ℕ, suc, ◌<◌, false, List, [], ◌∷◌, Option, Some, None}
 use Rattle.std.specs.List.{AllByRecursion}
 use Rattle.words.specs.declared.vocabulary.Mark.TheVariants.{EqualSign, MinusSign, LeftParenthesis, RightParenthesis, Comma, Colon, Period, AssignSign}
@@ -21,26 +21,27 @@ use Rattle.trees.specs.Trees.{StringTree, ConstantTree, NumberConstant, StringCo
 mutual
   -- the symbols derive an expression at a level of the grammar
   pub data DerivesExpression : ℕ → List Symbol → ExpressionTree → List Symbol → Type 0 where
-    -- expr: conj; conj: neg; neg: rel; rel: sum; sum: term; term: sec; sec: primary
+    -- expression: conjunction; conjunction: negation; negation: relation; relation: sum; sum: term; term: sign;
+    -- sign: primary
     next_level : {level : ℕ} {symbols rest : List Symbol} {tree : ExpressionTree}
         → DerivesExpression (suc level) symbols tree rest
         → DerivesExpression level symbols tree rest
-    -- expr: conj {(OR | XOR) conj}
+    -- expression: conjunction {(OR | XOR) conjunction}
     or_chain : {symbols middle rest : List Symbol} {left right : ExpressionTree} {operator : BinaryOperator}
         → level_of operator ≡ expr_level
         → DerivesExpression expr_level symbols left (binary_symbol operator ∷ middle)
         → DerivesExpression conj_level middle right rest
         → DerivesExpression expr_level symbols (BinaryNode operator left right) rest
-    -- conj: neg {AND neg}
+    -- conjunction: negation {AND negation}
     and_chain : {symbols middle rest : List Symbol} {left right : ExpressionTree}
         → DerivesExpression conj_level symbols left (ReservedSymbol words.And ∷ middle)
         → DerivesExpression neg_level middle right rest
         → DerivesExpression conj_level symbols (BinaryNode And left right) rest
-    -- neg: NOT neg
+    -- negation: NOT negation
     negation : {symbols rest : List Symbol} {operand : ExpressionTree}
         → DerivesExpression neg_level symbols operand rest
         → DerivesExpression neg_level (ReservedSymbol words.Not ∷ symbols) (UnaryNode Not operand) rest
-    -- rel: sum (`=` | `<` | `>` | `<=` | `>=` | `<>`) sum
+    -- relation: sum (`=` | `<` | `>` | `<=` | `>=` | `<>`) sum
     comparison : {symbols middle rest : List Symbol} {left right : ExpressionTree} {operator : BinaryOperator}
         → level_of operator ≡ rel_level
         → DerivesExpression sum_level symbols left (binary_symbol operator ∷ middle)
@@ -52,13 +53,13 @@ mutual
         → DerivesExpression sum_level symbols left (binary_symbol operator ∷ middle)
         → DerivesExpression term_level middle right rest
         → DerivesExpression sum_level symbols (BinaryNode operator left right) rest
-    -- term: sec {(`*` | `/` | MOD) sec}
+    -- term: sign {(`*` | `/` | MOD) sign}
     term_chain : {symbols middle rest : List Symbol} {left right : ExpressionTree} {operator : BinaryOperator}
         → level_of operator ≡ term_level
         → DerivesExpression term_level symbols left (binary_symbol operator ∷ middle)
         → DerivesExpression sec_level middle right rest
         → DerivesExpression term_level symbols (BinaryNode operator left right) rest
-    -- sec: `-` primary
+    -- sign: `-` primary
     minus : {symbols rest : List Symbol} {operand : ExpressionTree}
         → DerivesExpression primary_level symbols operand rest
         → DerivesExpression sec_level (MarkSymbol MinusSign ∷ symbols) (UnaryNode Negate operand) rest
@@ -84,11 +85,11 @@ mutual
         → DerivesExpression primary_level (MarkSymbol Period ∷ MarkSymbol LeftParenthesis
         ∷ between_commas constant_symbols constants (MarkSymbol RightParenthesis ∷ rest))
         (ListLeaf constants) rest
-    -- primary: `(` expr `)`
+    -- primary: `(` expression `)`
     parenthesized : {symbols rest : List Symbol} {tree : ExpressionTree}
         → DerivesExpression expr_level symbols tree (MarkSymbol RightParenthesis ∷ rest)
         → DerivesExpression primary_level (MarkSymbol LeftParenthesis ∷ symbols) (ParenthesizedNode tree) rest
-    -- primary: `(` reference `:=` expr `)`
+    -- primary: `(` reference `:=` expression `)`
     embedded_assignment : {symbols middle rest : List Symbol} {target : ReferenceTree}
         {value : ExpressionTree}
         → DerivesReference symbols target (MarkSymbol AssignSign ∷ middle)
@@ -97,11 +98,11 @@ mutual
         (AssignmentNode target value) rest
 
   pub data DerivesReference : List Symbol → ReferenceTree → List Symbol → Type 0 where
-    -- reference: name [args]
+    -- reference: name [arguments]
     whole : {name : Identifier} {symbols rest : List Symbol} {arguments : ArgumentTrees}
         → DerivesArguments symbols arguments rest
         → DerivesReference (NameSymbol name ∷ symbols) (ReferenceTo name arguments NoMember) rest
-    -- reference: name [args] `.` name [args]
+    -- reference: name [arguments] `.` name [arguments]
     with_member : {name member : Identifier} {symbols middle rest : List Symbol}
         {arguments its_arguments : ArgumentTrees}
         → DerivesArguments symbols arguments (MarkSymbol Period ∷ NameSymbol member ∷ middle)
@@ -109,16 +110,16 @@ mutual
         → DerivesReference (NameSymbol name ∷ symbols)
         (ReferenceTo name arguments (MemberOf member its_arguments)) rest
 
-  -- [args]
+  -- [arguments]
   pub data DerivesArguments : List Symbol → ArgumentTrees → List Symbol → Type 0 where
     no_arguments : {rest : List Symbol} → DerivesArguments rest NoArguments rest
-    -- args: `(` expr {`,` expr} `)`
+    -- arguments: `(` expression {`,` expression} `)`
     some_arguments : {symbols middle rest : List Symbol} {first : ExpressionTree} {others : ArgumentTrees}
         → DerivesExpression expr_level symbols first middle
         → DerivesMoreArguments middle others rest
         → DerivesArguments (MarkSymbol LeftParenthesis ∷ symbols) (MoreArguments first others) rest
 
-  -- {`,` expr} `)`
+  -- {`,` expression} `)`
   pub data DerivesMoreArguments : List Symbol → ArgumentTrees → List Symbol → Type 0 where
     last_argument : {rest : List Symbol}
         → DerivesMoreArguments (MarkSymbol RightParenthesis ∷ rest) NoArguments rest
@@ -159,13 +160,13 @@ mutual
     -- statement: `;`
     null : {place : Place} {rest : List Symbol}
         → DerivesKind (SemicolonSymbol place ∷ rest) (NullStatement place) rest
-    -- statement: reference {`,` reference} `=` expr `;`
+    -- statement: reference {`,` reference} `=` expression `;`
     assignment : {end : Place} {symbols middle rest : List Symbol} {targets : List ReferenceTree}
         {value : ExpressionTree}
         → DerivesTargets symbols targets (MarkSymbol EqualSign ∷ middle)
         → DerivesExpression expr_level middle value (SemicolonSymbol end ∷ rest)
         → DerivesKind symbols (AssignmentStatement targets value) rest
-    -- statement: CALL name [args] `;`
+    -- statement: CALL name [arguments] `;`
     call : {place end : Place} {name : Identifier} {symbols rest : List Symbol} {arguments : ArgumentTrees}
         → DerivesArguments symbols arguments (SemicolonSymbol end ∷ rest)
         → DerivesKind (PlacedSymbol words.Call place ∷ NameSymbol name ∷ symbols)
@@ -174,7 +175,7 @@ mutual
     return : {place end : Place} {rest : List Symbol}
         → DerivesKind (PlacedSymbol words.Return place ∷ SemicolonSymbol end ∷ rest)
         (ReturnStatement place None) rest
-    -- statement: RETURN expr `;`
+    -- statement: RETURN expression `;`
     return_value : {place end : Place} {symbols rest : List Symbol} {value : ExpressionTree}
         → DerivesExpression expr_level symbols value (SemicolonSymbol end ∷ rest)
         → DerivesKind (PlacedSymbol words.Return place ∷ symbols) (ReturnStatement place (Some value)) rest
@@ -185,13 +186,13 @@ mutual
     goto : {place end : Place} {label : Identifier} {rest : List Symbol}
         → DerivesKind (PlacedSymbol words.Goto place ∷ NameSymbol label ∷ SemicolonSymbol end ∷ rest)
         (GotoStatement place label) rest
-    -- statement: IF expr THEN statement
+    -- statement: IF expression THEN statement
     if_then : {place : Place} {symbols middle rest : List Symbol} {condition : ExpressionTree}
         {body : StatementTree}
         → DerivesExpression expr_level symbols condition (ReservedSymbol words.Then ∷ middle)
         → DerivesStatement middle body rest
         → DerivesKind (PlacedSymbol words.If place ∷ symbols) (IfStatement place condition body NoElse) rest
-    -- statement: IF expr THEN statement ELSE statement, where the ELSE goes with no IF nearer to it
+    -- statement: IF expression THEN statement ELSE statement, where the ELSE goes with no IF nearer to it
     if_then_else : {place : Place} {symbols middle after rest : List Symbol} {condition : ExpressionTree}
         {body otherwise : StatementTree}
         → DerivesExpression expr_level symbols condition (ReservedSymbol words.Then ∷ middle)
@@ -207,14 +208,14 @@ mutual
         → DerivesStatements middle body (ReservedSymbol words.End ∷ SemicolonSymbol end ∷ rest)
         → DerivesKind (PlacedSymbol words.Do place ∷ SemicolonSymbol start ∷ symbols)
         (DoStatement place declared body) rest
-    -- statement: DO WHILE expr `;` {statement} END `;`
+    -- statement: DO WHILE expression `;` {statement} END `;`
     do_while : {place start end : Place} {symbols middle rest : List Symbol} {condition : ExpressionTree}
         {body : StatementTrees}
         → DerivesExpression expr_level symbols condition (SemicolonSymbol start ∷ middle)
         → DerivesStatements middle body (ReservedSymbol words.End ∷ SemicolonSymbol end ∷ rest)
         → DerivesKind (PlacedSymbol words.Do place ∷ ReservedSymbol words.While ∷ symbols)
         (WhileStatement place condition body) rest
-    -- statement: DO name `=` expr TO expr `;` {statement} END `;`
+    -- statement: DO name `=` expression TO expression `;` {statement} END `;`
     iterative_do : {place start end : Place} {variable : Identifier} {symbols to middle rest : List Symbol}
         {first last : ExpressionTree} {body : StatementTrees}
         → DerivesExpression expr_level symbols first (ReservedSymbol words.To ∷ to)
@@ -222,7 +223,7 @@ mutual
         → DerivesStatements middle body (ReservedSymbol words.End ∷ SemicolonSymbol end ∷ rest)
         → DerivesKind (PlacedSymbol words.Do place ∷ NameSymbol variable ∷ MarkSymbol EqualSign ∷ symbols)
         (IterateStatement place (head variable first last None) body) rest
-    -- statement: DO name `=` expr TO expr BY expr `;` {statement} END `;`
+    -- statement: DO name `=` expression TO expression BY expression `;` {statement} END `;`
     iterative_do_by : {place start end : Place} {variable : Identifier}
         {symbols to by middle rest : List Symbol}
         {first last step : ExpressionTree} {body : StatementTrees}
@@ -232,7 +233,7 @@ mutual
         → DerivesStatements middle body (ReservedSymbol words.End ∷ SemicolonSymbol end ∷ rest)
         → DerivesKind (PlacedSymbol words.Do place ∷ NameSymbol variable ∷ MarkSymbol EqualSign ∷ symbols)
         (IterateStatement place (head variable first last (Some step)) body) rest
-    -- statement: DO CASE expr `;` {statement} END `;`
+    -- statement: DO CASE expression `;` {statement} END `;`
     do_case : {place start end : Place} {symbols middle rest : List Symbol} {choice : ExpressionTree}
         {body : StatementTrees}
         → DerivesExpression expr_level symbols choice (SemicolonSymbol start ∷ middle)
