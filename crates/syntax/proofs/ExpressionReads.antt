@@ -7,7 +7,7 @@ use Rattle.trees.specs.declared.expression.BinaryOperator.{BinaryOperator}
 use Rattle.trees.specs.declared.expression.BinaryOperator.TheVariants.{Or, Xor, And, Equal, Less, Greater, LessOrEqual, GreaterOrEqual, Unequal, Add, Subtract, Multiply, Divide, Modulo}
 use Rattle.trees.specs.declared.expression.UnaryOperator.{UnaryOperator}
 use Rattle.trees.specs.declared.expression.UnaryOperator.TheVariants.{Not, Negate}
-use Rattle.trees.specs.Forms.{expr_level, neg_level, sec_level, primary_level, level_of, IsNotEmpty}
+use Rattle.trees.specs.Forms.{expression_level, negation_level, sign_level, primary_level, level_of, IsNotEmpty}
 use Rattle.trees.specs.internal.Forms.{left_level, unary_level_of, operand_level_of, IsExpression, IsReference, IsMember, AreArguments}
 use Rattle.trees.specs.Nesting.{expression_height, reference_height, member_height, arguments_height, targets_height}
 use Rattle.trees.specs.Spelling.{more_after_commas, between_commas, constant_symbols, binary_symbol}
@@ -76,7 +76,7 @@ list_of-spelled NoArguments r = refl
 list_of-spelled (MoreArguments t others) r =
     ap (λ k. MarkSymbol marks.Comma ∷ expression_symbols t k) (list_of-spelled others r)
 
-list_of-forms : (t : ArgumentTrees) → AreArguments t → AllByRecursion (IsExpression expr_level) (list_of t)
+list_of-forms : (t : ArgumentTrees) → AreArguments t → AllByRecursion (IsExpression expression_level) (list_of t)
 unfolding list_of
 list_of-forms NoArguments h = tt
 list_of-forms (MoreArguments t others) h = (h.0, list_of-forms others h.1)
@@ -95,24 +95,24 @@ list_of-fault room (MoreArguments t others) =
 
 -- arguments that are spelled
 some_arguments-read : (inner : ExpressionParser) (room : ℕ)
-    → Keeps (inner expr_level)
+    → Keeps (inner expression_level)
     → AllRead inner room
     → (t : ExpressionTree) (others : ArgumentTrees) (r : List Symbol)
     → AreArguments (MoreArguments t others)
-    → items (inner expr_level) (expression_symbols t (more_arguments_symbols others r))
+    → items (inner expression_level) (expression_symbols t (more_arguments_symbols others r))
     ≡ gave (depth_fault (arguments_height (MoreArguments t others)) room) (t ∷ list_of others)
     (MarkSymbol marks.RightParenthesis ∷ r)
 some_arguments-read inner room keeps all t others r form =
-    ap (λ k. items (inner expr_level) (expression_symbols t k)) (list_of-spelled others r)
-    ∙ items-reads (inner expr_level) expression_symbols (IsExpression expr_level) EndsExpression
+    ap (λ k. items (inner expression_level) (expression_symbols t k)) (list_of-spelled others r)
+    ∙ items-reads (inner expression_level) expression_symbols (IsExpression expression_level) EndsExpression
     (expression_fault room) keeps each (λ rest. (refl, refl, refl))
     (t ∷ list_of others) (MarkSymbol marks.RightParenthesis ∷ r) tt (form.0, list_of-forms others form.1)
     (refl, refl, refl) refl
     ∙ ap (λ f. gave f (t ∷ list_of others) (MarkSymbol marks.RightParenthesis ∷ r)) fault
   where
-    each : Reads (inner expr_level) expression_symbols (IsExpression expr_level) EndsExpression
+    each : Reads (inner expression_level) expression_symbols (IsExpression expression_level) EndsExpression
         (expression_fault room)
-    each a rest h ends = all expr_level a rest h (ends.1, ends.2) (no_operator expr_level rest ends.0)
+    each a rest h ends = all expression_level a rest h (ends.1, ends.2) (no_operator expression_level rest ends.0)
 
     fault : first_fault (expression_fault room) (t ∷ list_of others)
         ≡ depth_fault (arguments_height (MoreArguments t others)) room
@@ -121,7 +121,7 @@ some_arguments-read inner room keeps all t others r form =
         ∙ depth_fault-max (expression_height t) (arguments_height others) room
 
 arguments-read : (inner : ExpressionParser) (room : ℕ)
-    → Keeps (inner expr_level)
+    → Keeps (inner expression_level)
     → AllRead inner room
     → (t : ArgumentTrees) (r : List Symbol)
     → AreArguments t → at_mark marks.LeftParenthesis r ≡ false
@@ -130,7 +130,7 @@ arguments-read inner room keeps all NoArguments r form ends =
     if_false (at_mark marks.LeftParenthesis r) _ _ ends
     ∙ ap (λ f. gave f NoArguments r) (sym (depth_fault-within 0 room (omega arith)))
 arguments-read inner room keeps all (MoreArguments t others) r form ends =
-    bind_gave (items (inner expr_level) (expression_symbols t (more_arguments_symbols others r))) _
+    bind_gave (items (inner expression_level) (expression_symbols t (more_arguments_symbols others r))) _
     (depth_fault (arguments_height (MoreArguments t others)) room) (t ∷ list_of others)
     (MarkSymbol marks.RightParenthesis ∷ r) (some_arguments-read inner room keeps all t others r form)
     ∙ after-read (depth_fault (arguments_height (MoreArguments t others)) room)
@@ -138,7 +138,7 @@ arguments-read inner room keeps all (MoreArguments t others) r form ends =
     ∙ ap (λ k. gave (depth_fault (arguments_height (MoreArguments t others)) room) (MoreArguments t k) r)
     (arguments_of-list others)
 
-member-read : (inner : ExpressionParser) (room : ℕ) → Keeps (inner expr_level)
+member-read : (inner : ExpressionParser) (room : ℕ) → Keeps (inner expression_level)
     → AllRead inner room → (t : MemberTree) (r : List Symbol) → IsMember t → EndsReference r
     → member_of inner (member_of_symbols t r) ≡ gave (depth_fault (member_height t) room) t r
 member-read inner room keeps all NoMember r form ends =
@@ -156,7 +156,7 @@ member-opens_none : (t : MemberTree) (r : List Symbol) → EndsReference r
 member-opens_none NoMember r ends = ends.0
 member-opens_none (MemberOf n a) r ends = refl
 
-reference-read : (inner : ExpressionParser) (room : ℕ) → Keeps (inner expr_level)
+reference-read : (inner : ExpressionParser) (room : ℕ) → Keeps (inner expression_level)
     → AllRead inner room → (t : ReferenceTree) (r : List Symbol) → IsReference t → EndsReference r
     → reference inner (reference_symbols t r) ≡ gave (depth_fault (reference_height t) room) t r
 unfolding reference
@@ -203,7 +203,7 @@ unfolding operand primary
 at_reference inner deeper level (ReferenceTo n a m) r = refl
 
 reference-operand : (inner deeper : ExpressionParser) (room level : ℕ)
-    → Keeps (inner expr_level)
+    → Keeps (inner expression_level)
     → AllRead inner room
     → (f : ReferenceTree) (r : List Symbol)
     → IsReference f → EndsReference r → OperandRead inner deeper room level (ReferenceLeaf f) r
@@ -221,7 +221,7 @@ unfolding operand primary location
 at_location inner deeper level (ReferenceTo n a m) r = refl
 
 location-operand : (inner deeper : ExpressionParser) (room level : ℕ)
-    → Keeps (inner expr_level)
+    → Keeps (inner expression_level)
     → AllRead inner room
     → (f : ReferenceTree) (r : List Symbol)
     → IsReference f → EndsReference r → OperandRead inner deeper room level (LocationLeaf f) r
@@ -271,32 +271,32 @@ list-operand inner deeper room level cs r some =
 parenthesized-operand : (inner deeper : ExpressionParser) (room level : ℕ)
     → AllRead inner room
     → (x : ExpressionTree) (r : List Symbol)
-    → IsExpression expr_level x → OperandRead inner deeper room level (ParenthesizedNode x) r
+    → IsExpression expression_level x → OperandRead inner deeper room level (ParenthesizedNode x) r
 unfolding operand primary parenthesized
 parenthesized-operand inner deeper room level all x r form =
     let later : List Symbol = MarkSymbol marks.RightParenthesis ∷ r in
-    bind_gave (inner expr_level (expression_symbols x later)) _
+    bind_gave (inner expression_level (expression_symbols x later)) _
     (depth_fault (expression_height x) room) x later
-    (all expr_level x later form (refl, refl) (no_operator expr_level later refl))
+    (all expression_level x later form (refl, refl) (no_operator expression_level later refl))
     ∙ deeper_gave (expression_height x) room (ParenthesizedNode x) r
 
 assignment-operand : (inner deeper : ExpressionParser) (room level : ℕ)
     → AllRead inner room
     → AllReadBelow deeper room
     → (f : ReferenceTree) (x : ExpressionTree) (r : List Symbol)
-    → IsReference f → IsExpression expr_level x → OperandRead inner deeper room level (AssignmentNode f x) r
+    → IsReference f → IsExpression expression_level x → OperandRead inner deeper room level (AssignmentNode f x) r
 unfolding operand primary parenthesized
 assignment-operand inner deeper room level all below f x r target value =
     let closing : List Symbol = MarkSymbol marks.RightParenthesis ∷ r in
     let later : List Symbol = MarkSymbol marks.AssignSign ∷ expression_symbols x closing in
     let first : Option Cause = depth_fault (suc (reference_height f)) room in
     let second : Option Cause = depth_fault (suc (expression_height x)) room in
-    bind_gave (inner expr_level (reference_symbols f later)) _ first (ReferenceLeaf f) later
-    (all expr_level (ReferenceLeaf f) later (omega arith, target) (refl, refl)
-    (no_operator expr_level later refl))
+    bind_gave (inner expression_level (reference_symbols f later)) _ first (ReferenceLeaf f) later
+    (all expression_level (ReferenceLeaf f) later (omega arith, target) (refl, refl)
+    (no_operator expression_level later refl))
     ∙ ap (after first)
-    (bind_gave (deeper expr_level (expression_symbols x closing)) _ second x closing
-    (below expr_level x closing value (refl, refl) (no_operator expr_level closing refl))
+    (bind_gave (deeper expression_level (expression_symbols x closing)) _ second x closing
+    (below expression_level x closing value (refl, refl) (no_operator expression_level closing refl))
     ∙ after-read second (AssignmentNode f x) r)
     ∙ after-gave first second (AssignmentNode f x) r
     ∙ ap (λ k. gave k (AssignmentNode f x) r)
@@ -306,7 +306,7 @@ assignment-operand inner deeper room level all below f x r target value =
     (λ h. omega arith))
 
 -- the operators that may follow an operator before its operand
-follow_not : (o : BinaryOperator) → left_level (level_of o) ≤ neg_level → left_level (level_of o) < neg_level
+follow_not : (o : BinaryOperator) → left_level (level_of o) ≤ negation_level → left_level (level_of o) < negation_level
 follow_not Or h = omega arith
 follow_not Xor h = omega arith
 follow_not And h = omega arith
@@ -332,15 +332,15 @@ unary-operand : (inner deeper : ExpressionParser) (room level : ℕ)
     → OperandRead inner deeper room level (UnaryNode o x) r
 unfolding operand
 unary-operand inner deeper room level all Not x r l form ends may =
-    if_true (nat_le level neg_level) _ _ (le-leb level neg_level l)
-    ∙ bind_gave (inner neg_level (expression_symbols x r)) _ (depth_fault (expression_height x) room) x r
-    (all neg_level x r form ends (λ o is. follow_not o (may o is)))
+    if_true (nat_le level negation_level) _ _ (le-leb level negation_level l)
+    ∙ bind_gave (inner negation_level (expression_symbols x r)) _ (depth_fault (expression_height x) room) x r
+    (all negation_level x r form ends (λ o is. follow_not o (may o is)))
     ∙ deeper_gave (expression_height x) room (UnaryNode Not x) r
 unary-operand inner deeper room level all Negate x r l form ends may =
-    if_true (nat_le level sec_level) _ _ (le-leb level sec_level l)
+    if_true (nat_le level sign_level) _ _ (le-leb level sign_level l)
     ∙ bind_gave (inner primary_level (expression_symbols x r)) _ (depth_fault (expression_height x) room) x r
     (all primary_level x r form ends
-    (λ o is. let low : left_level (level_of o) ≤ sec_level = may o is in omega arith))
+    (λ o is. let low : left_level (level_of o) ≤ sign_level = may o is in omega arith))
     ∙ deeper_gave (expression_height x) room (UnaryNode Negate x) r
 
 -- what begins with an operator ends a reference
@@ -476,10 +476,10 @@ left-read inner deeper room level keeps all below (ConstantLeaf c) r h ends may 
     by_operand inner deeper room level (ConstantLeaf c) r (constant-operand inner deeper room level c r)
 left-read inner deeper room level keeps all below (ReferenceLeaf f) r h ends may =
     by_operand inner deeper room level (ReferenceLeaf f) r
-    (reference-operand inner deeper room level (keeps expr_level) all f r h.1 ends)
+    (reference-operand inner deeper room level (keeps expression_level) all f r h.1 ends)
 left-read inner deeper room level keeps all below (LocationLeaf f) r h ends may =
     by_operand inner deeper room level (LocationLeaf f) r
-    (location-operand inner deeper room level (keeps expr_level) all f r h.1 ends)
+    (location-operand inner deeper room level (keeps expression_level) all f r h.1 ends)
 left-read inner deeper room level keeps all below (ListLeaf cs) r h ends may =
     by_operand inner deeper room level (ListLeaf cs) r (list-operand inner deeper room level cs r h.1)
 left-read inner deeper room level keeps all below (ParenthesizedNode x) r h ends may =
@@ -574,14 +574,14 @@ expression-reads room level t r h ends =
 pub reference-reads : (room : ℕ) (t : ReferenceTree) (r : List Symbol) → IsReference t → EndsReference r
     → reference (expression room) (reference_symbols t r) ≡ gave (depth_fault (reference_height t) room) t r
 reference-reads room t r h ends =
-    reference-read (expression room) room (expression-keeps room expr_level) (expression-all room) t r h ends
+    reference-read (expression room) room (expression-keeps room expression_level) (expression-all room) t r h ends
 
 pub arguments-reads : (room : ℕ) (t : ArgumentTrees) (r : List Symbol)
     → AreArguments t
     → at_mark marks.LeftParenthesis r ≡ false
     → arguments (expression room) (arguments_symbols t r) ≡ gave (depth_fault (arguments_height t) room) t r
 arguments-reads room t r h ends =
-    arguments-read (expression room) room (expression-keeps room expr_level) (expression-all room) t r h ends
+    arguments-read (expression room) room (expression-keeps room expression_level) (expression-all room) t r h ends
 
 -- targets between commas, in front of what ends a reference
 reference_fault : ℕ → ReferenceTree → Option Cause

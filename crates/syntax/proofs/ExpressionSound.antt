@@ -8,7 +8,7 @@ use Rattle.trees.specs.declared.expression.BinaryOperator.{BinaryOperator}
 use Rattle.trees.specs.declared.expression.BinaryOperator.TheVariants.{Or, Xor, And, Equal, Less, Greater, LessOrEqual, GreaterOrEqual, Unequal, Add, Subtract, Multiply, Divide, Modulo}
 use Rattle.trees.specs.declared.expression.UnaryOperator.TheVariants.{Not, Negate}
 use Rattle.trees.specs.declared.identifier.Identifier.{Identifier}
-use Rattle.trees.specs.Forms.{expr_level, neg_level, sec_level, primary_level, level_of, IsNotEmpty}
+use Rattle.trees.specs.Forms.{expression_level, negation_level, sign_level, primary_level, level_of, IsNotEmpty}
 use Rattle.trees.specs.internal.Forms.{left_level, IsExpression, IsReference, IsMember, AreArguments}
 use Rattle.trees.specs.Nesting.{expression_height, reference_height, member_height, arguments_height, targets_height}
 use Rattle.trees.specs.Spelling.{more_after_commas, between_commas, constant_symbols, binary_symbol}
@@ -101,7 +101,7 @@ more_arguments-spelled (t ∷ all) r =
 
 -- an expression at the lowest level, of no more levels than the room
 abbrev FitsFirst : ℕ → ExpressionTree → Type 0
-FitsFirst room t = IsExpression expr_level t × (expression_height t ≤ room)
+FitsFirst room t = IsExpression expression_level t × (expression_height t ≤ room)
 
 arguments_fit : (room : ℕ) (all : List ExpressionTree)
     → AllByRecursion (FitsFirst room) all
@@ -139,8 +139,8 @@ arguments-fit : (inner : ExpressionParser) (room : ℕ)
     → ArgumentsFit room s t r
 arguments-fit inner room fit s r t e = ⊎_elim some none (if_cases (at_mark marks.LeftParenthesis s) _ _ _ e)
   where
-    sound : IsSound (inner expr_level) expression_symbols (FitsFirst room)
-    sound symbols rest found is = let h = fit expr_level symbols rest found is in
+    sound : IsSound (inner expression_level) expression_symbols (FitsFirst room)
+    sound symbols rest found is = let h = fit expression_level symbols rest found is in
         (h.0, (h.1 (omega arith), h.2))
 
     none : (at_mark marks.LeftParenthesis s ≡ false) × (read NoArguments s ≡ read t r)
@@ -148,14 +148,14 @@ arguments-fit inner room fit s r t e = ⊎_elim some none (if_cases (at_mark mar
     none h = moved (ArgumentsFit room s) NoArguments t s r h.1 (refl, tt, omega arith)
 
     some : (at_mark marks.LeftParenthesis s ≡ true) × ((do
-      found ← items (inner expr_level) (drop 1 s)
+      found ← items (inner expression_level) (drop 1 s)
       rest ← mark marks.RightParenthesis found.1
       read (arguments_of found.0) rest) ≡ read t r) → ArgumentsFit room s t r
     some h =
-        let found = bind_ok (items (inner expr_level) (drop 1 s)) _ _ h.1 in
+        let found = bind_ok (items (inner expression_level) (drop 1 s)) _ _ h.1 in
         let closing = bind_ok (mark marks.RightParenthesis found.0.1) _ _ found.2 in
         let listed =
-        items-sound (inner expr_level) expression_symbols (FitsFirst room) sound
+        items-sound (inner expression_level) expression_symbols (FitsFirst room) sound
         (drop 1 s) found.0.1 found.0.0 found.1 in
         let parts = arguments_fit room found.0.0 listed.2 in
         let opening = at_mark-is marks.LeftParenthesis s h.0 in
@@ -272,14 +272,14 @@ location-fits inner room fit s r t e = ⊎_elim some none (if_cases (at_mark mar
 assigned-fits : (deeper : ExpressionParser) (room : ℕ)
     → AllFitBelow deeper room
     → (left : ExpressionTree) (s r : List Symbol) (t : ExpressionTree)
-    → IsExpression expr_level left → expression_height left ≤ room → assigned deeper left s ≡ read t r
+    → IsExpression expression_level left → expression_height left ≤ room → assigned deeper left s ≡ read t r
     → PrimaryFits room (MarkSymbol marks.LeftParenthesis ∷ expression_symbols left s) t r
 assigned-fits deeper room fit (ReferenceLeaf target) s r t form height e =
     let later = bind_ok (mark marks.AssignSign s) _ _ e in
-    let value = bind_ok (deeper expr_level later.0) _ _ later.2 in
+    let value = bind_ok (deeper expression_level later.0) _ _ later.2 in
     let closing = bind_ok (mark marks.RightParenthesis value.0.1) _ _ value.2 in
     let sign = mark-ok marks.AssignSign s later.0 later.1 in
-    let its = fit expr_level later.0 value.0.1 value.0.0 value.1 in
+    let its = fit expression_level later.0 value.0.1 value.0.0 value.1 in
     let last = mark-ok marks.RightParenthesis value.0.1 closing.0 closing.1 in
     moved (PrimaryFits room (MarkSymbol marks.LeftParenthesis ∷ reference_symbols target s))
     (AssignmentNode target value.0.0) t closing.0 r closing.2 (
@@ -299,7 +299,7 @@ assigned-fits deeper room fit (BinaryNode o x y) s r t form height e = absurd cc
 closed-fits : (deeper : ExpressionParser) (room : ℕ)
     → AllFitBelow deeper room
     → (left : ExpressionTree) (s r : List Symbol) (t : ExpressionTree)
-    → IsExpression expr_level left → expression_height left ≤ room → closed deeper left s ≡ read t r
+    → IsExpression expression_level left → expression_height left ≤ room → closed deeper left s ≡ read t r
     → PrimaryFits room (MarkSymbol marks.LeftParenthesis ∷ expression_symbols left s) t r
 closed-fits deeper room fit left s r t form height e =
     ⊎_elim
@@ -320,8 +320,8 @@ parenthesized-fits : (inner deeper : ExpressionParser) (room : ℕ)
     → parenthesized inner deeper s ≡ read t r → PrimaryFits room (MarkSymbol marks.LeftParenthesis ∷ s) t r
 unfolding parenthesized
 parenthesized-fits inner deeper room fit below s r t e =
-    let found = bind_ok (inner expr_level s) _ _ e in
-    let its = fit expr_level s found.0.1 found.0.0 found.1 in
+    let found = bind_ok (inner expression_level s) _ _ e in
+    let its = fit expression_level s found.0.1 found.0.0 found.1 in
     let whole = closed-fits deeper room below found.0.0 found.0.1 r t (its.1 (omega arith)) its.2 found.2 in
     (ap (λ k. MarkSymbol marks.LeftParenthesis ∷ k) its.0 ∙ whole.0, whole.1, whole.2)
 
@@ -382,36 +382,36 @@ operand-fits : (inner deeper : ExpressionParser) (room : ℕ)
 unfolding operand
 operand-fits inner deeper room fit below level s r t e =
     ⊎_elim is_not (λ h. ⊎_elim is_minus is_primary
-    (if_cases (at_mark marks.MinusSign s && nat_le level sec_level) _ _ _ h.1))
-    (if_cases (at_word words.Not s && nat_le level neg_level) _ _ _ e)
+    (if_cases (at_mark marks.MinusSign s && nat_le level sign_level) _ _ _ h.1))
+    (if_cases (at_word words.Not s && nat_le level negation_level) _ _ _ e)
   where
-    is_not : ((at_word words.Not s && nat_le level neg_level) ≡ true) × ((do
-      found ← inner neg_level (drop 1 s)
+    is_not : ((at_word words.Not s && nat_le level negation_level) ≡ true) × ((do
+      found ← inner negation_level (drop 1 s)
       read (UnaryNode Not found.0) found.1) ≡ read t r) → ExpressionFits (suc room) level s t r
     is_not h =
-        let tests = and_parts (at_word words.Not s) (nat_le level neg_level) h.0 in
-        let found = bind_ok (inner neg_level (drop 1 s)) _ _ h.1 in
-        let its = fit neg_level (drop 1 s) found.0.1 found.0.0 found.1 in
+        let tests = and_parts (at_word words.Not s) (nat_le level negation_level) h.0 in
+        let found = bind_ok (inner negation_level (drop 1 s)) _ _ h.1 in
+        let its = fit negation_level (drop 1 s) found.0.1 found.0.0 found.1 in
         moved (ExpressionFits (suc room) level s) (UnaryNode Not found.0.0) t found.0.1 r found.2 (
           at_word-is words.Not s tests.0 ∙ ap (λ k. ReservedSymbol words.Not ∷ k) its.0,
-          λ l. (leb-true level neg_level tests.1, its.1 (omega arith)),
+          λ l. (leb-true level negation_level tests.1, its.1 (omega arith)),
           omega (arith, its.2),
         )
 
-    is_minus : ((at_mark marks.MinusSign s && nat_le level sec_level) ≡ true) × ((do
+    is_minus : ((at_mark marks.MinusSign s && nat_le level sign_level) ≡ true) × ((do
       found ← inner primary_level (drop 1 s)
       read (UnaryNode Negate found.0) found.1) ≡ read t r) → ExpressionFits (suc room) level s t r
     is_minus h =
-        let tests = and_parts (at_mark marks.MinusSign s) (nat_le level sec_level) h.0 in
+        let tests = and_parts (at_mark marks.MinusSign s) (nat_le level sign_level) h.0 in
         let found = bind_ok (inner primary_level (drop 1 s)) _ _ h.1 in
         let its = fit primary_level (drop 1 s) found.0.1 found.0.0 found.1 in
         moved (ExpressionFits (suc room) level s) (UnaryNode Negate found.0.0) t found.0.1 r found.2 (
           at_mark-is marks.MinusSign s tests.0 ∙ ap (λ k. MarkSymbol marks.MinusSign ∷ k) its.0,
-          λ l. (leb-true level sec_level tests.1, its.1 (omega arith)),
+          λ l. (leb-true level sign_level tests.1, its.1 (omega arith)),
           omega (arith, its.2),
         )
 
-    is_primary : ((at_mark marks.MinusSign s && nat_le level sec_level) ≡ false)
+    is_primary : ((at_mark marks.MinusSign s && nat_le level sign_level) ≡ false)
         × (primary inner deeper s ≡ read t r)
         → ExpressionFits (suc room) level s t r
     is_primary h = let its = primary-fits inner deeper room fit below s r t h.1 in (its.0, its.1 level, its.2)

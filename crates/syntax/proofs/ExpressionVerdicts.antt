@@ -3,7 +3,7 @@ use Rattle.std.proofs.Common.{◌≡◌, ℕ, Bool, true, false, nat_le, List, S
 use Rattle.std.proofs.lemmas.Bool.{leb-true, leb-false}
 use Rattle.std.specs.List.{AllByRecursion}
 use Rattle.words.specs.declared.vocabulary.Mark.TheVariants.{LeftParenthesis}
-use Rattle.trees.specs.Forms.{expr_level, IsNotEmpty, IsElement}
+use Rattle.trees.specs.Forms.{expression_level, IsNotEmpty, IsElement}
 use Rattle.trees.specs.internal.Forms.{IsExpression, IsReference, AreArguments}
 use Rattle.trees.specs.Nesting.{expression_height, reference_height, arguments_height}
 use Rattle.trees.specs.Spelling.{between_commas, element_symbols, heading_symbols}
@@ -21,9 +21,9 @@ use Rattle.syntax.proofs.StatementVerdictLists.{GetsSpelled}
 use Rattle.syntax.proofs.StatementVerdictRules.{Verdict, fits, too_deep}
 
 pub expression-gets : (room : ℕ)
-    → GetsSpelled expression_symbols (IsExpression expr_level) (expression room expr_level)
+    → GetsSpelled expression_symbols (IsExpression expression_level) (expression room expression_level)
 expression-gets room s =
-    record { holds = λ a e. let h = expression-sound room expr_level (omega arith) s a.0 a.1 e in (h.0, h.1) }
+    record { holds = λ a e. let h = expression-sound room expression_level (omega arith) s a.0 a.1 e in (h.0, h.1) }
 
 pub reference-gets : (room : ℕ) → GetsSpelled reference_symbols IsReference (reference (expression room))
 reference-gets room s = record { holds = λ a e. let h = reference-sound room s a.0 a.1 e in (h.0, h.1) }

@@ -8,7 +8,7 @@ use Rattle.words.specs.declared.vocabulary.ReservedWord.TheVariants as words
 use Rattle.trees.specs.declared.identifier.Identifier.{Identifier}
 use Rattle.trees.specs.declared.identifier.Place.{Place}
 use Rattle.trees.specs.Derivation.{DerivesExpression, DerivesArguments, DerivesTargets, DerivesStatement, labelled, unlabelled, DerivesKind, null, assignment as assignment_line, call as call_line, return, return_value as return_value_line, halt as halt_line, goto as goto_line, if_then, if_then_else, simple_do as simple_do_line, do_while, iterative_do as iterative_do_line, iterative_do_by, do_case, DerivesStatements, no_statement, next_statement, DerivesDeclaration, declare as declare_line, procedure as procedure_line, DerivesDeclarations, no_declaration, next_declaration}
-use Rattle.trees.specs.Forms.{expr_level, IsNotEmpty, ends_in_open_if, is_open_if}
+use Rattle.trees.specs.Forms.{expression_level, IsNotEmpty, ends_in_open_if, is_open_if}
 use Rattle.trees.specs.internal.Forms.{IsReference}
 use Rattle.trees.specs.internal.Spelling.{reference_symbols}
 use Rattle.trees.specs.Spelling.{between_commas, optional, name_symbols, element_symbols, heading_symbols, ending_symbols}
@@ -46,11 +46,11 @@ at_semicolon-is (x ∷ rest) e = absurd cc
 
 -- what is read of expressions, arguments and targets
 expression-derives : (room : ℕ) (s : List Symbol)
-    → Gets (λ found. DerivesExpression expr_level s found.0 found.1) (expression room expr_level s)
+    → Gets (λ found. DerivesExpression expression_level s found.0 found.1) (expression room expression_level s)
 expression-derives room s =
     gets_more (expression-gets room s) λ found h.
-    subst (λ (k : List Symbol). DerivesExpression expr_level k found.0 found.1) (sym h.0)
-    (expression-derived expr_level found.0 found.1 h.1)
+    subst (λ (k : List Symbol). DerivesExpression expression_level k found.0 found.1) (sym h.0)
+    (expression-derived expression_level found.0 found.1 h.1)
 
 arguments-derives : (room : ℕ) (s : List Symbol)
     → Gets (λ found. DerivesArguments s found.0 found.1) (arguments (expression room) s)
@@ -289,7 +289,7 @@ otherwise-gets inner sound s =
 
 if-read : {place : Place} {s middle left : List Symbol} {condition : ExpressionTree} {body : StatementTree}
     → (found : ElseTree × List Symbol)
-    → DerivesExpression expr_level s condition (ReservedSymbol words.Then ∷ middle)
+    → DerivesExpression expression_level s condition (ReservedSymbol words.Then ∷ middle)
     → DerivesStatement middle body left
     → (ends_in_open_if body ≡ true → at_word words.Else left ≡ false)
     → ElseRead left found
@@ -319,7 +319,7 @@ data StepRead (s : List Symbol) : Option ExpressionTree × List Symbol → Type 
   no_step : StepRead s (None, s)
   some_step : {after rest : List Symbol} {t : ExpressionTree}
       → s ≡ ReservedSymbol words.By ∷ after
-      → DerivesExpression expr_level after t rest
+      → DerivesExpression expression_level after t rest
       → StepRead s (Some t, rest)
 
 step-gets : (room : ℕ) (s : List Symbol) → Gets (StepRead s) (step (expression room) s)
@@ -341,8 +341,8 @@ head-read : {variable : Identifier} {first last : ExpressionTree} {s symbols to 
     {start : Place}
     → (found : Option ExpressionTree × List Symbol)
     → s ≡ NameSymbol variable ∷ MarkSymbol marks.EqualSign ∷ symbols
-    → DerivesExpression expr_level symbols first (ReservedSymbol words.To ∷ to)
-    → DerivesExpression expr_level to last left
+    → DerivesExpression expression_level symbols first (ReservedSymbol words.To ∷ to)
+    → DerivesExpression expression_level to last left
     → StepRead left found
     → found.1 ≡ SemicolonSymbol start ∷ rest
     → IsHeadRead s (record { variable = variable; first = first; last = last; step = found.0 }, rest)

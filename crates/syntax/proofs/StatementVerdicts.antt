@@ -11,7 +11,7 @@ use Rattle.trees.specs.declared.expression.UnaryOperator.TheVariants.{Not, Negat
 use Rattle.trees.specs.declared.identifier.Identifier.{Identifier}
 use Rattle.trees.specs.declared.identifier.Place.{Place}
 use Rattle.trees.specs.Derivation.{DerivesExpression, whole, with_member, DerivesArguments, no_arguments, some_arguments, DerivesTargets, last_target, next_target, DerivesStatement, labelled, unlabelled, DerivesKind, null, assignment as assignment_line, call as call_line, return, return_value as return_value_line, halt, goto as goto_line, if_then, if_then_else, simple_do as simple_do_line, do_while, iterative_do as iterative_do_line, iterative_do_by, do_case, DerivesStatements, no_statement, next_statement, DerivesDeclaration, declare as declare_line, procedure as procedure_line, DerivesDeclarations, no_declaration, next_declaration}
-use Rattle.trees.specs.Forms.{expr_level, IsNotEmpty, IsElement, ends_in_open_if, is_open_if}
+use Rattle.trees.specs.Forms.{expression_level, IsNotEmpty, IsElement, ends_in_open_if, is_open_if}
 use Rattle.trees.specs.internal.Forms.{IsReference}
 use Rattle.trees.specs.Nesting.{expression_height, reference_height, arguments_height, targets_height, iteration_height, statement_height, kind_height, statements_height, declaration_height, declarations_height, IsEndName, StatementEndsMatch, KindEndsMatch, StatementsEndsMatch, DeclarationEndsMatch, DeclarationsEndsMatch}
 use Rattle.trees.specs.Spelling.{between_commas, optional, name_symbols, element_symbols, heading_symbols, ending_symbols}
@@ -243,13 +243,13 @@ block-verdict strict room declared inner sound also s middle d b r ds dss =
 
 -- expressions, arguments and targets that are derived
 derived_expression : (strict : Bool) (room : ℕ) {s r : List Symbol} {t : ExpressionTree}
-    → DerivesExpression expr_level s t r
+    → DerivesExpression expression_level s t r
     → EndsExpression r
-    → Verdict (expression room expr_level s) (t, r) strict room (expression_height t) (Unit {0})
+    → Verdict (expression room expression_level s) (t, r) strict room (expression_height t) (Unit {0})
 derived_expression strict room {s} {r} {t} d ends =
     let h = expression-spelled d in
-    verdict_same (ap (expression room expr_level) h.0)
-    (expression-verdict strict room expr_level t r h.1 ends)
+    verdict_same (ap (expression room expression_level) h.0)
+    (expression-verdict strict room expression_level t r h.1 ends)
 
 derived_arguments : (strict : Bool) (room : ℕ) {s r : List Symbol} {t : ArgumentTrees}
     → DerivesArguments s t r
@@ -294,7 +294,7 @@ derived_targets strict room {s} {r} {targets} d =
 assignment-verdict : (strict : Bool) (room : ℕ) (targets : List ReferenceTree) (value : ExpressionTree)
     (end : Place) (s middle r : List Symbol)
     → DerivesTargets s targets (MarkSymbol marks.EqualSign ∷ middle)
-    → DerivesExpression expr_level middle value (SemicolonSymbol end ∷ r)
+    → DerivesExpression expression_level middle value (SemicolonSymbol end ∷ r)
     → Verdict (assignment (expression room) s) (AssignmentStatement targets value, r) strict room
     (max (targets_height targets) (expression_height value)) (Unit {0})
 unfolding assignment
@@ -320,7 +320,7 @@ return-verdict strict room place end r = verdict_ok
 
 return_value-verdict : (strict : Bool) (room : ℕ) (place end : Place) (value : ExpressionTree)
     (s r : List Symbol)
-    → DerivesExpression expr_level s value (SemicolonSymbol end ∷ r)
+    → DerivesExpression expression_level s value (SemicolonSymbol end ∷ r)
     → Verdict (return_value (expression room) place s) (ReturnStatement place (Some value), r) strict room
     (expression_height value) (Unit {0})
 unfolding return_value
@@ -332,7 +332,7 @@ return_value-verdict strict room place end value s r d =
 if-verdict : (strict : Bool) (room : ℕ) (inner : Parser StatementTree)
     → HasStatementVerdicts strict room inner
     → (place : Place) (condition : ExpressionTree) (body : StatementTree) (s middle r : List Symbol)
-    → DerivesExpression expr_level s condition (ReservedSymbol words.Then ∷ middle)
+    → DerivesExpression expression_level s condition (ReservedSymbol words.Then ∷ middle)
     → DerivesStatement middle body r
     → at_word words.Else r ≡ false
     → Verdict (conditional (expression room) inner place s) (IfStatement place condition body NoElse, r)
@@ -350,7 +350,7 @@ if_else-verdict : (strict : Bool) (room : ℕ) (inner : Parser StatementTree)
     → HasStatementVerdicts strict room inner
     → (place : Place) (condition : ExpressionTree) (body other : StatementTree)
     (s middle after r : List Symbol)
-    → DerivesExpression expr_level s condition (ReservedSymbol words.Then ∷ middle)
+    → DerivesExpression expression_level s condition (ReservedSymbol words.Then ∷ middle)
     → DerivesStatement middle body (ReservedSymbol words.Else ∷ after)
     → ends_in_open_if body ≡ false
     → DerivesStatement after other r
@@ -392,7 +392,7 @@ while_do-verdict : (strict : Bool) (room : ℕ) (inner : Parser StatementTree)
     → HasStatementVerdicts strict room inner
     → (place start end : Place) (condition : ExpressionTree) (body : StatementTrees)
     (s middle r : List Symbol)
-    → DerivesExpression expr_level s condition (SemicolonSymbol start ∷ middle)
+    → DerivesExpression expression_level s condition (SemicolonSymbol start ∷ middle)
     → DerivesStatements middle body (ReservedSymbol words.End ∷ SemicolonSymbol end ∷ r)
     → Verdict (while_do (expression room) inner place s) (WhileStatement place condition body, r) strict room
     (max (expression_height condition) (statements_height body)) (StatementsEndsMatch body)
@@ -406,7 +406,7 @@ while_do-verdict strict room inner sound place start end condition body s middle
 case_do-verdict : (strict : Bool) (room : ℕ) (inner : Parser StatementTree)
     → HasStatementVerdicts strict room inner
     → (place start end : Place) (choice : ExpressionTree) (body : StatementTrees) (s middle r : List Symbol)
-    → DerivesExpression expr_level s choice (SemicolonSymbol start ∷ middle)
+    → DerivesExpression expression_level s choice (SemicolonSymbol start ∷ middle)
     → DerivesStatements middle body (ReservedSymbol words.End ∷ SemicolonSymbol end ∷ r)
     → Verdict (case_do (expression room) inner place s) (CaseStatement place choice body, r) strict room
     (max (expression_height choice) (statements_height body)) (StatementsEndsMatch body)
@@ -420,8 +420,8 @@ case_do-verdict strict room inner sound place start end choice body s middle r d
 -- the head of an iterative DO without a step, and with one
 head-verdict : (strict : Bool) (room : ℕ) (variable : Identifier) (first last : ExpressionTree)
     (start : Place) (s to r : List Symbol)
-    → DerivesExpression expr_level s first (ReservedSymbol words.To ∷ to)
-    → DerivesExpression expr_level to last (SemicolonSymbol start ∷ r)
+    → DerivesExpression expression_level s first (ReservedSymbol words.To ∷ to)
+    → DerivesExpression expression_level to last (SemicolonSymbol start ∷ r)
     → Verdict (iteration (expression room) (NameSymbol variable ∷ MarkSymbol marks.EqualSign ∷ s))
     (record { variable = variable; first = first; last = last; step = None }, r) strict room
     (max (expression_height first) (max (expression_height last) 0)) (Unit {0})
@@ -434,9 +434,9 @@ head-verdict strict room variable first last start s to r d₁ d₂ =
 
 head_by-verdict : (strict : Bool) (room : ℕ) (variable : Identifier) (first last step : ExpressionTree)
     (start : Place) (s to by r : List Symbol)
-    → DerivesExpression expr_level s first (ReservedSymbol words.To ∷ to)
-    → DerivesExpression expr_level to last (ReservedSymbol words.By ∷ by)
-    → DerivesExpression expr_level by step (SemicolonSymbol start ∷ r)
+    → DerivesExpression expression_level s first (ReservedSymbol words.To ∷ to)
+    → DerivesExpression expression_level to last (ReservedSymbol words.By ∷ by)
+    → DerivesExpression expression_level by step (SemicolonSymbol start ∷ r)
     → Verdict (iteration (expression room) (NameSymbol variable ∷ MarkSymbol marks.EqualSign ∷ s))
     (record { variable = variable; first = first; last = last; step = Some step }, r) strict room
     (max (expression_height first) (max (expression_height last) (expression_height step))) (Unit {0})

@@ -3,7 +3,7 @@
 ghost use Rattle.std.specs.Prelude.{◌≡◌, ◌<◌, ◌≤◌, ◌+◌, suc, map, IfOk};
 ghost use Rattle.trees.specs.declared.module.TheConstants.{NESTING_LIMIT};
 ghost use Rattle.syntax.specs.internal.Expressions.{arguments, reference_after, reference, location, assigned, closed, parenthesized, primary, operand, all_operators, expression, expression_less, next_operator, operator_on};
-ghost use Rattle.trees.specs.Forms.{expr_level};
+ghost use Rattle.trees.specs.Forms.{expression_level};
 ghost use Rattle.trees.specs.Trees.{ReferenceLeaf};
 ghost use Rattle.syntax.specs.internal.Results.{Gives};
 ghost use Rattle.syntax.specs.internal.Lists.{items};
@@ -229,7 +229,7 @@ impl<'a> Reader<'a> {
     #[cycle(expression)]
     fn expressions(&mut self, room: u8) -> Result<MeasuredArguments, Failure<Fault>>
         requires { room ≤ NESTING_LIMIT }
-        ensures gives { Gives measured_items result self.new (items (expression room expr_level) self.old) }
+        ensures gives { Gives measured_items result self.new (items (expression room expression_level) self.old) }
         ensures fits { IfOk result (λ found. found.height ≤ room) }
     {
         let first = self.expression(EXPRESSION_LEVEL, room)?;

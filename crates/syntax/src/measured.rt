@@ -1,7 +1,7 @@
 //! Expressions with how many levels they take, and at which levels of the grammar they may stand.
 
 ghost use Rattle.std.specs.Prelude.{◌≡◌, ◌<◌, ◌+◌, suc, max, [], ◌∷◌, ◌++◌, IfOk, OnOk, IfSome, IsNone, false, map};
-ghost use Rattle.trees.specs.Forms.{expr_level, neg_level, rel_level, sec_level, primary_level, level_of};
+ghost use Rattle.trees.specs.Forms.{expression_level, negation_level, relation_level, sign_level, primary_level, level_of};
 ghost use Rattle.trees.specs.internal.Forms.{left_level, unary_level_of};
 ghost use Rattle.trees.specs.Nesting.{expression_height, reference_height, arguments_height};
 ghost use Rattle.trees.specs.Trees.{ConstantLeaf, ReferenceLeaf, LocationLeaf, ListLeaf, ParenthesizedNode, AssignmentNode, UnaryNode, BinaryNode, ReferenceTo, NoMember, MemberOf, NoArguments};

@@ -4,7 +4,7 @@ ghost use Rattle.std.specs.Prelude.{◌≡◌, ◌<◌, ◌≤◌, true, not, []
 ghost use Rattle.std.specs.Option.{option_map};
 ghost use Rattle.words.specs.Spelling.{lexeme_of};
 ghost use Rattle.trees.specs.declared.module.TheConstants.{NESTING_LIMIT};
-ghost use Rattle.trees.specs.Forms.{expr_level};
+ghost use Rattle.trees.specs.Forms.{expression_level};
 ghost use Rattle.trees.specs.Symbols.{symbol_of};
 ghost use Rattle.trees.specs.Views.{expression_tree, reference_tree, argument_trees, statement_tree, kind_tree, else_tree, statement_trees, declaration_tree, declaration_trees, iteration_tree};
 ghost use Rattle.syntax.specs.internal.Expressions.{expression, reference, arguments};
@@ -164,7 +164,7 @@ impl<'a> Reader<'a> {
     // expression
     fn take_expression(&mut self, room: u8) -> Result<Expression, Failure<Fault>>
         requires { room ≤ NESTING_LIMIT }
-        ensures { Gives expression_tree result self.new (expression room expr_level self.old) }
+        ensures { Gives expression_tree result self.new (expression room expression_level self.old) }
     {
         let found = self.expression(EXPRESSION_LEVEL, room)?;
         Ok(found.expression)

@@ -7,7 +7,7 @@ use Rattle.trees.specs.declared.expression.BinaryOperator.TheVariants.{Or, Xor, 
 use Rattle.trees.specs.declared.expression.UnaryOperator.{UnaryOperator}
 use Rattle.trees.specs.declared.expression.UnaryOperator.TheVariants.{Not, Negate}
 use Rattle.trees.specs.Derivation.{DerivesExpression, next_level, or_chain, and_chain, negation, comparison, sum_chain, term_chain, minus, number, string, reference, location, list, parenthesized, embedded_assignment, DerivesReference, whole, with_member, DerivesArguments, no_arguments, some_arguments, DerivesMoreArguments, last_argument, next_argument, DerivesTargets, last_target, next_target}
-use Rattle.trees.specs.Forms.{expr_level, primary_level, level_of, IsNotEmpty}
+use Rattle.trees.specs.Forms.{expression_level, primary_level, level_of, IsNotEmpty}
 use Rattle.trees.specs.internal.Forms.{left_level, unary_level_of, operand_level_of, IsExpression, IsReference, IsMember, AreArguments}
 use Rattle.trees.specs.internal.Spelling.{unary_symbol, expression_symbols, reference_symbols, arguments_symbols, more_arguments_symbols}
 use Rattle.trees.specs.Spelling.{binary_symbol, more_after_commas, between_commas}
@@ -161,10 +161,10 @@ mutual
       at_lower level primary_level h.0 (location (reference-derived r rest h.1))
   expression-derived level (ListLeaf constants) rest h = at_lower level primary_level h.0 (list h.1)
   expression-derived level (ParenthesizedNode inner) rest h =
-      at_lower level primary_level h.0 (parenthesized (expression-derived expr_level inner _ h.1))
+      at_lower level primary_level h.0 (parenthesized (expression-derived expression_level inner _ h.1))
   expression-derived level (AssignmentNode target value) rest h =
       at_lower level primary_level h.0
-      (embedded_assignment (reference-derived target _ h.1) (expression-derived expr_level value _ h.2))
+      (embedded_assignment (reference-derived target _ h.1) (expression-derived expression_level value _ h.2))
   expression-derived level (UnaryNode operator operand) rest h =
       at_lower level (unary_level_of operator) h.0
       (before operator (expression-derived (operand_level_of operator) operand rest h.1))
@@ -186,14 +186,14 @@ mutual
       → DerivesArguments (arguments_symbols tree rest) tree rest
   arguments-derived NoArguments rest h = no_arguments
   arguments-derived (MoreArguments first others) rest h =
-      some_arguments (expression-derived expr_level first _ h.0) (more_arguments-derived others rest h.1)
+      some_arguments (expression-derived expression_level first _ h.0) (more_arguments-derived others rest h.1)
 
   pub more_arguments-derived : (tree : ArgumentTrees) (rest : List Symbol)
       → AreArguments tree
       → DerivesMoreArguments (more_arguments_symbols tree rest) tree rest
   more_arguments-derived NoArguments rest h = last_argument
   more_arguments-derived (MoreArguments first others) rest h =
-      next_argument (expression-derived expr_level first _ h.0) (more_arguments-derived others rest h.1)
+      next_argument (expression-derived expression_level first _ h.0) (more_arguments-derived others rest h.1)
 
 -- after the first of several, a comma and the others
 more_after_commas-some : {A : Type 0} (symbols : A → List Symbol → List Symbol) (others : List A)

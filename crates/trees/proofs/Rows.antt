@@ -2,7 +2,7 @@
 use Rattle.std.proofs.Common.{◌≡◌, List, [], ◌∷◌, refl, lit≤, arith}
 use Rattle.trees.specs.declared.identifier.Identifier.{Identifier}
 use Rattle.trees.specs.Derivation.{DerivesExpression, Derives, whole_module, no_declaration, next_statement, no_statement, labelled, unlabelled, null, goto, if_then, if_then_else, next_level, reference, whole, no_arguments}
-use Rattle.trees.specs.Forms.{expr_level}
+use Rattle.trees.specs.Forms.{expression_level}
 use Rattle.trees.specs.internal.Forms.{IsExpression}
 use Rattle.trees.specs.internal.Spelling.{expression_symbols}
 use Rattle.trees.specs.Symbols.{Symbol, NameSymbol}
@@ -10,7 +10,7 @@ use Rattle.trees.specs.Trees.{ReferenceLeaf, ReferenceTo, NoArguments, NoMember}
 use Rattle.trees.specs.Rows.{at, nested_if_words, nested_if_tree, left_sum, right_sum}
 
 variable-derived : {name : Identifier} {rest : List Symbol}
-    → DerivesExpression expr_level (NameSymbol name ∷ rest)
+    → DerivesExpression expression_level (NameSymbol name ∷ rest)
     (ReferenceLeaf (ReferenceTo name NoArguments NoMember)) rest
 variable-derived =
     next_level (next_level (next_level (next_level (next_level (next_level (next_level
@@ -30,10 +30,10 @@ nested_if-derived = record {
 }
 
 -- 1 + 2 + 3 groups from the left
-left_sum-is : IsExpression expr_level left_sum
+left_sum-is : IsExpression expression_level left_sum
 left_sum-is = (lit≤ tt, (lit≤ tt, lit≤ tt, lit≤ tt), lit≤ tt)
 
-right_sum-is-not : IsExpression expr_level right_sum → ⊥
+right_sum-is-not : IsExpression expression_level right_sum → ⊥
 right_sum-is-not h = omega (arith, h.2.0)
 
 right_sum-is_spelled_alike : expression_symbols right_sum [] ≡ expression_symbols left_sum []

@@ -12,7 +12,7 @@ use Rattle.trees.specs.declared.identifier.Identifier.{Identifier}
 use Rattle.trees.specs.declared.identifier.Number.{Number}
 use Rattle.trees.specs.declared.identifier.Place.{Place}
 use Rattle.trees.specs.declared.module.TheConstants.{NESTING_LIMIT}
-use Rattle.trees.specs.Forms.{expr_level, conj_level, neg_level, rel_level, sum_level, term_level, sec_level, primary_level, level_of, IsNotEmpty, IsElement, ends_in_open_if}
+use Rattle.trees.specs.Forms.{expression_level, conjunction_level, negation_level, relation_level, sum_level, term_level, sign_level, primary_level, level_of, IsNotEmpty, IsElement, ends_in_open_if}
 use Rattle.trees.specs.Nesting.{module_height, IsNestedWithin, ModuleEndsMatch}
 use Rattle.trees.specs.Spelling.{binary_symbol, between_commas, constant_symbols, element_symbols, heading_symbols, ending_symbols}
 use Rattle.trees.specs.Symbols.{Symbol, NameSymbol, NumberSymbol, StringSymbol, ReservedSymbol, PlacedSymbol, MarkSymbol, SemicolonSymbol, symbols_of}
@@ -28,25 +28,25 @@ mutual
         → DerivesExpression level symbols tree rest
     -- expression: conjunction {(OR | XOR) conjunction}
     or_chain : {symbols middle rest : List Symbol} {left right : ExpressionTree} {operator : BinaryOperator}
-        → level_of operator ≡ expr_level
-        → DerivesExpression expr_level symbols left (binary_symbol operator ∷ middle)
-        → DerivesExpression conj_level middle right rest
-        → DerivesExpression expr_level symbols (BinaryNode operator left right) rest
+        → level_of operator ≡ expression_level
+        → DerivesExpression expression_level symbols left (binary_symbol operator ∷ middle)
+        → DerivesExpression conjunction_level middle right rest
+        → DerivesExpression expression_level symbols (BinaryNode operator left right) rest
     -- conjunction: negation {AND negation}
     and_chain : {symbols middle rest : List Symbol} {left right : ExpressionTree}
-        → DerivesExpression conj_level symbols left (ReservedSymbol words.And ∷ middle)
-        → DerivesExpression neg_level middle right rest
-        → DerivesExpression conj_level symbols (BinaryNode And left right) rest
+        → DerivesExpression conjunction_level symbols left (ReservedSymbol words.And ∷ middle)
+        → DerivesExpression negation_level middle right rest
+        → DerivesExpression conjunction_level symbols (BinaryNode And left right) rest
     -- negation: NOT negation
     negation : {symbols rest : List Symbol} {operand : ExpressionTree}
-        → DerivesExpression neg_level symbols operand rest
-        → DerivesExpression neg_level (ReservedSymbol words.Not ∷ symbols) (UnaryNode Not operand) rest
+        → DerivesExpression negation_level symbols operand rest
+        → DerivesExpression negation_level (ReservedSymbol words.Not ∷ symbols) (UnaryNode Not operand) rest
     -- relation: sum (`=` | `<` | `>` | `<=` | `>=` | `<>`) sum
     comparison : {symbols middle rest : List Symbol} {left right : ExpressionTree} {operator : BinaryOperator}
-        → level_of operator ≡ rel_level
+        → level_of operator ≡ relation_level
         → DerivesExpression sum_level symbols left (binary_symbol operator ∷ middle)
         → DerivesExpression sum_level middle right rest
-        → DerivesExpression rel_level symbols (BinaryNode operator left right) rest
+        → DerivesExpression relation_level symbols (BinaryNode operator left right) rest
     -- sum: term {(`+` | `-`) term}
     sum_chain : {symbols middle rest : List Symbol} {left right : ExpressionTree} {operator : BinaryOperator}
         → level_of operator ≡ sum_level
@@ -57,12 +57,12 @@ mutual
     term_chain : {symbols middle rest : List Symbol} {left right : ExpressionTree} {operator : BinaryOperator}
         → level_of operator ≡ term_level
         → DerivesExpression term_level symbols left (binary_symbol operator ∷ middle)
-        → DerivesExpression sec_level middle right rest
+        → DerivesExpression sign_level middle right rest
         → DerivesExpression term_level symbols (BinaryNode operator left right) rest
     -- sign: `-` primary
     minus : {symbols rest : List Symbol} {operand : ExpressionTree}
         → DerivesExpression primary_level symbols operand rest
-        → DerivesExpression sec_level (MarkSymbol MinusSign ∷ symbols) (UnaryNode Negate operand) rest
+        → DerivesExpression sign_level (MarkSymbol MinusSign ∷ symbols) (UnaryNode Negate operand) rest
     -- primary: number
     number : {value : Number} {rest : List Symbol}
         → DerivesExpression primary_level (NumberSymbol value ∷ rest)
@@ -87,13 +87,13 @@ mutual
         (ListLeaf constants) rest
     -- primary: `(` expression `)`
     parenthesized : {symbols rest : List Symbol} {tree : ExpressionTree}
-        → DerivesExpression expr_level symbols tree (MarkSymbol RightParenthesis ∷ rest)
+        → DerivesExpression expression_level symbols tree (MarkSymbol RightParenthesis ∷ rest)
         → DerivesExpression primary_level (MarkSymbol LeftParenthesis ∷ symbols) (ParenthesizedNode tree) rest
     -- primary: `(` reference `:=` expression `)`
     embedded_assignment : {symbols middle rest : List Symbol} {target : ReferenceTree}
         {value : ExpressionTree}
         → DerivesReference symbols target (MarkSymbol AssignSign ∷ middle)
-        → DerivesExpression expr_level middle value (MarkSymbol RightParenthesis ∷ rest)
+        → DerivesExpression expression_level middle value (MarkSymbol RightParenthesis ∷ rest)
         → DerivesExpression primary_level (MarkSymbol LeftParenthesis ∷ symbols)
         (AssignmentNode target value) rest
 
@@ -115,7 +115,7 @@ mutual
     no_arguments : {rest : List Symbol} → DerivesArguments rest NoArguments rest
     -- arguments: `(` expression {`,` expression} `)`
     some_arguments : {symbols middle rest : List Symbol} {first : ExpressionTree} {others : ArgumentTrees}
-        → DerivesExpression expr_level symbols first middle
+        → DerivesExpression expression_level symbols first middle
         → DerivesMoreArguments middle others rest
         → DerivesArguments (MarkSymbol LeftParenthesis ∷ symbols) (MoreArguments first others) rest
 
@@ -124,7 +124,7 @@ mutual
     last_argument : {rest : List Symbol}
         → DerivesMoreArguments (MarkSymbol RightParenthesis ∷ rest) NoArguments rest
     next_argument : {symbols middle rest : List Symbol} {first : ExpressionTree} {others : ArgumentTrees}
-        → DerivesExpression expr_level symbols first middle
+        → DerivesExpression expression_level symbols first middle
         → DerivesMoreArguments middle others rest
         → DerivesMoreArguments (MarkSymbol Comma ∷ symbols) (MoreArguments first others) rest
 
@@ -164,7 +164,7 @@ mutual
     assignment : {end : Place} {symbols middle rest : List Symbol} {targets : List ReferenceTree}
         {value : ExpressionTree}
         → DerivesTargets symbols targets (MarkSymbol EqualSign ∷ middle)
-        → DerivesExpression expr_level middle value (SemicolonSymbol end ∷ rest)
+        → DerivesExpression expression_level middle value (SemicolonSymbol end ∷ rest)
         → DerivesKind symbols (AssignmentStatement targets value) rest
     -- statement: CALL name [arguments] `;`
     call : {place end : Place} {name : Identifier} {symbols rest : List Symbol} {arguments : ArgumentTrees}
@@ -177,7 +177,7 @@ mutual
         (ReturnStatement place None) rest
     -- statement: RETURN expression `;`
     return_value : {place end : Place} {symbols rest : List Symbol} {value : ExpressionTree}
-        → DerivesExpression expr_level symbols value (SemicolonSymbol end ∷ rest)
+        → DerivesExpression expression_level symbols value (SemicolonSymbol end ∷ rest)
         → DerivesKind (PlacedSymbol words.Return place ∷ symbols) (ReturnStatement place (Some value)) rest
     -- statement: HALT `;`
     halt : {place end : Place} {rest : List Symbol}
@@ -189,13 +189,13 @@ mutual
     -- statement: IF expression THEN statement
     if_then : {place : Place} {symbols middle rest : List Symbol} {condition : ExpressionTree}
         {body : StatementTree}
-        → DerivesExpression expr_level symbols condition (ReservedSymbol words.Then ∷ middle)
+        → DerivesExpression expression_level symbols condition (ReservedSymbol words.Then ∷ middle)
         → DerivesStatement middle body rest
         → DerivesKind (PlacedSymbol words.If place ∷ symbols) (IfStatement place condition body NoElse) rest
     -- statement: IF expression THEN statement ELSE statement, where the ELSE goes with no IF nearer to it
     if_then_else : {place : Place} {symbols middle after rest : List Symbol} {condition : ExpressionTree}
         {body otherwise : StatementTree}
-        → DerivesExpression expr_level symbols condition (ReservedSymbol words.Then ∷ middle)
+        → DerivesExpression expression_level symbols condition (ReservedSymbol words.Then ∷ middle)
         → DerivesStatement middle body (ReservedSymbol words.Else ∷ after)
         → ends_in_open_if body ≡ false
         → DerivesStatement after otherwise rest
@@ -211,15 +211,15 @@ mutual
     -- statement: DO WHILE expression `;` {statement} END `;`
     do_while : {place start end : Place} {symbols middle rest : List Symbol} {condition : ExpressionTree}
         {body : StatementTrees}
-        → DerivesExpression expr_level symbols condition (SemicolonSymbol start ∷ middle)
+        → DerivesExpression expression_level symbols condition (SemicolonSymbol start ∷ middle)
         → DerivesStatements middle body (ReservedSymbol words.End ∷ SemicolonSymbol end ∷ rest)
         → DerivesKind (PlacedSymbol words.Do place ∷ ReservedSymbol words.While ∷ symbols)
         (WhileStatement place condition body) rest
     -- statement: DO name `=` expression TO expression `;` {statement} END `;`
     iterative_do : {place start end : Place} {variable : Identifier} {symbols to middle rest : List Symbol}
         {first last : ExpressionTree} {body : StatementTrees}
-        → DerivesExpression expr_level symbols first (ReservedSymbol words.To ∷ to)
-        → DerivesExpression expr_level to last (SemicolonSymbol start ∷ middle)
+        → DerivesExpression expression_level symbols first (ReservedSymbol words.To ∷ to)
+        → DerivesExpression expression_level to last (SemicolonSymbol start ∷ middle)
         → DerivesStatements middle body (ReservedSymbol words.End ∷ SemicolonSymbol end ∷ rest)
         → DerivesKind (PlacedSymbol words.Do place ∷ NameSymbol variable ∷ MarkSymbol EqualSign ∷ symbols)
         (IterateStatement place (head variable first last None) body) rest
@@ -227,16 +227,16 @@ mutual
     iterative_do_by : {place start end : Place} {variable : Identifier}
         {symbols to by middle rest : List Symbol}
         {first last step : ExpressionTree} {body : StatementTrees}
-        → DerivesExpression expr_level symbols first (ReservedSymbol words.To ∷ to)
-        → DerivesExpression expr_level to last (ReservedSymbol words.By ∷ by)
-        → DerivesExpression expr_level by step (SemicolonSymbol start ∷ middle)
+        → DerivesExpression expression_level symbols first (ReservedSymbol words.To ∷ to)
+        → DerivesExpression expression_level to last (ReservedSymbol words.By ∷ by)
+        → DerivesExpression expression_level by step (SemicolonSymbol start ∷ middle)
         → DerivesStatements middle body (ReservedSymbol words.End ∷ SemicolonSymbol end ∷ rest)
         → DerivesKind (PlacedSymbol words.Do place ∷ NameSymbol variable ∷ MarkSymbol EqualSign ∷ symbols)
         (IterateStatement place (head variable first last (Some step)) body) rest
     -- statement: DO CASE expression `;` {statement} END `;`
     do_case : {place start end : Place} {symbols middle rest : List Symbol} {choice : ExpressionTree}
         {body : StatementTrees}
-        → DerivesExpression expr_level symbols choice (SemicolonSymbol start ∷ middle)
+        → DerivesExpression expression_level symbols choice (SemicolonSymbol start ∷ middle)
         → DerivesStatements middle body (ReservedSymbol words.End ∷ SemicolonSymbol end ∷ rest)
         → DerivesKind (PlacedSymbol words.Do place ∷ ReservedSymbol words.Case ∷ symbols)
         (CaseStatement place choice body) rest

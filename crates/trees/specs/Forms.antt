@@ -6,17 +6,17 @@ use Rattle.trees.specs.declared.expression.BinaryOperator.TheVariants.{Or, Xor, 
 use Rattle.trees.specs.Trees.{ItemTypeTree, ScalarItem, StructureItem, ValueListTree, SubjectTree, SingleSubject, GroupSubject, ItemTree, ElementTree, LiterallyElement, ItemElement, StatementTree, LabelledStatement, StatementKindTree, NullStatement, AssignmentStatement, CallStatement, ReturnStatement, HaltStatement, GotoStatement, IfStatement, DoStatement, WhileStatement, IterateStatement, CaseStatement, ElseTree, NoElse, ElseStatement}
 
 -- The levels of the grammar's expressions. What stands at a level may stand at each lower one.
-abbrev pub expr_level : ℕ
-expr_level = 0
+abbrev pub expression_level : ℕ
+expression_level = 0
 
-abbrev pub conj_level : ℕ
-conj_level = 1
+abbrev pub conjunction_level : ℕ
+conjunction_level = 1
 
-abbrev pub neg_level : ℕ
-neg_level = 2
+abbrev pub negation_level : ℕ
+negation_level = 2
 
-abbrev pub rel_level : ℕ
-rel_level = 3
+abbrev pub relation_level : ℕ
+relation_level = 3
 
 abbrev pub sum_level : ℕ
 sum_level = 4
@@ -24,23 +24,23 @@ sum_level = 4
 abbrev pub term_level : ℕ
 term_level = 5
 
-abbrev pub sec_level : ℕ
-sec_level = 6
+abbrev pub sign_level : ℕ
+sign_level = 6
 
 abbrev pub primary_level : ℕ
 primary_level = 7
 
 -- the level at which an operator joins its operands
 abbrev pub level_of : BinaryOperator → ℕ
-level_of Or = expr_level
-level_of Xor = expr_level
-level_of And = conj_level
-level_of Equal = rel_level
-level_of Less = rel_level
-level_of Greater = rel_level
-level_of LessOrEqual = rel_level
-level_of GreaterOrEqual = rel_level
-level_of Unequal = rel_level
+level_of Or = expression_level
+level_of Xor = expression_level
+level_of And = conjunction_level
+level_of Equal = relation_level
+level_of Less = relation_level
+level_of Greater = relation_level
+level_of LessOrEqual = relation_level
+level_of GreaterOrEqual = relation_level
+level_of Unequal = relation_level
 level_of Add = sum_level
 level_of Subtract = sum_level
 level_of Multiply = term_level

@@ -7,7 +7,7 @@ use Rattle.trees.specs.declared.expression.BinaryOperator.{BinaryOperator}
 use Rattle.trees.specs.declared.expression.BinaryOperator.TheVariants.{Or, Xor, And, Equal, Less, Greater, LessOrEqual, GreaterOrEqual, Unequal, Add, Subtract, Multiply, Divide, Modulo}
 use Rattle.trees.specs.declared.expression.UnaryOperator.TheVariants.{Not, Negate}
 use Rattle.trees.specs.declared.identifier.Identifier.{Identifier}
-use Rattle.trees.specs.Forms.{expr_level, neg_level, sec_level, primary_level, level_of}
+use Rattle.trees.specs.Forms.{expression_level, negation_level, sign_level, primary_level, level_of}
 use Rattle.trees.specs.internal.Forms.{left_level, unary_level_of}
 use Rattle.trees.specs.Nesting.{expression_height}
 use Rattle.trees.specs.Symbols.{Symbol, MarkSymbol, ReservedSymbol}
@@ -66,7 +66,7 @@ arguments_of (first ∷ others) = MoreArguments first (arguments_of others)
 abbrev pub arguments : ExpressionParser → Parser ArgumentTrees
 arguments inner symbols =
     if at_mark marks.LeftParenthesis symbols then (do
-      found ← items (inner expr_level) (drop 1 symbols)
+      found ← items (inner expression_level) (drop 1 symbols)
       rest ← mark marks.RightParenthesis found.1
       Ok (arguments_of found.0, rest))
     else Ok (NoArguments, symbols)
@@ -108,7 +108,7 @@ location inner symbols =
 abbrev pub assigned : ExpressionParser → ExpressionTree → Parser ExpressionTree
 assigned deeper (ReferenceLeaf target) symbols = do
   later ← mark marks.AssignSign symbols
-  value ← deeper expr_level later
+  value ← deeper expression_level later
   rest ← mark marks.RightParenthesis value.1
   Ok (AssignmentNode target value.0, rest)
 assigned deeper tree symbols = Err Unexpected
@@ -122,7 +122,7 @@ closed deeper tree symbols =
 -- what stands after an opening parenthesis: expression `)`, or reference `:=` expression `)`
 unfoldable pub parenthesized : ExpressionParser → ExpressionParser → Parser ExpressionTree
 parenthesized inner deeper symbols = do
-  found ← inner expr_level symbols
+  found ← inner expression_level symbols
   closed deeper found.0 found.1
 
 -- a constant, a reference, a location or an expression in parentheses
@@ -143,10 +143,10 @@ primary inner deeper symbols =
 -- an operator before its operand, or a primary, at a level
 unfoldable pub operand : ExpressionParser → ExpressionParser → ℕ → Parser ExpressionTree
 operand inner deeper level symbols =
-    if at_word words.Not symbols && nat_le level neg_level then (do
-      found ← inner neg_level (drop 1 symbols)
+    if at_word words.Not symbols && nat_le level negation_level then (do
+      found ← inner negation_level (drop 1 symbols)
       Ok (UnaryNode Not found.0, found.1))
-    else (if at_mark marks.MinusSign symbols && nat_le level sec_level then (do
+    else (if at_mark marks.MinusSign symbols && nat_le level sign_level then (do
       found ← inner primary_level (drop 1 symbols)
       Ok (UnaryNode Negate found.0, found.1))
     else primary inner deeper symbols)

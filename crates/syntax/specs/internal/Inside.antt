@@ -3,7 +3,7 @@ use Rattle.std.specs.Prelude.{◌≡◌, ℕ, Bool, true, false, List, [], ◌�
 use Rattle.trees.specs.declared.statement.Block.{Block}
 use Rattle.trees.specs.declared.statement.Declaration.{Declaration}
 use Rattle.trees.specs.declared.statement.Statement.{Statement}
-use Rattle.trees.specs.Forms.{expr_level}
+use Rattle.trees.specs.Forms.{expression_level}
 use Rattle.trees.specs.Symbols.{Symbol, NameSymbol, UnknownSymbol}
 use Rattle.trees.specs.Trees.{ExpressionTree, StatementTree, StatementKindTree, StatementTrees, MoreStatements, DeclarationTrees, MoreDeclarations}
 use Rattle.trees.specs.Views.{statement_tree, declaration_tree, block_declarations, block_statements}
@@ -41,7 +41,7 @@ block_trees block = (block_declarations block, block_statements block)
 -- expression `;`
 abbrev pub condition : ExpressionParser → Parser ExpressionTree
 condition inner symbols = do
-  found ← inner expr_level symbols
+  found ← inner expression_level symbols
   end ← semicolon found.1
   Ok (found.0, end.1)
 

@@ -7,7 +7,7 @@ use Rattle.words.specs.declared.vocabulary.ReservedWord.{ReservedWord}
 use Rattle.words.specs.declared.vocabulary.ReservedWord.TheVariants as words
 use Rattle.trees.specs.declared.identifier.Identifier.{Identifier}
 use Rattle.trees.specs.declared.identifier.Place.{Place}
-use Rattle.trees.specs.Forms.{expr_level}
+use Rattle.trees.specs.Forms.{expression_level}
 use Rattle.trees.specs.Symbols.{Symbol, NameSymbol, SemicolonSymbol, PlacedSymbol}
 use Rattle.trees.specs.Trees.{ExpressionTree, IterationTree, StatementTree, LabelledStatement, StatementKindTree, NullStatement, AssignmentStatement, CallStatement, ReturnStatement, HaltStatement, GotoStatement, IfStatement, ElseTree, NoElse, ElseStatement, DoStatement, WhileStatement, IterateStatement, CaseStatement, StatementTrees, NoStatements, MoreStatements, DeclarationTree, DeclareTree, ProcedureTree, DeclarationTrees, NoDeclarations, MoreDeclarations, ModuleTree}
 use Rattle.syntax.specs.declared.statements.Beginning.{Beginning}
@@ -136,7 +136,7 @@ unfoldable pub assignment : ExpressionParser → Parser StatementKindTree
 assignment inner symbols = do
   targets ← items (reference inner) symbols
   later ← mark marks.EqualSign targets.1
-  value ← inner expr_level later
+  value ← inner expression_level later
   end ← semicolon value.1
   Ok (AssignmentStatement targets.0 value.0, end.1)
 
@@ -153,7 +153,7 @@ unfoldable pub return_value : ExpressionParser → Place → Parser StatementKin
 return_value inner place symbols =
     if at_semicolon symbols then Ok (ReturnStatement place None, drop 1 symbols)
     else (do
-      value ← inner expr_level symbols
+      value ← inner expression_level symbols
       end ← semicolon value.1
       Ok (ReturnStatement place (Some (value.0)), end.1))
 
@@ -168,7 +168,7 @@ otherwise inner symbols =
 -- expression THEN statement [ELSE statement], after IF
 unfoldable pub conditional : ExpressionParser → Parser StatementTree → Place → Parser StatementKindTree
 conditional expressions inner place symbols = do
-  condition ← expressions expr_level symbols
+  condition ← expressions expression_level symbols
   rest ← word words.Then condition.1
   body ← inner rest
   other ← otherwise inner body.1
@@ -178,7 +178,7 @@ conditional expressions inner place symbols = do
 abbrev pub step : ExpressionParser → Parser (Option ExpressionTree)
 step inner symbols =
     if at_word words.By symbols then (do
-      found ← inner expr_level (drop 1 symbols)
+      found ← inner expression_level (drop 1 symbols)
       Ok (Some (found.0), found.1))
     else Ok (None, symbols)
 
@@ -187,9 +187,9 @@ unfoldable pub iteration : ExpressionParser → Parser IterationTree
 iteration inner symbols = do
   its_variable ← name symbols
   later ← mark marks.EqualSign its_variable.1
-  its_first ← inner expr_level later
+  its_first ← inner expression_level later
   after ← word words.To its_first.1
-  its_last ← inner expr_level after
+  its_last ← inner expression_level after
   its_step ← step inner its_last.1
   end ← semicolon its_step.1
   Ok (record { variable = its_variable.0; first = its_first.0; last = its_last.0; step = its_step.0 }, end.1)
@@ -204,7 +204,7 @@ simple_do inside place symbols = do
 -- expression `;` {statement} END `;`, after DO WHILE
 unfoldable pub while_do : ExpressionParser → Parser StatementTree → Place → Parser StatementKindTree
 while_do expressions inner place symbols = do
-  condition ← expressions expr_level symbols
+  condition ← expressions expression_level symbols
   start ← semicolon condition.1
   body ← body_of_do inner start.1
   Ok (WhileStatement place condition.0 body.0, body.1)
@@ -212,7 +212,7 @@ while_do expressions inner place symbols = do
 -- expression `;` {statement} END `;`, after DO CASE
 unfoldable pub case_do : ExpressionParser → Parser StatementTree → Place → Parser StatementKindTree
 case_do expressions inner place symbols = do
-  choice ← expressions expr_level symbols
+  choice ← expressions expression_level symbols
   start ← semicolon choice.1
   body ← body_of_do inner start.1
   Ok (CaseStatement place choice.0 body.0, body.1)

@@ -2,22 +2,22 @@
 use Rattle.std.specs.Prelude.{ℕ, suc, ◌≤◌, ◌==◌, if◌then◌else◌}
 use Rattle.trees.specs.declared.expression.UnaryOperator.{UnaryOperator}
 use Rattle.trees.specs.declared.expression.UnaryOperator.TheVariants.{Not, Negate}
-use Rattle.trees.specs.Forms.{expr_level, neg_level, rel_level, sum_level, sec_level, primary_level, level_of, IsNotEmpty}
+use Rattle.trees.specs.Forms.{expression_level, negation_level, relation_level, sum_level, sign_level, primary_level, level_of, IsNotEmpty}
 use Rattle.trees.specs.Trees.{ExpressionTree, ConstantLeaf, ReferenceLeaf, LocationLeaf, ListLeaf, ParenthesizedNode, AssignmentNode, UnaryNode, BinaryNode, ReferenceTree, ReferenceTo, MemberTree, NoMember, MemberOf, ArgumentTrees, NoArguments, MoreArguments}
 
 -- The level of what stands left of an operator of a level: the same level, since chains group from the left.
 -- A comparison is no chain.
 abbrev pub left_level : ℕ → ℕ
-left_level level = if level == rel_level then sum_level else level
+left_level level = if level == relation_level then sum_level else level
 
 -- the level at which an operator before its operand stands
 abbrev pub unary_level_of : UnaryOperator → ℕ
-unary_level_of Not = neg_level
-unary_level_of Negate = sec_level
+unary_level_of Not = negation_level
+unary_level_of Negate = sign_level
 
 -- the level of what stands after an operator before its operand
 abbrev pub operand_level_of : UnaryOperator → ℕ
-operand_level_of Not = neg_level
+operand_level_of Not = negation_level
 operand_level_of Negate = primary_level
 
 abbrev mutual
@@ -27,11 +27,11 @@ abbrev mutual
   IsExpression level (ReferenceLeaf reference) = (level ≤ primary_level) × IsReference reference
   IsExpression level (LocationLeaf reference) = (level ≤ primary_level) × IsReference reference
   IsExpression level (ListLeaf constants) = (level ≤ primary_level) × IsNotEmpty constants
-  IsExpression level (ParenthesizedNode inner) = (level ≤ primary_level) × IsExpression expr_level inner
+  IsExpression level (ParenthesizedNode inner) = (level ≤ primary_level) × IsExpression expression_level inner
   IsExpression level (AssignmentNode target value) =
       (level ≤ primary_level)
       × IsReference target
-      × IsExpression expr_level value
+      × IsExpression expression_level value
   IsExpression level (UnaryNode operator operand) =
       (level ≤ unary_level_of operator)
       × IsExpression (operand_level_of operator) operand
@@ -51,4 +51,4 @@ abbrev mutual
   -- arguments that are expressions
   pub AreArguments : ArgumentTrees → Type 0
   AreArguments NoArguments = Unit {0}
-  AreArguments (MoreArguments first others) = IsExpression expr_level first × AreArguments others
+  AreArguments (MoreArguments first others) = IsExpression expression_level first × AreArguments others

@@ -1,5 +1,5 @@
 use Rattle.std.proofs.Common.{arith}
-use Rattle.trees.specs.Forms.{expr_level}
+use Rattle.trees.specs.Forms.{expression_level}
 use Rattle.trees.specs.Views.{expression_tree}
 use Rattle.syntax.specs.internal.Expressions.{expression}
 use Rattle.syntax.proofs.ExpressionSound.{expression-keeps}
@@ -9,21 +9,21 @@ use Rattle.syntax.proofs.reader.Reader.+expression.Goals as goal
 
 pub expressions-returns-in_err-next-clause-gives : goal.expressions-returns-in_err-next-clause-gives
 expressions-returns-in_err-next-clause-gives t c =
-    let keeps = expression-keeps c.args.room expr_level in
+    let keeps = expression-keeps c.args.room expression_level in
     gives_exit _ c.from_residual-in_err-next.result _ _ _ c.from_residual-in_err-next.ensures.1
-    (list_fails (expression c.args.room expr_level) keeps expression_tree _ _ _ _ _ _ c.more.invariant.all
+    (list_fails (expression c.args.room expression_level) keeps expression_tree _ _ _ _ _ _ c.more.invariant.all
     c.at_mark.ensures c.more-test.true c.skip.ensures c.in_err-next.ensures.gives)
 
 pub expressions-more-smaller : goal.expressions-more-smaller
 expressions-more-smaller t c =
-    shorter_after c.args.room expr_level _ _ _ _ c.skip.ensures c.in_ok-next.ensures.gives
+    shorter_after c.args.room expression_level _ _ _ _ c.skip.ensures c.in_ok-next.ensures.gives
 
 pub expressions-more-preserved : goal.expressions-more-preserved
 expressions-more-preserved t c =
-    let keeps = expression-keeps c.args.room expr_level in
+    let keeps = expression-keeps c.args.room expression_level in
     record {
       all =
-          list_more (expression c.args.room expr_level) keeps expression_tree _ _ _ _ _ _ _ _
+          list_more (expression c.args.room expression_level) keeps expression_tree _ _ _ _ _ _ _ _
           c.more.invariant.all c.at_mark.ensures c.more-test.true c.skip.ensures c.in_ok-next.ensures.gives
           c.in_ok-push.ensures.view;
       fits = omega (arith, c.in_ok-push.ensures.height, c.in_ok-next.ensures.fits, c.more.invariant.fits);
@@ -31,8 +31,8 @@ expressions-more-preserved t c =
 
 pub expressions-returns-clause-gives : goal.expressions-returns-clause-gives
 expressions-returns-clause-gives t c =
-    let keeps = expression-keeps c.args.room expr_level in
-    list_ends (expression c.args.room expr_level) keeps expression_tree _ _ _ _ _ c.more.invariant.all
+    let keeps = expression-keeps c.args.room expression_level in
+    list_ends (expression c.args.room expression_level) keeps expression_tree _ _ _ _ _ c.more.invariant.all
     c.at_mark.ensures c.more-test.false c.shrink.ensures.view
 
 pub operators-returns-in_err-right-clause-gives : goal.operators-returns-in_err-right-clause-gives

@@ -1,5 +1,5 @@
 use Rattle.std.proofs.Common.{◌≡◌, ◌≤◌, ◌+◌, ◌*◌, suc, map, length}
-use Rattle.trees.specs.Forms.{expr_level}
+use Rattle.trees.specs.Forms.{expression_level}
 use Rattle.trees.specs.Views.{expression_tree}
 use Rattle.syntax.specs.internal.Expressions.{expression, all_operators}
 use Rattle.syntax.specs.internal.Lists.{items, all_more_items, after_items}
@@ -37,9 +37,9 @@ decreases-expressions l = 10 * l.room + 2
 
 abbrev pub invariant-expressions-more : goal.invariant-expressions-more
 invariant-expressions-more l = record {
-  all : items (expression l.room expr_level) l.fn.self
+  all : items (expression l.room expression_level) l.fn.self
       ≡ after_items (map expression_tree l.found.items.items)
-      (all_more_items (expression l.room expr_level) l.self);
+      (all_more_items (expression l.room expression_level) l.self);
   fits : l.found.height ≤ l.room;
 }
 
