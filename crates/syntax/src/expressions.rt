@@ -229,7 +229,8 @@ impl<'a> Reader<'a> {
     #[cycle(expression)]
     fn expressions(&mut self, room: u8) -> Result<MeasuredArguments, Failure<Fault>>
         requires { room ≤ NESTING_LIMIT }
-        ensures gives { Gives measured_items result self.new (items (expression room expression_level) self.old) }
+        ensures gives { Gives measured_items result self.new
+            (items (expression room expression_level) self.old) }
         ensures fits { IfOk result (λ found. found.height ≤ room) }
     {
         let first = self.expression(EXPRESSION_LEVEL, room)?;
