@@ -1,0 +1,4 @@
+pub mod Environment
+pub mod Uses
+pub mod Events
+pub mod Binding

@@ -1,0 +1,8 @@
+//! What the names of a PL/M-80 module stand for.
+#![tactic(auto)]
+
+mod entity;
+mod fault;
+
+pub use entity::{Binding, BuiltIn, Entity};
+pub use fault::Fault;
