@@ -142,6 +142,10 @@ see_labels (label ∷ others) here =
     })
     (see_labels others)
 
+-- a list of statements, in the whole of which its labels are known
+abbrev pub see_list : StatementTrees → (Here → Seen) → Here → Seen
+see_list statements inside here = out_of_block here (inside (into_list statements here))
+
 abbrev mutual
   -- a statement of a list
   pub see_statement : StatementTree → Here → Seen
@@ -164,11 +168,11 @@ abbrev mutual
       and_then (uses_of (names_in_expression condition) here) (λ after.
       and_then (see_alone body after) (see_else otherwise))
   see_kind (DoStatement place declared body) here =
-      out_of_block here (and_then (see_declarations declared (into_block here)) (see_list body))
+      out_of_block here (and_then (see_declarations declared (into_block here)) (see_list body (see_statements body)))
   see_kind (WhileStatement place condition body) here =
-      and_then (uses_of (names_in_expression condition) here) (see_list body)
+      and_then (uses_of (names_in_expression condition) here) (see_list body (see_statements body))
   see_kind (IterateStatement place iteration body) here =
-      and_then (uses_of (names_in_iteration iteration) here) (see_list body)
+      and_then (uses_of (names_in_iteration iteration) here) (see_list body (see_statements body))
   see_kind (CaseStatement place choice body) here =
       and_then (uses_of (names_in_expression choice) here) (see_cases body)
 
@@ -181,10 +185,6 @@ abbrev mutual
   see_cases NoStatements here = nothing here
   see_cases (MoreStatements first others) here = and_then (see_alone first here) (see_cases others)
 
-  -- a list of statements
-  pub see_list : StatementTrees → Here → Seen
-  see_list statements here = out_of_block here (see_statements statements (into_list statements here))
-
   pub see_statements : StatementTrees → Here → Seen
   see_statements NoStatements here = nothing here
   see_statements (MoreStatements first others) here = and_then (see_statement first here) (see_statements others)
@@ -195,7 +195,7 @@ abbrev mutual
       and_then (declares_procedure heading.name here) (λ after.
       out_of_body after
       (and_then (see_parameters heading.parameters (into_body after)) (λ within.
-      and_then (see_declarations declared within) (see_list body))))
+      and_then (see_declarations declared within) (see_list body (see_statements body)))))
 
   pub see_declarations : DeclarationTrees → Here → Seen
   see_declarations NoDeclarations here = nothing here
@@ -214,4 +214,4 @@ at_the_start = record {
 
 -- all that a module does with names
 abbrev pub events_of : ModuleTree → List Event
-events_of tree = (and_then (see_declarations tree.declarations at_the_start) (see_list tree.statements)).events
+events_of tree = (and_then (see_declarations tree.declarations at_the_start) (see_list tree.statements (see_statements tree.statements))).events

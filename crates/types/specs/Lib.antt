@@ -1,0 +1,5 @@
+pub mod TypedTrees
+pub mod Sizes
+pub mod Checks
+pub mod Constants
+pub mod internal
