@@ -1,63 +1,154 @@
 -- What names stand for at a place of a text (PL/M-80 Programming Manual, "Scope").
-use Rattle.std.specs.Prelude.{ℕ, Bool, true, false, not, List, [], ◌∷◌, Option, Some, None, filter, if◌then◌else◌}
+use Rattle.std.specs.Prelude.{ℕ, suc, ◌+◌, Bool, ◌||◌, List, [], ◌∷◌, length, drop, Option, Some, None, is_some}
 use Rattle.std.specs.List.{list_any}
+use Rattle.std.specs.Map.{lookup}
+use Rattle.std.specs.Option.{option_or}
 use Rattle.std.specs.Str.{bytes_eq}
+use Rattle.indexmap.specs.IndexMap.{insert_entry}
+use Rattle.indexmap.specs.IndexSet.{insert_key}
+use Rattle.trees.specs.declared.identifier.Identifier.{Identifier}
 use Rattle.names.specs.declared.entity.Entity.{Entity}
+use Rattle.names.specs.declared.entity.Entity.TheVariants.{Object, Procedure, Label, Definition}
 
--- The names of a scope with what they stand for, the latest first. A scope holds what a module, a procedure or a
--- simple DO declares, or else the labels of one list of statements.
-pub record Scope : Type 0 where
-  pub holds_labels : Bool
-  pub entries : List (List ℕ × Entity)
+-- names with what they stand for
+abbrev pub Names : Type 0
+Names = List (List ℕ × Entity)
 
--- the scopes around a place, the innermost first
-abbrev pub Environment : Type 0
-Environment = List Scope
-
--- a scope in which nothing is declared yet
-abbrev pub empty_scope : Scope
-empty_scope = record { holds_labels = false; entries = [] }
-
--- the labels of a list of statements
-abbrev pub label_scope : List (List ℕ × Entity) → Scope
-label_scope entries = record { holds_labels = true; entries = entries }
-
--- one of two that may be missing, the first if it is there
-abbrev pub first_of : Option Entity → Option Entity → Option Entity
-first_of (Some entity) other = Some entity
-first_of None other = other
-
--- what a name stands for in a scope
-abbrev pub entity_in : List (List ℕ × Entity) → List ℕ → Option Entity
-entity_in [] name = None
-entity_in (entry ∷ others) name = if bytes_eq entry.0 name then Some entry.1 else entity_in others name
-
--- what a name stands for: in the innermost scope that has it
-abbrev pub entity_of : Environment → List ℕ → Option Entity
-entity_of [] name = None
-entity_of (scope ∷ outer) name = first_of (entity_in scope.entries name) (entity_of outer name)
-
--- the label of a name, if one is known
-abbrev pub label_of : Environment → List ℕ → Option Entity
-label_of [] name = None
-label_of (scope ∷ outer) name =
-    if scope.holds_labels then first_of (entity_in scope.entries name) (label_of outer name)
-    else label_of outer name
-
--- what a procedure sees of the scopes around it: labels are known in their own body alone
-abbrev pub without_labels : Environment → Environment
-without_labels environment = filter (λ (scope : Scope). not scope.holds_labels) environment
-
--- one more name in the innermost scope
-abbrev pub with_name : List ℕ → Entity → Environment → Environment
-with_name name entity [] = []
-with_name name entity (scope ∷ outer) = record scope { entries = (name, entity) ∷ scope.entries } ∷ outer
-
--- whether the innermost scope has a name
-abbrev pub has_name : Environment → List ℕ → Bool
-has_name [] name = false
-has_name (scope ∷ outer) name = list_any (λ (entry : List ℕ × Entity). bytes_eq entry.0 name) scope.entries
+-- what a name stands for in the first of these that has it
+abbrev pub known_in : List Names → List ℕ → Option Entity
+known_in [] name = None
+known_in (names ∷ others) name = option_or (lookup (bytes_eq name) names) (known_in others name)
 
 -- whether a name is among names
 abbrev pub is_among : List (List ℕ) → List ℕ → Bool
-is_among names name = list_any (λ other. bytes_eq other name) names
+is_among names name = list_any (bytes_eq name) names
+
+-- What a text has declared so far in one body, that of a module or of a procedure. The blocks around a place are the
+-- body itself and its simple DOs.
+pub record Body : Type 0 where
+  -- what the innermost block around the place declares
+  pub block : Names
+  -- what the blocks around that one declare, the innermost first
+  pub outer_blocks : List Names
+  -- the labels of the lists of statements around the place, the innermost list first
+  pub lists : List Names
+  -- all names that the body declares so far, its parameters and the names of its simple DOs among them
+  pub declared : List (List ℕ)
+  -- all labels of the body so far
+  pub labelled : List (List ℕ)
+
+-- a body in which nothing is declared yet
+abbrev pub empty_body : Body
+empty_body = record { block = []; outer_blocks = []; lists = []; declared = []; labelled = [] }
+
+-- How far a text has come: the body that the place is in, the bodies around that one, the innermost first, and how many
+-- objects, procedures and labels have been declared.
+pub record Here : Type 0 where
+  pub body : Body
+  pub outer_bodies : List Body
+  pub objects : ℕ
+  pub procedures : ℕ
+  pub labels : ℕ
+
+-- The start of a module. Its own name is in no scope.
+abbrev pub at_the_start : Here
+at_the_start = record { body = empty_body; outer_bodies = []; objects = 0; procedures = 0; labels = 0 }
+
+-- the label of a name: in the innermost list of its body that has it
+abbrev pub label_of : Here → List ℕ → Option Entity
+label_of here name = known_in here.body.lists name
+
+-- what a body declares a name to be: in the innermost block that has it
+abbrev pub declared_in : Body → List ℕ → Option Entity
+declared_in body name = known_in (body.block ∷ body.outer_blocks) name
+
+-- what bodies declare a name to be: in the innermost that has it
+abbrev pub declared_around : List Body → List ℕ → Option Entity
+declared_around [] name = None
+declared_around (body ∷ outer) name = option_or (declared_in body name) (declared_around outer name)
+
+-- What a name stands for. A name that a body declares is none of its labels, and labels are known in their own body
+-- alone.
+abbrev pub entity_of : Here → List ℕ → Option Entity
+entity_of here name = option_or (label_of here name) (declared_around (here.body ∷ here.outer_bodies) name)
+
+-- into a simple DO, and out of it
+abbrev pub into_block : Here → Here
+into_block here = record here {
+  body = record here.body { block = []; outer_blocks = here.body.block ∷ here.body.outer_blocks };
+}
+
+abbrev pub body_after_block : List Names → Body → Body
+body_after_block [] body = body
+body_after_block (block ∷ outer) body = record body { block = block; outer_blocks = outer }
+
+abbrev pub out_of_block : Here → Here
+out_of_block here = record here { body = body_after_block here.body.outer_blocks here.body }
+
+-- into the body of a procedure, and out of it
+abbrev pub into_body : Here → Here
+into_body here = record here { body = empty_body; outer_bodies = here.body ∷ here.outer_bodies }
+
+abbrev pub after_body : List Body → Here → Here
+after_body [] here = here
+after_body (body ∷ outer) here = record here { body = body; outer_bodies = outer }
+
+abbrev pub out_of_body : Here → Here
+out_of_body here = after_body here.outer_bodies here
+
+-- labels with their numbers, from one on
+abbrev pub numbered_from : ℕ → List Identifier → Names → Names
+numbered_from number [] names = names
+numbered_from number (label ∷ others) names =
+    numbered_from (suc number) others (insert_entry bytes_eq names label.name (Label number))
+
+-- into a list of statements with these labels, which are known in the whole of it, and out of it
+abbrev pub into_list : List Identifier → Here → Here
+into_list labels here = record here {
+  body = record here.body { lists = numbered_from here.labels labels [] ∷ here.body.lists };
+  labels = here.labels + length labels;
+}
+
+abbrev pub out_of_list : Here → Here
+out_of_list here = record here { body = record here.body { lists = drop 1 here.body.lists } }
+
+-- one more name in the innermost block
+abbrev pub with_name : List ℕ → Entity → Here → Here
+with_name name entity here = record here {
+  body = record here.body {
+    block = insert_entry bytes_eq here.body.block name entity;
+    declared = insert_key bytes_eq here.body.declared name;
+  };
+}
+
+-- an object, a procedure, a LITERALLY definition
+abbrev pub with_object : List ℕ → Here → Here
+with_object name here = with_name name (Object here.objects) (record here { objects = suc here.objects })
+
+abbrev pub with_procedure : List ℕ → Here → Here
+with_procedure name here = with_name name (Procedure here.procedures) (record here { procedures = suc here.procedures })
+
+abbrev pub with_definition : List ℕ → Here → Here
+with_definition name here = with_name name Definition here
+
+-- a parameter in the heading of the body's procedure: DECLARE will say what it stands for
+abbrev pub with_parameter : List ℕ → Here → Here
+with_parameter name here =
+    record here { body = record here.body { declared = insert_key bytes_eq here.body.declared name } }
+
+-- a label before a statement
+abbrev pub with_label : List ℕ → Here → Here
+with_label name here =
+    record here { body = record here.body { labelled = insert_key bytes_eq here.body.labelled name } }
+
+-- Whether a name may not be declared here: it is in the same block already, or a label of the same body.
+abbrev pub is_declared_again : Here → List ℕ → Bool
+is_declared_again here name = is_some (lookup (bytes_eq name) here.body.block) || is_among here.body.labelled name
+
+-- whether a parameter stands twice in its heading
+abbrev pub is_parameter_again : Here → List ℕ → Bool
+is_parameter_again here name = is_among here.body.declared name
+
+-- whether a label may not stand here: its body declares the name, or has such a label already
+abbrev pub is_label_again : Here → List ℕ → Bool
+is_label_again here name = is_among here.body.declared name || is_among here.body.labelled name

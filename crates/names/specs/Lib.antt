@@ -1,4 +1,3 @@
+pub mod Faults
 pub mod Environment
-pub mod Uses
-pub mod Events
-pub mod Binding
+pub mod BuiltIns

@@ -1,12 +1,15 @@
 //! What names stand for.
 
-/// What a declared name stands for: the number of an object, a procedure or a label among those of the module in the
-/// order of the text, or a LITERALLY definition.
+/// What a declaration makes a name stand for. Objects, procedures and labels are numbered from 0 each, in the order of
+/// the text; parameters are objects, numbered where DECLARE declares them. The labels of a list of statements follow
+/// each other, and are numbered before those of the lists within it.
 #[derive(Clone, Copy, Debug, PartialEq, Eq)]
 pub enum Entity {
+    /// A variable or a parameter.
     Object(u32),
     Procedure(u32),
     Label(u32),
+    /// The name of a LITERALLY definition.
     Definition,
 }
 
@@ -21,9 +24,13 @@ pub enum BuiltIn {
     Length,
     Last,
     Size,
+    /// SHL
     ShiftLeft,
+    /// SHR
     ShiftRight,
+    /// ROL
     RotateLeft,
+    /// ROR
     RotateRight,
     Move,
 }

@@ -2,4 +2,8 @@ pub mod TypedTrees
 pub mod Sizes
 pub mod Checks
 pub mod Constants
+pub mod Nodes
+pub mod References
+pub mod Functions
+pub mod Expressions
 pub mod internal

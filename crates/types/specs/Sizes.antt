@@ -1,6 +1,7 @@
 -- How many bytes objects take, and which scalars they hold (PL/M-80 Programming Manual, "Arrays and structures").
-use Rattle.std.specs.Prelude.{ℕ, ◌*◌, List, [], ◌∷◌, take, replicate, Option, unwrap_or, flat_map, sum_by}
+use Rattle.std.specs.Prelude.{ℕ, suc, ◌+◌, ◌*◌, List, [], ◌∷◌, replicate, Option, Some, None, option_map, unwrap_or, flat_map, sum_by, if◌then◌else◌}
 use Rattle.std.specs.List.{repeat}
+use Rattle.std.specs.Str.{bytes_eq}
 use Rattle.trees.specs.declared.declaration.ScalarType.{ScalarType}
 use Rattle.trees.specs.declared.declaration.ScalarType.TheVariants.{Byte, Address}
 use Rattle.types.specs.TypedTrees.{TypedMember, ObjectType, ScalarObject, StructureObject, TypedObject}
@@ -25,9 +26,25 @@ size_of_element (StructureObject members) = sum_by size_of_member members
 abbrev pub size_of_object : TypedObject → ℕ
 size_of_object object = count_of object.dimension * size_of_element object.object_type
 
--- where a member begins in an element: after the members before it
-abbrev pub offset_of_member : List TypedMember → (position : ℕ) → ℕ
-offset_of_member members position = sum_by size_of_member (take position members)
+-- a member that a structure has: its position, and where it begins in an element, after the members before it
+pub record FoundMember : Type 0 where
+  pub position : ℕ
+  pub offset : ℕ
+  pub member : TypedMember
+
+-- the member that is found among those after one, seen from that one
+abbrev pub after_member : TypedMember → FoundMember → FoundMember
+after_member member later = record later {
+  position = suc later.position;
+  offset = size_of_member member + later.offset;
+}
+
+-- the member of a name
+abbrev pub member_named : List TypedMember → List ℕ → Option FoundMember
+member_named [] name = None
+member_named (member ∷ others) name =
+    if bytes_eq member.name name then Some (record { position = 0; offset = 0; member = member })
+    else option_map (after_member member) (member_named others name)
 
 -- the scalars of a member, of an element, and of so many elements, in the order of their addresses
 abbrev pub scalars_of_member : TypedMember → List ScalarType
