@@ -1,3 +1,4 @@
 pub mod Faults
 pub mod Environment
 pub mod BuiltIns
+pub mod Uses

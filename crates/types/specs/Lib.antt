@@ -6,4 +6,6 @@ pub mod Nodes
 pub mod References
 pub mod Functions
 pub mod Expressions
+pub mod Blocks
+pub mod Filling
 pub mod internal
