@@ -8,4 +8,5 @@ pub mod Functions
 pub mod Expressions
 pub mod Blocks
 pub mod Filling
+pub mod Items
 pub mod internal
