@@ -21,19 +21,13 @@ use Rattle.names.specs.declared.entity.Entity.TheVariants.{Object}
 use Rattle.names.specs.Environment.{Here, with_object, with_definition, is_declared_again}
 use Rattle.names.specs.Uses.{declared_by}
 use Rattle.types.specs.declared.fault.Cause.TheVariants.{DeclaredTwice, WrongUse, MisplacedAttribute, WrongConstant, TooLarge}
+use Rattle.types.specs.declared.limits.TheConstants.{OBJECT_LIMIT, FRAME_LIMIT}
 use Rattle.types.specs.TypedTrees.{TypedMember, ObjectType, ScalarObject, StructureObject, InitialValue, AtAddress, Home, InData, InConstants, Placed, BasedOn, Elsewhere, Nowhere, InFrame, TypedObject, ConstantItem, ConstantObject, Constants}
 use Rattle.types.specs.Sizes.{count_of, size_of_element, size_of_object}
 use Rattle.types.specs.Checks.{Checked, ◌>>=◌, refuse, require}
 use Rattle.types.specs.References.{Known, line_of, bound, object_of}
 use Rattle.types.specs.Blocks.{Owner, TheModule, OfProcedure, Block, Progress, is_public_linkage, is_external_linkage, line_of_linkage, is_reentrant, is_external, is_module_level, declares_parameter}
 use Rattle.types.specs.Filling.{at_address, Extents, NoArray, Elements, AsListed, Contents, contents}
-
--- the greatest number of bytes of an object, and of the variables of a REENTRANT procedure
-abbrev pub object_limit : ℕ
-object_limit = 65535
-
-abbrev pub frame_limit : ℕ
-frame_limit = 1024
 
 -- the names of an item are declared as objects; in an EXTERNAL procedure they are parameters
 abbrev pub declare_names : Block → List Identifier → Here → Checked Here
@@ -233,7 +227,7 @@ abbrev pub with_objects : Block → TypedItem → List Identifier → Progress �
 with_objects block item [] progress = Ok progress
 with_objects block item (name ∷ others) progress = do
   _ ← require
-    (nat_le (with_typed_object (object_named block item name.name) progress).frame frame_limit)
+    (nat_le (with_typed_object (object_named block item name.name) progress).frame FRAME_LIMIT)
     TooLarge (line_of name)
   with_objects block item others (with_typed_object (object_named block item name.name) progress)
 
@@ -261,7 +255,7 @@ abbrev pub declare_item : Block → ItemTree → Progress → Checked Progress
 declare_item block item progress = do
   here ← declare_names block (declared_by item.subject) progress.known.here
   typed ← typed_item progress.known block item
-  _ ← require (nat_le (size_of_item typed) object_limit) TooLarge (line_of_item item)
+  _ ← require (nat_le (size_of_item typed) OBJECT_LIMIT) TooLarge (line_of_item item)
   declared ← with_objects block typed (declared_by item.subject) progress
   Ok (record declared { known = record declared.known { here = here } })
 

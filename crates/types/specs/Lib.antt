@@ -9,4 +9,7 @@ pub mod Expressions
 pub mod Blocks
 pub mod Filling
 pub mod Items
+pub mod Statements
+pub mod Procedures
+pub mod Typing
 pub mod internal

@@ -2,7 +2,9 @@
 #![tactic(auto)]
 
 mod fault;
+mod limits;
 mod typed;
 
 pub use fault::{Cause, Fault};
+pub use limits::{FRAME_LIMIT, OBJECT_LIMIT, PARAMETER_LIMIT};
 pub use typed::{Measure, ShiftFunction, UnaryFunction, Visibility};

@@ -1,0 +1,10 @@
+//! The limits of what a module declares.
+
+/// The greatest number of bytes of an object.
+pub const OBJECT_LIMIT: u32 = 65_535;
+
+/// The greatest number of bytes of the variables of a REENTRANT procedure.
+pub const FRAME_LIMIT: u32 = 1024;
+
+/// The greatest number of parameters of a procedure.
+pub const PARAMETER_LIMIT: usize = 16;
