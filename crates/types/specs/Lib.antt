@@ -12,4 +12,6 @@ pub mod Items
 pub mod Statements
 pub mod Procedures
 pub mod Typing
+pub mod Charge
+pub mod Weight
 pub mod internal

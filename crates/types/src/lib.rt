@@ -6,5 +6,5 @@ mod limits;
 mod typed;
 
 pub use fault::{Cause, Fault};
-pub use limits::{FRAME_LIMIT, OBJECT_LIMIT, PARAMETER_LIMIT};
+pub use limits::{CODE_BYTES, CODE_BYTES_FOR_WEIGHT, FRAME_LIMIT, OBJECT_LIMIT, PARAMETER_LIMIT};
 pub use typed::{Measure, ShiftFunction, UnaryFunction, Visibility};
