@@ -25,5 +25,5 @@ abbrev pub binding_of : Here → List ℕ → Option Binding
 binding_of here name = option_or (option_map Declared (entity_of here name)) (option_map BuiltInName (built_in_of name))
 
 -- what the name after GOTO is bound to
-abbrev pub goal_of : Here → List ℕ → Binding
-goal_of here name = option_map_or Declared (label_of here name) UnknownLabel
+abbrev pub jump_of : Here → List ℕ → Binding
+jump_of here name = option_map_or Declared (label_of here name) UnknownLabel

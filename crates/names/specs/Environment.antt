@@ -1,5 +1,5 @@
 -- What names stand for at a place of a text (PL/M-80 Programming Manual, "Scope").
-use Rattle.std.specs.Prelude.{ℕ, suc, ◌+◌, Bool, ◌||◌, List, [], ◌∷◌, length, drop, Option, Some, None, is_some}
+use Rattle.std.specs.Prelude.{ℕ, ◌+◌, Bool, ◌||◌, List, [], ◌∷◌, length, drop, Option, Some, None, is_some}
 use Rattle.std.specs.List.{list_any}
 use Rattle.std.specs.Map.{lookup}
 use Rattle.std.specs.Option.{option_or}
@@ -100,7 +100,7 @@ out_of_body here = after_body here.outer_bodies here
 abbrev pub numbered_from : ℕ → List Identifier → Names → Names
 numbered_from number [] names = names
 numbered_from number (label ∷ others) names =
-    numbered_from (suc number) others (insert_entry bytes_eq names label.name (Label number))
+    numbered_from (number + 1) others (insert_entry bytes_eq names label.name (Label number))
 
 -- into a list of statements with these labels, which are known in the whole of it, and out of it
 abbrev pub into_list : List Identifier → Here → Here
@@ -112,21 +112,22 @@ into_list labels here = record here {
 abbrev pub out_of_list : Here → Here
 out_of_list here = record here { body = record here.body { lists = drop 1 here.body.lists } }
 
--- one more name in the innermost block
-abbrev pub with_name : List ℕ → Entity → Here → Here
-with_name name entity here = record here {
-  body = record here.body {
-    block = insert_entry bytes_eq here.body.block name entity;
-    declared = insert_key bytes_eq here.body.declared name;
-  };
+-- one more name in the innermost block of a body
+abbrev pub body_with_name : List ℕ → Entity → Body → Body
+body_with_name name entity body = record body {
+  block = insert_entry bytes_eq body.block name entity;
+  declared = insert_key bytes_eq body.declared name;
 }
+
+abbrev pub with_name : List ℕ → Entity → Here → Here
+with_name name entity here = record here { body = body_with_name name entity here.body }
 
 -- an object, a procedure, a LITERALLY definition
 abbrev pub with_object : List ℕ → Here → Here
-with_object name here = with_name name (Object here.objects) (record here { objects = suc here.objects })
+with_object name here = with_name name (Object here.objects) (record here { objects = here.objects + 1 })
 
 abbrev pub with_procedure : List ℕ → Here → Here
-with_procedure name here = with_name name (Procedure here.procedures) (record here { procedures = suc here.procedures })
+with_procedure name here = with_name name (Procedure here.procedures) (record here { procedures = here.procedures + 1 })
 
 abbrev pub with_definition : List ℕ → Here → Here
 with_definition name here = with_name name Definition here
@@ -142,8 +143,11 @@ with_label name here =
     record here { body = record here.body { labelled = insert_key bytes_eq here.body.labelled name } }
 
 -- Whether a name may not be declared here: it is in the same block already, or a label of the same body.
+abbrev pub is_declared_in : Body → List ℕ → Bool
+is_declared_in body name = is_some (lookup (bytes_eq name) body.block) || is_among body.labelled name
+
 abbrev pub is_declared_again : Here → List ℕ → Bool
-is_declared_again here name = is_some (lookup (bytes_eq name) here.body.block) || is_among here.body.labelled name
+is_declared_again here name = is_declared_in here.body name
 
 -- whether a parameter stands twice in its heading
 abbrev pub is_parameter_again : Here → List ℕ → Bool

@@ -1,12 +1,12 @@
 -- Where declarations and statements stand, and how far the typing of a text has come (PL/M-80 Programming Manual,
 -- "Block structure and scope").
-use Rattle.std.specs.Prelude.{ℕ, Bool, true, false, ◌&&◌, List, [], map, Option, Some, is_some}
+use Rattle.std.specs.Prelude.{ℕ, Bool, true, false, ◌&&◌, List, [], ◌∷◌, ◌++◌, map, Option, Some, None, is_some}
 use Rattle.trees.specs.declared.declaration.Linkage.{Linkage}
 use Rattle.trees.specs.declared.declaration.Linkage.TheVariants.{Public, External}
 use Rattle.trees.specs.declared.identifier.Identifier.{Identifier}
 use Rattle.trees.specs.Trees.{HeadingTree}
 use Rattle.names.specs.Environment.{is_among}
-use Rattle.types.specs.TypedTrees.{Constants}
+use Rattle.types.specs.TypedTrees.{Constants, GlobalItem}
 use Rattle.types.specs.References.{Known}
 
 -- what a block belongs to: the module, or a procedure, by its number and its heading
@@ -19,11 +19,12 @@ pub record Block : Type 0 where
   pub owner : Owner
   pub is_own : Bool
 
--- How far a text is typed: what is known, the constants so far, and the bytes so far of the variables of the REENTRANT
--- procedure that the place is in.
+-- How far a text is typed: what is known, the constants and the globals so far, and the bytes so far of the variables
+-- of the REENTRANT procedure that the place is in.
 pub record Progress : Type 0 where
   pub known : Known
   pub constants : Constants
+  pub globals : List GlobalItem
   pub frame : ℕ
 
 abbrev pub is_public_linkage : Option Linkage → Bool
@@ -33,6 +34,11 @@ is_public_linkage linkage = false
 abbrev pub is_external_linkage : Option Linkage → Bool
 is_external_linkage (Some (External place)) = true
 is_external_linkage linkage = false
+
+-- one more global, where there is a linkage
+abbrev pub with_global : Option Linkage → GlobalItem → List GlobalItem → List GlobalItem
+with_global None item globals = globals
+with_global (Some linkage) item globals = globals ++ item ∷ []
 
 abbrev pub line_of_linkage : Linkage → ℕ
 line_of_linkage (Public place) = place.line

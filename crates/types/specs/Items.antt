@@ -22,11 +22,11 @@ use Rattle.names.specs.Environment.{Here, with_object, with_definition, is_decla
 use Rattle.names.specs.Uses.{declared_by}
 use Rattle.types.specs.declared.fault.Cause.TheVariants.{DeclaredTwice, WrongUse, MisplacedAttribute, WrongConstant, TooLarge}
 use Rattle.types.specs.declared.limits.TheConstants.{OBJECT_LIMIT, FRAME_LIMIT}
-use Rattle.types.specs.TypedTrees.{TypedMember, ObjectType, ScalarObject, StructureObject, InitialValue, AtAddress, Home, InData, InConstants, Placed, BasedOn, Elsewhere, Nowhere, InFrame, TypedObject, ConstantItem, ConstantObject, Constants}
+use Rattle.types.specs.TypedTrees.{TypedMember, ObjectType, ScalarObject, StructureObject, InitialValue, AtAddress, Home, InData, InConstants, Placed, BasedOn, Elsewhere, Nowhere, InFrame, TypedObject, ConstantItem, ConstantObject, Constants, GlobalObject}
 use Rattle.types.specs.Sizes.{count_of, size_of_element, size_of_object}
 use Rattle.types.specs.Checks.{Checked, ◌>>=◌, refuse, require}
 use Rattle.types.specs.References.{Known, line_of, bound, object_of}
-use Rattle.types.specs.Blocks.{Owner, TheModule, OfProcedure, Block, Progress, is_public_linkage, is_external_linkage, line_of_linkage, is_reentrant, is_external, is_module_level, declares_parameter}
+use Rattle.types.specs.Blocks.{Owner, TheModule, OfProcedure, Block, Progress, with_global, is_public_linkage, is_external_linkage, line_of_linkage, is_reentrant, is_external, is_module_level, declares_parameter}
 use Rattle.types.specs.Filling.{at_address, Extents, NoArray, Elements, AsListed, Contents, contents}
 
 -- the names of an item are declared as objects; in an EXTERNAL procedure they are parameters
@@ -192,7 +192,7 @@ pub record TypedItem : Type 0 where
   pub dimension : Option ℕ
   pub object_type : ObjectType
   pub home : Home
-  pub is_public : Bool
+  pub linkage : Option Linkage
 
 abbrev pub object_named : Block → TypedItem → List ℕ → TypedObject
 object_named block item name = record {
@@ -200,7 +200,7 @@ object_named block item name = record {
   dimension = item.dimension;
   object_type = item.object_type;
   home = item.home;
-  is_public = item.is_public;
+  is_public = is_public_linkage item.linkage;
   is_parameter = declares_parameter block name;
 }
 
@@ -216,10 +216,11 @@ with_constant (InConstants values) object constants =
 with_constant home object constants = constants
 
 -- objects one after another at the end of the table
-abbrev pub with_typed_object : TypedObject → Progress → Progress
-with_typed_object object progress = record {
+abbrev pub with_typed_object : Option Linkage → TypedObject → Progress → Progress
+with_typed_object linkage object progress = record {
   known = record progress.known { objects = progress.known.objects ++ object ∷ [] };
   constants = with_constant object.home (length progress.known.objects) progress.constants;
+  globals = with_global linkage (GlobalObject (length progress.known.objects)) progress.globals;
   frame = progress.frame + bytes_in_frame object.home object;
 }
 
@@ -227,9 +228,9 @@ abbrev pub with_objects : Block → TypedItem → List Identifier → Progress �
 with_objects block item [] progress = Ok progress
 with_objects block item (name ∷ others) progress = do
   _ ← require
-    (nat_le (with_typed_object (object_named block item name.name) progress).frame FRAME_LIMIT)
+    (nat_le (with_typed_object item.linkage (object_named block item name.name) progress).frame FRAME_LIMIT)
     TooLarge (line_of name)
-  with_objects block item others (with_typed_object (object_named block item name.name) progress)
+  with_objects block item others (with_typed_object item.linkage (object_named block item name.name) progress)
 
 -- an item as it is for each of its names
 abbrev pub typed_item : Known → Block → ItemTree → Checked TypedItem
@@ -244,7 +245,7 @@ typed_item known block item = do
     dimension = filled.dimension;
     object_type = object_type;
     home = home_of block.owner item base at filled.values;
-    is_public = is_public_linkage item.linkage;
+    linkage = item.linkage;
   })
 
 abbrev pub size_of_item : TypedItem → ℕ

@@ -18,10 +18,10 @@ use Rattle.types.specs.declared.fault.Cause.TheVariants.{DeclaredTwice, WrongUse
 use Rattle.types.specs.declared.limits.TheConstants.{PARAMETER_LIMIT}
 use Rattle.types.specs.declared.typed.Visibility.{Visibility}
 use Rattle.types.specs.declared.typed.Visibility.TheVariants.{Private, Public, External}
-use Rattle.types.specs.TypedTrees.{NoStatements as NoTyped, TypedList, ListOf, TypedProcedure}
+use Rattle.types.specs.TypedTrees.{NoStatements as NoTyped, TypedList, ListOf, TypedProcedure, GlobalProcedure}
 use Rattle.types.specs.Checks.{Checked, ◌>>=◌, refuse, require}
 use Rattle.types.specs.References.{line_of}
-use Rattle.types.specs.Blocks.{Owner, OfProcedure, Block, Progress, is_external_linkage, line_of_linkage, is_reentrant, is_external, is_module_level}
+use Rattle.types.specs.Blocks.{Owner, OfProcedure, Block, Progress, with_global, is_external_linkage, line_of_linkage, is_reentrant, is_external, is_module_level}
 use Rattle.types.specs.Statements.{with_here, line_of_statement}
 
 -- The parameters of a heading differ from each other, and there are not too many.
@@ -104,6 +104,7 @@ with_heading heading types here progress = record progress {
     here = here;
     procedures = progress.known.procedures ++ procedure_with heading types [] 0 empty_list ∷ [];
   };
+  globals = with_global heading.linkage (GlobalProcedure (length progress.known.procedures)) progress.globals;
   frame = 0;
 }
 

@@ -10,7 +10,8 @@ use Rattle.names.specs.declared.entity.Binding.TheVariants.{Declared, BuiltInNam
 use Rattle.names.specs.declared.entity.BuiltIn.TheVariants.{Move}
 use Rattle.names.specs.declared.entity.Entity.TheVariants.{Object, Procedure, Label}
 use Rattle.names.specs.Environment.{Here, into_list, out_of_list, with_label, is_label_again}
-use Rattle.names.specs.BuiltIns.{goal_of}
+use Rattle.names.specs.BuiltIns.{jump_of}
+use Rattle.names.specs.Events.{labels_of}
 use Rattle.types.specs.declared.fault.Cause.TheVariants.{DeclaredTwice, WrongUse, MisplacedLabel, UnknownLabel}
 use Rattle.types.specs.TypedTrees.{TypedExpression, TypedArguments, NoArguments as NoTyped, MoreArguments as MoreTyped, TypedIteration, TypedStatement, LabelStatement, AssignmentStatement as TypedAssignment, CallStatement as TypedCall, MoveStatement, ReturnStatement as TypedReturn, GotoStatement as TypedGoto, TypedStatements, MoreStatements as MoreTypedStatements, TypedList, ListOf, ObjectType, ScalarObject, TypedObject, Constants}
 use Rattle.types.specs.Checks.{Checked, ◌>>=◌, refuse, require, found}
@@ -99,7 +100,7 @@ goto_bound line binding = refuse UnknownLabel line
 
 abbrev pub goto : Identifier → Progress → Checked (TypedStatement × Progress)
 goto label progress = do
-  typed ← goto_bound (line_of label) (goal_of progress.known.here label.name)
+  typed ← goto_bound (line_of label) (jump_of progress.known.here label.name)
   Ok (typed, progress)
 
 -- the variable of an iterative DO: a scalar without a subscript, neither BASED nor DATA
@@ -131,13 +132,9 @@ iteration tree progress = do
   by ← step tree.step last.1
   Ok (record { variable = counter.object; scalar = counter.scalar; first = first.0; last = last.0; step = by.0 }, by.1)
 
--- the labels before a statement, and those of the statements of a list
+-- the labels before a statement
 abbrev pub labels_before : StatementTree → List Identifier
 labels_before (LabelledStatement labels kind) = labels
-
-abbrev pub labels_in : StatementTrees → List Identifier
-labels_in NoStatements = []
-labels_in (MoreStatements first others) = labels_before first ++ labels_in others
 
 -- labels differ from each other and from what their body declares
 abbrev pub declare_labels : List Identifier → Here → Checked Here
@@ -172,7 +169,7 @@ after_labels label (first ∷ others) statements =
 abbrev pub list_of :
   StatementTrees → (ℕ → Progress → Checked (TypedStatements × Progress)) → Progress → Checked (TypedList × Progress)
 list_of trees typed_from progress = do
-  typed ← typed_from progress.known.here.labels (with_here (into_list (labels_in trees) progress.known.here) progress)
+  typed ← typed_from progress.known.here.labels (with_here (into_list (labels_of trees) progress.known.here) progress)
   Ok (
     ListOf progress.known.here.labels (places_from 0 trees) typed.0,
     with_here (out_of_list typed.1.known.here) typed.1)

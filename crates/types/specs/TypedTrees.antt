@@ -183,11 +183,18 @@ pub record Constants : Type 0 where
   pub lists : List (List ℕ)
   pub items : List ConstantItem
 
+-- what other modules share: an object or a procedure that is PUBLIC or EXTERNAL
+pub data GlobalItem : Type 0 where
+  GlobalObject : (object : ℕ) → GlobalItem
+  GlobalProcedure : (procedure : ℕ) → GlobalItem
+
 -- a module
 pub record TypedModule : Type 0 where
   pub name : List ℕ
   pub objects : List TypedObject
   pub procedures : List TypedProcedure
   pub constants : Constants
+  -- in the order of the text
+  pub globals : List GlobalItem
   -- the statements at the outer level, as a procedure without parameters that has the name of the module
   pub main : TypedProcedure

@@ -111,6 +111,7 @@ abbrev pub at_the_beginning : Progress
 at_the_beginning = record {
   known = record { here = at_the_start; objects = []; procedures = [] };
   constants = record { lists = []; items = [] };
+  globals = [];
   frame = 0;
 }
 
@@ -134,6 +135,7 @@ module_with name body progress = record {
   objects = progress.known.objects;
   procedures = progress.known.procedures;
   constants = progress.constants;
+  globals = progress.globals;
   main = main_procedure name body;
 }
 
