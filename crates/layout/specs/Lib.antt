@@ -1,2 +1,5 @@
 pub mod Storage
 pub mod Joined
+pub mod Placement
+pub mod Lawful
+pub mod StartingMemory
