@@ -3,3 +3,4 @@ pub mod Joined
 pub mod Placement
 pub mod Lawful
 pub mod StartingMemory
+pub mod internal
