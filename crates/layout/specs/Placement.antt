@@ -56,19 +56,19 @@ pieces_of modules placement = flat_map pieces_of_module (zip modules placement.m
 abbrev pub is_constant_piece : PlacedPiece → Bool
 is_constant_piece piece = is_constant_kind piece.kind
   where
-  is_constant_kind : PieceKind → Bool
-  is_constant_kind StaticPiece = false
-  is_constant_kind ConstantPiece = true
-  is_constant_kind AtPiece = false
+    is_constant_kind : PieceKind → Bool
+    is_constant_kind StaticPiece = false
+    is_constant_kind ConstantPiece = true
+    is_constant_kind AtPiece = false
 
 -- what has a place of its own, which nothing shares
 abbrev pub has_own_place : PlacedPiece → Bool
 has_own_place piece = is_own_kind piece.kind
   where
-  is_own_kind : PieceKind → Bool
-  is_own_kind StaticPiece = true
-  is_own_kind ConstantPiece = true
-  is_own_kind AtPiece = false
+    is_own_kind : PieceKind → Bool
+    is_own_kind StaticPiece = true
+    is_own_kind ConstantPiece = true
+    is_own_kind AtPiece = false
 
 -- the pieces with a place of their own, and the constants among them
 abbrev pub own_pieces : List TypedModule → Placement → List PlacedPiece

@@ -17,11 +17,11 @@ abbrev pub meant_in : List TypedModule → (number_of_module number : ℕ) → T
 meant_in modules number_of_module number typed =
     option_and_then
     (λ (object : TypedObject).
-      object_meant modules (record { number_of_module = number_of_module; number = number }) object object.home)
+    object_meant modules (record { number_of_module = number_of_module; number = number }) object object.home)
     (slice_get typed.objects number)
 
 abbrev pub address_of_object :
-  List TypedModule → Placement → (number_of_module : ℕ) → TypedModule → (number : ℕ) → ℕ
+    List TypedModule → Placement → (number_of_module : ℕ) → TypedModule → (number : ℕ) → ℕ
 address_of_object modules placement number_of_module typed number =
     option_map_or (address_in placement) (meant_in modules number_of_module number typed) 0
 
@@ -58,10 +58,10 @@ abbrev pub contents_of_list : List ℕ × ℕ → Contents
 contents_of_list placed = (placed.1, placed.0)
 
 abbrev pub contents_of_module :
-  List TypedModule → Placement → (number_of_module : ℕ) → TypedModule → ModulePlacement → List Contents
+    List TypedModule → Placement → (number_of_module : ℕ) → TypedModule → ModulePlacement → List Contents
 contents_of_module modules placement number_of_module typed placed =
     map (contents_of_object (address_of_object modules placement number_of_module typed))
-      (zip typed.objects placed.objects)
+    (zip typed.objects placed.objects)
     ++ map contents_of_list (zip typed.constants.lists placed.lists)
 
 -- all contents of a program
@@ -69,7 +69,7 @@ abbrev pub contents_of : List TypedModule → Placement → List Contents
 contents_of modules placement =
     flat_map
     (λ (numbered : ℕ × (TypedModule × ModulePlacement)).
-      contents_of_module modules placement numbered.0 (numbered.1).0 (numbered.1).1)
+    contents_of_module modules placement numbered.0 (numbered.1).0 (numbered.1).1)
     (enumerate_from 0 (zip modules placement.modules))
 
 unfoldable pub starting_memory : List TypedModule → Placement → (memory : List ℕ) → List ℕ

@@ -55,11 +55,11 @@ pub record Storage : Type 0 where
 abbrev pub storage_with : TypedModule → Storage
 storage_with typed = record {
   objects = map
-    (λ (numbered : ℕ × TypedObject). slot_of_object typed numbered.0 numbered.1 (numbered.1).home)
-    (enumerate_from 0 typed.objects);
+      (λ (numbered : ℕ × TypedObject). slot_of_object typed numbered.0 numbered.1 (numbered.1).home)
+      (enumerate_from 0 typed.objects);
   lists = map
-    (λ (numbered : ℕ × List ℕ). slot_of_list typed numbered.0 numbered.1)
-    (enumerate_from 0 typed.constants.lists);
+      (λ (numbered : ℕ × List ℕ). slot_of_list typed numbered.0 numbered.1)
+      (enumerate_from 0 typed.constants.lists);
   data_size = data_bytes typed.objects;
   constant_size = constant_bytes typed;
 }

@@ -1,10 +1,14 @@
 //! Why a module has no storage.
 
-/// Why a module has no storage: C18, which has no line.
-#[derive(Clone, Copy, Debug, PartialEq, Eq)]
+use thiserror::Error;
+
+/// Why a module has no storage. Both faults are C18, and have no line.
+#[derive(Clone, Copy, Debug, PartialEq, Eq, Error)]
 pub enum Fault {
     /// The data segment has over 65535 bytes.
+    #[error("a data segment of over 65535 bytes")]
     DataTooLarge,
-    /// The constants have over 65535 bytes.
+    /// The objects with DATA and the constant lists have over 65535 bytes.
+    #[error("constants of over 65535 bytes")]
     ConstantsTooLarge,
 }

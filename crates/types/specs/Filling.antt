@@ -162,6 +162,6 @@ contents known line object_type (Elements count) values = do
 contents known line object_type AsListed values = do
   filled ← fill known values (scalars_of_elements (enough_elements values) object_type)
   contents_as_listed line
-    (length (scalars_of_elements (enough_elements values) object_type) - length filled.left)
-    (length (scalars_of_element object_type))
-    filled.values
+      (length (scalars_of_elements (enough_elements values) object_type) - length filled.left)
+      (length (scalars_of_element object_type))
+      filled.values

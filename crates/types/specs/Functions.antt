@@ -24,7 +24,7 @@ use Rattle.types.specs.References.{Known, Given, GivenReference, line_of, count_
 
 -- the arguments of a call, as many as there are parameters, and of their types
 abbrev pub call_arguments :
-  TypedProcedure → (line : ℕ) → Given → Constants → Checked (TypedArguments × Constants)
+    TypedProcedure → (line : ℕ) → Given → Constants → Checked (TypedArguments × Constants)
 call_arguments procedure line given constants = do
   _ ← require (count_of_given given == length procedure.parameter_types) WrongUse line
   typed ← given.typed constants
@@ -32,7 +32,7 @@ call_arguments procedure line given constants = do
 
 -- a call of a typed procedure
 abbrev pub call_of :
-  (number : ℕ) → TypedProcedure → GivenReference → Constants → Checked (TypedExpression × Constants)
+    (number : ℕ) → TypedProcedure → GivenReference → Constants → Checked (TypedExpression × Constants)
 call_of number procedure given constants = do
   result ← found procedure.result WrongUse (line_of given.name)
   typed ← call_arguments procedure (line_of given.name) given.arguments constants

@@ -116,8 +116,8 @@ typed_members before (member ∷ others) = do
   _ ← require (not (has_member before member.name.name)) DeclaredTwice (line_of member.name)
   dimension ← member_dimension member.dimension
   typed_members
-    (before ++ record { name = member.name.name; dimension = dimension; scalar = member.scalar } ∷ [])
-    others
+      (before ++ record { name = member.name.name; dimension = dimension; scalar = member.scalar } ∷ [])
+      others
 
 abbrev pub typed_type : Block → ItemTree → ItemTypeTree → Checked ObjectType
 typed_type block item (ScalarItem scalar) = Ok (ScalarObject scalar)
@@ -153,7 +153,7 @@ place_of_storage (Data place) = place
 
 -- INITIAL and DATA do not go with AT
 abbrev pub typed_contents :
-  Known → Block → ItemTree → ObjectType → Extents → Option ValueListTree → Checked Contents
+    Known → Block → ItemTree → ObjectType → Extents → Option ValueListTree → Checked Contents
 typed_contents known block item object_type extents None =
     contents known (line_of_item item) object_type extents []
 typed_contents known block item object_type extents (Some list) = do
@@ -185,7 +185,7 @@ abbrev pub home_of : Owner → ItemTree → (base : Option ℕ) → Option AtAdd
 home_of owner item base at values =
     option_map_or BasedOn base
     (if is_external_linkage item.linkage then Elsewhere
-     else option_map_or Placed at (home_with_values owner (is_data item.value_list) values))
+    else option_map_or Placed at (home_with_values owner (is_data item.value_list) values))
 
 -- an item, all but its names
 pub record TypedItem : Type 0 where
@@ -228,8 +228,8 @@ abbrev pub with_objects : Block → TypedItem → List Identifier → Progress �
 with_objects block item [] progress = Ok progress
 with_objects block item (name ∷ others) progress = do
   _ ← require
-    (nat_le (with_typed_object item.linkage (object_named block item name.name) progress).frame FRAME_LIMIT)
-    TooLarge (line_of name)
+      (nat_le (with_typed_object item.linkage (object_named block item name.name) progress).frame FRAME_LIMIT)
+      TooLarge (line_of name)
   with_objects block item others (with_typed_object item.linkage (object_named block item name.name) progress)
 
 -- an item as it is for each of its names

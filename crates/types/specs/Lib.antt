@@ -1,3 +1,4 @@
+pub mod Faults
 pub mod TypedTrees
 pub mod Sizes
 pub mod Checks

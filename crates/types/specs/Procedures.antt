@@ -81,7 +81,7 @@ parameter_types declared parameters =
 
 -- what a procedure is as its heading says, and what becomes known of it later
 abbrev pub procedure_with :
-  HeadingTree → List ScalarType → (parameters : List ℕ) → (frame_bytes : ℕ) → TypedList → TypedProcedure
+    HeadingTree → List ScalarType → (parameters : List ℕ) → (frame_bytes : ℕ) → TypedList → TypedProcedure
 procedure_with heading types parameters frame_bytes body = record {
   name = heading.name.name;
   visibility = visibility_of heading.linkage;
@@ -113,7 +113,7 @@ open_procedure block heading declared progress = do
   _ ← require (not (is_declared_again progress.known.here heading.name.name)) DeclaredTwice (line_of heading.name)
   _ ← require (not (is_reentrant block.owner || is_external block.owner)) MisplacedAttribute (line_of heading.name)
   here ← declare_parameters (take PARAMETER_LIMIT heading.parameters)
-    (into_body (with_procedure heading.name.name progress.known.here))
+      (into_body (with_procedure heading.name.name progress.known.here))
   _ ← no_more_parameters (drop PARAMETER_LIMIT heading.parameters)
   _ ← check_visibility block heading.linkage
   _ ← check_reentrant heading.linkage heading.reentrant
@@ -146,12 +146,12 @@ check_body heading (MoreStatements first others) =
 
 -- out of a procedure: it is now known whole
 abbrev pub close_procedure :
-  HeadingTree → DeclarationTrees → (number : ℕ) → (parameters : List ℕ) → TypedList → Progress → Progress
+    HeadingTree → DeclarationTrees → (number : ℕ) → (parameters : List ℕ) → TypedList → Progress → Progress
 close_procedure heading declared number parameters body progress = record progress {
   known = record progress.known {
     here = out_of_body progress.known.here;
     procedures = slice_set progress.known.procedures number
-      (procedure_with heading (parameter_types declared heading.parameters) parameters progress.frame body);
+        (procedure_with heading (parameter_types declared heading.parameters) parameters progress.frame body);
   };
   frame = 0;
 }

@@ -95,7 +95,7 @@ pub record FoundPart : Type 0 where
 
 -- what a reference means once the subscript of its object is known: the element, or a member of it
 abbrev pub part_with_member :
-  (object : ℕ) → ObjectType → Subscript → Extent → GivenMember → Constants → Checked (FoundPart × Constants)
+    (object : ℕ) → ObjectType → Subscript → Extent → GivenMember → Constants → Checked (FoundPart × Constants)
 part_with_member object object_type subscript extent WithoutMember constants =
     Ok (record { reference = PartOf object subscript None 0 NoSubscript; scalar = scalar_of object_type }, constants)
 part_with_member object object_type subscript extent (WithMember name given) constants = do
@@ -105,26 +105,26 @@ part_with_member object object_type subscript extent (WithMember name given) con
   typed ← given.typed constants
   Ok (part_of_member object subscript place typed.0, typed.1)
   where
-  part_of_member : ℕ → Subscript → FoundMember → TypedArguments → FoundPart
-  part_of_member object subscript place indices = record {
-    reference = PartOf object subscript (Some place.position) place.offset
-      (subscript_of (size_of_scalar place.member.scalar) place.member.dimension indices);
-    scalar = Some place.member.scalar;
-  }
+    part_of_member : ℕ → Subscript → FoundMember → TypedArguments → FoundPart
+    part_of_member object subscript place indices = record {
+      reference = PartOf object subscript (Some place.position) place.offset
+          (subscript_of (size_of_scalar place.member.scalar) place.member.dimension indices);
+      scalar = Some place.member.scalar;
+    }
 
 -- what a reference to an object means
 abbrev pub part_of :
-  (number : ℕ) → TypedObject → Extent → GivenReference → Constants → Checked (FoundPart × Constants)
+    (number : ℕ) → TypedObject → Extent → GivenReference → Constants → Checked (FoundPart × Constants)
 part_of number object extent given constants = do
   _ ← require (takes_subscripts extent object.dimension (count_of_given given.arguments)) WrongUse (line_of given.name)
   typed ← given.arguments.typed constants
   part_with_member number object.object_type
-    (subscript_of (size_of_element object.object_type) object.dimension typed.0)
-    extent given.member typed.1
+      (subscript_of (size_of_element object.object_type) object.dimension typed.0)
+      extent given.member typed.1
 
 -- a reference to a scalar: an array without a subscript and a structure are none
 abbrev pub scalar_part :
-  (number : ℕ) → TypedObject → GivenReference → Constants → Checked (TypedReference × ScalarType × Constants)
+    (number : ℕ) → TypedObject → GivenReference → Constants → Checked (TypedReference × ScalarType × Constants)
 scalar_part number object given constants = do
   part ← part_of number object AnElement given constants
   scalar ← found part.0.scalar WrongUse (line_of given.name)
@@ -171,9 +171,9 @@ is_constant home = false
 abbrev pub is_writable : TypedObject → Identifier → Checked (Unit {0})
 is_writable object name = is_written (is_constant object.home)
   where
-  is_written : Bool → Checked (Unit {0})
-  is_written true = refuse ConstantWritten (line_of name)
-  is_written false = Ok tt
+    is_written : Bool → Checked (Unit {0})
+    is_written true = refuse ConstantWritten (line_of name)
+    is_written false = Ok tt
 
 -- what a value can be assigned to: a scalar, or OUTPUT
 abbrev pub destination_of_bound : Known → Binding → GivenReference → Constants → Checked (Destination × Constants)

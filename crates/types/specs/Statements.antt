@@ -60,7 +60,7 @@ moved line (MoreTyped count (MoreTyped source (MoreTyped destination NoTyped))) 
 moved line values = refuse WrongUse line
 
 abbrev pub call_bound :
-  Known → Binding → Identifier → Given → Constants → Checked (TypedStatement × Constants)
+    Known → Binding → Identifier → Given → Constants → Checked (TypedStatement × Constants)
 call_bound known (Declared (Procedure number)) name given constants = do
   procedure ← procedure_of known name number
   _ ← require (is_none procedure.result) WrongUse (line_of name)
@@ -81,7 +81,7 @@ call name given progress = do
 
 -- RETURN stands in procedures, with a value exactly in typed ones
 abbrev pub return_with :
-  (line : ℕ) → Option ScalarType → Option ExpressionTree → Progress → Checked (TypedStatement × Progress)
+    (line : ℕ) → Option ScalarType → Option ExpressionTree → Progress → Checked (TypedStatement × Progress)
 return_with line None None progress = Ok (TypedReturn None, progress)
 return_with line (Some scalar) (Some tree) progress = do
   typed ← value tree progress
@@ -89,7 +89,7 @@ return_with line (Some scalar) (Some tree) progress = do
 return_with line result tree progress = refuse WrongUse line
 
 abbrev pub return_from :
-  (line : ℕ) → Owner → Option ExpressionTree → Progress → Checked (TypedStatement × Progress)
+    (line : ℕ) → Owner → Option ExpressionTree → Progress → Checked (TypedStatement × Progress)
 return_from line TheModule tree progress = refuse WrongUse line
 return_from line (OfProcedure number heading) tree progress = return_with line heading.result tree progress
 
@@ -167,12 +167,13 @@ after_labels label (first ∷ others) statements =
 
 -- A list of statements, in the whole of which its labels are known. They are numbered when the list is entered.
 abbrev pub list_of :
-  StatementTrees → (ℕ → Progress → Checked (TypedStatements × Progress)) → Progress → Checked (TypedList × Progress)
+    StatementTrees → (ℕ → Progress → Checked (TypedStatements × Progress)) → Progress → Checked (TypedList × Progress)
 list_of trees typed_from progress = do
   typed ← typed_from progress.known.here.labels (with_here (into_list (labels_of trees) progress.known.here) progress)
   Ok (
     ListOf progress.known.here.labels (places_from 0 trees) typed.0,
-    with_here (out_of_list typed.1.known.here) typed.1)
+    with_here (out_of_list typed.1.known.here) typed.1,
+  )
 
 -- where a statement begins
 abbrev pub line_of_targets : List ReferenceTree → ℕ

@@ -11,4 +11,5 @@ pub const PARAMETER_LIMIT: usize = 16;
 
 /// The code of a module has at most so many bytes beside its constants, and so many more for each unit of its weight.
 pub const CODE_BYTES: u32 = 2048;
+
 pub const CODE_BYTES_FOR_WEIGHT: u32 = 128;

@@ -31,14 +31,14 @@ abbrev pub storages : List TypedModule → List (Option Storage)
 storages [] = []
 storages (first ∷ others) = stored (storage_of first) ∷ storages others
   where
-  stored : {E : Type 0} → Result Storage E → Option Storage
-  stored (Ok storage) = Some storage
-  stored (Err fault) = None
+    stored : {E : Type 0} → Result Storage E → Option Storage
+    stored (Ok storage) = Some storage
+    stored (Err fault) = None
 
 -- DECLARE S(2) STRUCTURE (A BYTE, B(2) ADDRESS), X BYTE AT (.S + 8);: X has no place in a segment
 pub structure_storage :
-  storages (typed (module_of (structures ∷ []) [] ∷ []))
-  ≡ Some (record {
+    storages (typed (module_of (structures ∷ []) [] ∷ []))
+    ≡ Some (record {
       objects = Some (record { segment = Data; offset = 0; size = 10 }) ∷ None ∷ [];
       lists = [];
       data_size = 10;
@@ -52,27 +52,27 @@ structure_storage = refl
 abbrev pub constants_module : ModuleTree
 constants_module = module_of
     (DeclareTree (
-      scalar_item 2 (codes "A") Byte
-      ∷ data_item 2 (codes "K") Byte (alone (number_on 2 3) ∷ [])
-      ∷ scalar_item 2 (codes "W") Address
-      ∷ []) ∷ [])
+    scalar_item 2 (codes "A") Byte
+    ∷ data_item 2 (codes "K") Byte (alone (number_on 2 3) ∷ [])
+    ∷ scalar_item 2 (codes "W") Address
+    ∷ []) ∷ [])
     (assigns (plain 3 (codes "W") ∷ []) (ListLeaf (number_on 3 1 ∷ number_on 3 300 ∷ []))
-     ∷ unlabelled (DoStatement (on_line 4)
-         (declarations_of (DeclareTree (data_item 4 (codes "L") Byte (alone (number_on 4 4) ∷ []) ∷ []) ∷ []))
-         (statements_of (assigns (plain 5 (codes "W") ∷ []) (ListLeaf (string_on 5 (codes "AB") ∷ [])) ∷ [])))
-     ∷ [])
+    ∷ unlabelled (DoStatement (on_line 4)
+    (declarations_of (DeclareTree (data_item 4 (codes "L") Byte (alone (number_on 4 4) ∷ []) ∷ []) ∷ []))
+    (statements_of (assigns (plain 5 (codes "W") ∷ []) (ListLeaf (string_on 5 (codes "AB") ∷ [])) ∷ [])))
+    ∷ [])
 
 pub constants_storage :
-  storages (typed (constants_module ∷ []))
-  ≡ Some (record {
+    storages (typed (constants_module ∷ []))
+    ≡ Some (record {
       objects =
-        Some (record { segment = Data; offset = 0; size = 1 })
-        ∷ Some (record { segment = Code; offset = 0; size = 1 })
-        ∷ Some (record { segment = Data; offset = 1; size = 2 })
-        ∷ Some (record { segment = Code; offset = 4; size = 1 })
-        ∷ [];
+          Some (record { segment = Data; offset = 0; size = 1 })
+          ∷ Some (record { segment = Code; offset = 0; size = 1 })
+          ∷ Some (record { segment = Data; offset = 1; size = 2 })
+          ∷ Some (record { segment = Code; offset = 4; size = 1 })
+          ∷ [];
       lists =
-        record { segment = Code; offset = 1; size = 3 } ∷ record { segment = Code; offset = 5; size = 2 } ∷ [];
+          record { segment = Code; offset = 1; size = 3 } ∷ record { segment = Code; offset = 5; size = 2 } ∷ [];
       data_size = 3;
       constant_size = 7;
     }) ∷ []
@@ -94,7 +94,7 @@ caller = module_of (procedure_of (show_heading (External (on_line 2))) (its_para
 abbrev pub shower : ScalarType → ModuleTree
 shower scalar = module_of
     (procedure_of (show_heading (Public (on_line 2))) (its_parameter scalar ∷ [])
-      (sends 3 4 (value_of (plain 3 (codes "X"))) ∷ []) ∷ []) []
+    (sends 3 4 (value_of (plain 3 (codes "X"))) ∷ []) ∷ []) []
 
 pub joined : join_refusal (typed (caller ∷ shower Byte ∷ [])) ≡ None
 unfolding typing_of built_in_of join_refusal
@@ -141,10 +141,10 @@ one_after_a = record {
 abbrev pub filled_module : ModuleTree
 filled_module = module_of
     (DeclareTree (
-      initial_item 2 (codes "A") Byte (alone (number_on 2 7))
-      ∷ initial_item 2 (codes "W") Address one_after_a
-      ∷ data_item 2 (codes "K") Byte (alone (number_on 2 9) ∷ [])
-      ∷ []) ∷ [])
+    initial_item 2 (codes "A") Byte (alone (number_on 2 7))
+    ∷ initial_item 2 (codes "W") Address one_after_a
+    ∷ data_item 2 (codes "K") Byte (alone (number_on 2 9) ∷ [])
+    ∷ []) ∷ [])
     (assigns (plain 3 (codes "W") ∷ []) (ListLeaf (number_on 3 1 ∷ [])) ∷ [])
 
 abbrev pub filled_placement : Placement
@@ -155,7 +155,7 @@ filled_placement = record {
 }
 
 pub filled :
-  starting_memory (typed (filled_module ∷ [])) filled_placement (replicate 9 255)
-  ≡ 255 ∷ 255 ∷ 7 ∷ 3 ∷ 0 ∷ 255 ∷ 9 ∷ 1 ∷ 255 ∷ []
+    starting_memory (typed (filled_module ∷ [])) filled_placement (replicate 9 255)
+    ≡ 255 ∷ 255 ∷ 7 ∷ 3 ∷ 0 ∷ 255 ∷ 9 ∷ 1 ∷ 255 ∷ []
 unfolding typing_of built_in_of starting_memory
 filled = refl

@@ -64,36 +64,36 @@ unfolding typing_of built_in_of
 structure_sizes = refl
 
 pub structure_homes :
-  measured homes (module_of (structures ∷ []) []) ≡ Ok (InData [] ∷ Placed (AtObject 0 8) ∷ [])
+    measured homes (module_of (structures ∷ []) []) ≡ Ok (InData [] ∷ Placed (AtObject 0 8) ∷ [])
 unfolding typing_of built_in_of
 structure_homes = refl
 
 -- S(1).B(1) = SIZE(S): elements of 5 bytes, and B is the second member, one byte after the first
 pub member :
-  main_of (module_of (structures ∷ [])
+    main_of (module_of (structures ∷ [])
     (assigns
-      (ReferenceTo (name_on 3 (codes "S")) (arguments_of (a_number 3 1 ∷ []))
-        (MemberOf (name_on 3 (codes "B")) (arguments_of (a_number 3 1 ∷ []))) ∷ [])
-      (value_of (at_subscript 3 (codes "SIZE") (value_of (plain 3 (codes "S")) ∷ []))) ∷ []))
-  ≡ Ok (ListOf 0 [] (MoreStatements
-      (AssignmentStatement
-        (StoredIn Byte Address
-          (PartOf 0
-            (At 5 2 (ConversionNode Address (NumberNode Byte 1 FromDigits))) (Some 1) 1
-            (At 2 2 (ConversionNode Address (NumberNode Byte 1 FromDigits)))) ∷ [])
-        (NumberNode Byte 10 (FromMeasure Size 0 None)))
-      NoStatements))
+    (ReferenceTo (name_on 3 (codes "S")) (arguments_of (a_number 3 1 ∷ []))
+    (MemberOf (name_on 3 (codes "B")) (arguments_of (a_number 3 1 ∷ []))) ∷ [])
+    (value_of (at_subscript 3 (codes "SIZE") (value_of (plain 3 (codes "S")) ∷ []))) ∷ []))
+    ≡ Ok (ListOf 0 [] (MoreStatements
+    (AssignmentStatement
+    (StoredIn Byte Address
+    (PartOf 0
+    (At 5 2 (ConversionNode Address (NumberNode Byte 1 FromDigits))) (Some 1) 1
+    (At 2 2 (ConversionNode Address (NumberNode Byte 1 FromDigits)))) ∷ [])
+    (NumberNode Byte 10 (FromMeasure Size 0 None)))
+    NoStatements))
 unfolding typing_of built_in_of
 member = refl
 
 -- OUTPUT(0) = LAST(S)
 pub last :
-  main_of (module_of (structures ∷ [])
+    main_of (module_of (structures ∷ [])
     (assigns (at_subscript 3 (codes "OUTPUT") (a_number 3 0 ∷ []) ∷ [])
-      (value_of (at_subscript 3 (codes "LAST") (value_of (plain 3 (codes "S")) ∷ []))) ∷ []))
-  ≡ Ok (ListOf 0 [] (MoreStatements
-      (AssignmentStatement (SentTo Byte 0 ∷ []) (NumberNode Byte 1 (FromMeasure Last 0 None)))
-      NoStatements))
+    (value_of (at_subscript 3 (codes "LAST") (value_of (plain 3 (codes "S")) ∷ []))) ∷ []))
+    ≡ Ok (ListOf 0 [] (MoreStatements
+    (AssignmentStatement (SentTo Byte 0 ∷ []) (NumberNode Byte 1 (FromMeasure Last 0 None)))
+    NoStatements))
 unfolding typing_of built_in_of
 last = refl
 
@@ -109,43 +109,43 @@ abbrev pub location_alone : (line : ℕ) → List ℕ → RestrictedTree
 location_alone line text = record { origin = LocationOrigin (name_on line text); offsets = [] }
 
 pub implied_dimensions :
-  measured (λ (typed : TypedModule). typed.objects) (module_of (DeclareTree (
-      implied_item 2 (codes "T") (ScalarItem Byte) (alone (string_on 2 (codes "ABC")) ∷ alone (number_on 2 3) ∷ [])
-      ∷ implied_item 2 (codes "U") (ScalarItem Address)
-          (alone (string_on 2 (codes "AG")) ∷ location_alone 2 (codes "T") ∷ [])
-      ∷ []) ∷ []) [])
-  ≡ Ok (
-      record {
-        name = codes "T";
-        dimension = Some 4;
-        object_type = ScalarObject Byte;
-        home = InConstants (ByteValue 65 ∷ ByteValue 66 ∷ ByteValue 67 ∷ ByteValue 3 ∷ []);
-        is_public = false;
-        is_parameter = false;
-      }
-      ∷ record {
-        name = codes "U";
-        dimension = Some 2;
-        object_type = ScalarObject Address;
-        home = InConstants (WordValue 16711 ∷ LocationValue 0 0 ∷ []);
-        is_public = false;
-        is_parameter = false;
-      }
-      ∷ [])
+    measured (λ (typed : TypedModule). typed.objects) (module_of (DeclareTree (
+    implied_item 2 (codes "T") (ScalarItem Byte) (alone (string_on 2 (codes "ABC")) ∷ alone (number_on 2 3) ∷ [])
+    ∷ implied_item 2 (codes "U") (ScalarItem Address)
+    (alone (string_on 2 (codes "AG")) ∷ location_alone 2 (codes "T") ∷ [])
+    ∷ []) ∷ []) [])
+    ≡ Ok (
+    record {
+      name = codes "T";
+      dimension = Some 4;
+      object_type = ScalarObject Byte;
+      home = InConstants (ByteValue 65 ∷ ByteValue 66 ∷ ByteValue 67 ∷ ByteValue 3 ∷ []);
+      is_public = false;
+      is_parameter = false;
+    }
+    ∷ record {
+      name = codes "U";
+      dimension = Some 2;
+      object_type = ScalarObject Address;
+      home = InConstants (WordValue 16711 ∷ LocationValue 0 0 ∷ []);
+      is_public = false;
+      is_parameter = false;
+    }
+    ∷ [])
 unfolding typing_of built_in_of
 implied_dimensions = refl
 
 -- DECLARE X BYTE DATA (256);
 pub value_too_great :
-  typing_of (module_of (DeclareTree (data_item 2 (codes "X") Byte (alone (number_on 3 256) ∷ []) ∷ []) ∷ []) [])
-  ≡ refuse WrongConstant 3
+    typing_of (module_of (DeclareTree (data_item 2 (codes "X") Byte (alone (number_on 3 256) ∷ []) ∷ []) ∷ []) [])
+    ≡ refuse WrongConstant 3
 unfolding typing_of built_in_of
 value_too_great = refl
 
 -- DECLARE X(65535) ADDRESS;
 pub object_too_large :
-  typing_of (module_of (DeclareTree (array_item 2 (codes "X") 65535 (ScalarItem Address) ∷ []) ∷ []) [])
-  ≡ refuse TooLarge 2
+    typing_of (module_of (DeclareTree (array_item 2 (codes "X") 65535 (ScalarItem Address) ∷ []) ∷ []) [])
+    ≡ refuse TooLarge 2
 unfolding typing_of built_in_of
 object_too_large = refl
 
@@ -161,7 +161,7 @@ two_procedures = module_of (
     procedure_of (heading_on 2 (codes "P") [] None) [] (sends 2 0 (a_number 2 1) ∷ [])
     ∷ procedure_of (heading_on 3 (codes "Q") [] None) [] (calls 3 (codes "P") ∷ [])
     ∷ [])
-  (calls 4 (codes "P") ∷ calls 4 (codes "Q") ∷ [])
+    (calls 4 (codes "P") ∷ calls 4 (codes "Q") ∷ [])
 
 pub charges_of_two_procedures : measured charges two_procedures ≡ Ok (12 ∷ 12 ∷ 12 ∷ [])
 unfolding typing_of built_in_of charge_of
@@ -196,18 +196,18 @@ even_heading = record (heading_on 3 (codes "EVEN") (name_on 3 (codes "N") ∷ []
 abbrev pub even_body : List StatementTree
 even_body =
     unlabelled (If (on_line 3)
-      (Binary Equal (value_of (plain 3 (codes "N"))) (a_number 3 0))
-      (unlabelled (Return (on_line 3) (Some (a_number 3 1))))
-      NoElse)
+    (Binary Equal (value_of (plain 3 (codes "N"))) (a_number 3 0))
+    (unlabelled (Return (on_line 3) (Some (a_number 3 1))))
+    NoElse)
     ∷ unlabelled (Return (on_line 3)
-        (Some (value_of (at_subscript 3 (codes "ODD") (Binary Subtract (value_of (plain 3 (codes "N"))) (a_number 3 1) ∷ [])))))
+    (Some (value_of (at_subscript 3 (codes "ODD") (Binary Subtract (value_of (plain 3 (codes "N"))) (a_number 3 1) ∷ [])))))
     ∷ []
 
 abbrev pub even_module : ModuleTree
 even_module = module_of
     (procedure_of odd_heading (a_parameter 2 ∷ []) []
-     ∷ procedure_of even_heading (a_parameter 3 ∷ []) even_body
-     ∷ [])
+    ∷ procedure_of even_heading (a_parameter 3 ∷ []) even_body
+    ∷ [])
     (sends 4 7 (value_of (at_subscript 4 (codes "EVEN") (a_number 4 5 ∷ []))) ∷ [])
 
 -- the charge of ODD is that of its heading alone, as long as its body is another module's
