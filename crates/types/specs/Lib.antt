@@ -15,4 +15,6 @@ pub mod Procedures
 pub mod Typing
 pub mod Charge
 pub mod Weight
+pub mod Jumps
+pub mod Untyped
 pub mod internal

@@ -1,3 +1,4 @@
 pub mod Samples
 pub mod Examples
 pub mod Measures
+pub mod GivenBack
