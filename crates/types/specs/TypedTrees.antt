@@ -5,17 +5,21 @@ use Rattle.std.specs.Prelude.{ℕ, Bool, List, Option}
 use Rattle.trees.specs.declared.declaration.ScalarType.{ScalarType}
 use Rattle.trees.specs.declared.expression.BinaryOperator.{BinaryOperator}
 use Rattle.trees.specs.declared.expression.UnaryOperator.{UnaryOperator}
-use Rattle.types.specs.declared.typed.Measure.{Measure}
 use Rattle.types.specs.declared.typed.ShiftFunction.{ShiftFunction}
 use Rattle.types.specs.declared.typed.UnaryFunction.{UnaryFunction}
 use Rattle.types.specs.declared.typed.Visibility.{Visibility}
-
--- how a number was written: in digits, as a string of one or two characters, or as LENGTH, LAST or SIZE of an object
--- or of a member of it (by its position in the structure)
-pub data NumberOrigin : Type 0 where
-  FromDigits : NumberOrigin
-  FromString : NumberOrigin
-  FromMeasure : Measure → (object : ℕ) → (member : Option ℕ) → NumberOrigin
+-- the small parts, which are those of the code
+pub use Rattle.types.specs.declared.typed.AtAddress.{AtAddress}
+pub use Rattle.types.specs.declared.typed.AtAddress.TheVariants.{AtNumber, AtObject}
+pub use Rattle.types.specs.declared.typed.ConstantItem.{ConstantItem}
+pub use Rattle.types.specs.declared.typed.ConstantItem.TheVariants.{ConstantObject, ConstantList}
+pub use Rattle.types.specs.declared.typed.GlobalItem.{GlobalItem}
+pub use Rattle.types.specs.declared.typed.GlobalItem.TheVariants.{GlobalObject, GlobalProcedure}
+pub use Rattle.types.specs.declared.typed.InitialValue.{InitialValue}
+pub use Rattle.types.specs.declared.typed.InitialValue.TheVariants.{ByteValue, WordValue, LocationValue}
+pub use Rattle.types.specs.declared.typed.NumberOrigin.{NumberOrigin}
+pub use Rattle.types.specs.declared.typed.NumberOrigin.TheVariants.{FromDigits, FromString, FromMeasure}
+pub use Rattle.types.specs.declared.typed.TypedMember.{TypedMember}
 
 mutual
   pub data TypedExpression : Type 0 where
@@ -107,30 +111,10 @@ mutual
   pub data TypedList : Type 0 where
     ListOf : (first_label : ℕ) → (places : List ℕ) → TypedStatements → TypedList
 
--- a member of a structure
-pub record TypedMember : Type 0 where
-  pub name : List ℕ
-  pub dimension : Option ℕ
-  pub scalar : ScalarType
-
 -- the type of an object, or of the elements of an array
 pub data ObjectType : Type 0 where
   ScalarObject : ScalarType → ObjectType
   StructureObject : List TypedMember → ObjectType
-
--- what the bytes of an object are filled with
-pub data InitialValue : Type 0 where
-  -- a byte
-  ByteValue : ℕ → InitialValue
-  -- two bytes, the low one first
-  WordValue : ℕ → InitialValue
-  -- two bytes: where an object lies, and a number added to that
-  LocationValue : (object : ℕ) → (offset : ℕ) → InitialValue
-
--- where AT puts an object: at an address, or at a distance from where another begins
-pub data AtAddress : Type 0 where
-  AtNumber : ℕ → AtAddress
-  AtObject : (object : ℕ) → (offset : ℕ) → AtAddress
 
 -- where an object lives
 pub data Home : Type 0 where
@@ -172,21 +156,11 @@ pub record TypedProcedure : Type 0 where
   -- what it does; nothing where it is EXTERNAL
   pub body : TypedList
 
--- what stands among the constants
-pub data ConstantItem : Type 0 where
-  ConstantObject : (object : ℕ) → ConstantItem
-  ConstantList : (list : ℕ) → ConstantItem
-
 -- the constants of a module: the bytes of each constant list, and the objects with DATA and the constant lists
 -- together, in the order of the text
 pub record Constants : Type 0 where
   pub lists : List (List ℕ)
   pub items : List ConstantItem
-
--- what other modules share: an object or a procedure that is PUBLIC or EXTERNAL
-pub data GlobalItem : Type 0 where
-  GlobalObject : (object : ℕ) → GlobalItem
-  GlobalProcedure : (procedure : ℕ) → GlobalItem
 
 -- a module
 pub record TypedModule : Type 0 where
