@@ -17,4 +17,5 @@ pub mod Charge
 pub mod Weight
 pub mod Jumps
 pub mod Untyped
+pub mod Views
 pub mod internal
