@@ -203,7 +203,7 @@ number_tree tables value FromDigits = number_leaf value
 number_tree tables value FromString = number_leaf value
 number_tree tables value (FromMeasure measure object member) =
     trees.ReferenceLeaf (call_tree (measure_name measure) (one_argument (trees.ReferenceLeaf
-      (ReferenceTo (named (object_name tables object)) NoArguments (member_tree tables object member NoArguments)))))
+    (ReferenceTo (named (object_name tables object)) NoArguments (member_tree tables object member NoArguments)))))
 
 abbrev mutual
   pub untyped_expression : TypedModule → TypedExpression → ExpressionTree
@@ -225,14 +225,14 @@ abbrev mutual
       trees.ReferenceLeaf (call_tree (function_name function) (one_argument (untyped_expression tables operand)))
   untyped_expression tables (typed.ShiftNode scalar function value count) =
       trees.ReferenceLeaf (call_tree (shift_name function)
-        (MoreArguments (untyped_expression tables value) (one_argument (untyped_expression tables count))))
+      (MoreArguments (untyped_expression tables value) (one_argument (untyped_expression tables count))))
   untyped_expression tables (typed.InputNode port) =
       trees.ReferenceLeaf (call_tree (codes "INPUT") (one_argument (number_leaf port)))
 
   pub untyped_reference : TypedModule → TypedReference → ReferenceTree
   untyped_reference tables (PartOf object subscript member offset member_subscript) =
       ReferenceTo (named (object_name tables object)) (untyped_subscript tables subscript)
-        (member_tree tables object member (untyped_subscript tables member_subscript))
+      (member_tree tables object member (untyped_subscript tables member_subscript))
 
   pub untyped_subscript : TypedModule → Subscript → ArgumentTrees
   untyped_subscript tables NoSubscript = NoArguments
@@ -265,15 +265,15 @@ abbrev mutual
       trees.CallStatement nowhere (named (procedure_name tables procedure)) (untyped_arguments tables values)
   untyped_kind tables (MoveStatement count source destination) =
       trees.CallStatement nowhere (named (codes "MOVE"))
-        (MoreArguments (untyped_expression tables count)
-          (MoreArguments (untyped_expression tables source) (one_argument (untyped_expression tables destination))))
+      (MoreArguments (untyped_expression tables count)
+      (MoreArguments (untyped_expression tables source) (one_argument (untyped_expression tables destination))))
   untyped_kind tables (typed.ReturnStatement value) =
       trees.ReturnStatement nowhere (option_map (untyped_expression tables) value)
   untyped_kind tables typed.HaltStatement = trees.HaltStatement nowhere
   untyped_kind tables (typed.GotoStatement label) = trees.GotoStatement nowhere nameless
   untyped_kind tables (typed.IfStatement condition body otherwise) =
       trees.IfStatement nowhere (untyped_expression tables condition)
-        (LabelledStatement [] (untyped_kind tables body)) (untyped_else tables otherwise)
+      (LabelledStatement [] (untyped_kind tables body)) (untyped_else tables otherwise)
   untyped_kind tables (typed.DoStatement body) = trees.DoStatement nowhere NoDeclarations (untyped_list tables body)
   untyped_kind tables (typed.WhileStatement condition body) =
       trees.WhileStatement nowhere (untyped_expression tables condition) (untyped_list tables body)

@@ -2,3 +2,4 @@ pub mod Samples
 pub mod Examples
 pub mod Measures
 pub mod GivenBack
+pub mod Refusals

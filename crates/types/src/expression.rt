@@ -103,5 +103,8 @@ pub enum TypedTarget {
         reference: TypedReference,
     },
     /// A port, which takes the low byte.
-    Sent { from: ScalarType, port: u8 },
+    Sent {
+        from: ScalarType,
+        port: u8,
+    },
 }

@@ -10,9 +10,7 @@ mod typed;
 
 pub use expression::{TypedExpression, TypedReference, TypedSubscript, TypedTarget};
 pub use fault::{Cause, Fault};
-pub use limits::{
-    CODE_BYTES, CODE_BYTES_FOR_WEIGHT, FRAME_LIMIT, OBJECT_LIMIT, PARAMETER_LIMIT,
-};
+pub use limits::{CODE_BYTES, CODE_BYTES_FOR_WEIGHT, FRAME_LIMIT, OBJECT_LIMIT, PARAMETER_LIMIT};
 pub use module::{Home, ObjectType, Typed, TypedObject, TypedProcedure};
 pub use statement::{
     TypedAssignment, TypedCase, TypedIf, TypedIterate, TypedIteration, TypedList, TypedMove,
