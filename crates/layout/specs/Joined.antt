@@ -1,5 +1,5 @@
--- Modules joined into a program (PL/M-80 Programming Manual, "Extended scope: the PUBLIC and EXTERNAL attributes"). Each
--- EXTERNAL name stands for the PUBLIC of that name.
+-- Modules joined into a program (PL/M-80 Programming Manual, "Extended scope: the PUBLIC and EXTERNAL
+-- attributes"). Each EXTERNAL name stands for the PUBLIC of that name.
 use Rattle.std.specs.Prelude.{◌≡◌, ℕ, ◌+◌, Bool, true, false, not, ◌&&◌, ◌==◌, List, [], ◌∷◌, map, filter, filter_map, flat_map, find, position, count_by, Option, Some, None, option_map, if◌then◌else◌, slice_get}
 use Rattle.std.specs.List.{list_any}
 use Rattle.std.specs.Option.{option_or, option_map_or, option_and_then}
@@ -8,7 +8,10 @@ use Rattle.trees.specs.declared.declaration.ScalarType.{ScalarType}
 use Rattle.trees.specs.declared.declaration.ScalarType.TheVariants.{Byte, Address}
 use Rattle.types.specs.declared.typed.Visibility.{Visibility}
 use Rattle.types.specs.declared.typed.Visibility.TheVariants.{Public}
-use Rattle.types.specs.TypedTrees.{TypedStatements, NoStatements, MoreStatements, TypedList, ListOf, TypedMember, ObjectType, ScalarObject, StructureObject, Home, Elsewhere, TypedObject, TypedProcedure, GlobalItem, GlobalObject, GlobalProcedure, TypedModule}
+use Rattle.types.specs.declared.typed.GlobalItem.TheVariants.{GlobalObject, GlobalProcedure}
+use Rattle.types.specs.declared.typed.GlobalItem.{GlobalItem}
+use Rattle.types.specs.declared.typed.TypedMember.{TypedMember}
+use Rattle.types.specs.TypedTrees.{TypedStatements, NoStatements, MoreStatements, TypedList, ListOf, ObjectType, ScalarObject, StructureObject, Home, Elsewhere, TypedObject, TypedProcedure, TypedModule}
 
 -- whether two declarations agree: types, dimensions, and members by their position, whatever their names
 abbrev pub same_scalar : ScalarType → ScalarType → Bool
@@ -24,7 +27,8 @@ same_dimension left right = false
 abbrev pub same_members : List TypedMember → List TypedMember → Bool
 same_members [] [] = true
 same_members (left ∷ lefts) (right ∷ rights) =
-    same_scalar left.scalar right.scalar && same_dimension left.dimension right.dimension && same_members lefts rights
+    same_scalar left.scalar right.scalar && same_dimension left.dimension right.dimension
+    && same_members lefts rights
 same_members lefts rights = false
 
 abbrev pub same_type : ObjectType → ObjectType → Bool
@@ -65,7 +69,8 @@ is_public_procedure Public = true
 is_public_procedure visibility = false
 
 abbrev pub global_object : TypedObject → Global
-global_object object = record { name = object.name; is_public = object.is_public; declared = DeclaredObject object }
+global_object object =
+    record { name = object.name; is_public = object.is_public; declared = DeclaredObject object }
 
 abbrev pub global_procedure : TypedProcedure → Global
 global_procedure procedure = record {
@@ -76,7 +81,8 @@ global_procedure procedure = record {
 
 abbrev pub global_of : TypedModule → GlobalItem → Option Global
 global_of typed (GlobalObject object) = option_map global_object (slice_get typed.objects object)
-global_of typed (GlobalProcedure procedure) = option_map global_procedure (slice_get typed.procedures procedure)
+global_of typed (GlobalProcedure procedure) =
+    option_map global_procedure (slice_get typed.procedures procedure)
 
 -- the globals of modules, in the order of the modules and in that of each text
 abbrev pub globals_of : List TypedModule → List Global
@@ -101,7 +107,8 @@ first_repeated before (global ∷ others) =
 
 -- an EXTERNAL that no module has as PUBLIC, or that its PUBLIC does not agree with
 abbrev pub lacks_public : List Global → Global → Bool
-lacks_public publics external = option_map_or (λ (public : Global). false) (public_named publics external.name) true
+lacks_public publics external =
+    option_map_or (λ (public : Global). false) (public_named publics external.name) true
 
 abbrev pub differs_from_public : List Global → Global → Bool
 differs_from_public publics external =

@@ -3,7 +3,9 @@ use Rattle.std.specs.Prelude.{◌≡◌, ℕ, ◌+◌, ◌%◌, ◌≤◌, List,
 use Rattle.std.specs.Option.{option_map_or}
 use Rattle.mem80.specs.declared.range.Range.{Range}
 use Rattle.mem80.specs.Range.{IsIn, Meets}
-use Rattle.types.specs.TypedTrees.{AtAddress, AtNumber, AtObject, Home, Placed, TypedObject, TypedModule}
+use Rattle.types.specs.declared.typed.AtAddress.TheVariants.{AtNumber, AtObject}
+use Rattle.types.specs.declared.typed.AtAddress.{AtAddress}
+use Rattle.types.specs.TypedTrees.{Home, Placed, TypedObject, TypedModule}
 use Rattle.layout.specs.Placement.{ModulePlacement, Placement, PlacedPiece, pieces_of, own_pieces, constant_pieces, IsWritable}
 
 -- an address for each object and each constant list of a module, and that for each module
@@ -11,7 +13,8 @@ pub record HasAddresses (placed : TypedModule × ModulePlacement) : Type 0 where
   pub objects : length (placed.1).objects ≡ length (placed.0).objects
   pub lists : length (placed.1).lists ≡ length (placed.0).constants.lists
 
--- The address that AT says: a number, or so much after where another object of the module begins, modulo 65536.
+-- The address that AT says: a number, or so much after where another object of the module begins, modulo
+-- 65536.
 abbrev pub address_at : ModulePlacement → AtAddress → ℕ
 address_at placed (AtNumber address) = address
 address_at placed (AtObject object offset) = (slice_index placed.objects object + offset) % 65536

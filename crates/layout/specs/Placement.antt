@@ -5,8 +5,8 @@ use Rattle.mem80.specs.Range.{IsIn}
 use Rattle.types.specs.TypedTrees.{Home, InData, InConstants, Placed, TypedObject, TypedModule}
 use Rattle.types.specs.Sizes.{size_of_object}
 
--- where the objects and the constant lists of a module lie, by their numbers; for an object that has no storage and no
--- AT place the address says nothing
+-- where the objects and the constant lists of a module lie, by their numbers; for an object that has no
+-- storage and no AT place the address says nothing
 pub record ModulePlacement : Type 0 where
   pub objects : List ℕ
   pub lists : List ℕ
@@ -77,8 +77,8 @@ own_pieces modules placement = filter has_own_place (pieces_of modules placement
 abbrev pub constant_pieces : List TypedModule → Placement → List PlacedPiece
 constant_pieces modules placement = filter is_constant_piece (pieces_of modules placement)
 
--- a byte is declared where something that is placed has it, and it is a constant where an object with DATA or a constant
--- list has it
+-- a byte is declared where something that is placed has it, and it is a constant where an object with DATA or
+-- a constant list has it
 abbrev pub IsOneOf : List PlacedPiece → (address : ℕ) → Type 0
 IsOneOf pieces address = Any (λ (piece : PlacedPiece). IsIn address piece.range) pieces
 

@@ -1,12 +1,13 @@
--- Where declarations and statements stand, and how far the typing of a text has come (PL/M-80 Programming Manual,
--- "Block structure and scope").
+-- Where declarations and statements stand, and how far the typing of a text has come (PL/M-80 Programming
+-- Manual, "Block structure and scope").
 use Rattle.std.specs.Prelude.{ℕ, Bool, true, false, ◌&&◌, List, [], ◌∷◌, ◌++◌, map, Option, Some, None, is_some}
 use Rattle.trees.specs.declared.declaration.Linkage.{Linkage}
 use Rattle.trees.specs.declared.declaration.Linkage.TheVariants.{Public, External}
 use Rattle.trees.specs.declared.identifier.Identifier.{Identifier}
 use Rattle.trees.specs.Trees.{HeadingTree}
 use Rattle.names.specs.Environment.{is_among}
-use Rattle.types.specs.TypedTrees.{Constants, GlobalItem}
+use Rattle.types.specs.declared.typed.GlobalItem.{GlobalItem}
+use Rattle.types.specs.TypedTrees.{Constants}
 use Rattle.types.specs.References.{Known}
 
 -- what a block belongs to: the module, or a procedure, by its number and its heading
@@ -19,8 +20,8 @@ pub record Block : Type 0 where
   pub owner : Owner
   pub is_own : Bool
 
--- How far a text is typed: what is known, the constants and the globals so far, and the bytes so far of the variables
--- of the REENTRANT procedure that the place is in.
+-- How far a text is typed: what is known, the constants and the globals so far, and the bytes so far of the
+-- variables of the REENTRANT procedure that the place is in.
 pub record Progress : Type 0 where
   pub known : Known
   pub constants : Constants
@@ -69,4 +70,5 @@ parameters_of (OfProcedure number heading) = heading.parameters
 -- whether a name that a block declares is one of the parameters of its procedure
 abbrev pub declares_parameter : Block → List ℕ → Bool
 declares_parameter block name =
-    block.is_own && is_among (map (λ (parameter : Identifier). parameter.name) (parameters_of block.owner)) name
+    block.is_own
+    && is_among (map (λ (parameter : Identifier). parameter.name) (parameters_of block.owner)) name

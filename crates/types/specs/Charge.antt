@@ -1,11 +1,12 @@
--- How much of the stack a call of a procedure is charged: its return address and spare bytes, its parameters and
--- variables in a frame, and two bytes for each level of its highest expression. This is the profile's own measure.
+-- How much of the stack a call of a procedure is charged: its return address and spare bytes, its parameters
+-- and variables in a frame, and two bytes for each level of its highest expression. This is the profile's own
+-- measure.
 use Rattle.std.specs.Prelude.{ℕ, ◌+◌, ◌*◌, max, List, [], ◌∷◌, length, Option, Some, None}
 use Rattle.types.specs.TypedTrees.{TypedExpression, NumberNode, ValueNode, LocationNode, ListNode, ConversionNode, AssignmentNode, UnaryNode, BinaryNode, CallNode, FunctionNode, ShiftNode, InputNode, TypedReference, PartOf, Subscript, NoSubscript, At, TypedTarget, StoredIn, SentTo, TypedArguments, NoArguments, MoreArguments, TypedIteration, TypedStatement, LabelStatement, NullStatement, AssignmentStatement, CallStatement, MoveStatement, ReturnStatement, HaltStatement, GotoStatement, IfStatement, DoStatement, WhileStatement, IterateStatement, CaseStatement, TypedElse, NoElse, ElseStatement, TypedStatements, NoStatements, MoreStatements, TypedList, ListOf, TypedProcedure}
 
 abbrev mutual
-  -- The height of an expression: 1 for what has no parts, else one more than the highest part; of a call also one more
-  -- for each argument. Conversions add nothing.
+  -- The height of an expression: 1 for what has no parts, else one more than the highest part; of a call also
+  -- one more for each argument. Conversions add nothing.
   pub height_of : TypedExpression → ℕ
   height_of (NumberNode scalar value origin) = 1
   height_of (ValueNode scalar reference) = height_of_reference reference
@@ -61,7 +62,8 @@ abbrev mutual
   height_of_statement (LabelStatement label) = 0
   height_of_statement NullStatement = 0
   height_of_statement (AssignmentStatement targets value) = max (height_of_targets targets) (height_of value)
-  height_of_statement (CallStatement procedure values) = 1 + count_of_arguments values + height_of_arguments values
+  height_of_statement (CallStatement procedure values) =
+      1 + count_of_arguments values + height_of_arguments values
   height_of_statement (MoveStatement count source destination) =
       4 + max (height_of count) (max (height_of source) (height_of destination))
   height_of_statement (ReturnStatement value) = height_of_optional value
@@ -80,7 +82,8 @@ abbrev mutual
 
   pub height_of_statements : TypedStatements → ℕ
   height_of_statements NoStatements = 0
-  height_of_statements (MoreStatements first others) = max (height_of_statement first) (height_of_statements others)
+  height_of_statements (MoreStatements first others) =
+      max (height_of_statement first) (height_of_statements others)
 
   pub height_of_list : TypedList → ℕ
   height_of_list (ListOf first_label places statements) = height_of_statements statements

@@ -40,7 +40,8 @@ with_offsets sum (offset ∷ others) = do
   number ← number_of_constant offset.constant
   with_offsets (moved_by sum offset.sign number) others
 
--- the bytes of a constant in a list `.(..)`: one up to 255, else two, the low one first; a string gives its characters
+-- the bytes of a constant in a list `.(..)`: one up to 255, else two, the low one first; a string gives its
+-- characters
 abbrev pub bytes_of_number : ℕ → List ℕ
 bytes_of_number number = if nat_le number 255 then number ∷ [] else number % 256 ∷ number / 256 ∷ []
 

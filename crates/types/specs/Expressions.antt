@@ -1,7 +1,10 @@
 -- The typing of expressions (PL/M-80 Programming Manual, "Expressions and assignments").
 use Rattle.std.specs.Prelude.{ℕ, List, [], ◌∷◌, ◌++◌, length, Option, Some, None, Result, Ok, Err}
 use Rattle.trees.specs.Trees.{ConstantTree, NumberConstant, StringConstant, ExpressionTree, ConstantLeaf, ReferenceLeaf, LocationLeaf, ListLeaf, ParenthesizedNode, AssignmentNode, UnaryNode, BinaryNode, ReferenceTree, ReferenceTo, MemberTree, NoMember, MemberOf, ArgumentTrees, NoArguments, MoreArguments}
-use Rattle.types.specs.TypedTrees.{NumberOrigin, FromDigits, FromString, TypedExpression, NumberNode, ListNode, TypedArguments, NoArguments as NoTyped, MoreArguments as MoreTyped, ConstantList, Constants}
+use Rattle.types.specs.declared.typed.ConstantItem.TheVariants.{ConstantList}
+use Rattle.types.specs.declared.typed.NumberOrigin.TheVariants.{FromDigits, FromString}
+use Rattle.types.specs.declared.typed.NumberOrigin.{NumberOrigin}
+use Rattle.types.specs.TypedTrees.{TypedExpression, NumberNode, ListNode, TypedArguments, NoArguments as NoTyped, MoreArguments as MoreTyped, Constants}
 use Rattle.types.specs.Checks.{Checked, ◌>>=◌}
 use Rattle.types.specs.Constants.{type_of_number, number_of_constant, bytes_of_constants}
 use Rattle.types.specs.Nodes.{unary_node, binary_node, assignment_node}
@@ -31,9 +34,12 @@ abbrev mutual
   expression known (ConstantLeaf constant) constants = do
     node ← number_node constant
     Ok (node, constants)
-  expression known (ReferenceLeaf reference) constants = value_of known (given_reference known reference) constants
-  expression known (LocationLeaf reference) constants = location_of known (given_reference known reference) constants
-  expression known (ListLeaf list) constants = Ok (ListNode (length constants.lists), with_list list constants)
+  expression known (ReferenceLeaf reference) constants =
+      value_of known (given_reference known reference) constants
+  expression known (LocationLeaf reference) constants =
+      location_of known (given_reference known reference) constants
+  expression known (ListLeaf list) constants =
+      Ok (ListNode (length constants.lists), with_list list constants)
   expression known (ParenthesizedNode inner) constants = expression known inner constants
   expression known (AssignmentNode target value) constants = do
     destination ← destination_of known (given_reference known target) constants
@@ -56,7 +62,8 @@ abbrev mutual
 
   pub given_member : Known → MemberTree → GivenMember
   given_member known NoMember = WithoutMember
-  given_member known (MemberOf name trees) = WithMember name (record { trees = trees; typed = arguments known trees })
+  given_member known (MemberOf name trees) =
+      WithMember name (record { trees = trees; typed = arguments known trees })
 
   pub arguments : Known → ArgumentTrees → Constants → Checked (TypedArguments × Constants)
   arguments known NoArguments constants = Ok (NoTyped, constants)

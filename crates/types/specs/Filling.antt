@@ -1,5 +1,5 @@
--- Restricted expressions: where AT puts objects, and what INITIAL and DATA fill them with (PL/M-80 Programming Manual,
--- "The AT attribute", "The INITIAL attribute", "The DATA attribute").
+-- Restricted expressions: where AT puts objects, and what INITIAL and DATA fill them with (PL/M-80
+-- Programming Manual, "The AT attribute", "The INITIAL attribute", "The DATA attribute").
 use Rattle.std.specs.Prelude.{ℕ, ◌+◌, ◌-◌, ◌/◌, max, Bool, true, false, List, [], ◌∷◌, ◌++◌, length, Option, Some, None, Result, Ok, Err, nat_le, nat_lt, sum_by}
 use Rattle.trees.specs.declared.declaration.ScalarType.{ScalarType}
 use Rattle.trees.specs.declared.declaration.ScalarType.TheVariants.{Byte, Address}
@@ -9,7 +9,11 @@ use Rattle.names.specs.declared.entity.Binding.{Binding}
 use Rattle.names.specs.declared.entity.Binding.TheVariants.{Declared}
 use Rattle.names.specs.declared.entity.Entity.TheVariants.{Object, Procedure}
 use Rattle.types.specs.declared.fault.Cause.TheVariants.{WrongUse, WrongConstant, NoLocation}
-use Rattle.types.specs.TypedTrees.{ObjectType, InitialValue, ByteValue, WordValue, LocationValue, AtAddress, AtNumber, AtObject, Home, BasedOn, Elsewhere, Nowhere, InFrame, TypedObject}
+use Rattle.types.specs.declared.typed.AtAddress.TheVariants.{AtNumber, AtObject}
+use Rattle.types.specs.declared.typed.AtAddress.{AtAddress}
+use Rattle.types.specs.declared.typed.InitialValue.TheVariants.{ByteValue, WordValue, LocationValue}
+use Rattle.types.specs.declared.typed.InitialValue.{InitialValue}
+use Rattle.types.specs.TypedTrees.{ObjectType, Home, BasedOn, Elsewhere, Nowhere, InFrame, TypedObject}
 use Rattle.types.specs.Sizes.{scalars_of_element, scalars_of_elements}
 use Rattle.types.specs.Checks.{Checked, ◌>>=◌, refuse, require, found}
 use Rattle.types.specs.Constants.{number_of_characters, line_of_constant, number_of_constant, with_offsets}
@@ -20,8 +24,8 @@ pub data Reach : Type 0 where
   ThisModule : Reach
   OtherModulesToo : Reach
 
--- An object whose address is known before the program runs: one with a place of its own, and where it is allowed one of
--- another module. The variables of a REENTRANT procedure have no location.
+-- An object whose address is known before the program runs: one with a place of its own, and where it is
+-- allowed one of another module. The variables of a REENTRANT procedure have no location.
 abbrev pub with_address : Reach → Home → (number line : ℕ) → Checked ℕ
 with_address reach (InFrame procedure) number line = refuse NoLocation line
 with_address reach (BasedOn base) number line = refuse WrongConstant line
@@ -84,7 +88,8 @@ fill_scalar line (Byte ∷ left) (ANumber number) = do
   _ ← require (nat_le number 255) WrongConstant line
   Ok (filled_with (ByteValue number) left)
 fill_scalar line (Address ∷ left) (ANumber number) = Ok (filled_with (WordValue number) left)
-fill_scalar line (Address ∷ left) (FromObject object offset) = Ok (filled_with (LocationValue object offset) left)
+fill_scalar line (Address ∷ left) (FromObject object offset) =
+    Ok (filled_with (LocationValue object offset) left)
 fill_scalar line scalars restricted = refuse WrongConstant line
 
 -- the characters of a string take a BYTE each
@@ -121,7 +126,8 @@ fill known (restricted ∷ others) scalars = do
   rest ← fill known others first.left
   Ok (record { values = first.values ++ rest.values; left = rest.left })
 
--- how many elements an object is declared with: it is no array, there are so many, or as many as its list needs
+-- how many elements an object is declared with: it is no array, there are so many, or as many as its list
+-- needs
 pub data Extents : Type 0 where
   NoArray : Extents
   Elements : ℕ → Extents

@@ -1,4 +1,5 @@
--- Calls of procedures and of built-in functions (PL/M-80 Programming Manual, "Procedures", "Predeclared procedures").
+-- Calls of procedures and of built-in functions (PL/M-80 Programming Manual, "Procedures", "Predeclared
+-- procedures").
 use Rattle.std.specs.Prelude.{ℕ, ◌-◌, ◌==◌, List, [], ◌∷◌, length, Option, Some, None, Result, Ok, Err}
 use Rattle.trees.specs.declared.declaration.ScalarType.{ScalarType}
 use Rattle.trees.specs.declared.identifier.Identifier.{Identifier}
@@ -15,7 +16,8 @@ use Rattle.types.specs.declared.typed.ShiftFunction.{ShiftFunction}
 use Rattle.types.specs.declared.typed.ShiftFunction.TheVariants as shifts
 use Rattle.types.specs.declared.typed.UnaryFunction.{UnaryFunction}
 use Rattle.types.specs.declared.typed.UnaryFunction.TheVariants as functions
-use Rattle.types.specs.TypedTrees.{FromMeasure, TypedExpression, NumberNode, ValueNode, CallNode, FunctionNode, InputNode, TypedArguments, NoArguments as NoTyped, MoreArguments as MoreTyped, TypedObject, TypedProcedure, Constants}
+use Rattle.types.specs.declared.typed.NumberOrigin.TheVariants.{FromMeasure}
+use Rattle.types.specs.TypedTrees.{TypedExpression, NumberNode, ValueNode, CallNode, FunctionNode, InputNode, TypedArguments, NoArguments as NoTyped, MoreArguments as MoreTyped, TypedObject, TypedProcedure, Constants}
 use Rattle.types.specs.Sizes.{size_of_member, size_of_object, FoundMember, member_named}
 use Rattle.types.specs.Checks.{Checked, ◌>>=◌, refuse, require, found}
 use Rattle.types.specs.Constants.{type_of_number}
@@ -80,11 +82,11 @@ measure_node measure measured value =
 
 -- LENGTH, LAST or SIZE of a variable, which stands there alone, without subscripts
 abbrev pub measurement : Known → Measure → (line : ℕ) → ArgumentTrees → Checked TypedExpression
-measurement known measure line (MoreArguments (ReferenceLeaf (ReferenceTo name NoArguments part)) NoArguments) = do
+measurement known of line (MoreArguments (ReferenceLeaf (ReferenceTo name NoArguments part)) NoArguments) = do
   binding ← bound known name
   measured ← measured_object known binding name part
-  value ← measure_of measure measured (line_of name)
-  Ok (measure_node measure measured value)
+  value ← measure_of of measured (line_of name)
+  Ok (measure_node of measured value)
 measurement known measure line trees = refuse WrongUse line
 
 -- LOW, HIGH and DOUBLE of one value
@@ -120,20 +122,23 @@ input_value given constants = do
   _ ← without_member given.member
   Ok (InputNode port, constants)
 
-abbrev pub number_of_variable : Known → Measure → GivenReference → Constants → Checked (TypedExpression × Constants)
+abbrev pub number_of_variable :
+  Known → Measure → GivenReference → Constants → Checked (TypedExpression × Constants)
 number_of_variable known measure given constants = do
   node ← measurement known measure (line_of given.name) given.arguments.trees
   _ ← without_member given.member
   Ok (node, constants)
 
 -- a built-in function; OUTPUT and MOVE give no value
-abbrev pub built_in_value : Known → BuiltIn → GivenReference → Constants → Checked (TypedExpression × Constants)
+abbrev pub built_in_value :
+  Known → BuiltIn → GivenReference → Constants → Checked (TypedExpression × Constants)
 built_in_value known built_ins.Input given constants = input_value given constants
 built_in_value known built_ins.Output given constants = refuse WrongUse (line_of given.name)
 built_in_value known built_ins.Low given constants = unary_function functions.Low given constants
 built_in_value known built_ins.High given constants = unary_function functions.High given constants
 built_in_value known built_ins.Double given constants = unary_function functions.Double given constants
-built_in_value known built_ins.Length given constants = number_of_variable known measures.Length given constants
+built_in_value known built_ins.Length given constants =
+    number_of_variable known measures.Length given constants
 built_in_value known built_ins.Last given constants = number_of_variable known measures.Last given constants
 built_in_value known built_ins.Size given constants = number_of_variable known measures.Size given constants
 built_in_value known built_ins.ShiftLeft given constants = shift_function shifts.ShiftLeft given constants
@@ -142,9 +147,10 @@ built_in_value known built_ins.RotateLeft given constants = shift_function shift
 built_in_value known built_ins.RotateRight given constants = shift_function shifts.RotateRight given constants
 built_in_value known built_ins.Move given constants = refuse WrongUse (line_of given.name)
 
--- The value of what a name is bound to: of a scalar, a typed procedure or a built-in function. A label, a name that
--- LITERALLY defines and an untyped procedure have none.
-abbrev pub value_of_bound : Known → Binding → GivenReference → Constants → Checked (TypedExpression × Constants)
+-- The value of what a name is bound to: of a scalar, a typed procedure or a built-in function. A label, a
+-- name that LITERALLY defines and an untyped procedure have none.
+abbrev pub value_of_bound :
+  Known → Binding → GivenReference → Constants → Checked (TypedExpression × Constants)
 value_of_bound known (Declared (Object number)) given constants = do
   object ← object_of known given.name number
   part ← scalar_part number object given constants

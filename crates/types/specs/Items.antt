@@ -22,7 +22,13 @@ use Rattle.names.specs.Environment.{Here, with_object, with_definition, is_decla
 use Rattle.names.specs.Uses.{declared_by}
 use Rattle.types.specs.declared.fault.Cause.TheVariants.{DeclaredTwice, WrongUse, MisplacedAttribute, WrongConstant, TooLarge}
 use Rattle.types.specs.declared.limits.TheConstants.{OBJECT_LIMIT, FRAME_LIMIT}
-use Rattle.types.specs.TypedTrees.{TypedMember, ObjectType, ScalarObject, StructureObject, InitialValue, AtAddress, Home, InData, InConstants, Placed, BasedOn, Elsewhere, Nowhere, InFrame, TypedObject, ConstantItem, ConstantObject, Constants, GlobalObject}
+use Rattle.types.specs.declared.typed.AtAddress.{AtAddress}
+use Rattle.types.specs.declared.typed.ConstantItem.TheVariants.{ConstantObject}
+use Rattle.types.specs.declared.typed.ConstantItem.{ConstantItem}
+use Rattle.types.specs.declared.typed.GlobalItem.TheVariants.{GlobalObject}
+use Rattle.types.specs.declared.typed.InitialValue.{InitialValue}
+use Rattle.types.specs.declared.typed.TypedMember.{TypedMember}
+use Rattle.types.specs.TypedTrees.{ObjectType, ScalarObject, StructureObject, Home, InData, InConstants, Placed, BasedOn, Elsewhere, Nowhere, InFrame, TypedObject, Constants}
 use Rattle.types.specs.Sizes.{count_of, size_of_element, size_of_object}
 use Rattle.types.specs.Checks.{Checked, ◌>>=◌, refuse, require}
 use Rattle.types.specs.References.{Known, line_of, bound, object_of}
@@ -34,7 +40,8 @@ abbrev pub declare_names : Block → List Identifier → Here → Checked Here
 declare_names block [] here = Ok here
 declare_names block (name ∷ others) here = do
   _ ← require (not (is_declared_again here name.name)) DeclaredTwice (line_of name)
-  _ ← require (not (is_external block.owner) || declares_parameter block name.name) MisplacedAttribute (line_of name)
+  _ ← require (not (is_external block.owner) || declares_parameter block name.name) MisplacedAttribute
+    (line_of name)
   declare_names block others (with_object name.name here)
 
 -- whether an item declares several names in parentheses, or a parameter
@@ -130,10 +137,11 @@ typed_type block item (StructureItem members) = do
 abbrev pub check_linkage : Block → ItemTree → Option Linkage → Checked (Unit {0})
 check_linkage block item None = Ok tt
 check_linkage block item (Some linkage) =
-    require (is_module_level block && is_none (base_of item.subject)) MisplacedAttribute (line_of_linkage linkage)
+    require (is_module_level block && is_none (base_of item.subject)) MisplacedAttribute
+      (line_of_linkage linkage)
 
--- Whether an item may have a place or values of its own: one name, not BASED, not EXTERNAL, no parameter, and no
--- variable of a REENTRANT procedure.
+-- Whether an item may have a place or values of its own: one name, not BASED, not EXTERNAL, no parameter, and
+-- no variable of a REENTRANT procedure.
 abbrev pub is_plain : Block → ItemTree → Bool
 is_plain block item =
     not (is_group item.subject) && is_none (base_of item.subject) && not (is_external_linkage item.linkage)

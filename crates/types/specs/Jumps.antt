@@ -24,7 +24,8 @@ abbrev mutual
   JumpsStay around (ReturnStatement value) = Unit {0}
   JumpsStay around HaltStatement = Unit {0}
   JumpsStay around (GotoStatement label) = Any (IsAmongLabels label) around
-  JumpsStay around (IfStatement condition body otherwise) = JumpsStay around body × JumpsStayInElse around otherwise
+  JumpsStay around (IfStatement condition body otherwise) =
+      JumpsStay around body × JumpsStayInElse around otherwise
   JumpsStay around (DoStatement body) = JumpsStayInList around body
   JumpsStay around (WhileStatement condition body) = JumpsStayInList around body
   JumpsStay around (IterateStatement head body) = JumpsStayInList around body

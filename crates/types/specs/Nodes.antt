@@ -1,4 +1,5 @@
--- The types of expressions, and the conversions between them (PL/M-80 Programming Manual, "Expressions and assignments").
+-- The types of expressions, and the conversions between them (PL/M-80 Programming Manual, "Expressions and
+-- assignments").
 use Rattle.std.specs.Prelude.{ℕ, List, [], ◌∷◌}
 use Rattle.trees.specs.declared.declaration.ScalarType.{ScalarType}
 use Rattle.trees.specs.declared.declaration.ScalarType.TheVariants.{Byte, Address}
@@ -69,7 +70,8 @@ type_of_operands Modulo left right = Address
 type_of_operands operator left right = common_type left right
 
 abbrev pub on_operands : ScalarType → BinaryOperator → TypedExpression → TypedExpression → TypedExpression
-on_operands operands operator left right = BinaryNode operands operator (as_type operands left) (as_type operands right)
+on_operands operands operator left right =
+    BinaryNode operands operator (as_type operands left) (as_type operands right)
 
 abbrev pub binary_node : BinaryOperator → TypedExpression → TypedExpression → TypedExpression
 binary_node operator left right =

@@ -18,7 +18,8 @@ use Rattle.types.specs.declared.fault.Cause.TheVariants.{DeclaredTwice, WrongUse
 use Rattle.types.specs.declared.limits.TheConstants.{PARAMETER_LIMIT}
 use Rattle.types.specs.declared.typed.Visibility.{Visibility}
 use Rattle.types.specs.declared.typed.Visibility.TheVariants.{Private, Public, External}
-use Rattle.types.specs.TypedTrees.{NoStatements as NoTyped, TypedList, ListOf, TypedProcedure, GlobalProcedure}
+use Rattle.types.specs.declared.typed.GlobalItem.TheVariants.{GlobalProcedure}
+use Rattle.types.specs.TypedTrees.{NoStatements as NoTyped, TypedList, ListOf, TypedProcedure}
 use Rattle.types.specs.Checks.{Checked, ◌>>=◌, refuse, require}
 use Rattle.types.specs.References.{line_of}
 use Rattle.types.specs.Blocks.{Owner, OfProcedure, Block, Progress, with_global, is_external_linkage, line_of_linkage, is_reentrant, is_external, is_module_level}
@@ -38,19 +39,22 @@ no_more_parameters (parameter ∷ others) = refuse WrongConstant (line_of parame
 -- PUBLIC and EXTERNAL stand at the level of the module
 abbrev pub check_visibility : Block → Option Linkage → Checked (Unit {0})
 check_visibility block None = Ok tt
-check_visibility block (Some linkage) = require (is_module_level block) MisplacedAttribute (line_of_linkage linkage)
+check_visibility block (Some linkage) =
+    require (is_module_level block) MisplacedAttribute (line_of_linkage linkage)
 
 -- REENTRANT does not go with EXTERNAL
 abbrev pub check_reentrant : Option Linkage → Option Place → Checked (Unit {0})
 check_reentrant linkage None = Ok tt
-check_reentrant linkage (Some place) = require (not (is_external_linkage linkage)) MisplacedAttribute place.line
+check_reentrant linkage (Some place) =
+    require (not (is_external_linkage linkage)) MisplacedAttribute place.line
 
 abbrev pub visibility_of : Option Linkage → Visibility
 visibility_of None = Private
 visibility_of (Some (linkages.Public place)) = Public
 visibility_of (Some (linkages.External place)) = External
 
--- The type that a procedure's own block declares a name with. A procedure can be called before that is reached.
+-- The type that a procedure's own block declares a name with. A procedure can be called before that is
+-- reached.
 abbrev pub scalar_of_type : ItemTypeTree → ScalarType
 scalar_of_type (ScalarItem scalar) = scalar
 scalar_of_type (StructureItem members) = Byte
@@ -63,7 +67,8 @@ scalar_in_element (ItemElement item) name =
 
 abbrev pub scalar_in_elements : List ElementTree → List ℕ → Option ScalarType
 scalar_in_elements [] name = None
-scalar_in_elements (element ∷ others) name = option_or (scalar_in_element element name) (scalar_in_elements others name)
+scalar_in_elements (element ∷ others) name =
+    option_or (scalar_in_element element name) (scalar_in_elements others name)
 
 abbrev pub scalar_in_declaration : DeclarationTree → List ℕ → Option ScalarType
 scalar_in_declaration (DeclareTree elements) name = scalar_in_elements elements name
@@ -96,8 +101,8 @@ procedure_with heading types parameters frame_bytes body = record {
 abbrev pub empty_list : TypedList
 empty_list = ListOf 0 [] NoTyped
 
--- A heading, up to where its body begins. The procedure is known from there on, in itself too. A REENTRANT procedure and
--- an EXTERNAL one contain none.
+-- A heading, up to where its body begins. The procedure is known from there on, in itself too. A REENTRANT
+-- procedure and an EXTERNAL one contain none.
 abbrev pub with_heading : HeadingTree → List ScalarType → Here → Progress → Progress
 with_heading heading types here progress = record progress {
   known = record progress.known {
@@ -110,8 +115,10 @@ with_heading heading types here progress = record progress {
 
 abbrev pub open_procedure : Block → HeadingTree → DeclarationTrees → Progress → Checked Progress
 open_procedure block heading declared progress = do
-  _ ← require (not (is_declared_again progress.known.here heading.name.name)) DeclaredTwice (line_of heading.name)
-  _ ← require (not (is_reentrant block.owner || is_external block.owner)) MisplacedAttribute (line_of heading.name)
+  _ ← require (not (is_declared_again progress.known.here heading.name.name)) DeclaredTwice
+    (line_of heading.name)
+  _ ← require (not (is_reentrant block.owner || is_external block.owner)) MisplacedAttribute
+    (line_of heading.name)
   here ← declare_parameters (take PARAMETER_LIMIT heading.parameters)
       (into_body (with_procedure heading.name.name progress.known.here))
   _ ← no_more_parameters (drop PARAMETER_LIMIT heading.parameters)

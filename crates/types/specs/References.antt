@@ -1,5 +1,5 @@
--- What references to objects mean: values, locations and targets (PL/M-80 Programming Manual, "Subscripted variables",
--- "Structures", "Based variables").
+-- What references to objects mean: values, locations and targets (PL/M-80 Programming Manual, "Subscripted
+-- variables", "Structures", "Based variables").
 use Rattle.std.specs.Prelude.{ℕ, zero, suc, Bool, true, false, ◌&&◌, ◌||◌, ◌==◌, List, [], ◌∷◌, Option, Some, None, Result, Ok, Err, nat_le, slice_get}
 use Rattle.trees.specs.declared.declaration.ScalarType.{ScalarType}
 use Rattle.trees.specs.declared.declaration.ScalarType.TheVariants.{Byte, Address}
@@ -13,7 +13,8 @@ use Rattle.names.specs.Environment.{Here}
 use Rattle.names.specs.BuiltIns.{binding_of}
 use Rattle.types.specs.declared.fault.Cause.{Cause}
 use Rattle.types.specs.declared.fault.Cause.TheVariants.{UnknownName, WrongUse, WrongConstant, ConstantWritten, NoLocation}
-use Rattle.types.specs.TypedTrees.{TypedExpression, LocationNode, TypedReference, PartOf, Subscript, NoSubscript, At, TypedArguments, NoArguments as NoTyped, MoreArguments as MoreTyped, TypedMember, ObjectType, ScalarObject, StructureObject, Home, InConstants, InFrame, TypedObject, TypedProcedure, Constants}
+use Rattle.types.specs.declared.typed.TypedMember.{TypedMember}
+use Rattle.types.specs.TypedTrees.{TypedExpression, LocationNode, TypedReference, PartOf, Subscript, NoSubscript, At, TypedArguments, NoArguments as NoTyped, MoreArguments as MoreTyped, ObjectType, ScalarObject, StructureObject, Home, InConstants, InFrame, TypedObject, TypedProcedure, Constants}
 use Rattle.types.specs.Sizes.{size_of_scalar, size_of_element, FoundMember, member_named}
 use Rattle.types.specs.Checks.{Checked, ◌>>=◌, refuse, require, found}
 use Rattle.types.specs.Constants.{number_of_constant, line_of_constant}
@@ -25,7 +26,8 @@ pub record Known : Type 0 where
   pub objects : List TypedObject
   pub procedures : List TypedProcedure
 
--- Arguments or subscripts as they stand in the text, with their typing. Constant lists in them are numbered on.
+-- Arguments or subscripts as they stand in the text, with their typing. Constant lists in them are numbered
+-- on.
 pub record Given : Type 0 where
   pub trees : ArgumentTrees
   pub typed : Constants → Checked (TypedArguments × Constants)
@@ -66,8 +68,8 @@ pub data Extent : Type 0 where
   AnElement : Extent
   AlsoTheWhole : Extent
 
--- Whether so many subscripts go with a dimension: one with an array, none with anything else, and none with an array
--- that may be meant as a whole.
+-- Whether so many subscripts go with a dimension: one with an array, none with anything else, and none with
+-- an array that may be meant as a whole.
 abbrev pub takes_subscripts : Extent → Option ℕ → (count : ℕ) → Bool
 takes_subscripts extent None count = count == 0
 takes_subscripts AnElement (Some dimension) count = count == 1
@@ -93,11 +95,16 @@ pub record FoundPart : Type 0 where
   pub reference : TypedReference
   pub scalar : Option ScalarType
 
+-- an object, or an element of it
+abbrev pub whole_part : (object : ℕ) → Subscript → ObjectType → FoundPart
+whole_part object subscript object_type =
+    record { reference = PartOf object subscript None 0 NoSubscript; scalar = scalar_of object_type }
+
 -- what a reference means once the subscript of its object is known: the element, or a member of it
 abbrev pub part_with_member :
     (object : ℕ) → ObjectType → Subscript → Extent → GivenMember → Constants → Checked (FoundPart × Constants)
 part_with_member object object_type subscript extent WithoutMember constants =
-    Ok (record { reference = PartOf object subscript None 0 NoSubscript; scalar = scalar_of object_type }, constants)
+    Ok (whole_part object subscript object_type, constants)
 part_with_member object object_type subscript extent (WithMember name given) constants = do
   members ← found (members_of object_type) WrongUse (line_of name)
   place ← found (member_named members name.name) UnknownName (line_of name)
@@ -116,7 +123,8 @@ part_with_member object object_type subscript extent (WithMember name given) con
 abbrev pub part_of :
     (number : ℕ) → TypedObject → Extent → GivenReference → Constants → Checked (FoundPart × Constants)
 part_of number object extent given constants = do
-  _ ← require (takes_subscripts extent object.dimension (count_of_given given.arguments)) WrongUse (line_of given.name)
+  _ ← require (takes_subscripts extent object.dimension (count_of_given given.arguments)) WrongUse
+    (line_of given.name)
   typed ← given.arguments.typed constants
   part_with_member number object.object_type
       (subscript_of (size_of_element object.object_type) object.dimension typed.0)
@@ -124,7 +132,8 @@ part_of number object extent given constants = do
 
 -- a reference to a scalar: an array without a subscript and a structure are none
 abbrev pub scalar_part :
-    (number : ℕ) → TypedObject → GivenReference → Constants → Checked (TypedReference × ScalarType × Constants)
+    (number : ℕ) → TypedObject → GivenReference → Constants
+    → Checked (TypedReference × ScalarType × Constants)
 scalar_part number object given constants = do
   part ← part_of number object AnElement given constants
   scalar ← found part.0.scalar WrongUse (line_of given.name)
@@ -136,7 +145,8 @@ has_location (InFrame procedure) = false
 has_location home = true
 
 -- where what a name is bound to lies: an object or a part of it, and of an array or a structure its beginning
-abbrev pub location_of_bound : Known → Binding → GivenReference → Constants → Checked (TypedExpression × Constants)
+abbrev pub location_of_bound :
+  Known → Binding → GivenReference → Constants → Checked (TypedExpression × Constants)
 location_of_bound known (Declared (Object number)) given constants = do
   object ← object_of known given.name number
   _ ← require (has_location object.home) NoLocation (line_of given.name)
@@ -176,7 +186,8 @@ is_writable object name = is_written (is_constant object.home)
     is_written false = Ok tt
 
 -- what a value can be assigned to: a scalar, or OUTPUT
-abbrev pub destination_of_bound : Known → Binding → GivenReference → Constants → Checked (Destination × Constants)
+abbrev pub destination_of_bound :
+  Known → Binding → GivenReference → Constants → Checked (Destination × Constants)
 destination_of_bound known (Declared (Object number)) given constants = do
   object ← object_of known given.name number
   _ ← is_writable object given.name

@@ -1,10 +1,12 @@
--- How many bytes objects take, and which scalars they hold (PL/M-80 Programming Manual, "Arrays and structures").
+-- How many bytes objects take, and which scalars they hold (PL/M-80 Programming Manual, "Arrays and
+-- structures").
 use Rattle.std.specs.Prelude.{ℕ, suc, ◌+◌, ◌*◌, List, [], ◌∷◌, replicate, Option, Some, None, option_map, unwrap_or, flat_map, sum_by, if◌then◌else◌}
 use Rattle.std.specs.List.{repeat}
 use Rattle.std.specs.Str.{bytes_eq}
 use Rattle.trees.specs.declared.declaration.ScalarType.{ScalarType}
 use Rattle.trees.specs.declared.declaration.ScalarType.TheVariants.{Byte, Address}
-use Rattle.types.specs.TypedTrees.{TypedMember, ObjectType, ScalarObject, StructureObject, TypedObject}
+use Rattle.types.specs.declared.typed.TypedMember.{TypedMember}
+use Rattle.types.specs.TypedTrees.{ObjectType, ScalarObject, StructureObject, TypedObject}
 
 -- a BYTE takes one byte, an ADDRESS two
 abbrev pub size_of_scalar : ScalarType → ℕ

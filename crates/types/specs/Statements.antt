@@ -123,6 +123,11 @@ step (Some tree) progress = do
   typed ← value tree progress
   Ok (Some typed.0, typed.1)
 
+abbrev pub iteration_with :
+    Counter → TypedExpression → TypedExpression → Option TypedExpression → TypedIteration
+iteration_with counter first last by =
+    record { variable = counter.object; scalar = counter.scalar; first = first; last = last; step = by }
+
 abbrev pub iteration : IterationTree → Progress → Checked (TypedIteration × Progress)
 iteration tree progress = do
   binding ← bound progress.known tree.variable
@@ -130,7 +135,7 @@ iteration tree progress = do
   first ← value tree.first progress
   last ← value tree.last first.1
   by ← step tree.step last.1
-  Ok (record { variable = counter.object; scalar = counter.scalar; first = first.0; last = last.0; step = by.0 }, by.1)
+  Ok (iteration_with counter first.0 last.0 by.0, by.1)
 
 -- the labels before a statement
 abbrev pub labels_before : StatementTree → List Identifier
@@ -165,11 +170,16 @@ after_labels label [] statements = statements
 after_labels label (first ∷ others) statements =
     MoreTypedStatements (LabelStatement label) (after_labels (label + 1) others statements)
 
--- A list of statements, in the whole of which its labels are known. They are numbered when the list is entered.
+-- A list of statements, in the whole of which its labels are known. They are numbered when the list is
+-- entered.
 abbrev pub list_of :
-    StatementTrees → (ℕ → Progress → Checked (TypedStatements × Progress)) → Progress → Checked (TypedList × Progress)
+    StatementTrees
+    → (ℕ → Progress → Checked (TypedStatements × Progress))
+    → Progress
+    → Checked (TypedList × Progress)
 list_of trees typed_from progress = do
-  typed ← typed_from progress.known.here.labels (with_here (into_list (labels_of trees) progress.known.here) progress)
+  typed ← typed_from progress.known.here.labels
+    (with_here (into_list (labels_of trees) progress.known.here) progress)
   Ok (
     ListOf progress.known.here.labels (places_from 0 trees) typed.0,
     with_here (out_of_list typed.1.known.here) typed.1,

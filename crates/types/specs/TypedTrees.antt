@@ -1,6 +1,6 @@
--- Typed trees: names are resolved to the entities of the module's tables, each expression has its type, and each
--- conversion is written out. Parentheses are gone. Objects, procedures, constant lists and labels are numbered from 0
--- in the order of the text.
+-- Typed trees: names are resolved to the entities of the module's tables, each expression has its type, and
+-- each conversion is written out. Parentheses are gone. Objects, procedures, constant lists and labels are
+-- numbered from 0 in the order of the text.
 use Rattle.std.specs.Prelude.{ℕ, Bool, List, Option}
 use Rattle.trees.specs.declared.declaration.ScalarType.{ScalarType}
 use Rattle.trees.specs.declared.expression.BinaryOperator.{BinaryOperator}
@@ -8,18 +8,12 @@ use Rattle.trees.specs.declared.expression.UnaryOperator.{UnaryOperator}
 use Rattle.types.specs.declared.typed.ShiftFunction.{ShiftFunction}
 use Rattle.types.specs.declared.typed.UnaryFunction.{UnaryFunction}
 use Rattle.types.specs.declared.typed.Visibility.{Visibility}
--- the small parts, which are those of the code
-pub use Rattle.types.specs.declared.typed.AtAddress.{AtAddress}
-pub use Rattle.types.specs.declared.typed.AtAddress.TheVariants.{AtNumber, AtObject}
-pub use Rattle.types.specs.declared.typed.ConstantItem.{ConstantItem}
-pub use Rattle.types.specs.declared.typed.ConstantItem.TheVariants.{ConstantObject, ConstantList}
-pub use Rattle.types.specs.declared.typed.GlobalItem.{GlobalItem}
-pub use Rattle.types.specs.declared.typed.GlobalItem.TheVariants.{GlobalObject, GlobalProcedure}
-pub use Rattle.types.specs.declared.typed.InitialValue.{InitialValue}
-pub use Rattle.types.specs.declared.typed.InitialValue.TheVariants.{ByteValue, WordValue, LocationValue}
-pub use Rattle.types.specs.declared.typed.NumberOrigin.{NumberOrigin}
-pub use Rattle.types.specs.declared.typed.NumberOrigin.TheVariants.{FromDigits, FromString, FromMeasure}
-pub use Rattle.types.specs.declared.typed.TypedMember.{TypedMember}
+use Rattle.types.specs.declared.typed.AtAddress.{AtAddress}
+use Rattle.types.specs.declared.typed.ConstantItem.{ConstantItem}
+use Rattle.types.specs.declared.typed.GlobalItem.{GlobalItem}
+use Rattle.types.specs.declared.typed.InitialValue.{InitialValue}
+use Rattle.types.specs.declared.typed.NumberOrigin.{NumberOrigin}
+use Rattle.types.specs.declared.typed.TypedMember.{TypedMember}
 
 mutual
   pub data TypedExpression : Type 0 where
@@ -38,7 +32,8 @@ mutual
     -- an operator with one operand, whose type is that of the result
     UnaryNode : ScalarType → UnaryOperator → TypedExpression → TypedExpression
     -- an operator with two operands of one type
-    BinaryNode : (operands : ScalarType) → BinaryOperator → TypedExpression → TypedExpression → TypedExpression
+    BinaryNode :
+      (operands : ScalarType) → BinaryOperator → TypedExpression → TypedExpression → TypedExpression
     -- a call of a procedure with a result of a type
     CallNode : (procedure : ℕ) → ScalarType → TypedArguments → TypedExpression
     -- LOW, HIGH or DOUBLE
@@ -48,8 +43,9 @@ mutual
     -- INPUT(port)
     InputNode : (port : ℕ) → TypedExpression
 
-  -- An object or a part of it: an element by its subscript; a member, by its position in the structure and by where
-  -- it begins in the element (at 0 where no member is meant); and an element of the member by its subscript.
+  -- An object or a part of it: an element by its subscript; a member, by its position in the structure and by
+  -- where it begins in the element (at 0 where no member is meant); and an element of the member by its
+  -- subscript.
   pub data TypedReference : Type 0 where
     PartOf : (object : ℕ) → Subscript → (member : Option ℕ) → (offset : ℕ) → Subscript → TypedReference
 
@@ -58,8 +54,8 @@ mutual
     NoSubscript : Subscript
     At : (stride count : ℕ) → TypedExpression → Subscript
 
-  -- What a value goes to: a scalar, which the value is converted to where their types differ; or a port, which takes
-  -- the low byte. The type `from` is that of the value.
+  -- What a value goes to: a scalar, which the value is converted to where their types differ; or a port,
+  -- which takes the low byte. The type `from` is that of the value.
   pub data TypedTarget : Type 0 where
     StoredIn : (from to : ScalarType) → TypedReference → TypedTarget
     SentTo : (from : ScalarType) → (port : ℕ) → TypedTarget
@@ -69,8 +65,8 @@ mutual
     NoArguments : TypedArguments
     MoreArguments : TypedExpression → TypedArguments → TypedArguments
 
--- The head of an iterative DO: the variable with its type, which the first value is converted to as it is stored, and
--- the values, of types of their own.
+-- The head of an iterative DO: the variable with its type, which the first value is converted to as it is
+-- stored, and the values, of types of their own.
 pub record TypedIteration : Type 0 where
   pub variable : ℕ
   pub scalar : ScalarType
@@ -106,8 +102,8 @@ mutual
     NoStatements : TypedStatements
     MoreStatements : TypedStatement → TypedStatements → TypedStatements
 
-  -- A list of statements that may hold labels. Their numbers follow each other from the first on; where a label stands
-  -- in the list, counted from 0, is at its position among the places.
+  -- A list of statements that may hold labels. Their numbers follow each other from the first on; where a
+  -- label stands in the list, counted from 0, is at its position among the places.
   pub data TypedList : Type 0 where
     ListOf : (first_label : ℕ) → (places : List ℕ) → TypedStatements → TypedList
 
@@ -156,8 +152,8 @@ pub record TypedProcedure : Type 0 where
   -- what it does; nothing where it is EXTERNAL
   pub body : TypedList
 
--- the constants of a module: the bytes of each constant list, and the objects with DATA and the constant lists
--- together, in the order of the text
+-- the constants of a module: the bytes of each constant list, and the objects with DATA and the constant
+-- lists together, in the order of the text
 pub record Constants : Type 0 where
   pub lists : List (List ℕ)
   pub items : List ConstantItem

@@ -1,4 +1,5 @@
--- The typing of a module (PL/M-80 Programming Manual). Where it has none, the answer is the first cause in the text.
+-- The typing of a module (PL/M-80 Programming Manual). Where it has none, the answer is the first cause in
+-- the text.
 use Rattle.std.specs.Prelude.{ℕ, ◌+◌, false, true, List, [], length, Option, None, Result, Ok, Err}
 use Rattle.trees.specs.Trees.{HeadingTree, StatementTree, LabelledStatement, StatementKindTree, NullStatement, AssignmentStatement, CallStatement, ReturnStatement, HaltStatement, GotoStatement, IfStatement, DoStatement, WhileStatement, IterateStatement, CaseStatement, ElseTree, NoElse, ElseStatement, StatementTrees, NoStatements, MoreStatements, DeclarationTree, DeclareTree, ProcedureTree, DeclarationTrees, NoDeclarations, MoreDeclarations, ModuleTree}
 use Rattle.names.specs.Environment.{at_the_start, into_block, out_of_block}

@@ -1,6 +1,6 @@
--- Typed trees with their conversions taken away, and trees without what typed trees do not keep, so that they can be
--- compared. Both are trees without places, parentheses and declarations, in which labels have no names, strings that
--- stand for numbers are these numbers, and constant lists are their bytes.
+-- Typed trees with their conversions taken away, and trees without what typed trees do not keep, so that they
+-- can be compared. Both are trees without places, parentheses and declarations, in which labels have no
+-- names, strings that stand for numbers are these numbers, and constant lists are their bytes.
 use Rattle.std.specs.Prelude.{◌≡◌, ℕ, List, [], ◌∷◌, ◌++◌, map, Option, None, Some, option_map, unwrap_or, codes, slice_get}
 use Rattle.std.specs.Option.{option_map_or}
 use Rattle.trees.specs.declared.identifier.Identifier.{Identifier}
@@ -14,7 +14,10 @@ use Rattle.types.specs.declared.typed.ShiftFunction.TheVariants.{ShiftLeft, Shif
 use Rattle.types.specs.declared.typed.UnaryFunction.{UnaryFunction}
 use Rattle.types.specs.declared.typed.UnaryFunction.TheVariants.{Low, High, Double}
 use Rattle.types.specs.TypedTrees as typed
-use Rattle.types.specs.TypedTrees.{NumberOrigin, FromDigits, FromString, FromMeasure, TypedExpression, TypedReference, PartOf, Subscript, NoSubscript, At, TypedTarget, StoredIn, SentTo, TypedArguments, TypedIteration, TypedStatement, LabelStatement, MoveStatement, TypedElse, TypedStatements, TypedList, ListOf, TypedMember, ObjectType, TypedObject, TypedProcedure, TypedModule}
+use Rattle.types.specs.declared.typed.NumberOrigin.TheVariants.{FromDigits, FromString, FromMeasure}
+use Rattle.types.specs.declared.typed.NumberOrigin.{NumberOrigin}
+use Rattle.types.specs.declared.typed.TypedMember.{TypedMember}
+use Rattle.types.specs.TypedTrees.{TypedExpression, TypedReference, PartOf, Subscript, NoSubscript, At, TypedTarget, StoredIn, SentTo, TypedArguments, TypedIteration, TypedStatement, LabelStatement, MoveStatement, TypedElse, TypedStatements, TypedList, ListOf, ObjectType, TypedObject, TypedProcedure, TypedModule}
 use Rattle.types.specs.Constants.{number_of_characters, bytes_of_constants}
 use Rattle.types.specs.References.{members_of}
 
@@ -31,7 +34,8 @@ abbrev pub number_leaf : ℕ → ExpressionTree
 number_leaf value = trees.ConstantLeaf (NumberConstant (record { value = value; place = nowhere }))
 
 abbrev pub byte_list : List ℕ → ExpressionTree
-byte_list bytes = trees.ListLeaf (map (λ byte. NumberConstant (record { value = byte; place = nowhere })) bytes)
+byte_list bytes =
+    trees.ListLeaf (map (λ byte. NumberConstant (record { value = byte; place = nowhere })) bytes)
 
 -- Trees without places, parentheses and declarations.
 abbrev pub number_in : ConstantTree → ℕ
@@ -61,7 +65,8 @@ abbrev mutual
 
   pub plain_arguments : ArgumentTrees → ArgumentTrees
   plain_arguments NoArguments = NoArguments
-  plain_arguments (MoreArguments first others) = MoreArguments (plain_expression first) (plain_arguments others)
+  plain_arguments (MoreArguments first others) =
+      MoreArguments (plain_expression first) (plain_arguments others)
 
 abbrev pub plain_iteration : IterationTree → IterationTree
 plain_iteration head = record {
@@ -148,11 +153,13 @@ abbrev mutual
 -- what the main program and the procedures do, without what typed trees do not keep
 abbrev pub plain_bodies : ModuleTree → List StatementTrees
 plain_bodies tree =
-    map plain_statements (tree.statements ∷ bodies_in tree.declarations ++ bodies_in_statements tree.statements)
+    map plain_statements (tree.statements ∷ bodies_in tree.declarations ++ bodies_in_statements
+      tree.statements)
 
 -- Typed trees without their conversions. Names are those of the tables.
 abbrev pub object_name : TypedModule → ℕ → List ℕ
-object_name tables object = option_map_or (λ (found : TypedObject). found.name) (slice_get tables.objects object) []
+object_name tables object =
+    option_map_or (λ (found : TypedObject). found.name) (slice_get tables.objects object) []
 
 abbrev pub procedure_name : TypedModule → ℕ → List ℕ
 procedure_name tables procedure =
@@ -165,7 +172,8 @@ members_of_object tables object =
 
 abbrev pub member_name : TypedModule → (object position : ℕ) → List ℕ
 member_name tables object position =
-    option_map_or (λ (found : TypedMember). found.name) (slice_get (members_of_object tables object) position) []
+    option_map_or (λ (found : TypedMember). found.name)
+      (slice_get (members_of_object tables object) position) []
 
 abbrev pub list_bytes : TypedModule → ℕ → List ℕ
 list_bytes tables list = unwrap_or (slice_get tables.constants.lists list) []
@@ -196,21 +204,24 @@ one_argument value = MoreArguments value NoArguments
 -- a member as it stands in a reference
 abbrev pub member_tree : TypedModule → (object : ℕ) → Option ℕ → ArgumentTrees → MemberTree
 member_tree tables object None values = NoMember
-member_tree tables object (Some position) values = MemberOf (named (member_name tables object position)) values
+member_tree tables object (Some position) values =
+    MemberOf (named (member_name tables object position)) values
 
 abbrev pub number_tree : TypedModule → ℕ → NumberOrigin → ExpressionTree
 number_tree tables value FromDigits = number_leaf value
 number_tree tables value FromString = number_leaf value
 number_tree tables value (FromMeasure measure object member) =
     trees.ReferenceLeaf (call_tree (measure_name measure) (one_argument (trees.ReferenceLeaf
-    (ReferenceTo (named (object_name tables object)) NoArguments (member_tree tables object member NoArguments)))))
+    (ReferenceTo (named (object_name tables object)) NoArguments
+      (member_tree tables object member NoArguments)))))
 
 abbrev mutual
   pub untyped_expression : TypedModule → TypedExpression → ExpressionTree
   untyped_expression tables (typed.NumberNode scalar value origin) = number_tree tables value origin
   untyped_expression tables (typed.ValueNode scalar reference) =
       trees.ReferenceLeaf (untyped_reference tables reference)
-  untyped_expression tables (typed.LocationNode reference) = trees.LocationLeaf (untyped_reference tables reference)
+  untyped_expression tables (typed.LocationNode reference) =
+      trees.LocationLeaf (untyped_reference tables reference)
   untyped_expression tables (typed.ListNode list) = byte_list (list_bytes tables list)
   untyped_expression tables (typed.ConversionNode scalar inner) = untyped_expression tables inner
   untyped_expression tables (typed.AssignmentNode target value) =
@@ -222,7 +233,8 @@ abbrev mutual
   untyped_expression tables (typed.CallNode procedure scalar values) =
       trees.ReferenceLeaf (call_tree (procedure_name tables procedure) (untyped_arguments tables values))
   untyped_expression tables (typed.FunctionNode function operand) =
-      trees.ReferenceLeaf (call_tree (function_name function) (one_argument (untyped_expression tables operand)))
+      trees.ReferenceLeaf (call_tree (function_name function)
+        (one_argument (untyped_expression tables operand)))
   untyped_expression tables (typed.ShiftNode scalar function value count) =
       trees.ReferenceLeaf (call_tree (shift_name function)
       (MoreArguments (untyped_expression tables value) (one_argument (untyped_expression tables count))))
@@ -266,7 +278,8 @@ abbrev mutual
   untyped_kind tables (MoveStatement count source destination) =
       trees.CallStatement nowhere (named (codes "MOVE"))
       (MoreArguments (untyped_expression tables count)
-      (MoreArguments (untyped_expression tables source) (one_argument (untyped_expression tables destination))))
+      (MoreArguments (untyped_expression tables source)
+        (one_argument (untyped_expression tables destination))))
   untyped_kind tables (typed.ReturnStatement value) =
       trees.ReturnStatement nowhere (option_map (untyped_expression tables) value)
   untyped_kind tables typed.HaltStatement = trees.HaltStatement nowhere
@@ -274,7 +287,8 @@ abbrev mutual
   untyped_kind tables (typed.IfStatement condition body otherwise) =
       trees.IfStatement nowhere (untyped_expression tables condition)
       (LabelledStatement [] (untyped_kind tables body)) (untyped_else tables otherwise)
-  untyped_kind tables (typed.DoStatement body) = trees.DoStatement nowhere NoDeclarations (untyped_list tables body)
+  untyped_kind tables (typed.DoStatement body) =
+      trees.DoStatement nowhere NoDeclarations (untyped_list tables body)
   untyped_kind tables (typed.WhileStatement condition body) =
       trees.WhileStatement nowhere (untyped_expression tables condition) (untyped_list tables body)
   untyped_kind tables (typed.IterateStatement head body) =
@@ -293,7 +307,8 @@ abbrev mutual
   untyped_statements tables (typed.MoreStatements (LabelStatement label) others) labels =
       untyped_statements tables others (nameless ∷ labels)
   untyped_statements tables (typed.MoreStatements first others) labels =
-      trees.MoreStatements (LabelledStatement labels (untyped_kind tables first)) (untyped_statements tables others [])
+      trees.MoreStatements (LabelledStatement labels (untyped_kind tables first))
+        (untyped_statements tables others [])
 
   pub untyped_list : TypedModule → TypedList → StatementTrees
   untyped_list tables (ListOf first places statements) = untyped_statements tables statements []

@@ -24,14 +24,16 @@ abbrev mutual
   pub expression_view : Expression → TypedExpression
   expression_view (expressions.Number scalar value origin) = NumberNode scalar value origin
   expression_view (expressions.Value' scalar p object subscript member offset member_subscript) =
-      ValueNode scalar (PartOf object (subscript_view subscript) member offset (subscript_view member_subscript))
+      ValueNode scalar (PartOf object (subscript_view subscript) member offset
+        (subscript_view member_subscript))
   expression_view (expressions.Location' p object subscript member offset member_subscript) =
       LocationNode (PartOf object (subscript_view subscript) member offset (subscript_view member_subscript))
   expression_view (expressions.List list) = ListNode list
   expression_view (expressions.Conversion' scalar p inner) = ConversionNode scalar (expression_view inner)
   expression_view (expressions.Assignment' p target q value) =
       AssignmentNode (target_view target) (expression_view value)
-  expression_view (expressions.Unary' scalar operator p operand) = UnaryNode scalar operator (expression_view operand)
+  expression_view (expressions.Unary' scalar operator p operand) =
+      UnaryNode scalar operator (expression_view operand)
   expression_view (expressions.Binary' operands operator p left q right) =
       BinaryNode operands operator (expression_view left) (expression_view right)
   expression_view (expressions.Call' procedure scalar shape values) =
@@ -47,12 +49,14 @@ abbrev mutual
 
   pub target_view : Target → TypedTarget
   target_view (targets.Stored' from to object subscript member offset member_subscript) =
-      StoredIn from to (PartOf object (subscript_view subscript) member offset (subscript_view member_subscript))
+      StoredIn from to (PartOf object (subscript_view subscript) member offset
+        (subscript_view member_subscript))
   target_view (targets.Sent from port) = SentTo from port
 
   pub argument_rows : {count : _} → Row_of-TypedExpression count → TypedArguments
   argument_rows end_of-TypedExpression = NoArguments
-  argument_rows (more_of-TypedExpression first rest) = MoreArguments (expression_view first) (argument_rows rest)
+  argument_rows (more_of-TypedExpression first rest) =
+      MoreArguments (expression_view first) (argument_rows rest)
 
 abbrev pub reference_view : Reference → TypedReference
 reference_view reference =
@@ -78,12 +82,14 @@ abbrev mutual
   statement_view (statements.Label label) = LabelStatement label
   statement_view statements.Null = NullStatement
   statement_view (statements.Assignment assignment) =
-      AssignmentStatement (map target_view assignment.value.targets.items) (expression_view assignment.value.value)
+      AssignmentStatement (map target_view assignment.value.targets.items)
+        (expression_view assignment.value.value)
   statement_view (statements.Call procedure values) = CallStatement procedure (arguments_view values.items)
   statement_view (statements.Move moved) =
       MoveStatement (expression_view moved.value.count) (expression_view moved.value.source)
       (expression_view moved.value.destination)
-  statement_view (statements.Return value) = ReturnStatement (option_map (λ held. expression_view held.value) value)
+  statement_view (statements.Return value) =
+      ReturnStatement (option_map (λ held. expression_view held.value) value)
   statement_view statements.Halt = HaltStatement
   statement_view (statements.Goto label) = GotoStatement label
   statement_view (statements.If' p condition body otherwise) =
@@ -103,7 +109,8 @@ abbrev mutual
 
   pub statement_rows : {count : _} → Row_of-TypedStatement count → TypedStatements
   statement_rows end_of-TypedStatement = NoStatements
-  statement_rows (more_of-TypedStatement first rest) = MoreStatements (statement_view first) (statement_rows rest)
+  statement_rows (more_of-TypedStatement first rest) =
+      MoreStatements (statement_view first) (statement_rows rest)
 
 -- the statements in a list
 abbrev pub statements_view : List Statement → TypedStatements

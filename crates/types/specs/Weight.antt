@@ -1,11 +1,13 @@
--- How much there is to generate code for: statements, expression nodes, conversions, targets, procedures and parameters;
--- and how many bytes the code segment of a module has at most. This is the profile's own measure.
+-- How much there is to generate code for: statements, expression nodes, conversions, targets, procedures and
+-- parameters; and how many bytes the code segment of a module has at most. This is the profile's own measure.
 use Rattle.std.specs.Prelude.{ℕ, ◌+◌, ◌*◌, List, [], ◌∷◌, length, Option, Some, None, sum_by, slice_get}
 use Rattle.std.specs.Option.{option_map_or}
 use Rattle.trees.specs.declared.declaration.ScalarType.{ScalarType}
 use Rattle.trees.specs.declared.declaration.ScalarType.TheVariants.{Byte, Address}
 use Rattle.types.specs.declared.limits.TheConstants.{CODE_BYTES, CODE_BYTES_FOR_WEIGHT}
-use Rattle.types.specs.TypedTrees.{TypedExpression, NumberNode, ValueNode, LocationNode, ListNode, ConversionNode, AssignmentNode, UnaryNode, BinaryNode, CallNode, FunctionNode, ShiftNode, InputNode, TypedReference, PartOf, Subscript, NoSubscript, At, TypedTarget, StoredIn, SentTo, TypedArguments, NoArguments, MoreArguments, TypedIteration, TypedStatement, LabelStatement, NullStatement, AssignmentStatement, CallStatement, MoveStatement, ReturnStatement, HaltStatement, GotoStatement, IfStatement, DoStatement, WhileStatement, IterateStatement, CaseStatement, TypedElse, NoElse, ElseStatement, TypedStatements, NoStatements, MoreStatements, TypedList, ListOf, TypedProcedure, ConstantItem, ConstantObject, ConstantList, TypedModule}
+use Rattle.types.specs.declared.typed.ConstantItem.TheVariants.{ConstantObject, ConstantList}
+use Rattle.types.specs.declared.typed.ConstantItem.{ConstantItem}
+use Rattle.types.specs.TypedTrees.{TypedExpression, NumberNode, ValueNode, LocationNode, ListNode, ConversionNode, AssignmentNode, UnaryNode, BinaryNode, CallNode, FunctionNode, ShiftNode, InputNode, TypedReference, PartOf, Subscript, NoSubscript, At, TypedTarget, StoredIn, SentTo, TypedArguments, NoArguments, MoreArguments, TypedIteration, TypedStatement, LabelStatement, NullStatement, AssignmentStatement, CallStatement, MoveStatement, ReturnStatement, HaltStatement, GotoStatement, IfStatement, DoStatement, WhileStatement, IterateStatement, CaseStatement, TypedElse, NoElse, ElseStatement, TypedStatements, NoStatements, MoreStatements, TypedList, ListOf, TypedProcedure, TypedModule}
 use Rattle.types.specs.Sizes.{size_of_object}
 use Rattle.types.specs.Nodes.{type_of}
 
@@ -23,7 +25,8 @@ abbrev mutual
   weight_of_expression (LocationNode reference) = 1 + weight_of_reference reference
   weight_of_expression (ListNode list) = 1
   weight_of_expression (ConversionNode scalar inner) = 1 + weight_of_expression inner
-  weight_of_expression (AssignmentNode target value) = 1 + weight_of_target target + weight_of_expression value
+  weight_of_expression (AssignmentNode target value) =
+      1 + weight_of_target target + weight_of_expression value
   weight_of_expression (UnaryNode scalar operator operand) = 1 + weight_of_expression operand
   weight_of_expression (BinaryNode operands operator left right) =
       1 + weight_of_expression left + weight_of_expression right
@@ -44,7 +47,8 @@ abbrev mutual
 
   -- a target weighs 1, its subscripts, and 1 more where it converts; a port takes a BYTE
   pub weight_of_target : TypedTarget → ℕ
-  weight_of_target (StoredIn from to reference) = 1 + weight_of_storing from to + weight_of_reference reference
+  weight_of_target (StoredIn from to reference) =
+      1 + weight_of_storing from to + weight_of_reference reference
   weight_of_target (SentTo from port) = 1 + weight_of_storing from Byte
 
   pub weight_of_arguments : TypedArguments → ℕ
@@ -77,9 +81,11 @@ abbrev mutual
   weight_of_statement (IfStatement condition body otherwise) =
       1 + weight_of_expression condition + weight_of_statement body + weight_of_else otherwise
   weight_of_statement (DoStatement body) = 1 + weight_of_list body
-  weight_of_statement (WhileStatement condition body) = 1 + weight_of_expression condition + weight_of_list body
+  weight_of_statement (WhileStatement condition body) =
+      1 + weight_of_expression condition + weight_of_list body
   weight_of_statement (IterateStatement head body) = 1 + weight_of_iteration head + weight_of_list body
-  weight_of_statement (CaseStatement choice body) = 1 + weight_of_expression choice + weight_of_statements body
+  weight_of_statement (CaseStatement choice body) =
+      1 + weight_of_expression choice + weight_of_statements body
 
   pub weight_of_else : TypedElse → ℕ
   weight_of_else NoElse = 0
@@ -102,7 +108,8 @@ weight_of typed = sum_by weight_of_procedure typed.procedures + weight_of_list t
 
 -- how many bytes the objects with DATA and the constant lists of a module take
 abbrev pub size_of_constant : TypedModule → ConstantItem → ℕ
-size_of_constant typed (ConstantObject object) = option_map_or size_of_object (slice_get typed.objects object) 0
+size_of_constant typed (ConstantObject object) =
+    option_map_or size_of_object (slice_get typed.objects object) 0
 size_of_constant typed (ConstantList list) = option_map_or length (slice_get typed.constants.lists list) 0
 
 abbrev pub constant_bytes : TypedModule → ℕ

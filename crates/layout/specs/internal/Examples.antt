@@ -72,7 +72,9 @@ pub constants_storage :
           ∷ Some (record { segment = Code; offset = 4; size = 1 })
           ∷ [];
       lists =
-          record { segment = Code; offset = 1; size = 3 } ∷ record { segment = Code; offset = 5; size = 2 } ∷ [];
+          record { segment = Code; offset = 1; size = 3 }
+          ∷ record { segment = Code; offset = 5; size = 2 }
+          ∷ [];
       data_size = 3;
       constant_size = 7;
     }) ∷ []
@@ -81,7 +83,8 @@ constants_storage = refl
 
 -- SHOW: PROCEDURE(X) EXTERNAL; DECLARE X BYTE; END SHOW; CALL SHOW(7);
 abbrev pub show_heading : Linkage → HeadingTree
-show_heading linkage = record (heading_on 2 (codes "SHOW") (name_on 2 (codes "X") ∷ []) None) { linkage = Some linkage }
+show_heading linkage =
+    record (heading_on 2 (codes "SHOW") (name_on 2 (codes "X") ∷ []) None) { linkage = Some linkage }
 
 abbrev pub its_parameter : ScalarType → DeclarationTree
 its_parameter scalar = DeclareTree (scalar_item 2 (codes "X") scalar ∷ [])
@@ -108,11 +111,13 @@ pub no_public : join_refusal (typed (caller ∷ [])) ≡ Some (NoPublic (codes "
 unfolding typing_of built_in_of join_refusal
 no_public = refl
 
-pub public_twice : join_refusal (typed (caller ∷ shower Byte ∷ shower Byte ∷ [])) ≡ Some (PublicTwice (codes "SHOW"))
+pub public_twice :
+  join_refusal (typed (caller ∷ shower Byte ∷ shower Byte ∷ [])) ≡ Some (PublicTwice (codes "SHOW"))
 unfolding typing_of built_in_of join_refusal
 public_twice = refl
 
-pub other_parameter : join_refusal (typed (caller ∷ shower Address ∷ [])) ≡ Some (DeclarationsDiffer (codes "SHOW"))
+pub other_parameter :
+  join_refusal (typed (caller ∷ shower Address ∷ [])) ≡ Some (DeclarationsDiffer (codes "SHOW"))
 unfolding typing_of built_in_of join_refusal
 other_parameter = refl
 
@@ -124,8 +129,8 @@ pub two_mains : join_refusal (typed (caller ∷ caller ∷ shower Byte ∷ [])) 
 unfolding typing_of built_in_of join_refusal
 two_mains = refl
 
--- DECLARE A BYTE INITIAL (7), W ADDRESS INITIAL (.A + 1), K BYTE DATA (9); W = .(1); with A at 2, W at 3, K at 6 and the
--- list at 7
+-- DECLARE A BYTE INITIAL (7), W ADDRESS INITIAL (.A + 1), K BYTE DATA (9); W = .(1); with A at 2, W at 3, K
+-- at 6 and the list at 7
 abbrev pub initial_item : (line : ℕ) → List ℕ → ScalarType → RestrictedTree → ElementTree
 initial_item line text scalar value =
     ItemElement (record (item_with line text (ScalarItem scalar)) {

@@ -7,7 +7,8 @@ use Rattle.trees.specs.Trees.{ConstantLeaf, LocationLeaf, ListLeaf, UnaryNode as
 use Rattle.names.specs.BuiltIns.{built_in_of}
 use Rattle.types.specs.declared.fault.Cause.{Cause}
 use Rattle.types.specs.declared.fault.Cause.TheVariants.{UnknownName, DeclaredTwice, WrongUse, WrongConstant, ConstantWritten, MisplacedLabel, UnknownLabel}
-use Rattle.types.specs.TypedTrees.{FromDigits, FromString, TypedExpression, NumberNode, ValueNode, LocationNode, ListNode, ConversionNode, UnaryNode, BinaryNode, InputNode, TypedReference, PartOf, NoSubscript, At, StoredIn, SentTo, TypedStatement, LabelStatement, NullStatement, AssignmentStatement, GotoStatement, TypedStatements, NoStatements, MoreStatements, TypedList, ListOf, TypedModule}
+use Rattle.types.specs.declared.typed.NumberOrigin.TheVariants.{FromDigits, FromString}
+use Rattle.types.specs.TypedTrees.{TypedExpression, NumberNode, ValueNode, LocationNode, ListNode, ConversionNode, UnaryNode, BinaryNode, InputNode, TypedReference, PartOf, NoSubscript, At, StoredIn, SentTo, TypedStatement, LabelStatement, NullStatement, AssignmentStatement, GotoStatement, TypedStatements, NoStatements, MoreStatements, TypedList, ListOf, TypedModule}
 use Rattle.types.specs.Checks.{Checked, ◌>>=◌, refuse}
 use Rattle.types.specs.Typing.{typing_of}
 use Rattle.types.specs.internal.Samples.{on_line, name_on, number_on, string_on, a_number, plain, at_subscript, value_of, scalar_item, unlabelled, assigns, statements_of, module_of, doing}
@@ -44,7 +45,8 @@ minus_one = refl
 -- A = V(A) * 2: a subscript is an ADDRESS, and so are the sides of a product
 pub product :
     main_of (doing (assigns (plain 3 (codes "A") ∷ [])
-    (Binary Multiply (value_of (at_subscript 3 (codes "V") (value_of (plain 3 (codes "A")) ∷ []))) (a_number 3 2)) ∷ []))
+    (Binary Multiply (value_of (at_subscript 3 (codes "V") (value_of (plain 3 (codes "A")) ∷ [])))
+      (a_number 3 2)) ∷ []))
     ≡ does (AssignmentStatement
     (StoredIn Address Byte (whole 0) ∷ [])
     (BinaryNode Address Multiply
@@ -54,7 +56,8 @@ pub product :
 unfolding typing_of built_in_of
 product = refl
 
--- OUTPUT(1) = INPUT('A') + .V, W = .(1, 300): ports are numbers or strings of one character; lists are numbered
+-- OUTPUT(1) = INPUT('A') + .V, W = .(1, 300): ports are numbers or strings of one character; lists are
+-- numbered
 pub ports :
     main_of (doing (assigns (at_subscript 3 (codes "OUTPUT") (a_number 3 1 ∷ []) ∷ [])
     (Binary Add
@@ -67,7 +70,8 @@ unfolding typing_of built_in_of
 ports = refl
 
 pub list :
-    main_of (doing (assigns (plain 3 (codes "W") ∷ []) (ListLeaf (number_on 3 1 ∷ number_on 3 300 ∷ [])) ∷ []))
+    main_of (doing (assigns (plain 3 (codes "W") ∷ [])
+      (ListLeaf (number_on 3 1 ∷ number_on 3 300 ∷ [])) ∷ []))
     ≡ does (AssignmentStatement (StoredIn Address Address (whole 1) ∷ []) (ListNode 0))
 unfolding typing_of built_in_of
 list = refl
@@ -76,7 +80,8 @@ list = refl
 pub loop :
     main_of (doing (
     unlabelled (Null (on_line 3))
-    ∷ LabelledStatement (name_on 3 (codes "L") ∷ []) (AssignmentTree (plain 3 (codes "A") ∷ []) (a_number 3 1))
+    ∷ LabelledStatement (name_on 3 (codes "L") ∷ [])
+      (AssignmentTree (plain 3 (codes "A") ∷ []) (a_number 3 1))
     ∷ unlabelled (Goto (on_line 3) (name_on 3 (codes "L")))
     ∷ []))
     ≡ Ok (ListOf 0 (1 ∷ []) (
@@ -90,7 +95,8 @@ loop = refl
 
 -- A = V: an array without a subscript is no value
 pub array_as_value :
-    main_of (doing (assigns (plain 3 (codes "A") ∷ []) (value_of (plain 3 (codes "V"))) ∷ [])) ≡ refuse WrongUse 3
+    main_of (doing (assigns (plain 3 (codes "A") ∷ []) (value_of (plain 3 (codes "V"))) ∷ []))
+    ≡ refuse WrongUse 3
 unfolding typing_of built_in_of
 array_as_value = refl
 
@@ -100,7 +106,8 @@ unfolding typing_of built_in_of
 unknown = refl
 
 -- K = 1, where K has DATA
-pub written : main_of (doing (assigns (plain 3 (codes "K") ∷ []) (a_number 3 1) ∷ [])) ≡ refuse ConstantWritten 3
+pub written :
+  main_of (doing (assigns (plain 3 (codes "K") ∷ []) (a_number 3 1) ∷ [])) ≡ refuse ConstantWritten 3
 unfolding typing_of built_in_of
 written = refl
 
@@ -134,14 +141,16 @@ label_in_a_case = refl
 
 -- A: ;, where A is declared
 pub label_named_as_a_variable :
-    main_of (doing (LabelledStatement (name_on 3 (codes "A") ∷ []) (Null (on_line 3)) ∷ [])) ≡ refuse DeclaredTwice 3
+    main_of (doing (LabelledStatement (name_on 3 (codes "A") ∷ []) (Null (on_line 3)) ∷ []))
+    ≡ refuse DeclaredTwice 3
 unfolding typing_of built_in_of
 label_named_as_a_variable = refl
 
 -- DECLARE A BYTE; DECLARE A BYTE;
 pub declared_twice :
     typing_of (module_of (
-    DeclareTree (scalar_item 2 (codes "A") Byte ∷ []) ∷ DeclareTree (scalar_item 3 (codes "A") Byte ∷ []) ∷ []) [])
+    DeclareTree (scalar_item 2 (codes "A") Byte ∷ []) ∷ DeclareTree
+      (scalar_item 3 (codes "A") Byte ∷ []) ∷ []) [])
     ≡ refuse DeclaredTwice 3
 unfolding typing_of built_in_of
 declared_twice = refl

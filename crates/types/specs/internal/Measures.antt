@@ -10,7 +10,11 @@ use Rattle.trees.specs.Trees.{ConstantTree, ExpressionTree, ReferenceTo, NoMembe
 use Rattle.names.specs.BuiltIns.{built_in_of}
 use Rattle.types.specs.declared.fault.Cause.TheVariants.{WrongUse, MisplacedAttribute, WrongConstant, NoLocation, TooLarge}
 use Rattle.types.specs.declared.typed.Measure.TheVariants.{Size, Last}
-use Rattle.types.specs.TypedTrees.{FromDigits, FromMeasure, NumberNode, ConversionNode, NoSubscript, At, PartOf, StoredIn, SentTo, TypedTarget, AssignmentStatement, ScalarObject, StructureObject, ByteValue, WordValue, LocationValue, InitialValue, AtObject, Home, InData, InConstants, Placed, TypedObject, TypedProcedure, NoStatements, MoreStatements, TypedList, ListOf, TypedModule}
+use Rattle.types.specs.declared.typed.AtAddress.TheVariants.{AtObject}
+use Rattle.types.specs.declared.typed.InitialValue.TheVariants.{ByteValue, WordValue, LocationValue}
+use Rattle.types.specs.declared.typed.InitialValue.{InitialValue}
+use Rattle.types.specs.declared.typed.NumberOrigin.TheVariants.{FromDigits, FromMeasure}
+use Rattle.types.specs.TypedTrees.{NumberNode, ConversionNode, NoSubscript, At, PartOf, StoredIn, SentTo, TypedTarget, AssignmentStatement, ScalarObject, StructureObject, Home, InData, InConstants, Placed, TypedObject, TypedProcedure, NoStatements, MoreStatements, TypedList, ListOf, TypedModule}
 use Rattle.types.specs.Sizes.{size_of_object}
 use Rattle.types.specs.Checks.{Checked, ◌>>=◌, refuse}
 use Rattle.types.specs.Charge.{charge_of}
@@ -37,7 +41,8 @@ homes typed = map (λ (object : TypedObject). object.home) typed.objects
 abbrev pub structure_type : ItemTypeTree
 structure_type = StructureItem (
     record { name = name_on 2 (codes "A"); dimension = None; scalar = Byte }
-    ∷ record { name = name_on 2 (codes "B"); dimension = Some (record { value = 2; place = on_line 2 }); scalar = Address }
+    ∷ record { name = name_on 2 (codes "B"); dimension = Some (record { value = 2; place = on_line 2 });
+      scalar = Address }
     ∷ [])
 
 abbrev pub eight_after : List ℕ → RestrictedTree
@@ -110,7 +115,8 @@ location_alone line text = record { origin = LocationOrigin (name_on line text);
 
 pub implied_dimensions :
     measured (λ (typed : TypedModule). typed.objects) (module_of (DeclareTree (
-    implied_item 2 (codes "T") (ScalarItem Byte) (alone (string_on 2 (codes "ABC")) ∷ alone (number_on 2 3) ∷ [])
+    implied_item 2 (codes "T") (ScalarItem Byte)
+      (alone (string_on 2 (codes "ABC")) ∷ alone (number_on 2 3) ∷ [])
     ∷ implied_item 2 (codes "U") (ScalarItem Address)
     (alone (string_on 2 (codes "AG")) ∷ location_alone 2 (codes "T") ∷ [])
     ∷ []) ∷ []) [])
@@ -137,7 +143,8 @@ implied_dimensions = refl
 
 -- DECLARE X BYTE DATA (256);
 pub value_too_great :
-    typing_of (module_of (DeclareTree (data_item 2 (codes "X") Byte (alone (number_on 3 256) ∷ []) ∷ []) ∷ []) [])
+    typing_of (module_of (DeclareTree
+      (data_item 2 (codes "X") Byte (alone (number_on 3 256) ∷ []) ∷ []) ∷ []) [])
     ≡ refuse WrongConstant 3
 unfolding typing_of built_in_of
 value_too_great = refl
@@ -176,9 +183,8 @@ pub bound_of_two_procedures : measured code_bound two_procedures ≡ Ok 3072
 unfolding typing_of built_in_of weight_of code_bound
 bound_of_two_procedures = refl
 
--- ODD: PROCEDURE(N) BYTE EXTERNAL; DECLARE N BYTE; END ODD;
--- EVEN: PROCEDURE(N) BYTE PUBLIC REENTRANT; DECLARE N BYTE; IF N = 0 THEN RETURN 1; RETURN ODD(N - 1); END EVEN;
--- OUTPUT(7) = EVEN(5);
+-- ODD: PROCEDURE(N) BYTE EXTERNAL; DECLARE N BYTE; END ODD; EVEN: PROCEDURE(N) BYTE PUBLIC REENTRANT; DECLARE
+-- N BYTE; IF N = 0 THEN RETURN 1; RETURN ODD(N - 1); END EVEN; OUTPUT(7) = EVEN(5);
 abbrev pub a_parameter : (line : ℕ) → DeclarationTree
 a_parameter line = DeclareTree (scalar_item line (codes "N") Byte ∷ [])
 
@@ -200,7 +206,8 @@ even_body =
     (unlabelled (Return (on_line 3) (Some (a_number 3 1))))
     NoElse)
     ∷ unlabelled (Return (on_line 3)
-    (Some (value_of (at_subscript 3 (codes "ODD") (Binary Subtract (value_of (plain 3 (codes "N"))) (a_number 3 1) ∷ [])))))
+    (Some (value_of (at_subscript 3 (codes "ODD")
+      (Binary Subtract (value_of (plain 3 (codes "N"))) (a_number 3 1) ∷ [])))))
     ∷ []
 
 abbrev pub even_module : ModuleTree
@@ -215,8 +222,8 @@ pub charges_of_even : measured charges even_module ≡ Ok (12 ∷ 20 ∷ 16 ∷ 
 unfolding typing_of built_in_of charge_of
 charges_of_even = refl
 
--- ODD 2; EVEN 2, IF 1, its condition 3, RETURN 1 twice, a number 1, the call 1 and its argument 3; main 1, a target 1,
--- the call 1 and its argument 1
+-- ODD 2; EVEN 2, IF 1, its condition 3, RETURN 1 twice, a number 1, the call 1 and its argument 3; main 1, a
+-- target 1, the call 1 and its argument 1
 pub weight_of_even : measured weight_of even_module ≡ Ok 19
 unfolding typing_of built_in_of weight_of
 weight_of_even = refl

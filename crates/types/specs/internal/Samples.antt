@@ -116,7 +116,8 @@ heading_on line text parameters result = record {
 }
 
 abbrev pub procedure_of : HeadingTree → List DeclarationTree → List StatementTree → DeclarationTree
-procedure_of heading declared done = ProcedureTree heading (declarations_of declared) (statements_of done) None
+procedure_of heading declared done =
+    ProcedureTree heading (declarations_of declared) (statements_of done) None
 
 -- the value of a variable, a function or a built-in function
 abbrev pub value_of : ReferenceTree → ExpressionTree
