@@ -1,8 +1,8 @@
 -- Modules joined into a program (PL/M-80 Programming Manual, "Extended scope: the PUBLIC and EXTERNAL
 -- attributes"). Each EXTERNAL name stands for the PUBLIC of that name.
-use Rattle.std.specs.Prelude.{◌≡◌, ℕ, ◌+◌, Bool, true, false, not, ◌&&◌, ◌==◌, List, [], ◌∷◌, map, filter, filter_map, flat_map, find, position, count_by, Option, Some, None, option_map, if◌then◌else◌, slice_get}
+use Rattle.std.specs.Prelude.{◌≡◌, ℕ, ◌+◌, Bool, true, false, not, ◌&&◌, ◌==◌, List, [], ◌∷◌, filter, filter_map, flat_map, find, position, count_by, Option, Some, None, option_map, if◌then◌else◌, slice_get}
 use Rattle.std.specs.List.{list_any}
-use Rattle.std.specs.Option.{option_or, option_map_or, option_and_then}
+use Rattle.std.specs.Option.{option_or, option_map_or}
 use Rattle.std.specs.Str.{bytes_eq}
 use Rattle.trees.specs.declared.declaration.ScalarType.{ScalarType}
 use Rattle.trees.specs.declared.declaration.ScalarType.TheVariants.{Byte, Address}
@@ -11,7 +11,7 @@ use Rattle.types.specs.declared.typed.Visibility.TheVariants.{Public}
 use Rattle.types.specs.declared.typed.GlobalItem.TheVariants.{GlobalObject, GlobalProcedure}
 use Rattle.types.specs.declared.typed.GlobalItem.{GlobalItem}
 use Rattle.types.specs.declared.typed.TypedMember.{TypedMember}
-use Rattle.types.specs.TypedTrees.{TypedStatements, NoStatements, MoreStatements, TypedList, ListOf, ObjectType, ScalarObject, StructureObject, Home, Elsewhere, TypedObject, TypedProcedure, TypedModule}
+use Rattle.types.specs.TypedTrees.{NoStatements, MoreStatements, TypedList, ListOf, ObjectType, ScalarObject, StructureObject, Home, Elsewhere, TypedObject, TypedProcedure, TypedModule}
 
 -- whether two declarations agree: types, dimensions, and members by their position, whatever their names
 abbrev pub same_scalar : ScalarType → ScalarType → Bool

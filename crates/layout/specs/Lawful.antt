@@ -1,6 +1,5 @@
 -- Lawful placements of a joined program.
-use Rattle.std.specs.Prelude.{◌≡◌, ℕ, ◌+◌, ◌%◌, ◌≤◌, List, length, map, zip, All, AllPairs, Option, Some, None, slice_get, slice_index}
-use Rattle.std.specs.Option.{option_map_or}
+use Rattle.std.specs.Prelude.{◌≡◌, ℕ, ◌+◌, ◌%◌, ◌≤◌, List, length, zip, All, AllPairs, slice_index}
 use Rattle.mem80.specs.declared.range.Range.{Range}
 use Rattle.mem80.specs.Range.{IsIn, Meets}
 use Rattle.types.specs.declared.typed.AtAddress.TheVariants.{AtNumber, AtObject}

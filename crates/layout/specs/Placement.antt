@@ -1,5 +1,5 @@
 -- Where a joined program lies in memory.
-use Rattle.std.specs.Prelude.{ℕ, Bool, true, false, List, [], ◌∷◌, ◌++◌, length, map, filter_map, flat_map, zip, Any, filter, Option, Some, None, option_map}
+use Rattle.std.specs.Prelude.{ℕ, Bool, true, false, List, ◌++◌, length, map, filter_map, flat_map, zip, Any, filter, Option, Some, None, option_map}
 use Rattle.mem80.specs.declared.range.Range.{Range}
 use Rattle.mem80.specs.Range.{IsIn}
 use Rattle.types.specs.TypedTrees.{Home, InData, InConstants, Placed, TypedObject, TypedModule}

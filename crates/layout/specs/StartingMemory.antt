@@ -1,6 +1,6 @@
 -- The memory that a source run starts with: a given one with INITIAL, DATA and the constant lists written
 -- over it.
-use Rattle.std.specs.Prelude.{ℕ, ◌+◌, ◌/◌, ◌%◌, List, [], ◌∷◌, ◌++◌, map, flat_map, fold, zip, Option, Some, None, slice_get, slice_index, slice_set}
+use Rattle.std.specs.Prelude.{ℕ, ◌+◌, ◌/◌, ◌%◌, List, [], ◌∷◌, ◌++◌, map, flat_map, fold, zip, Option, slice_get, slice_index, slice_set}
 use Rattle.std.specs.List.{enumerate_from}
 use Rattle.std.specs.Option.{option_map_or, option_and_then}
 use Rattle.types.specs.declared.typed.InitialValue.TheVariants.{ByteValue, WordValue, LocationValue}

@@ -2,11 +2,10 @@
 -- Manual, "Storage of variables"). The data segment holds the objects without AT and DATA, in the order of
 -- their declarations and without gaps; the code segment begins with the objects with DATA and the constant
 -- lists, in the order of the text.
-use Rattle.std.specs.Prelude.{ℕ, Bool, false, not, ◌==◌, List, length, map, take, take_while, Option, Some, None, Result, Ok, Err, nat_le, if◌then◌else◌, slice_get, sum_by}
+use Rattle.std.specs.Prelude.{ℕ, Bool, false, not, ◌==◌, List, length, map, take, take_while, Option, Some, None, Result, Ok, Err, nat_le, if◌then◌else◌, sum_by}
 use Rattle.std.specs.List.{enumerate_from}
 use Rattle.types.specs.declared.typed.ConstantItem.TheVariants.{ConstantObject, ConstantList}
 use Rattle.types.specs.declared.typed.ConstantItem.{ConstantItem}
-use Rattle.types.specs.declared.typed.InitialValue.{InitialValue}
 use Rattle.types.specs.TypedTrees.{Home, InData, InConstants, TypedObject, TypedModule}
 use Rattle.types.specs.Sizes.{size_of_object}
 use Rattle.types.specs.Weight.{size_of_constant, constant_bytes}
@@ -36,7 +35,7 @@ is_list list (ConstantList other) = other == list
 abbrev pub constants_before : TypedModule → (ConstantItem → Bool) → ℕ
 constants_before typed wanted =
     sum_by (size_of_constant typed)
-      (take_while (λ (item : ConstantItem). not (wanted item)) typed.constants.items)
+    (take_while (λ (item : ConstantItem). not (wanted item)) typed.constants.items)
 
 -- where an object lies in its segment; one with AT, BASED, in a frame or in another module lies in none
 abbrev pub slot_of_object : TypedModule → (number : ℕ) → TypedObject → Home → Option Slot
@@ -82,6 +81,6 @@ unfoldable pub storage_of : TypedModule → Result Storage Fault
 storage_of typed =
     if nat_le (data_bytes typed.objects) SEGMENT_LIMIT
     then
-      (if nat_le (constant_bytes typed) SEGMENT_LIMIT then Ok (storage_with typed)
-       else Err ConstantsTooLarge)
+    (if nat_le (constant_bytes typed) SEGMENT_LIMIT then Ok (storage_with typed)
+    else Err ConstantsTooLarge)
     else Err DataTooLarge

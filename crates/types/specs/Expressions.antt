@@ -1,5 +1,5 @@
 -- The typing of expressions (PL/M-80 Programming Manual, "Expressions and assignments").
-use Rattle.std.specs.Prelude.{ℕ, List, [], ◌∷◌, ◌++◌, length, Option, Some, None, Result, Ok, Err}
+use Rattle.std.specs.Prelude.{List, [], ◌∷◌, ◌++◌, length, Ok}
 use Rattle.trees.specs.Trees.{ConstantTree, NumberConstant, StringConstant, ExpressionTree, ConstantLeaf, ReferenceLeaf, LocationLeaf, ListLeaf, ParenthesizedNode, AssignmentNode, UnaryNode, BinaryNode, ReferenceTree, ReferenceTo, MemberTree, NoMember, MemberOf, ArgumentTrees, NoArguments, MoreArguments}
 use Rattle.types.specs.declared.typed.ConstantItem.TheVariants.{ConstantList}
 use Rattle.types.specs.declared.typed.NumberOrigin.TheVariants.{FromDigits, FromString}
@@ -8,7 +8,7 @@ use Rattle.types.specs.TypedTrees.{TypedExpression, NumberNode, ListNode, TypedA
 use Rattle.types.specs.Checks.{Checked, ◌>>=◌}
 use Rattle.types.specs.Constants.{type_of_number, number_of_constant, bytes_of_constants}
 use Rattle.types.specs.Nodes.{unary_node, binary_node, assignment_node}
-use Rattle.types.specs.References.{Known, Given, GivenMember, WithoutMember, WithMember, GivenReference, location_of, destination_of}
+use Rattle.types.specs.References.{Known, GivenMember, WithoutMember, WithMember, GivenReference, location_of, destination_of}
 use Rattle.types.specs.Functions.{value_of}
 
 -- a number, or a string that stands for one

@@ -1,10 +1,10 @@
 -- Restricted expressions: where AT puts objects, and what INITIAL and DATA fill them with (PL/M-80
 -- Programming Manual, "The AT attribute", "The INITIAL attribute", "The DATA attribute").
-use Rattle.std.specs.Prelude.{ℕ, ◌+◌, ◌-◌, ◌/◌, max, Bool, true, false, List, [], ◌∷◌, ◌++◌, length, Option, Some, None, Result, Ok, Err, nat_le, nat_lt, sum_by}
+use Rattle.std.specs.Prelude.{ℕ, ◌+◌, ◌-◌, ◌/◌, max, List, [], ◌∷◌, ◌++◌, length, Option, Some, None, Ok, nat_le, nat_lt, sum_by}
 use Rattle.trees.specs.declared.declaration.ScalarType.{ScalarType}
 use Rattle.trees.specs.declared.declaration.ScalarType.TheVariants.{Byte, Address}
 use Rattle.trees.specs.declared.identifier.Identifier.{Identifier}
-use Rattle.trees.specs.Trees.{StringTree, ConstantTree, StringConstant, OriginTree, ConstantOrigin, LocationOrigin, OffsetTree, RestrictedTree, ValueListTree}
+use Rattle.trees.specs.Trees.{StringTree, StringConstant, OriginTree, ConstantOrigin, LocationOrigin, OffsetTree, RestrictedTree}
 use Rattle.names.specs.declared.entity.Binding.{Binding}
 use Rattle.names.specs.declared.entity.Binding.TheVariants.{Declared}
 use Rattle.names.specs.declared.entity.Entity.TheVariants.{Object, Procedure}
@@ -13,7 +13,7 @@ use Rattle.types.specs.declared.typed.AtAddress.TheVariants.{AtNumber, AtObject}
 use Rattle.types.specs.declared.typed.AtAddress.{AtAddress}
 use Rattle.types.specs.declared.typed.InitialValue.TheVariants.{ByteValue, WordValue, LocationValue}
 use Rattle.types.specs.declared.typed.InitialValue.{InitialValue}
-use Rattle.types.specs.TypedTrees.{ObjectType, Home, BasedOn, Elsewhere, Nowhere, InFrame, TypedObject}
+use Rattle.types.specs.TypedTrees.{ObjectType, Home, BasedOn, Elsewhere, Nowhere, InFrame}
 use Rattle.types.specs.Sizes.{scalars_of_element, scalars_of_elements}
 use Rattle.types.specs.Checks.{Checked, ◌>>=◌, refuse, require, found}
 use Rattle.types.specs.Constants.{number_of_characters, line_of_constant, number_of_constant, with_offsets}

@@ -1,7 +1,6 @@
 -- Calls of procedures and of built-in functions (PL/M-80 Programming Manual, "Procedures", "Predeclared
 -- procedures").
-use Rattle.std.specs.Prelude.{ℕ, ◌-◌, ◌==◌, List, [], ◌∷◌, length, Option, Some, None, Result, Ok, Err}
-use Rattle.trees.specs.declared.declaration.ScalarType.{ScalarType}
+use Rattle.std.specs.Prelude.{ℕ, ◌-◌, ◌==◌, length, Option, Some, None, Ok}
 use Rattle.trees.specs.declared.identifier.Identifier.{Identifier}
 use Rattle.trees.specs.Trees.{ReferenceLeaf, ReferenceTo, MemberTree, NoMember, MemberOf, ArgumentTrees, NoArguments, MoreArguments}
 use Rattle.names.specs.declared.entity.Binding.{Binding}
@@ -18,7 +17,7 @@ use Rattle.types.specs.declared.typed.UnaryFunction.{UnaryFunction}
 use Rattle.types.specs.declared.typed.UnaryFunction.TheVariants as functions
 use Rattle.types.specs.declared.typed.NumberOrigin.TheVariants.{FromMeasure}
 use Rattle.types.specs.TypedTrees.{TypedExpression, NumberNode, ValueNode, CallNode, FunctionNode, InputNode, TypedArguments, NoArguments as NoTyped, MoreArguments as MoreTyped, TypedObject, TypedProcedure, Constants}
-use Rattle.types.specs.Sizes.{size_of_member, size_of_object, FoundMember, member_named}
+use Rattle.types.specs.Sizes.{size_of_member, size_of_object, member_named}
 use Rattle.types.specs.Checks.{Checked, ◌>>=◌, refuse, require, found}
 use Rattle.types.specs.Constants.{type_of_number}
 use Rattle.types.specs.Nodes.{shift_node, arguments_as}

@@ -1,5 +1,5 @@
 -- What a DECLARE declares, with its attributes (PL/M-80 Programming Manual, "Declarations").
-use Rattle.std.specs.Prelude.{ℕ, ◌+◌, ◌*◌, Bool, true, false, not, ◌&&◌, ◌||◌, List, [], ◌∷◌, ◌++◌, length, Option, Some, None, is_some, is_none, Result, Ok, Err, nat_le, if◌then◌else◌, sum_by}
+use Rattle.std.specs.Prelude.{ℕ, ◌+◌, ◌*◌, Bool, true, false, not, ◌&&◌, ◌||◌, List, [], ◌∷◌, ◌++◌, length, Option, Some, None, is_some, is_none, Ok, nat_le, if◌then◌else◌}
 use Rattle.std.specs.List.{list_any}
 use Rattle.std.specs.Option.{option_map_or}
 use Rattle.std.specs.Str.{bytes_eq}
@@ -7,14 +7,13 @@ use Rattle.trees.specs.declared.declaration.Dimension.{Dimension}
 use Rattle.trees.specs.declared.declaration.Dimension.TheVariants.{Count, Implied}
 use Rattle.trees.specs.declared.declaration.Linkage.{Linkage}
 use Rattle.trees.specs.declared.declaration.Member.{Member}
-use Rattle.trees.specs.declared.declaration.ScalarType.{ScalarType}
 use Rattle.trees.specs.declared.declaration.ScalarType.TheVariants.{Address}
 use Rattle.trees.specs.declared.declaration.Storage.{Storage}
 use Rattle.trees.specs.declared.declaration.Storage.TheVariants.{Initial, Data}
 use Rattle.trees.specs.declared.identifier.Identifier.{Identifier}
 use Rattle.trees.specs.declared.identifier.Number.{Number}
 use Rattle.trees.specs.declared.identifier.Place.{Place}
-use Rattle.trees.specs.Trees.{ItemTypeTree, ScalarItem, StructureItem, AtTree, ValueListTree, SubjectTree, SingleSubject, GroupSubject, ItemTree, ElementTree, LiterallyElement, ItemElement, HeadingTree}
+use Rattle.trees.specs.Trees.{ItemTypeTree, ScalarItem, StructureItem, AtTree, ValueListTree, SubjectTree, SingleSubject, GroupSubject, ItemTree, ElementTree, LiterallyElement, ItemElement}
 use Rattle.names.specs.declared.entity.Binding.{Binding}
 use Rattle.names.specs.declared.entity.Binding.TheVariants.{Declared}
 use Rattle.names.specs.declared.entity.Entity.TheVariants.{Object}
@@ -24,7 +23,6 @@ use Rattle.types.specs.declared.fault.Cause.TheVariants.{DeclaredTwice, WrongUse
 use Rattle.types.specs.declared.limits.TheConstants.{OBJECT_LIMIT, FRAME_LIMIT}
 use Rattle.types.specs.declared.typed.AtAddress.{AtAddress}
 use Rattle.types.specs.declared.typed.ConstantItem.TheVariants.{ConstantObject}
-use Rattle.types.specs.declared.typed.ConstantItem.{ConstantItem}
 use Rattle.types.specs.declared.typed.GlobalItem.TheVariants.{GlobalObject}
 use Rattle.types.specs.declared.typed.InitialValue.{InitialValue}
 use Rattle.types.specs.declared.typed.TypedMember.{TypedMember}

@@ -1,6 +1,6 @@
 -- The types of expressions, and the conversions between them (PL/M-80 Programming Manual, "Expressions and
 -- assignments").
-use Rattle.std.specs.Prelude.{ℕ, List, [], ◌∷◌}
+use Rattle.std.specs.Prelude.{ℕ, List, ◌∷◌}
 use Rattle.trees.specs.declared.declaration.ScalarType.{ScalarType}
 use Rattle.trees.specs.declared.declaration.ScalarType.TheVariants.{Byte, Address}
 use Rattle.trees.specs.declared.expression.BinaryOperator.{BinaryOperator}
@@ -10,7 +10,7 @@ use Rattle.types.specs.declared.typed.ShiftFunction.{ShiftFunction}
 use Rattle.types.specs.declared.typed.ShiftFunction.TheVariants.{RotateLeft, RotateRight}
 use Rattle.types.specs.declared.typed.UnaryFunction.{UnaryFunction}
 use Rattle.types.specs.declared.typed.UnaryFunction.TheVariants.{Low, High, Double}
-use Rattle.types.specs.TypedTrees.{TypedExpression, NumberNode, ValueNode, LocationNode, ListNode, ConversionNode, AssignmentNode, UnaryNode, BinaryNode, CallNode, FunctionNode, ShiftNode, InputNode, TypedReference, Subscript, NoSubscript, At, TypedTarget, StoredIn, SentTo, TypedArguments, NoArguments, MoreArguments}
+use Rattle.types.specs.TypedTrees.{TypedExpression, NumberNode, ValueNode, LocationNode, ListNode, ConversionNode, AssignmentNode, UnaryNode, BinaryNode, CallNode, FunctionNode, ShiftNode, InputNode, TypedReference, TypedTarget, StoredIn, SentTo, TypedArguments, MoreArguments}
 
 -- the type of the value that goes to a target
 abbrev pub type_of_target : TypedTarget → ScalarType

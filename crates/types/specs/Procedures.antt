@@ -1,5 +1,5 @@
 -- Headings of procedures and their parameters (PL/M-80 Programming Manual, "Procedures").
-use Rattle.std.specs.Prelude.{ℕ, Bool, true, false, not, ◌&&◌, ◌||◌, List, [], ◌∷◌, ◌++◌, length, map, take, drop, Option, Some, None, is_some, unwrap_or, Result, Ok, Err, slice_set, if◌then◌else◌}
+use Rattle.std.specs.Prelude.{ℕ, true, not, ◌||◌, List, [], ◌∷◌, ◌++◌, length, map, take, drop, Option, Some, None, is_some, unwrap_or, Ok, slice_set, if◌then◌else◌}
 use Rattle.std.specs.Map.{lookup}
 use Rattle.std.specs.Option.{option_or}
 use Rattle.std.specs.Str.{bytes_eq}
@@ -9,7 +9,7 @@ use Rattle.trees.specs.declared.declaration.ScalarType.{ScalarType}
 use Rattle.trees.specs.declared.declaration.ScalarType.TheVariants.{Byte}
 use Rattle.trees.specs.declared.identifier.Identifier.{Identifier}
 use Rattle.trees.specs.declared.identifier.Place.{Place}
-use Rattle.trees.specs.Trees.{ItemTypeTree, ScalarItem, StructureItem, ItemTree, ElementTree, LiterallyElement, ItemElement, HeadingTree, StatementTrees, NoStatements, MoreStatements, DeclarationTree, DeclareTree, ProcedureTree, DeclarationTrees, NoDeclarations, MoreDeclarations}
+use Rattle.trees.specs.Trees.{ItemTypeTree, ScalarItem, StructureItem, ElementTree, LiterallyElement, ItemElement, HeadingTree, StatementTrees, NoStatements, MoreStatements, DeclarationTree, DeclareTree, ProcedureTree, DeclarationTrees, NoDeclarations, MoreDeclarations}
 use Rattle.names.specs.declared.entity.Entity.{Entity}
 use Rattle.names.specs.declared.entity.Entity.TheVariants.{Object}
 use Rattle.names.specs.Environment.{Here, is_among, into_body, out_of_body, with_procedure, with_parameter, is_declared_again, is_parameter_again}
@@ -22,8 +22,8 @@ use Rattle.types.specs.declared.typed.GlobalItem.TheVariants.{GlobalProcedure}
 use Rattle.types.specs.TypedTrees.{NoStatements as NoTyped, TypedList, ListOf, TypedProcedure}
 use Rattle.types.specs.Checks.{Checked, ◌>>=◌, refuse, require}
 use Rattle.types.specs.References.{line_of}
-use Rattle.types.specs.Blocks.{Owner, OfProcedure, Block, Progress, with_global, is_external_linkage, line_of_linkage, is_reentrant, is_external, is_module_level}
-use Rattle.types.specs.Statements.{with_here, line_of_statement}
+use Rattle.types.specs.Blocks.{OfProcedure, Block, Progress, with_global, is_external_linkage, line_of_linkage, is_reentrant, is_external, is_module_level}
+use Rattle.types.specs.Statements.{line_of_statement}
 
 -- The parameters of a heading differ from each other, and there are not too many.
 abbrev pub declare_parameters : List Identifier → Here → Checked Here

@@ -1,17 +1,16 @@
 -- What references to objects mean: values, locations and targets (PL/M-80 Programming Manual, "Subscripted
 -- variables", "Structures", "Based variables").
-use Rattle.std.specs.Prelude.{ℕ, zero, suc, Bool, true, false, ◌&&◌, ◌||◌, ◌==◌, List, [], ◌∷◌, Option, Some, None, Result, Ok, Err, nat_le, slice_get}
+use Rattle.std.specs.Prelude.{ℕ, zero, suc, Bool, true, false, ◌==◌, List, Option, Some, None, Ok, nat_le, slice_get}
 use Rattle.trees.specs.declared.declaration.ScalarType.{ScalarType}
-use Rattle.trees.specs.declared.declaration.ScalarType.TheVariants.{Byte, Address}
+use Rattle.trees.specs.declared.declaration.ScalarType.TheVariants.{Address}
 use Rattle.trees.specs.declared.identifier.Identifier.{Identifier}
-use Rattle.trees.specs.Trees.{ConstantTree, ConstantLeaf, ArgumentTrees, NoArguments, MoreArguments}
+use Rattle.trees.specs.Trees.{ConstantLeaf, ArgumentTrees, NoArguments, MoreArguments}
 use Rattle.names.specs.declared.entity.Binding.{Binding}
 use Rattle.names.specs.declared.entity.Binding.TheVariants.{Declared, BuiltInName}
 use Rattle.names.specs.declared.entity.BuiltIn.TheVariants.{Output}
 use Rattle.names.specs.declared.entity.Entity.TheVariants.{Object, Procedure}
 use Rattle.names.specs.Environment.{Here}
 use Rattle.names.specs.BuiltIns.{binding_of}
-use Rattle.types.specs.declared.fault.Cause.{Cause}
 use Rattle.types.specs.declared.fault.Cause.TheVariants.{UnknownName, WrongUse, WrongConstant, ConstantWritten, NoLocation}
 use Rattle.types.specs.declared.typed.TypedMember.{TypedMember}
 use Rattle.types.specs.TypedTrees.{TypedExpression, LocationNode, TypedReference, PartOf, Subscript, NoSubscript, At, TypedArguments, NoArguments as NoTyped, MoreArguments as MoreTyped, ObjectType, ScalarObject, StructureObject, Home, InConstants, InFrame, TypedObject, TypedProcedure, Constants}

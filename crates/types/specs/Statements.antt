@@ -1,10 +1,9 @@
 -- What statements need beside the statements in them (PL/M-80 Programming Manual, "Statements").
-use Rattle.std.specs.Prelude.{ℕ, ◌+◌, ◌==◌, not, ◌&&◌, List, [], ◌∷◌, ◌++◌, length, map, Option, Some, None, is_none, Result, Ok, Err}
+use Rattle.std.specs.Prelude.{ℕ, ◌+◌, ◌==◌, not, ◌&&◌, List, [], ◌∷◌, ◌++◌, length, map, Option, Some, None, is_none, Ok}
 use Rattle.trees.specs.declared.declaration.ScalarType.{ScalarType}
 use Rattle.trees.specs.declared.declaration.ScalarType.TheVariants.{Address}
 use Rattle.trees.specs.declared.identifier.Identifier.{Identifier}
-use Rattle.trees.specs.declared.identifier.Place.{Place}
-use Rattle.trees.specs.Trees.{ExpressionTree, ReferenceTree, ReferenceTo, IterationTree, HeadingTree, StatementTree, LabelledStatement, StatementKindTree, NullStatement, AssignmentStatement, CallStatement, ReturnStatement, HaltStatement, GotoStatement, IfStatement, DoStatement, WhileStatement, IterateStatement, CaseStatement, StatementTrees, NoStatements, MoreStatements}
+use Rattle.trees.specs.Trees.{ExpressionTree, ReferenceTree, ReferenceTo, IterationTree, StatementTree, LabelledStatement, StatementKindTree, NullStatement, AssignmentStatement, CallStatement, ReturnStatement, HaltStatement, GotoStatement, IfStatement, DoStatement, WhileStatement, IterateStatement, CaseStatement, StatementTrees, NoStatements, MoreStatements}
 use Rattle.names.specs.declared.entity.Binding.{Binding}
 use Rattle.names.specs.declared.entity.Binding.TheVariants.{Declared, BuiltInName}
 use Rattle.names.specs.declared.entity.BuiltIn.TheVariants.{Move}
@@ -13,10 +12,10 @@ use Rattle.names.specs.Environment.{Here, into_list, out_of_list, with_label, is
 use Rattle.names.specs.BuiltIns.{jump_of}
 use Rattle.names.specs.Events.{labels_of}
 use Rattle.types.specs.declared.fault.Cause.TheVariants.{DeclaredTwice, WrongUse, MisplacedLabel, UnknownLabel}
-use Rattle.types.specs.TypedTrees.{TypedExpression, TypedArguments, NoArguments as NoTyped, MoreArguments as MoreTyped, TypedIteration, TypedStatement, LabelStatement, AssignmentStatement as TypedAssignment, CallStatement as TypedCall, MoveStatement, ReturnStatement as TypedReturn, GotoStatement as TypedGoto, TypedStatements, MoreStatements as MoreTypedStatements, TypedList, ListOf, ObjectType, ScalarObject, TypedObject, Constants}
+use Rattle.types.specs.TypedTrees.{TypedExpression, TypedArguments, NoArguments as NoTyped, MoreArguments as MoreTyped, TypedIteration, TypedStatement, LabelStatement, AssignmentStatement as TypedAssignment, CallStatement as TypedCall, MoveStatement, ReturnStatement as TypedReturn, GotoStatement as TypedGoto, TypedStatements, MoreStatements as MoreTypedStatements, TypedList, ListOf, Constants}
 use Rattle.types.specs.Checks.{Checked, ◌>>=◌, refuse, require, found}
 use Rattle.types.specs.Nodes.{type_of, as_type, Destination, target_of}
-use Rattle.types.specs.References.{Known, Given, GivenReference, line_of, count_of_given, bound, object_of, procedure_of, scalar_of, is_writable, destination_of}
+use Rattle.types.specs.References.{Known, Given, line_of, count_of_given, bound, object_of, procedure_of, scalar_of, is_writable, destination_of}
 use Rattle.types.specs.Functions.{call_arguments}
 use Rattle.types.specs.Expressions.{expression, given_reference}
 use Rattle.types.specs.Blocks.{Owner, TheModule, OfProcedure, Progress}

@@ -1,13 +1,13 @@
 -- The typing of a module (PL/M-80 Programming Manual). Where it has none, the answer is the first cause in
 -- the text.
-use Rattle.std.specs.Prelude.{ℕ, ◌+◌, false, true, List, [], length, Option, None, Result, Ok, Err}
-use Rattle.trees.specs.Trees.{HeadingTree, StatementTree, LabelledStatement, StatementKindTree, NullStatement, AssignmentStatement, CallStatement, ReturnStatement, HaltStatement, GotoStatement, IfStatement, DoStatement, WhileStatement, IterateStatement, CaseStatement, ElseTree, NoElse, ElseStatement, StatementTrees, NoStatements, MoreStatements, DeclarationTree, DeclareTree, ProcedureTree, DeclarationTrees, NoDeclarations, MoreDeclarations, ModuleTree}
+use Rattle.std.specs.Prelude.{ℕ, ◌+◌, false, true, List, [], length, None, Ok}
+use Rattle.trees.specs.Trees.{StatementTree, LabelledStatement, StatementKindTree, NullStatement, AssignmentStatement, CallStatement, ReturnStatement, HaltStatement, GotoStatement, IfStatement, DoStatement, WhileStatement, IterateStatement, CaseStatement, ElseTree, NoElse, ElseStatement, StatementTrees, NoStatements, MoreStatements, DeclarationTree, DeclareTree, ProcedureTree, DeclarationTrees, NoDeclarations, MoreDeclarations, ModuleTree}
 use Rattle.names.specs.Environment.{at_the_start, into_block, out_of_block}
 use Rattle.types.specs.declared.typed.Visibility.TheVariants.{Private}
 use Rattle.types.specs.TypedTrees.{TypedStatement, NullStatement as TypedNull, HaltStatement as TypedHalt, IfStatement as TypedIf, DoStatement as TypedDo, WhileStatement as TypedWhile, IterateStatement as TypedIterate, CaseStatement as TypedCase, TypedElse, NoElse as NoTypedElse, ElseStatement as TypedElseStatement, TypedStatements, NoStatements as NoTyped, MoreStatements as MoreTyped, TypedList, TypedProcedure, TypedModule}
 use Rattle.types.specs.Checks.{Checked, ◌>>=◌}
 use Rattle.types.specs.Expressions.{arguments}
-use Rattle.types.specs.Blocks.{Owner, TheModule, Block, Progress}
+use Rattle.types.specs.Blocks.{TheModule, Block, Progress}
 use Rattle.types.specs.Items.{declare_elements}
 use Rattle.types.specs.Statements.{with_here, value, assignment, call, return_from, goto, iteration, labels_before, declare_labels, without_label, after_labels, list_of}
 use Rattle.types.specs.Procedures.{open_procedure, own_block, parameter_objects, check_body, close_procedure}

@@ -17,7 +17,7 @@ use Rattle.types.specs.TypedTrees as typed
 use Rattle.types.specs.declared.typed.NumberOrigin.TheVariants.{FromDigits, FromString, FromMeasure}
 use Rattle.types.specs.declared.typed.NumberOrigin.{NumberOrigin}
 use Rattle.types.specs.declared.typed.TypedMember.{TypedMember}
-use Rattle.types.specs.TypedTrees.{TypedExpression, TypedReference, PartOf, Subscript, NoSubscript, At, TypedTarget, StoredIn, SentTo, TypedArguments, TypedIteration, TypedStatement, LabelStatement, MoveStatement, TypedElse, TypedStatements, TypedList, ListOf, ObjectType, TypedObject, TypedProcedure, TypedModule}
+use Rattle.types.specs.TypedTrees.{TypedExpression, TypedReference, PartOf, Subscript, NoSubscript, At, TypedTarget, StoredIn, SentTo, TypedArguments, TypedIteration, TypedStatement, LabelStatement, MoveStatement, TypedElse, TypedStatements, TypedList, ListOf, TypedObject, TypedProcedure, TypedModule}
 use Rattle.types.specs.Constants.{number_of_characters, bytes_of_constants}
 use Rattle.types.specs.References.{members_of}
 

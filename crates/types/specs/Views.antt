@@ -1,5 +1,5 @@
 -- The typed trees of the code as trees without where their parts lie in memory.
-use Rattle.std.specs.Prelude.{ℕ, List, [], ◌∷◌, map, Option, Some, None, option_map, vec_items}
+use Rattle.std.specs.Prelude.{List, [], ◌∷◌, map, Option, Some, None, option_map, vec_items}
 use Rattle.types.specs.declared.expression.TypedExpression.{TypedExpression as Expression, Row_of-TypedExpression, end_of-TypedExpression, more_of-TypedExpression}
 use Rattle.types.specs.declared.expression.TypedExpression.TheVariants as expressions
 use Rattle.types.specs.declared.expression.TypedReference.{TypedReference as Reference}

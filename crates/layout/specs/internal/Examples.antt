@@ -6,12 +6,12 @@ use Rattle.trees.specs.declared.declaration.ScalarType.{ScalarType}
 use Rattle.trees.specs.declared.declaration.ScalarType.TheVariants.{Byte, Address}
 use Rattle.trees.specs.declared.declaration.Sign.TheVariants.{Plus}
 use Rattle.trees.specs.declared.declaration.Storage.TheVariants.{Initial}
-use Rattle.trees.specs.Trees.{ListLeaf, LocationOrigin, RestrictedTree, ScalarItem, ElementTree, ItemElement, HeadingTree, StatementTree, CallStatement as Call, DoStatement, DeclarationTree, DeclareTree, ModuleTree}
+use Rattle.trees.specs.Trees.{ListLeaf, LocationOrigin, RestrictedTree, ScalarItem, ElementTree, ItemElement, HeadingTree, CallStatement as Call, DoStatement, DeclarationTree, DeclareTree, ModuleTree}
 use Rattle.names.specs.BuiltIns.{built_in_of}
 use Rattle.types.specs.TypedTrees.{TypedModule}
 use Rattle.types.specs.Checks.{Checked}
 use Rattle.types.specs.Typing.{typing_of}
-use Rattle.types.specs.internal.Samples.{on_line, name_on, number_on, string_on, a_number, plain, arguments_of, item_with, scalar_item, array_item, data_item, alone, unlabelled, assigns, statements_of, declarations_of, heading_on, procedure_of, value_of, module_of}
+use Rattle.types.specs.internal.Samples.{on_line, name_on, number_on, string_on, a_number, plain, arguments_of, item_with, scalar_item, data_item, alone, unlabelled, assigns, statements_of, declarations_of, heading_on, procedure_of, value_of, module_of}
 use Rattle.types.specs.internal.Measures.{structures, sends}
 use Rattle.layout.specs.declared.slot.Segment.TheVariants.{Code, Data}
 use Rattle.layout.specs.Storage.{Storage, storage_of}
@@ -112,12 +112,12 @@ unfolding typing_of built_in_of join_refusal
 no_public = refl
 
 pub public_twice :
-  join_refusal (typed (caller ∷ shower Byte ∷ shower Byte ∷ [])) ≡ Some (PublicTwice (codes "SHOW"))
+    join_refusal (typed (caller ∷ shower Byte ∷ shower Byte ∷ [])) ≡ Some (PublicTwice (codes "SHOW"))
 unfolding typing_of built_in_of join_refusal
 public_twice = refl
 
 pub other_parameter :
-  join_refusal (typed (caller ∷ shower Address ∷ [])) ≡ Some (DeclarationsDiffer (codes "SHOW"))
+    join_refusal (typed (caller ∷ shower Address ∷ [])) ≡ Some (DeclarationsDiffer (codes "SHOW"))
 unfolding typing_of built_in_of join_refusal
 other_parameter = refl
 

@@ -1,26 +1,25 @@
 -- Worked values: declarations, sizes, charges and weights.
-use Rattle.std.specs.Prelude.{◌≡◌, ℕ, true, false, List, [], ◌∷◌, ◌++◌, map, Option, None, Some, Result, Ok, codes, refl}
+use Rattle.std.specs.Prelude.{◌≡◌, ℕ, false, List, [], ◌∷◌, ◌++◌, map, None, Some, Ok, codes, refl}
 use Rattle.trees.specs.declared.declaration.Dimension.TheVariants.{Implied}
 use Rattle.trees.specs.declared.declaration.Linkage.TheVariants as linkages
 use Rattle.trees.specs.declared.declaration.ScalarType.TheVariants.{Byte, Address}
 use Rattle.trees.specs.declared.declaration.Sign.TheVariants.{Plus}
-use Rattle.trees.specs.declared.declaration.Storage.TheVariants.{Initial, Data}
-use Rattle.trees.specs.declared.expression.BinaryOperator.TheVariants.{Add, Subtract, Equal}
-use Rattle.trees.specs.Trees.{ConstantTree, ExpressionTree, ReferenceTo, NoMember, MemberOf, BinaryNode as Binary, LocationOrigin, RestrictedTree, ItemTypeTree, ScalarItem, StructureItem, ElementTree, ItemElement, HeadingTree, StatementTree, CallStatement as Call, ReturnStatement as Return, IfStatement as If, NoElse, DeclarationTree, DeclareTree, ModuleTree}
+use Rattle.trees.specs.declared.declaration.Storage.TheVariants.{Data}
+use Rattle.trees.specs.declared.expression.BinaryOperator.TheVariants.{Subtract, Equal}
+use Rattle.trees.specs.Trees.{ExpressionTree, ReferenceTo, MemberOf, BinaryNode as Binary, LocationOrigin, RestrictedTree, ItemTypeTree, ScalarItem, StructureItem, ElementTree, ItemElement, HeadingTree, StatementTree, CallStatement as Call, ReturnStatement as Return, IfStatement as If, NoElse, DeclarationTree, DeclareTree, ModuleTree}
 use Rattle.names.specs.BuiltIns.{built_in_of}
-use Rattle.types.specs.declared.fault.Cause.TheVariants.{WrongUse, MisplacedAttribute, WrongConstant, NoLocation, TooLarge}
+use Rattle.types.specs.declared.fault.Cause.TheVariants.{WrongConstant, TooLarge}
 use Rattle.types.specs.declared.typed.Measure.TheVariants.{Size, Last}
 use Rattle.types.specs.declared.typed.AtAddress.TheVariants.{AtObject}
 use Rattle.types.specs.declared.typed.InitialValue.TheVariants.{ByteValue, WordValue, LocationValue}
-use Rattle.types.specs.declared.typed.InitialValue.{InitialValue}
 use Rattle.types.specs.declared.typed.NumberOrigin.TheVariants.{FromDigits, FromMeasure}
-use Rattle.types.specs.TypedTrees.{NumberNode, ConversionNode, NoSubscript, At, PartOf, StoredIn, SentTo, TypedTarget, AssignmentStatement, ScalarObject, StructureObject, Home, InData, InConstants, Placed, TypedObject, TypedProcedure, NoStatements, MoreStatements, TypedList, ListOf, TypedModule}
+use Rattle.types.specs.TypedTrees.{NumberNode, ConversionNode, At, PartOf, StoredIn, SentTo, AssignmentStatement, ScalarObject, Home, InData, InConstants, Placed, TypedObject, NoStatements, MoreStatements, ListOf, TypedModule}
 use Rattle.types.specs.Sizes.{size_of_object}
 use Rattle.types.specs.Checks.{Checked, ◌>>=◌, refuse}
 use Rattle.types.specs.Charge.{charge_of}
 use Rattle.types.specs.Weight.{weight_of, code_bound}
 use Rattle.types.specs.Typing.{typing_of}
-use Rattle.types.specs.internal.Samples.{on_line, name_on, number_on, string_on, a_number, plain, arguments_of, at_subscript, value_of, item_with, scalar_item, array_item, data_item, alone, unlabelled, assigns, heading_on, procedure_of, module_of, doing}
+use Rattle.types.specs.internal.Samples.{on_line, name_on, number_on, string_on, a_number, plain, arguments_of, at_subscript, value_of, item_with, scalar_item, array_item, data_item, alone, unlabelled, assigns, heading_on, procedure_of, module_of}
 use Rattle.types.specs.internal.Examples.{main_of}
 
 -- a measure of a module that is typed

@@ -1,12 +1,12 @@
 -- Trees of small texts, for worked values.
-use Rattle.std.specs.Prelude.{ℕ, List, [], ◌∷◌, map, Option, None, Some, codes}
+use Rattle.std.specs.Prelude.{ℕ, List, [], ◌∷◌, Option, None, Some, codes}
 use Rattle.trees.specs.declared.declaration.Dimension.TheVariants.{Count}
 use Rattle.trees.specs.declared.declaration.ScalarType.{ScalarType}
 use Rattle.trees.specs.declared.declaration.ScalarType.TheVariants.{Byte, Address}
 use Rattle.trees.specs.declared.declaration.Storage.TheVariants.{Data}
 use Rattle.trees.specs.declared.identifier.Identifier.{Identifier}
 use Rattle.trees.specs.declared.identifier.Place.{Place}
-use Rattle.trees.specs.Trees.{ConstantTree, NumberConstant, StringConstant, ExpressionTree, ConstantLeaf, ReferenceLeaf, ReferenceTree, ReferenceTo, MemberTree, NoMember, ArgumentTrees, NoArguments, MoreArguments, OriginTree, ConstantOrigin, RestrictedTree, ItemTypeTree, ScalarItem, ValueListTree, SubjectTree, SingleSubject, ItemTree, ElementTree, ItemElement, HeadingTree, StatementTree, LabelledStatement, StatementKindTree, AssignmentStatement, StatementTrees, NoStatements, MoreStatements, DeclarationTree, DeclareTree, ProcedureTree, DeclarationTrees, NoDeclarations, MoreDeclarations, ModuleTree}
+use Rattle.trees.specs.Trees.{ConstantTree, NumberConstant, StringConstant, ExpressionTree, ConstantLeaf, ReferenceLeaf, ReferenceTree, ReferenceTo, NoMember, ArgumentTrees, NoArguments, MoreArguments, ConstantOrigin, RestrictedTree, ItemTypeTree, ScalarItem, SingleSubject, ItemTree, ElementTree, ItemElement, HeadingTree, StatementTree, LabelledStatement, StatementKindTree, AssignmentStatement, StatementTrees, NoStatements, MoreStatements, DeclarationTree, DeclareTree, ProcedureTree, DeclarationTrees, NoDeclarations, MoreDeclarations, ModuleTree}
 
 -- a place on a line
 abbrev pub on_line : ℕ → Place
