@@ -3,4 +3,5 @@ pub mod Joined
 pub mod Placement
 pub mod Lawful
 pub mod StartingMemory
+pub mod Views
 pub mod internal

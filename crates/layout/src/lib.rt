@@ -5,4 +5,4 @@ mod fault;
 mod slot;
 
 pub use fault::Fault;
-pub use slot::{SEGMENT_LIMIT, Segment, Slot};
+pub use slot::{Layout, SEGMENT_LIMIT, Segment, Slot};

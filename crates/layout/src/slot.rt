@@ -17,3 +17,13 @@ pub struct Slot {
     pub offset: u32,
     pub size: u32,
 }
+
+/// Where the objects and the constant lists of a module lie, by their numbers, and how many bytes the data segment and
+/// the constants have. An object with AT, BASED, in a frame or in another module lies in no segment.
+#[derive(Debug, Drop)]
+pub struct Layout {
+    pub objects: Vec<Option<Slot>>,
+    pub lists: Vec<Slot>,
+    pub data_size: u32,
+    pub constant_size: u32,
+}

@@ -122,7 +122,7 @@ input_value given constants = do
   Ok (InputNode port, constants)
 
 abbrev pub number_of_variable :
-  Known → Measure → GivenReference → Constants → Checked (TypedExpression × Constants)
+    Known → Measure → GivenReference → Constants → Checked (TypedExpression × Constants)
 number_of_variable known measure given constants = do
   node ← measurement known measure (line_of given.name) given.arguments.trees
   _ ← without_member given.member
@@ -130,7 +130,7 @@ number_of_variable known measure given constants = do
 
 -- a built-in function; OUTPUT and MOVE give no value
 abbrev pub built_in_value :
-  Known → BuiltIn → GivenReference → Constants → Checked (TypedExpression × Constants)
+    Known → BuiltIn → GivenReference → Constants → Checked (TypedExpression × Constants)
 built_in_value known built_ins.Input given constants = input_value given constants
 built_in_value known built_ins.Output given constants = refuse WrongUse (line_of given.name)
 built_in_value known built_ins.Low given constants = unary_function functions.Low given constants
@@ -149,7 +149,7 @@ built_in_value known built_ins.Move given constants = refuse WrongUse (line_of g
 -- The value of what a name is bound to: of a scalar, a typed procedure or a built-in function. A label, a
 -- name that LITERALLY defines and an untyped procedure have none.
 abbrev pub value_of_bound :
-  Known → Binding → GivenReference → Constants → Checked (TypedExpression × Constants)
+    Known → Binding → GivenReference → Constants → Checked (TypedExpression × Constants)
 value_of_bound known (Declared (Object number)) given constants = do
   object ← object_of known given.name number
   part ← scalar_part number object given constants

@@ -39,7 +39,7 @@ declare_names block [] here = Ok here
 declare_names block (name ∷ others) here = do
   _ ← require (not (is_declared_again here name.name)) DeclaredTwice (line_of name)
   _ ← require (not (is_external block.owner) || declares_parameter block name.name) MisplacedAttribute
-    (line_of name)
+      (line_of name)
   declare_names block others (with_object name.name here)
 
 -- whether an item declares several names in parentheses, or a parameter
@@ -136,7 +136,7 @@ abbrev pub check_linkage : Block → ItemTree → Option Linkage → Checked (Un
 check_linkage block item None = Ok tt
 check_linkage block item (Some linkage) =
     require (is_module_level block && is_none (base_of item.subject)) MisplacedAttribute
-      (line_of_linkage linkage)
+    (line_of_linkage linkage)
 
 -- Whether an item may have a place or values of its own: one name, not BASED, not EXTERNAL, no parameter, and
 -- no variable of a REENTRANT procedure.

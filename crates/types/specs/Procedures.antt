@@ -116,9 +116,9 @@ with_heading heading types here progress = record progress {
 abbrev pub open_procedure : Block → HeadingTree → DeclarationTrees → Progress → Checked Progress
 open_procedure block heading declared progress = do
   _ ← require (not (is_declared_again progress.known.here heading.name.name)) DeclaredTwice
-    (line_of heading.name)
+      (line_of heading.name)
   _ ← require (not (is_reentrant block.owner || is_external block.owner)) MisplacedAttribute
-    (line_of heading.name)
+      (line_of heading.name)
   here ← declare_parameters (take PARAMETER_LIMIT heading.parameters)
       (into_body (with_procedure heading.name.name progress.known.here))
   _ ← no_more_parameters (drop PARAMETER_LIMIT heading.parameters)

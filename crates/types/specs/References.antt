@@ -123,7 +123,7 @@ abbrev pub part_of :
     (number : ℕ) → TypedObject → Extent → GivenReference → Constants → Checked (FoundPart × Constants)
 part_of number object extent given constants = do
   _ ← require (takes_subscripts extent object.dimension (count_of_given given.arguments)) WrongUse
-    (line_of given.name)
+      (line_of given.name)
   typed ← given.arguments.typed constants
   part_with_member number object.object_type
       (subscript_of (size_of_element object.object_type) object.dimension typed.0)
@@ -145,7 +145,7 @@ has_location home = true
 
 -- where what a name is bound to lies: an object or a part of it, and of an array or a structure its beginning
 abbrev pub location_of_bound :
-  Known → Binding → GivenReference → Constants → Checked (TypedExpression × Constants)
+    Known → Binding → GivenReference → Constants → Checked (TypedExpression × Constants)
 location_of_bound known (Declared (Object number)) given constants = do
   object ← object_of known given.name number
   _ ← require (has_location object.home) NoLocation (line_of given.name)
@@ -186,7 +186,7 @@ is_writable object name = is_written (is_constant object.home)
 
 -- what a value can be assigned to: a scalar, or OUTPUT
 abbrev pub destination_of_bound :
-  Known → Binding → GivenReference → Constants → Checked (Destination × Constants)
+    Known → Binding → GivenReference → Constants → Checked (Destination × Constants)
 destination_of_bound known (Declared (Object number)) given constants = do
   object ← object_of known given.name number
   _ ← is_writable object given.name

@@ -178,7 +178,7 @@ abbrev pub list_of :
     → Checked (TypedList × Progress)
 list_of trees typed_from progress = do
   typed ← typed_from progress.known.here.labels
-    (with_here (into_list (labels_of trees) progress.known.here) progress)
+      (with_here (into_list (labels_of trees) progress.known.here) progress)
   Ok (
     ListOf progress.known.here.labels (places_from 0 trees) typed.0,
     with_here (out_of_list typed.1.known.here) typed.1,

@@ -33,7 +33,7 @@ mutual
     UnaryNode : ScalarType → UnaryOperator → TypedExpression → TypedExpression
     -- an operator with two operands of one type
     BinaryNode :
-      (operands : ScalarType) → BinaryOperator → TypedExpression → TypedExpression → TypedExpression
+        (operands : ScalarType) → BinaryOperator → TypedExpression → TypedExpression → TypedExpression
     -- a call of a procedure with a result of a type
     CallNode : (procedure : ℕ) → ScalarType → TypedArguments → TypedExpression
     -- LOW, HIGH or DOUBLE

@@ -154,7 +154,7 @@ abbrev mutual
 abbrev pub plain_bodies : ModuleTree → List StatementTrees
 plain_bodies tree =
     map plain_statements (tree.statements ∷ bodies_in tree.declarations ++ bodies_in_statements
-      tree.statements)
+    tree.statements)
 
 -- Typed trees without their conversions. Names are those of the tables.
 abbrev pub object_name : TypedModule → ℕ → List ℕ
@@ -173,7 +173,7 @@ members_of_object tables object =
 abbrev pub member_name : TypedModule → (object position : ℕ) → List ℕ
 member_name tables object position =
     option_map_or (λ (found : TypedMember). found.name)
-      (slice_get (members_of_object tables object) position) []
+    (slice_get (members_of_object tables object) position) []
 
 abbrev pub list_bytes : TypedModule → ℕ → List ℕ
 list_bytes tables list = unwrap_or (slice_get tables.constants.lists list) []
@@ -213,7 +213,7 @@ number_tree tables value FromString = number_leaf value
 number_tree tables value (FromMeasure measure object member) =
     trees.ReferenceLeaf (call_tree (measure_name measure) (one_argument (trees.ReferenceLeaf
     (ReferenceTo (named (object_name tables object)) NoArguments
-      (member_tree tables object member NoArguments)))))
+    (member_tree tables object member NoArguments)))))
 
 abbrev mutual
   pub untyped_expression : TypedModule → TypedExpression → ExpressionTree
@@ -234,7 +234,7 @@ abbrev mutual
       trees.ReferenceLeaf (call_tree (procedure_name tables procedure) (untyped_arguments tables values))
   untyped_expression tables (typed.FunctionNode function operand) =
       trees.ReferenceLeaf (call_tree (function_name function)
-        (one_argument (untyped_expression tables operand)))
+      (one_argument (untyped_expression tables operand)))
   untyped_expression tables (typed.ShiftNode scalar function value count) =
       trees.ReferenceLeaf (call_tree (shift_name function)
       (MoreArguments (untyped_expression tables value) (one_argument (untyped_expression tables count))))
@@ -279,7 +279,7 @@ abbrev mutual
       trees.CallStatement nowhere (named (codes "MOVE"))
       (MoreArguments (untyped_expression tables count)
       (MoreArguments (untyped_expression tables source)
-        (one_argument (untyped_expression tables destination))))
+      (one_argument (untyped_expression tables destination))))
   untyped_kind tables (typed.ReturnStatement value) =
       trees.ReturnStatement nowhere (option_map (untyped_expression tables) value)
   untyped_kind tables typed.HaltStatement = trees.HaltStatement nowhere
@@ -308,7 +308,7 @@ abbrev mutual
       untyped_statements tables others (nameless ∷ labels)
   untyped_statements tables (typed.MoreStatements first others) labels =
       trees.MoreStatements (LabelledStatement labels (untyped_kind tables first))
-        (untyped_statements tables others [])
+      (untyped_statements tables others [])
 
   pub untyped_list : TypedModule → TypedList → StatementTrees
   untyped_list tables (ListOf first places statements) = untyped_statements tables statements []

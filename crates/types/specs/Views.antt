@@ -25,7 +25,7 @@ abbrev mutual
   expression_view (expressions.Number scalar value origin) = NumberNode scalar value origin
   expression_view (expressions.Value' scalar p object subscript member offset member_subscript) =
       ValueNode scalar (PartOf object (subscript_view subscript) member offset
-        (subscript_view member_subscript))
+      (subscript_view member_subscript))
   expression_view (expressions.Location' p object subscript member offset member_subscript) =
       LocationNode (PartOf object (subscript_view subscript) member offset (subscript_view member_subscript))
   expression_view (expressions.List list) = ListNode list
@@ -50,7 +50,7 @@ abbrev mutual
   pub target_view : Target → TypedTarget
   target_view (targets.Stored' from to object subscript member offset member_subscript) =
       StoredIn from to (PartOf object (subscript_view subscript) member offset
-        (subscript_view member_subscript))
+      (subscript_view member_subscript))
   target_view (targets.Sent from port) = SentTo from port
 
   pub argument_rows : {count : _} → Row_of-TypedExpression count → TypedArguments
@@ -83,7 +83,7 @@ abbrev mutual
   statement_view statements.Null = NullStatement
   statement_view (statements.Assignment assignment) =
       AssignmentStatement (map target_view assignment.value.targets.items)
-        (expression_view assignment.value.value)
+      (expression_view assignment.value.value)
   statement_view (statements.Call procedure values) = CallStatement procedure (arguments_view values.items)
   statement_view (statements.Move moved) =
       MoveStatement (expression_view moved.value.count) (expression_view moved.value.source)

@@ -45,7 +45,7 @@ minus_one = refl
 pub product :
     main_of (doing (assigns (plain 3 (codes "A") ∷ [])
     (Binary Multiply (value_of (at_subscript 3 (codes "V") (value_of (plain 3 (codes "A")) ∷ [])))
-      (a_number 3 2)) ∷ []))
+    (a_number 3 2)) ∷ []))
     ≡ does (AssignmentStatement
     (StoredIn Address Byte (whole 0) ∷ [])
     (BinaryNode Address Multiply
@@ -70,7 +70,7 @@ ports = refl
 
 pub list :
     main_of (doing (assigns (plain 3 (codes "W") ∷ [])
-      (ListLeaf (number_on 3 1 ∷ number_on 3 300 ∷ [])) ∷ []))
+    (ListLeaf (number_on 3 1 ∷ number_on 3 300 ∷ [])) ∷ []))
     ≡ does (AssignmentStatement (StoredIn Address Address (whole 1) ∷ []) (ListNode 0))
 unfolding typing_of built_in_of
 list = refl
@@ -80,7 +80,7 @@ pub loop :
     main_of (doing (
     unlabelled (Null (on_line 3))
     ∷ LabelledStatement (name_on 3 (codes "L") ∷ [])
-      (AssignmentTree (plain 3 (codes "A") ∷ []) (a_number 3 1))
+    (AssignmentTree (plain 3 (codes "A") ∷ []) (a_number 3 1))
     ∷ unlabelled (Goto (on_line 3) (name_on 3 (codes "L")))
     ∷ []))
     ≡ Ok (ListOf 0 (1 ∷ []) (
@@ -106,7 +106,7 @@ unknown = refl
 
 -- K = 1, where K has DATA
 pub written :
-  main_of (doing (assigns (plain 3 (codes "K") ∷ []) (a_number 3 1) ∷ [])) ≡ refuse ConstantWritten 3
+    main_of (doing (assigns (plain 3 (codes "K") ∷ []) (a_number 3 1) ∷ [])) ≡ refuse ConstantWritten 3
 unfolding typing_of built_in_of
 written = refl
 
@@ -149,7 +149,7 @@ label_named_as_a_variable = refl
 pub declared_twice :
     typing_of (module_of (
     DeclareTree (scalar_item 2 (codes "A") Byte ∷ []) ∷ DeclareTree
-      (scalar_item 3 (codes "A") Byte ∷ []) ∷ []) [])
+    (scalar_item 3 (codes "A") Byte ∷ []) ∷ []) [])
     ≡ refuse DeclaredTwice 3
 unfolding typing_of built_in_of
 declared_twice = refl

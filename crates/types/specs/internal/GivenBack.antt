@@ -30,11 +30,11 @@ sizes_and_members = module_of (structures ∷ []) (
     (MemberOf (name_on 3 (codes "B")) (arguments_of (a_number 3 1 ∷ []))) ∷ [])
     (value_of (at_subscript 3 (codes "SIZE") (value_of
     (ReferenceTo (name_on 3 (codes "S")) (arguments_of [])
-      (MemberOf (name_on 3 (codes "B")) (arguments_of []))) ∷ [])))
+    (MemberOf (name_on 3 (codes "B")) (arguments_of []))) ∷ [])))
     ∷ assigns (plain 4 (codes "X") ∷ [])
     (value_of (at_subscript 4 (codes "SHL")
     (LocationLeaf (plain 4 (codes "S")) ∷ value_of
-      (at_subscript 4 (codes "INPUT") (a_number 4 2 ∷ [])) ∷ [])))
+    (at_subscript 4 (codes "INPUT") (a_number 4 2 ∷ [])) ∷ [])))
     ∷ [])
 
 pub sizes_and_members_back : given_back sizes_and_members ≡ Ok (plain_bodies sizes_and_members)
@@ -45,11 +45,15 @@ sizes_and_members_back = refl
 abbrev pub loops : ModuleTree
 loops = doing (
     unlabelled (Iterate (on_line 3)
-    (record { variable = name_on 3 (codes "A"); first = a_number 3 1; last = value_of (plain 3 (codes "W"));
-      step = None })
+    (record {
+      variable = name_on 3 (codes "A");
+      first = a_number 3 1;
+      last = value_of (plain 3 (codes "W"));
+      step = None;
+    })
     (statements_of (LabelledStatement (name_on 3 (codes "L") ∷ name_on 3 (codes "M") ∷ [])
     (If (on_line 3) (value_of (plain 3 (codes "A"))) (unlabelled (Goto (on_line 3) (name_on 3 (codes "L"))))
-      NoElse)
+    NoElse)
     ∷ [])))
     ∷ assigns (plain 4 (codes "W") ∷ [])
     (ParenthesizedNode (Binary Add

@@ -40,8 +40,11 @@ homes typed = map (λ (object : TypedObject). object.home) typed.objects
 abbrev pub structure_type : ItemTypeTree
 structure_type = StructureItem (
     record { name = name_on 2 (codes "A"); dimension = None; scalar = Byte }
-    ∷ record { name = name_on 2 (codes "B"); dimension = Some (record { value = 2; place = on_line 2 });
-      scalar = Address }
+    ∷ record {
+      name = name_on 2 (codes "B");
+      dimension = Some (record { value = 2; place = on_line 2 });
+      scalar = Address;
+    }
     ∷ [])
 
 abbrev pub eight_after : List ℕ → RestrictedTree
@@ -115,7 +118,7 @@ location_alone line text = record { origin = LocationOrigin (name_on line text);
 pub implied_dimensions :
     measured (λ (typed : TypedModule). typed.objects) (module_of (DeclareTree (
     implied_item 2 (codes "T") (ScalarItem Byte)
-      (alone (string_on 2 (codes "ABC")) ∷ alone (number_on 2 3) ∷ [])
+    (alone (string_on 2 (codes "ABC")) ∷ alone (number_on 2 3) ∷ [])
     ∷ implied_item 2 (codes "U") (ScalarItem Address)
     (alone (string_on 2 (codes "AG")) ∷ location_alone 2 (codes "T") ∷ [])
     ∷ []) ∷ []) [])
@@ -143,7 +146,7 @@ implied_dimensions = refl
 -- DECLARE X BYTE DATA (256);
 pub value_too_great :
     typing_of (module_of (DeclareTree
-      (data_item 2 (codes "X") Byte (alone (number_on 3 256) ∷ []) ∷ []) ∷ []) [])
+    (data_item 2 (codes "X") Byte (alone (number_on 3 256) ∷ []) ∷ []) ∷ []) [])
     ≡ refuse WrongConstant 3
 unfolding typing_of built_in_of
 value_too_great = refl
@@ -206,7 +209,7 @@ even_body =
     NoElse)
     ∷ unlabelled (Return (on_line 3)
     (Some (value_of (at_subscript 3 (codes "ODD")
-      (Binary Subtract (value_of (plain 3 (codes "N"))) (a_number 3 1) ∷ [])))))
+    (Binary Subtract (value_of (plain 3 (codes "N"))) (a_number 3 1) ∷ [])))))
     ∷ []
 
 abbrev pub even_module : ModuleTree

@@ -38,8 +38,8 @@ reentrant_p = record heading_p { reentrant = Some (on_line 3) }
 
 -- DECLARE P ADDRESS, X BASED P BYTE;
 pub based :
-  measured homes (declares (scalar_item 2 (codes "P") Address ∷ based_item 2 (codes "X") (codes "P") ∷ []))
-  ≡ Ok (InData [] ∷ BasedOn 0 ∷ [])
+    measured homes (declares (scalar_item 2 (codes "P") Address ∷ based_item 2 (codes "X") (codes "P") ∷ []))
+    ≡ Ok (InData [] ∷ BasedOn 0 ∷ [])
 unfolding typing_of built_in_of
 based = refl
 
@@ -57,7 +57,7 @@ base_of_itself = refl
 
 -- DECLARE X(0) BYTE;
 pub no_elements :
-  typing_of (declares (array_item 2 (codes "X") 0 (ScalarItem Byte) ∷ [])) ≡ refuse WrongConstant 2
+    typing_of (declares (array_item 2 (codes "X") 0 (ScalarItem Byte) ∷ [])) ≡ refuse WrongConstant 2
 unfolding typing_of built_in_of
 no_elements = refl
 
@@ -69,7 +69,7 @@ undeclared_parameter = refl
 -- P: PROCEDURE(N); DECLARE N(2) BYTE; END P;
 pub parameter_array :
     typing_of (module_of (procedure_of heading_p
-      (DeclareTree (array_item 4 (codes "N") 2 (ScalarItem Byte) ∷ []) ∷ []) [] ∷ []) [])
+    (DeclareTree (array_item 4 (codes "N") 2 (ScalarItem Byte) ∷ []) ∷ []) [] ∷ []) [])
     ≡ refuse WrongUse 4
 unfolding typing_of built_in_of
 parameter_array = refl
@@ -85,7 +85,7 @@ parameter_twice = refl
 pub nested_public :
     typing_of (module_of (procedure_of (heading_on 2 (codes "Q") [] None)
     (procedure_of (record heading_p { linkage = Some (Public (on_line 3)) }) (a_parameter 4 ∷ []) [] ∷ [])
-      [] ∷ []) [])
+    [] ∷ []) [])
     ≡ refuse MisplacedAttribute 3
 unfolding typing_of built_in_of
 nested_public = refl
@@ -93,7 +93,7 @@ nested_public = refl
 -- P: PROCEDURE(N) REENTRANT; DECLARE N BYTE, A BYTE INITIAL (1); END P;
 pub initial_in_a_frame :
     typing_of (module_of (procedure_of reentrant_p
-      (a_parameter 4 ∷ DeclareTree (initial_byte 5 (codes "A") ∷ []) ∷ []) [] ∷ []) [])
+    (a_parameter 4 ∷ DeclareTree (initial_byte 5 (codes "A") ∷ []) ∷ []) [] ∷ []) [])
     ≡ refuse MisplacedAttribute 5
 unfolding typing_of built_in_of
 initial_in_a_frame = refl
@@ -101,7 +101,7 @@ initial_in_a_frame = refl
 -- P: PROCEDURE(N) EXTERNAL; DECLARE N BYTE; ; END P;
 pub statement_in_an_external :
     typing_of (module_of (procedure_of (record heading_p { linkage = Some (External (on_line 3)) })
-      (a_parameter 4 ∷ [])
+    (a_parameter 4 ∷ [])
     (unlabelled (Null (on_line 5)) ∷ []) ∷ []) [])
     ≡ refuse MisplacedAttribute 5
 unfolding typing_of built_in_of
@@ -128,7 +128,7 @@ location_in_a_frame = refl
 pub frame_too_large :
     typing_of (module_of (procedure_of reentrant_p
     (DeclareTree (scalar_item 4 (codes "N") Byte ∷ array_item 4 (codes "A") 1024 (ScalarItem Byte)
-      ∷ scalar_item 5 (codes "B") Byte ∷ []) ∷ [])
+    ∷ scalar_item 5 (codes "B") Byte ∷ []) ∷ [])
     [] ∷ []) [])
     ≡ refuse TooLarge 5
 unfolding typing_of built_in_of
@@ -146,7 +146,7 @@ abbrev pub recursive : ModuleTree
 recursive = module_of
     (procedure_of
     (record (heading_on 3 (codes "G") (name_on 3 (codes "N") ∷ []) (Some Byte))
-      { reentrant = Some (on_line 3) })
+    { reentrant = Some (on_line 3) })
     (DeclareTree (scalar_item 4 (codes "N") Byte ∷ array_item 4 (codes "S") 3 (ScalarItem Byte) ∷ []) ∷ [])
     (assigns (element 4 n_value ∷ []) (a_number 4 7)
     ∷ unlabelled (If (on_line 4) (Binary Equal n_value (a_number 4 0))
