@@ -3,3 +3,4 @@ pub mod Examples
 pub mod Measures
 pub mod GivenBack
 pub mod Refusals
+pub mod Scopes
