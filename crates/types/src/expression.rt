@@ -108,3 +108,63 @@ pub enum TypedTarget {
         port: u8,
     },
 }
+
+impl TypedExpression {
+    ghost use Rattle.std.specs.Prelude.{◌≡◌};
+    ghost use Rattle.types.specs.Nodes.{type_of};
+    ghost use Rattle.types.specs.Views.{expression_view};
+
+    /// The type of its value.
+    pub fn scalar(&self) -> ScalarType
+        ensures { result ≡ type_of (expression_view self.now) }
+    {
+        match self {
+            TypedExpression::Number { scalar, .. }
+            | TypedExpression::Value { scalar, .. }
+            | TypedExpression::Conversion { scalar, .. }
+            | TypedExpression::Unary { scalar, .. }
+            | TypedExpression::Call { scalar, .. }
+            | TypedExpression::Shift { scalar, .. } => *scalar,
+            TypedExpression::Location(_) | TypedExpression::List(_) => ScalarType::Address,
+            TypedExpression::Assignment { target, .. } => target.source(),
+            TypedExpression::Binary {
+                operands, operator, ..
+            } => type_of_result(*operator, *operands),
+            TypedExpression::Function { function, .. } => function.scalar(),
+            TypedExpression::Input(_) => ScalarType::Byte,
+        }
+    }
+}
+
+impl TypedTarget {
+    ghost use Rattle.std.specs.Prelude.{◌≡◌};
+    ghost use Rattle.types.specs.Nodes.{type_of_target};
+    ghost use Rattle.types.specs.Views.{target_view};
+
+    /// The type of the value that goes to it.
+    pub fn source(&self) -> ScalarType
+        ensures { result ≡ type_of_target (target_view self.now) }
+    {
+        match self {
+            TypedTarget::Stored { from, .. } | TypedTarget::Sent { from, .. } => *from,
+        }
+    }
+}
+
+ghost use Rattle.std.specs.Prelude.{◌≡◌};
+ghost use Rattle.types.specs.Nodes.{type_of_result as result_type};
+
+/// The type of what an operator gives for operands of a type.
+fn type_of_result(operator: BinaryOperator, operands: ScalarType) -> ScalarType
+    ensures { result ≡ result_type operator operands }
+{
+    match operator {
+        BinaryOperator::Equal
+        | BinaryOperator::Less
+        | BinaryOperator::Greater
+        | BinaryOperator::LessOrEqual
+        | BinaryOperator::GreaterOrEqual
+        | BinaryOperator::Unequal => ScalarType::Byte,
+        _ => operands,
+    }
+}

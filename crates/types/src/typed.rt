@@ -100,3 +100,18 @@ pub enum GlobalItem {
     GlobalObject(u32),
     GlobalProcedure(u32),
 }
+
+impl UnaryFunction {
+    ghost use Rattle.std.specs.Prelude.{◌≡◌};
+    ghost use Rattle.types.specs.Nodes.{type_of_function};
+
+    /// The type of what it gives.
+    pub fn scalar(&self) -> ScalarType
+        ensures { result ≡ type_of_function self.now }
+    {
+        match self {
+            UnaryFunction::Low | UnaryFunction::High => ScalarType::Byte,
+            UnaryFunction::Double => ScalarType::Address,
+        }
+    }
+}
