@@ -1,5 +1,5 @@
 -- The typed trees of the code as trees without where their parts lie in memory.
-use Rattle.std.specs.Prelude.{List, [], ◌∷◌, map, Option, Some, None, option_map, vec_items}
+use Rattle.std.specs.Prelude.{◌≡◌, Result, IfOk, List, [], ◌∷◌, map, Option, Some, None, option_map, vec_items}
 use Rattle.types.specs.declared.expression.TypedExpression.{TypedExpression as Expression, Row_of-TypedExpression, end_of-TypedExpression, more_of-TypedExpression}
 use Rattle.types.specs.declared.expression.TypedExpression.TheVariants as expressions
 use Rattle.types.specs.declared.expression.TypedReference.{TypedReference as Reference}
@@ -62,6 +62,10 @@ abbrev pub reference_view : Reference → TypedReference
 reference_view reference =
     PartOf reference.object (subscript_view reference.subscript) reference.member reference.offset
     (subscript_view reference.member_subscript)
+
+-- where there was memory, an expression with this view was made
+abbrev pub MakesExpression : {E : Type 0} → Result Expression E → TypedExpression → Type 0
+MakesExpression result node = IfOk result (λ made. expression_view made ≡ node)
 
 -- the arguments in a list
 abbrev pub arguments_view : List Expression → TypedArguments

@@ -5,6 +5,7 @@ mod expression;
 mod fault;
 mod limits;
 mod module;
+mod nodes;
 mod statement;
 mod typed;
 
@@ -12,6 +13,7 @@ pub use expression::{TypedExpression, TypedReference, TypedSubscript, TypedTarge
 pub use fault::{Cause, Fault};
 pub use limits::{CODE_BYTES, CODE_BYTES_FOR_WEIGHT, FRAME_LIMIT, OBJECT_LIMIT, PARAMETER_LIMIT};
 pub use module::{Home, ObjectType, Typed, TypedObject, TypedProcedure};
+pub use nodes::type_of_number;
 pub use statement::{
     TypedAssignment, TypedCase, TypedIf, TypedIterate, TypedIteration, TypedList, TypedMove,
     TypedStatement, TypedWhile,
