@@ -128,7 +128,9 @@ impl TypedExpression {
             TypedExpression::Location(_) | TypedExpression::List(_) => ScalarType::Address,
             TypedExpression::Assignment { target, .. } => target.source(),
             TypedExpression::Binary {
-                operands, operator, ..
+                operands,
+                operator,
+                ..
             } => type_of_result(*operator, *operands),
             TypedExpression::Function { function, .. } => function.scalar(),
             TypedExpression::Input(_) => ScalarType::Byte,

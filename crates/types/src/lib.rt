@@ -13,7 +13,6 @@ pub use expression::{TypedExpression, TypedReference, TypedSubscript, TypedTarge
 pub use fault::{Cause, Fault};
 pub use limits::{CODE_BYTES, CODE_BYTES_FOR_WEIGHT, FRAME_LIMIT, OBJECT_LIMIT, PARAMETER_LIMIT};
 pub use module::{Home, ObjectType, Typed, TypedObject, TypedProcedure};
-pub use nodes::type_of_number;
 pub use statement::{
     TypedAssignment, TypedCase, TypedIf, TypedIterate, TypedIteration, TypedList, TypedMove,
     TypedStatement, TypedWhile,

@@ -1,16 +1,16 @@
 //! Making nodes of typed expressions, with the conversions that they need.
 
+ghost use Rattle.std.specs.Prelude.{◌≡◌};
+ghost use Rattle.types.specs.Constants.{type_of_number as number_type};
+ghost use Rattle.types.specs.Nodes.{common_type as common, type_of_operands as operand_type, type_of_shift as shift_type};
+
 use crate::expression::{TypedExpression, TypedReference, TypedTarget};
 use crate::typed::{NumberOrigin, ShiftFunction, UnaryFunction};
 use std::alloc::{AllocError, Global};
 use trees::{BinaryOperator, ScalarType, UnaryOperator};
 
-ghost use Rattle.std.specs.Prelude.{◌≡◌};
-ghost use Rattle.types.specs.Constants.{type_of_number as number_type};
-ghost use Rattle.types.specs.Nodes.{common_type as common, type_of_operands as operand_type, type_of_shift as shift_type};
-
 /// The type of a number.
-pub fn type_of_number(value: u16) -> ScalarType
+pub(crate) fn type_of_number(value: u16) -> ScalarType
     ensures { result ≡ number_type value }
 {
     if value <= 255 {
@@ -60,7 +60,7 @@ impl TypedExpression {
     ghost use Rattle.types.specs.Views.{MakesExpression, expression_view, reference_view, target_view, arguments_view};
 
     /// A number.
-    pub fn number(scalar: ScalarType, value: u16, origin: NumberOrigin) -> TypedExpression
+    pub(crate) fn number(scalar: ScalarType, value: u16, origin: NumberOrigin) -> TypedExpression
         ensures view { expression_view result ≡ NumberNode scalar value origin }
     {
         TypedExpression::Number {
@@ -71,7 +71,7 @@ impl TypedExpression {
     }
 
     /// The value of a scalar.
-    pub fn value(
+    pub(crate) fn value(
         alloc: Global,
         scalar: ScalarType,
         reference: TypedReference,
@@ -83,21 +83,28 @@ impl TypedExpression {
     }
 
     /// Where something lies.
-    pub fn location(alloc: Global, reference: TypedReference) -> Result<TypedExpression, AllocError>
+    pub(crate) fn location(
+        alloc: Global,
+        reference: TypedReference,
+    ) -> Result<TypedExpression, AllocError>
         ensures view { MakesExpression result (LocationNode (reference_view reference)) }
     {
         Ok(TypedExpression::Location(Box::new(alloc, reference)?))
     }
 
     /// Where a constant list lies.
-    pub fn list(number: u32) -> TypedExpression
+    pub(crate) fn list(number: u32) -> TypedExpression
         ensures view { expression_view result ≡ ListNode number }
     {
         TypedExpression::List(number)
     }
 
     /// The same value as one of a type.
-    pub fn as_type(self, alloc: Global, scalar: ScalarType) -> Result<TypedExpression, AllocError>
+    pub(crate) fn as_type(
+        self,
+        alloc: Global,
+        scalar: ScalarType,
+    ) -> Result<TypedExpression, AllocError>
         ensures view { MakesExpression result (converted_to scalar (expression_view self)) }
     {
         match (scalar, self.scalar()) {
@@ -111,7 +118,7 @@ impl TypedExpression {
     }
 
     /// `(target := value)`
-    pub fn assignment(
+    pub(crate) fn assignment(
         alloc: Global,
         target: TypedTarget,
         value: TypedExpression,
@@ -124,7 +131,7 @@ impl TypedExpression {
     }
 
     /// An operator with one operand.
-    pub fn unary(
+    pub(crate) fn unary(
         alloc: Global,
         operator: UnaryOperator,
         operand: TypedExpression,
@@ -141,7 +148,7 @@ impl TypedExpression {
     }
 
     /// An operator with two operands, which are extended as it needs them.
-    pub fn binary(
+    pub(crate) fn binary(
         alloc: Global,
         operator: BinaryOperator,
         left: TypedExpression,
@@ -164,7 +171,11 @@ impl TypedExpression {
 
     /// A call of a procedure with a result of a type. The arguments are of the types of its parameters.
     #[tactic(auto, using(crate::specs::declared::expression::TypedExpression::the_lemmas, crate::proofs::Views::argument_rows_are))]
-    pub fn call(procedure: u32, scalar: ScalarType, arguments: Vec<TypedExpression>) -> TypedExpression
+    pub(crate) fn call(
+        procedure: u32,
+        scalar: ScalarType,
+        arguments: Vec<TypedExpression>,
+    ) -> TypedExpression
         ensures view { expression_view result ≡ CallNode procedure scalar (arguments_view arguments.items) }
     {
         TypedExpression::Call {
@@ -175,7 +186,7 @@ impl TypedExpression {
     }
 
     /// LOW, HIGH or DOUBLE.
-    pub fn function(
+    pub(crate) fn function(
         alloc: Global,
         function: UnaryFunction,
         operand: TypedExpression,
@@ -187,7 +198,7 @@ impl TypedExpression {
     }
 
     /// A shift or a rotation of a value by a count.
-    pub fn shift(
+    pub(crate) fn shift(
         alloc: Global,
         function: ShiftFunction,
         value: TypedExpression,
@@ -209,7 +220,7 @@ impl TypedExpression {
     }
 
     /// INPUT of a port.
-    pub fn input(port: u8) -> TypedExpression
+    pub(crate) fn input(port: u8) -> TypedExpression
         ensures view { expression_view result ≡ InputNode port }
     {
         TypedExpression::Input(port)
