@@ -12,3 +12,14 @@ pub enum Fault {
     #[error("constants of over 65535 bytes")]
     ConstantsTooLarge,
 }
+
+impl Fault {
+    ghost use Rattle.std.specs.Prelude.{◌≡◌, codes};
+
+    /// The number by which the documentation and the command line know the fault.
+    pub fn number(&self) -> &'static str
+        ensures { result.now ≡ codes "C18" }
+    {
+        "C18"
+    }
+}

@@ -64,8 +64,8 @@ reference_view reference =
     (subscript_view reference.member_subscript)
 
 -- where there was memory, an expression with this view was made
-abbrev pub MakesExpression : {E : Type 0} → Result Expression E → TypedExpression → Type 0
-MakesExpression result node = IfOk result (λ made. expression_view made ≡ node)
+abbrev pub Makes : {E : Type 0} → Result Expression E → TypedExpression → Type 0
+Makes result node = IfOk result (λ made. expression_view made ≡ node)
 
 -- the arguments in a list
 abbrev pub arguments_view : List Expression → TypedArguments

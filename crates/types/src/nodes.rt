@@ -57,7 +57,7 @@ impl TypedExpression {
     ghost use Rattle.types.specs.TypedTrees.{NumberNode, ValueNode, LocationNode, ListNode, AssignmentNode, CallNode};
     ghost use Rattle.types.specs.TypedTrees.{FunctionNode, InputNode};
     ghost use Rattle.types.specs.Nodes.{as_type as converted_to, unary_node, binary_node, shift_node};
-    ghost use Rattle.types.specs.Views.{MakesExpression, expression_view, reference_view, target_view, arguments_view};
+    ghost use Rattle.types.specs.Views.{Makes, expression_view, reference_view, target_view, arguments_view};
 
     /// A number.
     pub(crate) fn number(scalar: ScalarType, value: u16, origin: NumberOrigin) -> TypedExpression
@@ -76,7 +76,7 @@ impl TypedExpression {
         scalar: ScalarType,
         reference: TypedReference,
     ) -> Result<TypedExpression, AllocError>
-        ensures view { MakesExpression result (ValueNode scalar (reference_view reference)) }
+        ensures view { Makes result (ValueNode scalar (reference_view reference)) }
     {
         let reference = Box::new(alloc, reference)?;
         Ok(TypedExpression::Value { scalar, reference })
@@ -87,7 +87,7 @@ impl TypedExpression {
         alloc: Global,
         reference: TypedReference,
     ) -> Result<TypedExpression, AllocError>
-        ensures view { MakesExpression result (LocationNode (reference_view reference)) }
+        ensures view { Makes result (LocationNode (reference_view reference)) }
     {
         Ok(TypedExpression::Location(Box::new(alloc, reference)?))
     }
@@ -105,7 +105,7 @@ impl TypedExpression {
         alloc: Global,
         scalar: ScalarType,
     ) -> Result<TypedExpression, AllocError>
-        ensures view { MakesExpression result (converted_to scalar (expression_view self)) }
+        ensures view { Makes result (converted_to scalar (expression_view self)) }
     {
         match (scalar, self.scalar()) {
             (ScalarType::Byte, ScalarType::Byte) => Ok(self),
@@ -123,7 +123,7 @@ impl TypedExpression {
         target: TypedTarget,
         value: TypedExpression,
     ) -> Result<TypedExpression, AllocError>
-        ensures view { MakesExpression result (AssignmentNode (target_view target) (expression_view value)) }
+        ensures view { Makes result (AssignmentNode (target_view target) (expression_view value)) }
     {
         let target = Box::new(alloc, target)?;
         let value = Box::new(alloc, value)?;
@@ -136,7 +136,7 @@ impl TypedExpression {
         operator: UnaryOperator,
         operand: TypedExpression,
     ) -> Result<TypedExpression, AllocError>
-        ensures view { MakesExpression result (unary_node operator (expression_view operand)) }
+        ensures view { Makes result (unary_node operator (expression_view operand)) }
     {
         let scalar = operand.scalar();
         let operand = Box::new(alloc, operand)?;
@@ -154,7 +154,7 @@ impl TypedExpression {
         left: TypedExpression,
         right: TypedExpression,
     ) -> Result<TypedExpression, AllocError>
-        ensures view { MakesExpression result (binary_node operator (expression_view left) (expression_view right)) }
+        ensures view { Makes result (binary_node operator (expression_view left) (expression_view right)) }
     {
         let operands = type_of_operands(operator, left.scalar(), right.scalar());
         let left = left.as_type(alloc, operands)?;
@@ -191,7 +191,7 @@ impl TypedExpression {
         function: UnaryFunction,
         operand: TypedExpression,
     ) -> Result<TypedExpression, AllocError>
-        ensures view { MakesExpression result (FunctionNode function (expression_view operand)) }
+        ensures view { Makes result (FunctionNode function (expression_view operand)) }
     {
         let operand = Box::new(alloc, operand)?;
         Ok(TypedExpression::Function { function, operand })
@@ -204,7 +204,7 @@ impl TypedExpression {
         value: TypedExpression,
         count: TypedExpression,
     ) -> Result<TypedExpression, AllocError>
-        ensures view { MakesExpression result (shift_node function (expression_view value) (expression_view count)) }
+        ensures view { Makes result (shift_node function (expression_view value) (expression_view count)) }
     {
         let scalar = type_of_shift(function, value.scalar());
         let value = value.as_type(alloc, scalar)?;

@@ -170,15 +170,15 @@ impl TypedStatement {
         alloc: Global,
         condition: TypedExpression,
         body: TypedStatement,
-        otherwise: Option<TypedStatement>,
+        other: Option<TypedStatement>,
     ) -> Result<TypedStatement, AllocError>
         ensures view { MakesStatement result
-            (IfStatement (expression_view condition) (statement_view body) (else_view otherwise)) }
+            (IfStatement (expression_view condition) (statement_view body) (else_view other)) }
     {
         let chosen = TypedIf {
             condition,
             body,
-            otherwise,
+            otherwise: other,
         };
         Ok(TypedStatement::If(Box::new(alloc, chosen)?))
     }

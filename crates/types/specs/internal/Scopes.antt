@@ -1,5 +1,5 @@
 -- Worked values: labels of lists in lists, procedures in blocks, and names that hide others.
-use Rattle.std.specs.Prelude.{◌≡◌, List, [], ◌∷◌, map, None, Ok, codes, refl}
+use Rattle.std.specs.Prelude.{◌≡◌, ℕ, List, [], ◌∷◌, map, None, Ok, codes, refl}
 use Rattle.trees.specs.declared.declaration.ScalarType.TheVariants.{Byte, Address}
 use Rattle.trees.specs.Trees.{NullStatement as Null, AssignmentStatement as AssignmentTree, WhileStatement as While, DoStatement as Do, CallStatement as Call, GotoStatement as Goto, LabelledStatement, DeclareTree, ModuleTree}
 use Rattle.names.specs.BuiltIns.{built_in_of}
@@ -64,10 +64,10 @@ pub bodies_of_early_call :
 unfolding typing_of built_in_of
 bodies_of_early_call = refl
 
-pub parameters_of_early_call :
-    measured (λ (typed : TypedModule). map (λ (procedure : TypedProcedure). procedure.parameters) typed.procedures)
-    early_call
-    ≡ Ok ((0 ∷ []) ∷ [] ∷ [])
+abbrev pub parameters : TypedModule → List (List ℕ)
+parameters typed = map (λ (procedure : TypedProcedure). procedure.parameters) typed.procedures
+
+pub parameters_of_early_call : measured parameters early_call ≡ Ok ((0 ∷ []) ∷ [] ∷ [])
 unfolding typing_of built_in_of
 parameters_of_early_call = refl
 
