@@ -116,9 +116,9 @@ abbrev mutual
   statement_rows (more_of-TypedStatement first rest) =
       MoreStatements (statement_view first) (statement_rows rest)
 
--- where there was memory, a statement with this view was made
-abbrev pub MakesStatement : {E : Type 0} → Result Statement E → TypedStatement → Type 0
-MakesStatement result statement = IfOk result (λ made. statement_view made ≡ statement)
+-- where there was memory, a statement with this view was built
+abbrev pub Builds : {E : Type 0} → Result Statement E → TypedStatement → Type 0
+Builds result statement = IfOk result (λ made. statement_view made ≡ statement)
 
 -- the statements in a list
 abbrev pub statements_view : List Statement → TypedStatements

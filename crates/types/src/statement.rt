@@ -107,7 +107,7 @@ impl TypedStatement {
     ghost use Rattle.std.specs.Option.{option_map};
     ghost use Rattle.types.specs.TypedTrees.{AssignmentStatement, CallStatement, MoveStatement, ReturnStatement};
     ghost use Rattle.types.specs.TypedTrees.{IfStatement, DoStatement, WhileStatement, IterateStatement, CaseStatement};
-    ghost use Rattle.types.specs.Views.{MakesStatement, expression_view, target_view, arguments_view, statement_view};
+    ghost use Rattle.types.specs.Views.{Builds, expression_view, target_view, arguments_view, statement_view};
     ghost use Rattle.types.specs.Views.{iteration_view, else_view, list_view, statements_view};
 
     /// Targets and the value that all of them get.
@@ -116,7 +116,7 @@ impl TypedStatement {
         targets: Vec<TypedTarget>,
         value: TypedExpression,
     ) -> Result<TypedStatement, AllocError>
-        ensures view { MakesStatement result
+        ensures view { Builds result
             (AssignmentStatement (map target_view targets.items) (expression_view value)) }
     {
         let assignment = Box::new(alloc, TypedAssignment { targets, value })?;
@@ -140,7 +140,7 @@ impl TypedStatement {
         source: TypedExpression,
         destination: TypedExpression,
     ) -> Result<TypedStatement, AllocError>
-        ensures view { MakesStatement result
+        ensures view { Builds result
             (MoveStatement (expression_view count) (expression_view source) (expression_view destination)) }
     {
         let copied = TypedMove {
@@ -156,7 +156,7 @@ impl TypedStatement {
         alloc: Global,
         value: Option<TypedExpression>,
     ) -> Result<TypedStatement, AllocError>
-        ensures view { MakesStatement result (ReturnStatement (option_map expression_view value)) }
+        ensures view { Builds result (ReturnStatement (option_map expression_view value)) }
     {
         let value = match value {
             Some(expression) => Some(Box::new(alloc, expression)?),
@@ -172,7 +172,7 @@ impl TypedStatement {
         body: TypedStatement,
         other: Option<TypedStatement>,
     ) -> Result<TypedStatement, AllocError>
-        ensures view { MakesStatement result
+        ensures view { Builds result
             (IfStatement (expression_view condition) (statement_view body) (else_view other)) }
     {
         let chosen = TypedIf {
@@ -186,7 +186,7 @@ impl TypedStatement {
     /// A simple DO.
     #[tactic(auto, using(crate::specs::declared::statement::TypedStatement::the_lemmas, crate::proofs::Views::statement_rows_are))]
     pub(crate) fn block(alloc: Global, body: TypedList) -> Result<TypedStatement, AllocError>
-        ensures view { MakesStatement result (DoStatement (list_view body)) }
+        ensures view { Builds result (DoStatement (list_view body)) }
     {
         Ok(TypedStatement::Do(Box::new(alloc, body)?))
     }
@@ -198,7 +198,7 @@ impl TypedStatement {
         condition: TypedExpression,
         body: TypedList,
     ) -> Result<TypedStatement, AllocError>
-        ensures view { MakesStatement result (WhileStatement (expression_view condition) (list_view body)) }
+        ensures view { Builds result (WhileStatement (expression_view condition) (list_view body)) }
     {
         let turns = TypedWhile { condition, body };
         Ok(TypedStatement::While(Box::new(alloc, turns)?))
@@ -211,7 +211,7 @@ impl TypedStatement {
         head: TypedIteration,
         body: TypedList,
     ) -> Result<TypedStatement, AllocError>
-        ensures view { MakesStatement result (IterateStatement (iteration_view head) (list_view body)) }
+        ensures view { Builds result (IterateStatement (iteration_view head) (list_view body)) }
     {
         let turns = TypedIterate { head, body };
         Ok(TypedStatement::Iterate(Box::new(alloc, turns)?))
@@ -224,7 +224,7 @@ impl TypedStatement {
         choice: TypedExpression,
         body: Vec<TypedStatement>,
     ) -> Result<TypedStatement, AllocError>
-        ensures view { MakesStatement result (CaseStatement (expression_view choice) (statements_view body.items)) }
+        ensures view { Builds result (CaseStatement (expression_view choice) (statements_view body.items)) }
     {
         let cases = TypedCase { choice, body };
         Ok(TypedStatement::Case(Box::new(alloc, cases)?))
