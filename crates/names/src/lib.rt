@@ -1,0 +1,11 @@
+//! What the names of a PL/M-80 module stand for.
+#![tactic(auto)]
+
+mod entity;
+mod fault;
+mod scopes;
+mod table;
+
+pub use entity::{Binding, BuiltIn, Entity};
+pub use fault::Fault;
+pub use scopes::Scopes;
