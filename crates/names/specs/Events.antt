@@ -21,7 +21,7 @@ pub record Seen : Type 0 where
   pub here : Here
 
 -- a part that does nothing with names
-abbrev pub nothing : Here → Seen
+unfoldable pub nothing : Here → Seen
 nothing here = record { events = []; here = here }
 
 -- a part after another
@@ -48,9 +48,10 @@ declares name again here = record { events = Declaration name again ∷ []; here
 abbrev pub declares_object : Identifier → Here → Seen
 declares_object name here = declares name (is_declared_again here name.name) (with_object name.name here)
 
-abbrev pub declares_objects : List Identifier → Here → Seen
-declares_objects [] here = nothing here
-declares_objects (name ∷ others) here = and_then (declares_object name here) (declares_objects others)
+-- parts of a text one after another
+abbrev pub see_all : {T : Type 0} → (T → Here → Seen) → List T → Here → Seen
+see_all see [] here = nothing here
+see_all see (first ∷ others) here = and_then (see first here) (see_all see others)
 
 -- An element of a DECLARE. Its names are known from its end on. That one of them is declared twice comes before what its
 -- uses are bound to.
@@ -58,27 +59,19 @@ abbrev pub see_element : ElementTree → Here → Seen
 see_element (LiterallyElement name text) here =
     declares name (is_declared_again here name.name) (with_definition name.name here)
 see_element (ItemElement item) here =
-    and_then (declares_objects (declared_by item.subject) here) (uses_at here (names_in_item item))
-
-abbrev pub see_elements : List ElementTree → Here → Seen
-see_elements [] here = nothing here
-see_elements (element ∷ others) here = and_then (see_element element here) (see_elements others)
+    and_then (see_all declares_object (declared_by item.subject) here) (uses_at here (names_in_item item))
 
 -- the name of a procedure, which is known in it too
-abbrev pub see_procedure_name : Identifier → Here → Seen
-see_procedure_name name here = declares name (is_declared_again here name.name) (with_procedure name.name here)
+abbrev pub declares_procedure : Identifier → Here → Seen
+declares_procedure name here = declares name (is_declared_again here name.name) (with_procedure name.name here)
 
--- the parameters in the heading of a procedure, which are known from their DECLARE on
-abbrev pub see_parameters : List Identifier → Here → Seen
-see_parameters [] here = nothing here
-see_parameters (name ∷ others) here =
-    and_then (declares name (is_parameter_again here name.name) (with_parameter name.name here)) (see_parameters others)
+-- a parameter in the heading of a procedure, which is known from its DECLARE on
+abbrev pub declares_parameter : Identifier → Here → Seen
+declares_parameter name here = declares name (is_parameter_again here name.name) (with_parameter name.name here)
 
--- the labels before a statement
-abbrev pub see_labels : List Identifier → Here → Seen
-see_labels [] here = nothing here
-see_labels (label ∷ others) here =
-    and_then (declares label (is_label_again here label.name) (with_label label.name here)) (see_labels others)
+-- a label before a statement
+abbrev pub declares_label : Identifier → Here → Seen
+declares_label label here = declares label (is_label_again here label.name) (with_label label.name here)
 
 -- the labels of the statements of a list
 abbrev pub labels_of : StatementTrees → List Identifier
@@ -98,7 +91,7 @@ in_list statements inside here =
 
 abbrev mutual
   pub see_statement : StatementTree → Here → Seen
-  see_statement (LabelledStatement labels kind) here = and_then (see_labels labels here) (see_kind kind)
+  see_statement (LabelledStatement labels kind) here = and_then (see_all declares_label labels here) (see_kind kind)
 
   -- a statement after THEN or ELSE or of a DO CASE, where no label may stand
   pub see_alone : StatementTree → Here → Seen
@@ -139,10 +132,10 @@ abbrev mutual
   see_statements (MoreStatements first others) here = and_then (see_statement first here) (see_statements others)
 
   pub see_declaration : DeclarationTree → Here → Seen
-  see_declaration (DeclareTree elements) here = see_elements elements here
+  see_declaration (DeclareTree elements) here = see_all see_element elements here
   see_declaration (ProcedureTree heading declared body end_name) here =
-      and_then (see_procedure_name heading.name here)
-      (in_body (λ within. and_then (see_parameters heading.parameters within) (λ after.
+      and_then (declares_procedure heading.name here)
+      (in_body (λ within. and_then (see_all declares_parameter heading.parameters within) (λ after.
       and_then (see_declarations declared after) (in_list body (see_statements body)))))
 
   pub see_declarations : DeclarationTrees → Here → Seen

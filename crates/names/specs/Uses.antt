@@ -32,11 +32,14 @@ abbrev pub names_in_optional : {A : Type 0} → (A → List Identifier) → Opti
 names_in_optional names None = []
 names_in_optional names (Some a) = names a
 
--- the head of an iterative DO
-abbrev pub names_in_iteration : IterationTree → List Identifier
-names_in_iteration iteration =
-    iteration.variable ∷ names_in_expression iteration.first ++ names_in_expression iteration.last
+-- the head of an iterative DO: the variable, and then the bounds and the step
+abbrev pub names_in_bounds : IterationTree → List Identifier
+names_in_bounds iteration =
+    names_in_expression iteration.first ++ names_in_expression iteration.last
     ++ names_in_optional names_in_expression iteration.step
+
+abbrev pub names_in_iteration : IterationTree → List Identifier
+names_in_iteration iteration = iteration.variable ∷ names_in_bounds iteration
 
 -- a constant, or the name of what is located
 abbrev pub names_in_origin : OriginTree → List Identifier

@@ -1,1 +1,3 @@
 pub mod Numbering
+pub mod Walks
+pub mod Parts
