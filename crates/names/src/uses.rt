@@ -11,7 +11,10 @@ use crate::entity::Binding;
 use crate::fault::Fault;
 use crate::scopes::Scopes;
 use failure::Failure;
-use trees::{Assignment, Expression, Identifier, Item, Iteration, Origin, Reference, Restricted, Selector, Subject};
+use trees::{
+    Assignment, Expression, Identifier, Item, Iteration, Origin, Reference, Restricted, Selector,
+    Subject,
+};
 
 /// Binds a name.
 #[tactic(auto, using(crate::proofs::Walks::bound_known, crate::proofs::Walks::bound_unknown))]
@@ -235,7 +238,8 @@ pub(crate) fn bind_base(
 {
     match subject {
         Subject::Single {
-            base: Some(base), ..
+            base: Some(base),
+            ..
         } => bind_name(scopes, *base, bindings),
         _ => Ok(()),
     }
