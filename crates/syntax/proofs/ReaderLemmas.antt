@@ -11,16 +11,18 @@ use Rattle.trees.specs.declared.identifier.Identifier.{Identifier}
 use Rattle.trees.specs.declared.identifier.Number.{Number}
 use Rattle.trees.specs.declared.identifier.Place.{Place}
 use Rattle.trees.specs.Spelling.{binary_symbol, constant_symbols}
-use Rattle.trees.specs.Symbols.{Symbol, NameSymbol, NumberSymbol, StringSymbol, ReservedSymbol, PlacedSymbol, MarkSymbol, UnknownSymbol}
+use Rattle.trees.specs.Symbols.{Symbol, NameSymbol, NumberSymbol, StringSymbol, ReservedSymbol, PlacedSymbol, MarkSymbol, SemicolonSymbol}
 use Rattle.trees.specs.Trees.{StringTree, ConstantTree, NumberConstant, StringConstant}
 use Rattle.syntax.specs.internal.Expressions.{operator_of, next_operator}
-use Rattle.syntax.specs.internal.Looking.{Cause, Unexpected, Reading, ◌>>=◌, mark_number, word_number, at_mark, at_word, place_of_word, next_name, next_constant, mark, word, taken, name, constant, number, string}
+use Rattle.syntax.specs.internal.Reader.{Parser, Cause, Unexpected, ◌>>=◌, mark_number, word_number, at_mark, at_word, place_of_word, next_semicolon, next_name, next_constant, mark, word, taken, semicolon, name, constant, number, string}
 
 -- the marks in the order of their numbers
 marks_in_order : List Mark
 marks_in_order =
-    marks.EqualSign ∷ marks.LessSign ∷ marks.GreaterSign ∷ marks.LessEqualSign ∷ marks.GreaterEqualSign ∷ marks.UnequalSign ∷ marks.PlusSign
-    ∷ marks.MinusSign ∷ marks.Asterisk ∷ marks.Slash ∷ marks.LeftParenthesis ∷ marks.RightParenthesis ∷ marks.Comma ∷ marks.Semicolon ∷ marks.Colon
+    marks.EqualSign ∷ marks.LessSign ∷ marks.GreaterSign ∷ marks.LessEqualSign ∷ marks.GreaterEqualSign
+    ∷ marks.UnequalSign ∷ marks.PlusSign
+    ∷ marks.MinusSign ∷ marks.Asterisk ∷ marks.Slash ∷ marks.LeftParenthesis ∷ marks.RightParenthesis
+    ∷ marks.Comma ∷ marks.Semicolon ∷ marks.Colon
     ∷ marks.Period ∷ marks.AssignSign ∷ []
 
 mark_at : ℕ → Mark
@@ -30,22 +32,7 @@ mark_at n = get_or marks_in_order n marks.Comma
 mark_at-number : (m : Mark) → mark_at (mark_number m) ≡ m
 unfolding mark_at
 mark_at-number marks.EqualSign = refl
-mark_at-number marks.LessSign = refl
-mark_at-number marks.GreaterSign = refl
-mark_at-number marks.LessEqualSign = refl
-mark_at-number marks.GreaterEqualSign = refl
-mark_at-number marks.UnequalSign = refl
-mark_at-number marks.PlusSign = refl
-mark_at-number marks.MinusSign = refl
-mark_at-number marks.Asterisk = refl
-mark_at-number marks.Slash = refl
-mark_at-number marks.LeftParenthesis = refl
-mark_at-number marks.RightParenthesis = refl
-mark_at-number marks.Comma = refl
-mark_at-number marks.Semicolon = refl
-mark_at-number marks.Colon = refl
-mark_at-number marks.Period = refl
-mark_at-number marks.AssignSign = refl
+mark_at-number mark = refl
 
 -- marks with the same number are the same
 pub mark_number-same : (m other : Mark) → mark_number m ≡ mark_number other → m ≡ other
@@ -54,9 +41,12 @@ mark_number-same m other e = sym (mark_at-number m) ∙ ap mark_at e ∙ mark_at
 -- the reserved words in the order of their numbers
 words_in_order : List ReservedWord
 words_in_order =
-    words.Address ∷ words.And ∷ words.At ∷ words.Based ∷ words.By ∷ words.Byte ∷ words.Call ∷ words.Case ∷ words.Data ∷ words.Declare ∷ words.Disable
-    ∷ words.Do ∷ words.Else ∷ words.Enable ∷ words.End ∷ words.Eof ∷ words.External ∷ words.Go ∷ words.Goto ∷ words.Halt ∷ words.If ∷ words.Initial
-    ∷ words.Interrupt ∷ words.Label ∷ words.Literally ∷ words.Minus ∷ words.Mod ∷ words.Not ∷ words.Or ∷ words.Plus ∷ words.Procedure ∷ words.Public
+    words.Address ∷ words.And ∷ words.At ∷ words.Based ∷ words.By ∷ words.Byte ∷ words.Call ∷ words.Case
+    ∷ words.Data ∷ words.Declare ∷ words.Disable
+    ∷ words.Do ∷ words.Else ∷ words.Enable ∷ words.End ∷ words.Eof ∷ words.External ∷ words.Go ∷ words.Goto
+    ∷ words.Halt ∷ words.If ∷ words.Initial
+    ∷ words.Interrupt ∷ words.Label ∷ words.Literally ∷ words.Minus ∷ words.Mod ∷ words.Not ∷ words.Or
+    ∷ words.Plus ∷ words.Procedure ∷ words.Public
     ∷ words.Reentrant ∷ words.Return ∷ words.Structure ∷ words.Then ∷ words.To ∷ words.While ∷ words.Xor ∷ []
 
 word_at : ℕ → ReservedWord
@@ -66,44 +56,7 @@ word_at n = get_or words_in_order n words.And
 word_at-number : (w : ReservedWord) → word_at (word_number w) ≡ w
 unfolding word_at
 word_at-number words.Address = refl
-word_at-number words.And = refl
-word_at-number words.At = refl
-word_at-number words.Based = refl
-word_at-number words.By = refl
-word_at-number words.Byte = refl
-word_at-number words.Call = refl
-word_at-number words.Case = refl
-word_at-number words.Data = refl
-word_at-number words.Declare = refl
-word_at-number words.Disable = refl
-word_at-number words.Do = refl
-word_at-number words.Else = refl
-word_at-number words.Enable = refl
-word_at-number words.End = refl
-word_at-number words.Eof = refl
-word_at-number words.External = refl
-word_at-number words.Go = refl
-word_at-number words.Goto = refl
-word_at-number words.Halt = refl
-word_at-number words.If = refl
-word_at-number words.Initial = refl
-word_at-number words.Interrupt = refl
-word_at-number words.Label = refl
-word_at-number words.Literally = refl
-word_at-number words.Minus = refl
-word_at-number words.Mod = refl
-word_at-number words.Not = refl
-word_at-number words.Or = refl
-word_at-number words.Plus = refl
-word_at-number words.Procedure = refl
-word_at-number words.Public = refl
-word_at-number words.Reentrant = refl
-word_at-number words.Return = refl
-word_at-number words.Structure = refl
-word_at-number words.Then = refl
-word_at-number words.To = refl
-word_at-number words.While = refl
-word_at-number words.Xor = refl
+word_at-number word = refl
 
 -- reserved words with the same number are the same
 pub word_number-same : (w other : ReservedWord) → word_number w ≡ word_number other → w ≡ other
@@ -136,30 +89,38 @@ pub if_false : {A : Type 0} (b : Bool) (x y : A) → b ≡ false → (if b then 
 if_false b x y e = ap (λ t. if t then x else y) e
 
 -- which way a test went
-pub if_cases : {A : Type 0} (b : Bool) (x y z : A) → (if b then x else y) ≡ z → ((b ≡ true) × (x ≡ z)) ⊎ ((b ≡ false) × (y ≡ z))
+pub if_cases : {A : Type 0} (b : Bool) (x y z : A)
+    → (if b then x else y) ≡ z
+    → ((b ≡ true) × (x ≡ z)) ⊎ ((b ≡ false) × (y ≡ z))
 if_cases true x y z e = inl (refl, e)
 if_cases false x y z e = inr (refl, e)
 
 -- what is read only where a test holds
-pub if_ok : {A : Type 0} (b : Bool) (r : Result A Cause) (c : Cause) (y : A) → (if b then r else Err c) ≡ Ok y → (b ≡ true) × (r ≡ Ok y)
+pub if_ok : {A : Type 0} (b : Bool) (r : Result A Cause) (c : Cause) (y : A)
+    → (if b then r else Err c) ≡ Ok y
+    → (b ≡ true) × (r ≡ Ok y)
 if_ok true r c y e = (refl, e)
 if_ok false r c y e = absurd cc
 
 -- what is read one thing after another
-pub bind_ok : {A B : Type 0} (r : Result A Cause) (f : A → Result B Cause) (y : B) → (r >>= f) ≡ Ok y → (x : A) × (r ≡ Ok x) × (f x ≡ Ok y)
+pub bind_ok : {A B : Type 0} (r : Result A Cause) (f : A → Result B Cause) (y : B)
+    → (r >>= f) ≡ Ok y
+    → (x : A) × (r ≡ Ok x) × (f x ≡ Ok y)
 bind_ok (Ok x) f y e = (x, refl, e)
 bind_ok (Err c) f y e = absurd cc
 
--- what goes on the same way behind what is read
-pub bind_same : {A B : Type 0} (r : Result A Cause) (f g : A → Result B Cause) → ((x : A) → r ≡ Ok x → f x ≡ g x) → (r >>= f) ≡ (r >>= g)
+-- what goes on the same way after what is read
+pub bind_same : {A B : Type 0} (r : Result A Cause) (f g : A → Result B Cause)
+    → ((x : A) → r ≡ Ok x → f x ≡ g x)
+    → (r >>= f) ≡ (r >>= g)
 bind_same (Ok x) f g same = same x refl
 bind_same (Err c) f g same = refl
 
 abbrev pair_of : {A : Type 0} → A → List Symbol → A × List Symbol
 pair_of a r = (a, r)
 
--- what was read, with the symbols behind it
-abbrev pub read : {A : Type 0} → A → List Symbol → Reading A
+-- what was read, with the symbols after it
+abbrev pub read : {A : Type 0} → A → Parser A
 read a r = Ok (a, r)
 
 -- the same reading gives the same value and the same symbols
@@ -168,76 +129,70 @@ same_reading {A} a b r s e =
     let pair : pair_of a r ≡ pair_of b s = cc in
     (ap (λ (t : A × List Symbol). t.0) pair, ap (λ (t : A × List Symbol). t.1) pair)
 
--- what goes on behind what is read, and what fails with it
-pub bind_at : {A B : Type 0} (r : Result A Cause) (f : A → Result B Cause) (x : A) → r ≡ Ok x → (r >>= f) ≡ f x
+-- what goes on after what is read, and what fails with it
+pub bind_at : {A B : Type 0} (r : Result A Cause) (f : A → Result B Cause) (x : A)
+    → r ≡ Ok x
+    → (r >>= f) ≡ f x
 bind_at r f x e = ap (λ t. t >>= f) e
 
-pub bind_fails : {A B : Type 0} (r : Result A Cause) (f : A → Result B Cause) (c : Cause) → r ≡ Err c → (r >>= f) ≡ Err c
+pub bind_fails : {A B : Type 0} (r : Result A Cause) (f : A → Result B Cause) (c : Cause)
+    → r ≡ Err c
+    → (r >>= f) ≡ Err c
 bind_fails r f c e = ap (λ t. t >>= f) e
 
 -- the symbol that is looked at
 pub at_mark-is : (m : Mark) (s : List Symbol) → at_mark m s ≡ true → s ≡ MarkSymbol m ∷ drop 1 s
 at_mark-is m [] e = absurd cc
 at_mark-is m (MarkSymbol found ∷ rest) e = ap (λ k. MarkSymbol k ∷ rest) (equal_marks found m e)
-at_mark-is m (NameSymbol n ∷ rest) e = absurd cc
-at_mark-is m (NumberSymbol n ∷ rest) e = absurd cc
-at_mark-is m (StringSymbol t ∷ rest) e = absurd cc
-at_mark-is m (ReservedSymbol w ∷ rest) e = absurd cc
-at_mark-is m (PlacedSymbol w p ∷ rest) e = absurd cc
-at_mark-is m (UnknownSymbol ∷ rest) e = absurd cc
+at_mark-is m (other ∷ rest) e = absurd cc
 
 pub at_word-is : (w : ReservedWord) (s : List Symbol) → at_word w s ≡ true → s ≡ ReservedSymbol w ∷ drop 1 s
 at_word-is w [] e = absurd cc
 at_word-is w (ReservedSymbol found ∷ rest) e = ap (λ k. ReservedSymbol k ∷ rest) (equal_words found w e)
-at_word-is w (NameSymbol n ∷ rest) e = absurd cc
-at_word-is w (NumberSymbol n ∷ rest) e = absurd cc
-at_word-is w (StringSymbol t ∷ rest) e = absurd cc
-at_word-is w (MarkSymbol m ∷ rest) e = absurd cc
-at_word-is w (PlacedSymbol k p ∷ rest) e = absurd cc
-at_word-is w (UnknownSymbol ∷ rest) e = absurd cc
+at_word-is w (other ∷ rest) e = absurd cc
 
 -- a value that is there only where a test holds
 some_where : {A : Type 0} (b : Bool) (x y : A) → (if b then Some x else None) ≡ Some y → (b ≡ true) × (x ≡ y)
 some_where true x y e = (refl, cc)
 some_where false x y e = absurd cc
 
-pub place_of_word-is : (w : ReservedWord) (s : List Symbol) (p : Place) → place_of_word w s ≡ Some p → s ≡ PlacedSymbol w p ∷ drop 1 s
+pub place_of_word-is : (w : ReservedWord) (s : List Symbol) (p : Place)
+    → place_of_word w s ≡ Some p
+    → s ≡ PlacedSymbol w p ∷ drop 1 s
 place_of_word-is w [] p e = absurd cc
 place_of_word-is w (PlacedSymbol found q ∷ rest) p e =
     let parts = some_where (word_number found == word_number w) q p e in
     let same : found ≡ w = equal_words found w parts.0 in
     let place : q ≡ p = parts.1 in
     cc
-place_of_word-is w (NameSymbol n ∷ rest) p e = absurd cc
-place_of_word-is w (NumberSymbol n ∷ rest) p e = absurd cc
-place_of_word-is w (StringSymbol t ∷ rest) p e = absurd cc
-place_of_word-is w (MarkSymbol m ∷ rest) p e = absurd cc
-place_of_word-is w (ReservedSymbol k ∷ rest) p e = absurd cc
-place_of_word-is w (UnknownSymbol ∷ rest) p e = absurd cc
+place_of_word-is w (other ∷ rest) p e = absurd cc
 
 -- the symbol of this word, with its place, is seen
-pub place_of_word-at : (w : ReservedWord) (p : Place) (r : List Symbol) → place_of_word w (PlacedSymbol w p ∷ r) ≡ Some p
+pub place_of_word-at : (w : ReservedWord) (p : Place) (r : List Symbol)
+    → place_of_word w (PlacedSymbol w p ∷ r) ≡ Some p
 place_of_word-at w p r = if_true (word_number w == word_number w) (Some p) None (same_word w)
+
+pub next_semicolon-is : (s : List Symbol) (p : Place)
+    → next_semicolon s ≡ Some p
+    → s ≡ SemicolonSymbol p ∷ drop 1 s
+next_semicolon-is [] p e = absurd cc
+next_semicolon-is (SemicolonSymbol found ∷ rest) p e = cc
+next_semicolon-is (other ∷ rest) p e = absurd cc
 
 pub next_name-is : (s : List Symbol) (n : Identifier) → next_name s ≡ Some n → s ≡ NameSymbol n ∷ drop 1 s
 next_name-is [] n e = absurd cc
 next_name-is (NameSymbol found ∷ rest) n e = cc
-next_name-is (MarkSymbol m ∷ rest) n e = absurd cc
-next_name-is (NumberSymbol k ∷ rest) n e = absurd cc
-next_name-is (StringSymbol t ∷ rest) n e = absurd cc
-next_name-is (ReservedSymbol w ∷ rest) n e = absurd cc
-next_name-is (PlacedSymbol w p ∷ rest) n e = absurd cc
-next_name-is (UnknownSymbol ∷ rest) n e = absurd cc
+next_name-is (other ∷ rest) n e = absurd cc
 
-pub next_constant-is : (s : List Symbol) (c : ConstantTree) → next_constant s ≡ Some c → s ≡ constant_symbols c (drop 1 s)
+pub next_constant-is : (s : List Symbol) (c : ConstantTree)
+    → next_constant s ≡ Some c
+    → s ≡ constant_symbols c (drop 1 s)
 next_constant-is [] c e = absurd cc
-next_constant-is (NumberSymbol k ∷ rest) c e = ap (λ t. constant_symbols t rest) {x = NumberConstant k} {y = c} cc
-next_constant-is (StringSymbol t ∷ rest) c e = ap (λ t. constant_symbols t rest) {x = StringConstant t} {y = c} cc
-next_constant-is (NameSymbol n ∷ rest) c e = absurd cc
-next_constant-is (MarkSymbol m ∷ rest) c e = absurd cc
-next_constant-is (ReservedSymbol w ∷ rest) c e = absurd cc
-next_constant-is (PlacedSymbol w p ∷ rest) c e = absurd cc
-next_constant-is (UnknownSymbol ∷ rest) c e = absurd cc
+next_constant-is (NumberSymbol k ∷ rest) c e =
+    ap (λ t. constant_symbols t rest) {x = NumberConstant k} {y = c} cc
+next_constant-is (StringSymbol t ∷ rest) c e =
+    ap (λ t. constant_symbols t rest) {x = StringConstant t} {y = c} cc
+next_constant-is (other ∷ rest) c e = absurd cc
 
 pub next_constant-at : (c : ConstantTree) (r : List Symbol) → next_constant (constant_symbols c r) ≡ Some c
 next_constant-at (NumberConstant k) r = refl
@@ -250,7 +205,9 @@ pub at_word-at : (w : ReservedWord) (r : List Symbol) → at_word w (ReservedSym
 at_word-at w r = same_word w
 
 -- the symbol of an operator
-operator_of-is : (symbol : Symbol) (o : BinaryOperator) → operator_of symbol ≡ Some o → symbol ≡ binary_symbol o
+operator_of-is : (symbol : Symbol) (o : BinaryOperator)
+    → operator_of symbol ≡ Some o
+    → symbol ≡ binary_symbol o
 operator_of-is (ReservedSymbol words.Or) o e = ap binary_symbol {x = Or} {y = o} cc
 operator_of-is (ReservedSymbol words.Xor) o e = ap binary_symbol {x = Xor} {y = o} cc
 operator_of-is (ReservedSymbol words.And) o e = ap binary_symbol {x = And} {y = o} cc
@@ -269,21 +226,11 @@ operator_of-is symbol o e = absurd cc
 
 pub operator_of-symbol : (o : BinaryOperator) → operator_of (binary_symbol o) ≡ Some o
 operator_of-symbol Or = refl
-operator_of-symbol Xor = refl
-operator_of-symbol And = refl
-operator_of-symbol Equal = refl
-operator_of-symbol Less = refl
-operator_of-symbol Greater = refl
-operator_of-symbol LessOrEqual = refl
-operator_of-symbol GreaterOrEqual = refl
-operator_of-symbol Unequal = refl
-operator_of-symbol Add = refl
-operator_of-symbol Subtract = refl
-operator_of-symbol Multiply = refl
-operator_of-symbol Divide = refl
-operator_of-symbol Modulo = refl
+operator_of-symbol operator = refl
 
-pub next_operator-is : (s : List Symbol) (o : BinaryOperator) → next_operator s ≡ Some o → s ≡ binary_symbol o ∷ drop 1 s
+pub next_operator-is : (s : List Symbol) (o : BinaryOperator)
+    → next_operator s ≡ Some o
+    → s ≡ binary_symbol o ∷ drop 1 s
 next_operator-is [] o e = absurd cc
 next_operator-is (symbol ∷ rest) o e = ap (λ k. k ∷ rest) (operator_of-is symbol o e)
 
@@ -309,7 +256,9 @@ mark-at m r = if_true (at_mark m (MarkSymbol m ∷ r)) (Ok r) (Err Unexpected) (
 pub word-at : (w : ReservedWord) (r : List Symbol) → word w (ReservedSymbol w ∷ r) ≡ Ok r
 word-at w r = if_true (at_word w (ReservedSymbol w ∷ r)) (Ok r) (Err Unexpected) (at_word-at w r)
 
-pub taken-ok : {A : Type 0} (found : Option A) (s r : List Symbol) (a : A) → taken found s ≡ Ok (a, r) → (found ≡ Some a) × (drop 1 s ≡ r)
+pub taken-ok : {A : Type 0} (found : Option A) (s r : List Symbol) (a : A)
+    → taken found s ≡ Ok (a, r)
+    → (found ≡ Some a) × (drop 1 s ≡ r)
 taken-ok (Some x) s r a e =
     let same = same_reading x a (drop 1 s) r e in
     (ap Some same.0, same.1)
@@ -319,6 +268,11 @@ pub name-ok : (s r : List Symbol) (n : Identifier) → name s ≡ Ok (n, r) → 
 name-ok s r n e =
     let parts = taken-ok (next_name s) s r n e in
     next_name-is s n parts.0 ∙ ap (λ k. NameSymbol n ∷ k) parts.1
+
+pub semicolon-ok : (s r : List Symbol) (p : Place) → semicolon s ≡ Ok (p, r) → s ≡ SemicolonSymbol p ∷ r
+semicolon-ok s r p e =
+    let parts = taken-ok (next_semicolon s) s r p e in
+    next_semicolon-is s p parts.0 ∙ ap (λ k. SemicolonSymbol p ∷ k) parts.1
 
 pub constant-ok : (s r : List Symbol) (c : ConstantTree) → constant s ≡ Ok (c, r) → s ≡ constant_symbols c r
 constant-ok s r c e =
@@ -334,25 +288,15 @@ number-ok [] r n e = absurd cc
 number-ok (NumberSymbol k ∷ rest) r n e =
     let same = same_reading k n rest r e in
     let number : k ≡ n = same.0 in
-    let behind : rest ≡ r = same.1 in
+    let later : rest ≡ r = same.1 in
     cc
-number-ok (NameSymbol m ∷ rest) r n e = absurd cc
-number-ok (StringSymbol t ∷ rest) r n e = absurd cc
-number-ok (MarkSymbol m ∷ rest) r n e = absurd cc
-number-ok (ReservedSymbol w ∷ rest) r n e = absurd cc
-number-ok (PlacedSymbol w p ∷ rest) r n e = absurd cc
-number-ok (UnknownSymbol ∷ rest) r n e = absurd cc
+number-ok (other ∷ rest) r n e = absurd cc
 
 pub string-ok : (s r : List Symbol) (t : StringTree) → string s ≡ Ok (t, r) → s ≡ StringSymbol t ∷ r
 string-ok [] r t e = absurd cc
 string-ok (StringSymbol k ∷ rest) r t e =
     let same = same_reading k t rest r e in
     let string : k ≡ t = same.0 in
-    let behind : rest ≡ r = same.1 in
+    let later : rest ≡ r = same.1 in
     cc
-string-ok (NameSymbol m ∷ rest) r t e = absurd cc
-string-ok (NumberSymbol n ∷ rest) r t e = absurd cc
-string-ok (MarkSymbol m ∷ rest) r t e = absurd cc
-string-ok (ReservedSymbol w ∷ rest) r t e = absurd cc
-string-ok (PlacedSymbol w p ∷ rest) r t e = absurd cc
-string-ok (UnknownSymbol ∷ rest) r t e = absurd cc
+string-ok (other ∷ rest) r t e = absurd cc

@@ -1,14 +1,21 @@
-use super::*;
+//! Each constructor of a tree, called once with ample memory.
+
 use std::alloc::{AllocError, Global};
+use std::process::Abort;
 use std::test::Fail;
+use trees::{
+    BinaryOperator, Block, Constant, Declaration, Element, Expression, Heading, Identifier, Item,
+    ItemType, Iteration, Linkage, Name, Number, Place, Reference, ScalarType, Selector, Statement,
+    StatementKind, StringLiteral, Subject, UnaryOperator,
+};
 
 const PLACE: Place = Place { start: 7, line: 2 };
 
-fn name(rt: &impl std::process::Abort, text: &[u8]) -> Name {
+fn name(rt: &impl Abort, text: &[u8]) -> Name {
     Name::from_text(text).expect(rt, "a name")
 }
 
-fn identifier(rt: &impl std::process::Abort, text: &[u8]) -> Identifier {
+fn identifier(rt: &impl Abort, text: &[u8]) -> Identifier {
     Identifier {
         name: name(rt, text),
         place: PLACE,
@@ -122,17 +129,22 @@ fn nodes(rt: HostRuntime) -> Result<(), Fail> {
     Ok(())
 }
 
+// A statement without labels.
+fn plain(alloc: Global, kind: StatementKind) -> Statement {
+    Statement::new(Vec::new(alloc), kind)
+}
+
 #[test]
 fn statements(rt: HostRuntime) -> Result<(), Fail> {
     let alloc = rt.alloc();
     let others = vec![in alloc; variable(rt.alloc(), identifier(&rt, b"B"))?]?;
-    let assignment = Statement::assignment(
+    let assignment = StatementKind::assignment(
         alloc,
         variable(rt.alloc(), identifier(&rt, b"A"))?,
         others,
         number(3),
     )?;
-    let Statement::Assignment(assignment) = assignment else {
+    let StatementKind::Assignment(assignment) = assignment else {
         panic!(rt; "another statement");
     };
     assert_eq!(rt; assignment.target.name, identifier(&rt, b"A"));
@@ -142,58 +154,86 @@ fn statements(rt: HostRuntime) -> Result<(), Fail> {
         name: identifier(&rt, b"P"),
         arguments: vec![in alloc; number(4)]?,
     };
-    let call = Statement::call(alloc, PLACE, procedure)?;
+    let call = StatementKind::call(alloc, PLACE, procedure)?;
     assert!(rt;
-        matches!(&call, Statement::Call { procedure, .. } if procedure.arguments.len() == 1)
+        matches!(&call, StatementKind::Call { procedure, .. } if procedure.arguments.len() == 1)
     );
-    let without = Statement::return_value(alloc, PLACE, None)?;
-    assert!(rt; matches!(&without, Statement::Return { value: None, .. }));
-    let with = Statement::return_value(alloc, PLACE, Some(number(5)))?;
+    let without = StatementKind::return_value(alloc, PLACE, None)?;
+    assert!(rt; matches!(&without, StatementKind::Return { value: None, .. }));
+    let with = StatementKind::return_value(alloc, PLACE, Some(number(5)))?;
     assert!(rt;
-        matches!(&with, Statement::Return { value: Some(value), .. } if is_number(value, 5))
+        matches!(&with, StatementKind::Return { value: Some(value), .. } if is_number(value, 5))
     );
     Ok(())
 }
 
 #[test]
+fn labels(rt: HostRuntime) -> Result<(), Fail> {
+    let alloc = rt.alloc();
+    let goto = StatementKind::goto(alloc, PLACE, identifier(&rt, b"B"))?;
+    let labels = vec![in alloc; identifier(&rt, b"A"), identifier(&rt, b"B")]?;
+    let statement = Statement::new(labels, goto);
+    assert_eq!(rt; statement.labels.len(), 2);
+    let StatementKind::Goto { label, .. } = &statement.kind else {
+        panic!(rt; "another statement");
+    };
+    assert_eq!(rt; label.name, name(&rt, b"B"));
+    Ok(())
+}
+
+#[test]
 fn branches(rt: HostRuntime) -> Result<(), Fail> {
-    let halt = Statement::halt(PLACE);
-    let choice = Statement::if_then(rt.alloc(), PLACE, number(1), halt, Some(Statement::null()))?;
-    let Statement::If(choice) = choice else {
+    let halt = plain(rt.alloc(), StatementKind::halt(PLACE));
+    let null = plain(rt.alloc(), StatementKind::null(PLACE));
+    let choice = StatementKind::if_then(rt.alloc(), PLACE, number(1), halt, Some(null))?;
+    let StatementKind::If(choice) = choice else {
         panic!(rt; "another statement");
     };
     assert!(rt; is_number(&choice.condition, 1));
-    assert!(rt; matches!(&choice.body, Statement::Halt(_)));
-    assert!(rt; matches!(&choice.otherwise, Some(Statement::Null)));
+    assert!(rt; matches!(&choice.body.kind, StatementKind::Halt(_)));
+    assert!(rt;
+        matches!(&choice.otherwise, Some(null) if matches!(&null.kind, StatementKind::Null(PLACE)))
+    );
     Ok(())
 }
 
 #[test]
 fn groups(rt: HostRuntime) -> Result<(), Fail> {
     let alloc = rt.alloc();
-    let body = vec![in alloc; Statement::halt(PLACE)]?;
+    let body = vec![in alloc; plain(alloc, StatementKind::halt(PLACE))]?;
+    let held = plain(
+        alloc,
+        StatementKind::do_while(alloc, PLACE, number(1), body)?,
+    );
     let block = Block {
         declarations: Vec::new(alloc),
-        statements: vec![in alloc; Statement::do_while(alloc, PLACE, number(1), body)?]?,
+        statements: vec![in alloc; held]?,
     };
-    let Statement::Do { block, .. } = Statement::simple_do(alloc, PLACE, block)? else {
+    let StatementKind::Do { block, .. } = StatementKind::simple_do(alloc, PLACE, block)? else {
         panic!(rt; "another statement");
     };
-    assert!(rt;
-        matches!(block.statements.as_slice(), [Statement::While(group)] if group.body.len() == 1)
-    );
+    let [
+        Statement {
+            kind: StatementKind::While(group),
+            ..
+        },
+    ] = block.statements.as_slice()
+    else {
+        panic!(rt; "other statements");
+    };
+    assert_eq!(rt; group.body.len(), 1);
     let iteration = Iteration {
         variable: identifier(&rt, b"I"),
         first: number(1),
         last: number(2),
         step: None,
     };
-    let iterative = Statement::iterative_do(alloc, PLACE, iteration, Vec::new(alloc))?;
+    let iterative = StatementKind::iterative_do(alloc, PLACE, iteration, Vec::new(alloc))?;
     assert!(rt;
-        matches!(&iterative, Statement::Iterate(group) if is_number(&group.iteration.last, 2))
+        matches!(&iterative, StatementKind::Iterate(group) if is_number(&group.iteration.last, 2))
     );
-    let cases = Statement::do_case(alloc, PLACE, number(0), Vec::new(alloc))?;
-    assert!(rt; matches!(&cases, Statement::Case(group) if is_number(&group.choice, 0)));
+    let cases = StatementKind::do_case(alloc, PLACE, number(0), Vec::new(alloc))?;
+    assert!(rt; matches!(&cases, StatementKind::Case(group) if is_number(&group.choice, 0)));
     Ok(())
 }
 

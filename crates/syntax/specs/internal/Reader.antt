@@ -7,18 +7,22 @@ use Rattle.words.specs.declared.vocabulary.ReservedWord.TheVariants as words
 use Rattle.trees.specs.declared.identifier.Identifier.{Identifier}
 use Rattle.trees.specs.declared.identifier.Number.{Number}
 use Rattle.trees.specs.declared.identifier.Place.{Place}
-use Rattle.trees.specs.Symbols.{Symbol, NameSymbol, NumberSymbol, StringSymbol, ReservedSymbol, PlacedSymbol, MarkSymbol}
+use Rattle.trees.specs.Symbols.{Symbol, NameSymbol, NumberSymbol, StringSymbol, ReservedSymbol, PlacedSymbol, MarkSymbol, SemicolonSymbol}
 use Rattle.trees.specs.Trees.{StringTree, ConstantTree, NumberConstant, StringConstant}
 
--- why there is nothing to read: a symbol that can't stand there, too many levels, or another name behind END
+-- why there is nothing to read: a symbol that can't stand there, too many levels, or another name after END
 pub data Cause : Type 0 where
   Unexpected : Cause
   TooDeep : Cause
   OtherEndName : Cause
 
--- what is read, with the symbols behind it, or why there is nothing
+-- what is read, with the symbols after it, or why there is nothing
 abbrev pub Reading : Type 0 → Type 0
 Reading A = Result (A × List Symbol) Cause
+
+-- how a part of the grammar is read
+abbrev pub Parser : Type 0 → Type 0
+Parser A = List Symbol → Reading A
 
 infixl 10 ◌>>=◌
 abbrev pub ◌>>=◌ : {A B : Type 0} → Result A Cause → (A → Result B Cause) → Result B Cause
@@ -94,6 +98,7 @@ keeps_place words.Call = true
 keeps_place words.Data = true
 keeps_place words.Do = true
 keeps_place words.External = true
+keeps_place words.Goto = true
 keeps_place words.Halt = true
 keeps_place words.If = true
 keeps_place words.Initial = true
@@ -102,7 +107,12 @@ keeps_place words.Reentrant = true
 keeps_place words.Return = true
 keeps_place word = false
 
--- whether the next symbol is this mark
+-- whether a mark is a semicolon, of which the tree keeps the place
+abbrev pub is_semicolon : Mark → Bool
+is_semicolon marks.Semicolon = true
+is_semicolon mark = false
+
+-- whether the next symbol is this mark, other than a semicolon
 abbrev pub at_mark : Mark → List Symbol → Bool
 at_mark mark (MarkSymbol found ∷ rest) = mark_number found == mark_number mark
 at_mark mark symbols = false
@@ -114,8 +124,14 @@ at_word word symbols = false
 
 -- where this reserved word stands, if it is the next symbol, and its place is kept
 abbrev pub place_of_word : ReservedWord → List Symbol → Option Place
-place_of_word word (PlacedSymbol found place ∷ rest) = if word_number found == word_number word then Some place else None
+place_of_word word (PlacedSymbol found place ∷ rest) =
+    if word_number found == word_number word then Some place else None
 place_of_word word symbols = None
+
+-- where a semicolon stands, if it is the next symbol
+abbrev pub next_semicolon : List Symbol → Option Place
+next_semicolon (SemicolonSymbol place ∷ rest) = Some place
+next_semicolon symbols = None
 
 -- the next symbol, if it is a name
 abbrev pub next_name : List Symbol → Option Identifier
@@ -137,24 +153,40 @@ abbrev pub word : ReservedWord → List Symbol → Result (List Symbol) Cause
 word wanted symbols = if at_word wanted symbols then Ok (drop 1 symbols) else Err Unexpected
 
 -- what was found as the next symbol
-abbrev pub taken : {A : Type 0} → Option A → List Symbol → Reading A
+abbrev pub taken : {A : Type 0} → Option A → Parser A
 taken (Some found) symbols = Ok (found, drop 1 symbols)
 taken None symbols = Err Unexpected
 
+-- a semicolon, of which the place is read
+abbrev pub semicolon : Parser Place
+semicolon symbols = taken (next_semicolon symbols) symbols
+
 -- a name
-abbrev pub name : List Symbol → Reading Identifier
+abbrev pub name : Parser Identifier
 name symbols = taken (next_name symbols) symbols
 
 -- constant: number | string
-abbrev pub constant : List Symbol → Reading ConstantTree
+abbrev pub constant : Parser ConstantTree
 constant symbols = taken (next_constant symbols) symbols
 
 -- a number
-abbrev pub number : List Symbol → Reading Number
+abbrev pub number : Parser Number
 number (NumberSymbol found ∷ rest) = Ok (found, rest)
 number symbols = Err Unexpected
 
 -- a string
-abbrev pub string : List Symbol → Reading StringTree
+abbrev pub string : Parser StringTree
 string (StringSymbol found ∷ rest) = Ok (found, rest)
 string symbols = Err Unexpected
+
+-- a number as a constant
+abbrev pub number_constant : Parser ConstantTree
+number_constant symbols = do
+  found ← number symbols
+  Ok (NumberConstant found.0, found.1)
+
+-- a string as a constant
+abbrev pub string_constant : Parser ConstantTree
+string_constant symbols = do
+  found ← string symbols
+  Ok (StringConstant found.0, found.1)

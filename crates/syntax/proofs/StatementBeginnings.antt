@@ -10,15 +10,18 @@ use Rattle.syntax.specs.internal.Inside.{next_beginning}
 use Rattle.syntax.specs.internal.Statements.{beginning_at}
 
 -- at a reserved word
-pub next_beginning_reserved : (word : ReservedWord) (place : Place) (rest : List Symbol) → next_beginning (reserved_symbol word place ∷ rest) ≡ beginning_at word place
+pub next_beginning_reserved : (word : ReservedWord) (place : Place) (rest : List Symbol)
+    → next_beginning (reserved_symbol word place ∷ rest) ≡ beginning_at word place
 next_beginning_reserved words.Call place rest = refl
 next_beginning_reserved words.Return place rest = refl
 next_beginning_reserved words.Halt place rest = refl
+next_beginning_reserved words.Goto place rest = refl
 next_beginning_reserved words.If place rest = refl
 next_beginning_reserved words.Do place rest = refl
 next_beginning_reserved word place rest = refl
 
 -- at a name, whatever its characters
-pub next_beginning_name : (valid : Bool) (name : Identifier) (rest : List Symbol) → next_beginning ((if valid then NameSymbol name else UnknownSymbol) ∷ rest) ≡ beginnings.Name
+pub next_beginning_name : (valid : Bool) (name : Identifier) (rest : List Symbol)
+    → next_beginning ((if valid then NameSymbol name else UnknownSymbol) ∷ rest) ≡ beginnings.Name
 next_beginning_name true name rest = refl
 next_beginning_name false name rest = refl

@@ -7,7 +7,7 @@ use Rattle.failure.specs.declared.Failure.{Failure}
 use Rattle.failure.specs.declared.Failure.TheVariants as failures
 use Rattle.syntax.specs.declared.fault.Fault.{Fault}
 use Rattle.syntax.specs.declared.fault.Fault.TheVariants.{Word, Depth, EndName}
-use Rattle.syntax.specs.internal.Looking.{Cause, Unexpected, TooDeep, OtherEndName, Reading}
+use Rattle.syntax.specs.internal.Reader.{Cause, Unexpected, TooDeep, OtherEndName, Reading}
 
 -- the symbols of words
 abbrev pub left_of : List scanned.Word → List Symbol
@@ -35,6 +35,10 @@ Gives view (Ok x) rest read = read ≡ Ok (view x, rest)
 Gives view (Err failure) rest read = Fails failure read
 
 -- the same where nothing but the symbols that are left is told
-abbrev pub Leaves : {X : Type 0} → Result X (Failure Fault) → List Symbol → Result (List Symbol) Cause → Type 0
+abbrev pub Leaves : {X : Type 0}
+    → Result X (Failure Fault)
+    → List Symbol
+    → Result (List Symbol) Cause
+    → Type 0
 Leaves (Ok x) rest read = read ≡ Ok rest
 Leaves (Err failure) rest read = Fails failure read
