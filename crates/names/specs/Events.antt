@@ -101,7 +101,8 @@ abbrev pub in_body : (Here → Seen) → Here → Seen
 in_body inside = in_turn (moves into_body) (in_turn inside (moves out_of_body))
 
 abbrev pub in_list : StatementTrees → (Here → Seen) → Here → Seen
-in_list statements inside = in_turn (moves (into_list (labels_of statements))) (in_turn inside (moves out_of_list))
+in_list statements inside =
+    in_turn (moves (into_list (labels_of statements))) (in_turn inside (moves out_of_list))
 
 abbrev mutual
   pub see_statement : StatementTree → Here → Seen

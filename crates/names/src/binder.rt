@@ -117,7 +117,8 @@ impl Binder {
     // Declares the names of an item.
     #[tactic(auto, using(crate::proofs::Walks::gives_then, crate::proofs::Walks::gives_three, crate::proofs::Walks::fails_then, crate::proofs::Walks::fails_second, crate::proofs::Walks::fails_middle, crate::proofs::Walks::gives_nothing))]
     fn subject(&mut self, subject: &Subject) -> Result<(), Failure<Fault>>
-        ensures { Does result self.new (gives (see_all declares_object (declared_by (subject_tree subject.now))) self.old) }
+        ensures { Does result self.new
+            (gives (see_all declares_object (declared_by (subject_tree subject.now))) self.old) }
     {
         match subject {
             Subject::Single { name, .. } => {
@@ -150,7 +151,8 @@ impl Binder {
     // Goes through the elements of a DECLARE.
     #[tactic(auto, using(crate::proofs::Walks::gives_then, crate::proofs::Walks::gives_three, crate::proofs::Walks::fails_then, crate::proofs::Walks::fails_second, crate::proofs::Walks::fails_middle, crate::proofs::Walks::gives_nothing))]
     fn elements(&mut self, elements: &[Element]) -> Result<(), Failure<Fault>>
-        ensures { Does result self.new (gives (see_all see_element (map element_tree elements.now)) self.old) }
+        ensures { Does result self.new
+            (gives (see_all see_element (map element_tree elements.now)) self.old) }
     {
         for element in elements {
             self.element(element)?;
@@ -161,7 +163,8 @@ impl Binder {
     // Binds the names in an expression.
     #[tactic(auto, using(crate::proofs::Walks::gives_uses, crate::proofs::Walks::fails_uses))]
     fn expression(&mut self, expression: &Expression) -> Result<(), Failure<Fault>>
-        ensures { Does result self.new (gives (uses_of (names_in_expression (expression_tree expression.now))) self.old) }
+        ensures { Does result self.new
+            (gives (uses_of (names_in_expression (expression_tree expression.now))) self.old) }
     {
         bind_expression(&self.scopes, expression, &mut self.bindings)?;
         Ok(())
@@ -170,7 +173,9 @@ impl Binder {
     // Binds the names in an expression, if there is one.
     #[tactic(auto, using(crate::proofs::Walks::gives_uses, crate::proofs::Walks::fails_uses))]
     fn optional(&mut self, expression: &Option<Box<Expression>>) -> Result<(), Failure<Fault>>
-        ensures { Does result self.new (gives (uses_of (names_in_optional names_in_expression (option_map (λ held. expression_tree held.value) expression.now))) self.old) }
+        ensures { Does result self.new
+            (gives (uses_of (names_in_optional names_in_expression (option_map
+            (λ held. expression_tree held.value) expression.now))) self.old) }
     {
         bind_optional(&self.scopes, expression, &mut self.bindings)?;
         Ok(())
@@ -179,7 +184,9 @@ impl Binder {
     // Binds the name and the arguments of a CALL.
     #[tactic(auto, using(crate::proofs::Walks::gives_uses, crate::proofs::Walks::fails_uses))]
     fn call(&mut self, procedure: &Selector) -> Result<(), Failure<Fault>>
-        ensures { Does result self.new (gives (uses_of (procedure.now.name ∷ names_in_arguments (argument_trees procedure.now.arguments.items))) self.old) }
+        ensures { Does result self.new
+            (gives (uses_of (procedure.now.name ∷ names_in_arguments
+            (argument_trees procedure.now.arguments.items))) self.old) }
     {
         bind_call(&self.scopes, procedure, &mut self.bindings)?;
         Ok(())
@@ -188,7 +195,10 @@ impl Binder {
     // Binds the names in an assignment.
     #[tactic(auto, using(crate::proofs::Walks::gives_uses, crate::proofs::Walks::fails_uses))]
     fn assignment(&mut self, assignment: &Assignment) -> Result<(), Failure<Fault>>
-        ensures { Does result self.new (gives (uses_of (flat_map names_in_reference (target_trees assignment.now.target assignment.now.others.items) ++ names_in_expression (expression_tree assignment.now.value))) self.old) }
+        ensures { Does result self.new
+            (gives (uses_of (flat_map names_in_reference
+            (target_trees assignment.now.target assignment.now.others.items) ++ names_in_expression
+            (expression_tree assignment.now.value))) self.old) }
     {
         bind_assignment(&self.scopes, assignment, &mut self.bindings)?;
         Ok(())
@@ -197,7 +207,8 @@ impl Binder {
     // Binds the names in the head of an iterative DO.
     #[tactic(auto, using(crate::proofs::Walks::gives_uses, crate::proofs::Walks::fails_uses))]
     fn iteration(&mut self, iteration: &Iteration) -> Result<(), Failure<Fault>>
-        ensures { Does result self.new (gives (uses_of (names_in_iteration (iteration_tree iteration.now))) self.old) }
+        ensures { Does result self.new
+            (gives (uses_of (names_in_iteration (iteration_tree iteration.now))) self.old) }
     {
         bind_iteration(&self.scopes, iteration, &mut self.bindings)?;
         Ok(())
@@ -231,7 +242,8 @@ impl Binder {
     // Goes into a list of statements.
     #[tactic(auto, using(crate::proofs::Walks::gives_move))]
     fn open_list(&mut self, statements: &[Statement]) -> Result<(), Failure<Fault>>
-        ensures { Does result self.new (gives (moves (into_list (labels_of (statement_trees statements.now)))) self.old) }
+        ensures { Does result self.new
+            (gives (moves (into_list (labels_of (statement_trees statements.now)))) self.old) }
     {
         self.scopes.open_list(statements)
     }
@@ -371,7 +383,9 @@ impl Binder {
     #[cycle(walk)]
     #[tactic(auto, using(crate::proofs::Walks::gives_then, crate::proofs::Walks::gives_three, crate::proofs::Walks::fails_then, crate::proofs::Walks::fails_second, crate::proofs::Walks::fails_middle, crate::proofs::Walks::gives_nothing))]
     fn list(&mut self, statements: &[Statement]) -> Result<(), Failure<Fault>>
-        ensures { Does result self.new (gives (in_list (statement_trees statements.now) (see_statements (statement_trees statements.now))) self.old) }
+        ensures { Does result self.new
+            (gives (in_list (statement_trees statements.now) (see_statements
+            (statement_trees statements.now))) self.old) }
     {
         self.open_list(statements)?;
         self.statements(statements)?;
@@ -395,7 +409,8 @@ impl Binder {
     #[cycle(walk)]
     #[tactic(auto, using(crate::proofs::Walks::gives_then, crate::proofs::Walks::gives_three, crate::proofs::Walks::fails_then, crate::proofs::Walks::fails_second, crate::proofs::Walks::fails_middle, crate::proofs::Walks::gives_nothing))]
     fn block(&mut self, block: &Block) -> Result<(), Failure<Fault>>
-        ensures { Does result self.new (gives (see_block (block_declarations block.now) (block_statements block.now)) self.old) }
+        ensures { Does result self.new
+            (gives (see_block (block_declarations block.now) (block_statements block.now)) self.old) }
     {
         self.declarations(block.declarations.as_slice())?;
         self.list(block.statements.as_slice())
@@ -405,7 +420,8 @@ impl Binder {
     #[cycle(walk)]
     #[tactic(auto, using(crate::proofs::Walks::gives_then, crate::proofs::Walks::gives_three, crate::proofs::Walks::fails_then, crate::proofs::Walks::fails_second, crate::proofs::Walks::fails_middle, crate::proofs::Walks::gives_nothing))]
     fn declarations(&mut self, declarations: &[Declaration]) -> Result<(), Failure<Fault>>
-        ensures { Does result self.new (gives (see_declarations (declaration_trees declarations.now)) self.old) }
+        ensures { Does result self.new
+            (gives (see_declarations (declaration_trees declarations.now)) self.old) }
     {
         for declaration in declarations {
             self.declaration(declaration)?;
@@ -469,7 +485,8 @@ impl Binder {
 
     /// Goes through a module.
     pub(crate) fn module(&mut self, body: &Block) -> Result<(), Failure<Fault>>
-        ensures { Does result self.new (gives (see_block (block_declarations body.now) (block_statements body.now)) self.old) }
+        ensures { Does result self.new
+            (gives (see_block (block_declarations body.now) (block_statements body.now)) self.old) }
     {
         self.block(body)
     }

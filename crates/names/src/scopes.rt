@@ -76,7 +76,12 @@ impl BodyNames {
 
     // Into a simple DO.
     fn open_block(&mut self, alloc: Global) -> Result<(), Failure<Fault>>
-        ensures ok { OnOk result (self.new ≡ record self.old { block = []; outer_blocks = self.old.block ∷ self.old.outer_blocks }) }
+        ensures ok { OnOk result
+            (self.new ≡ record self.old {
+              block = [];
+              outer_blocks = self.old.block ∷
+                  self.old.outer_blocks;
+            }) }
         ensures err { IfFault result (λ _. ⊥) }
     {
         let outer = mem::replace(&mut self.block, Names::new(alloc));
@@ -128,7 +133,8 @@ impl BodyNames {
 
     // A name of the innermost block.
     fn declare(&mut self, name: Identifier, entity: Entity) -> Result<(), Failure<Fault>>
-        ensures { Declares result name (is_declared_in self.old name.name) self.new (body_with_name name.name entity self.old) }
+        ensures { Declares result name (is_declared_in self.old name.name)
+            self.new (body_with_name name.name entity self.old) }
     {
         if self.block.get(name.name).is_some() || self.labelled.contains(name.name) {
             return Err(declared_twice(name));
@@ -151,7 +157,8 @@ impl BodyNames {
 
     // A label before a statement of the body.
     fn declare_label(&mut self, name: Identifier) -> Result<(), Failure<Fault>>
-        ensures { Declares result name (is_among self.old.declared name.name || is_among self.old.labelled name.name) self.new
+        ensures { Declares result name
+            (is_among self.old.declared name.name || is_among self.old.labelled name.name) self.new
             (record self.old { labelled = insert_key bytes_eq self.old.labelled name.name }) }
     {
         if self.declared.contains(name.name) || self.labelled.contains(name.name) {
@@ -205,7 +212,8 @@ fn number_statements(
     first: u32,
     names: &mut Names,
 ) -> Result<u32, Failure<Fault>>
-    ensures ok { IfOk result (λ next. AreNumbered first (labels_of (statement_trees statements.now)) names.old next names.new) }
+    ensures ok { IfOk result
+        (λ next. AreNumbered first (labels_of (statement_trees statements.now)) names.old next names.new) }
     ensures err { IfFault result (λ _. ⊥) }
 {
     let mut number = first;
@@ -331,7 +339,8 @@ impl Scopes {
 
     /// Goes into a list of statements, in the whole of which its labels are known. They get the next numbers.
     pub fn open_list(&mut self, statements: &[Statement]) -> Result<(), Failure<Fault>>
-        ensures ok { OnOk result (self.new ≡ into_list (labels_of (statement_trees statements.now)) self.old) }
+        ensures ok { OnOk result
+            (self.new ≡ into_list (labels_of (statement_trees statements.now)) self.old) }
         ensures err { IfFault result (λ _. ⊥) }
     {
         let mut names = Names::new(self.alloc);
@@ -350,7 +359,8 @@ impl Scopes {
 
     /// Declares a variable or a parameter, which gets the next number of an object.
     pub fn declare_object(&mut self, name: Identifier) -> Result<(), Failure<Fault>>
-        ensures { Declares result name (is_declared_again self.old name.name) self.new (with_object name.name self.old) }
+        ensures { Declares result name (is_declared_again self.old name.name)
+            self.new (with_object name.name self.old) }
     {
         let number = self.objects;
         self.body.declare(name, Entity::Object(number))?;
@@ -360,7 +370,8 @@ impl Scopes {
 
     /// Declares a procedure, which gets the next number of one.
     pub fn declare_procedure(&mut self, name: Identifier) -> Result<(), Failure<Fault>>
-        ensures { Declares result name (is_declared_again self.old name.name) self.new (with_procedure name.name self.old) }
+        ensures { Declares result name (is_declared_again self.old name.name)
+            self.new (with_procedure name.name self.old) }
     {
         let number = self.procedures;
         self.body.declare(name, Entity::Procedure(number))?;
@@ -370,7 +381,8 @@ impl Scopes {
 
     /// Declares the name of a LITERALLY definition.
     pub fn declare_definition(&mut self, name: Identifier) -> Result<(), Failure<Fault>>
-        ensures { Declares result name (is_declared_again self.old name.name) self.new (with_definition name.name self.old) }
+        ensures { Declares result name (is_declared_again self.old name.name)
+            self.new (with_definition name.name self.old) }
     {
         self.body.declare(name, Entity::Definition)
     }
@@ -378,14 +390,16 @@ impl Scopes {
     /// Takes in a parameter from the heading of the procedure whose body the place is in. It is known once a DECLARE has
     /// declared it as an object.
     pub fn declare_parameter(&mut self, name: Identifier) -> Result<(), Failure<Fault>>
-        ensures { Declares result name (is_parameter_again self.old name.name) self.new (with_parameter name.name self.old) }
+        ensures { Declares result name (is_parameter_again self.old name.name)
+            self.new (with_parameter name.name self.old) }
     {
         self.body.declare_parameter(name)
     }
 
     /// Takes in a label before a statement of the list that the place is in.
     pub fn declare_label(&mut self, name: Identifier) -> Result<(), Failure<Fault>>
-        ensures { Declares result name (is_label_again self.old name.name) self.new (with_label name.name self.old) }
+        ensures { Declares result name (is_label_again self.old name.name)
+            self.new (with_label name.name self.old) }
     {
         self.body.declare_label(name)
     }

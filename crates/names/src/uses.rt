@@ -44,7 +44,8 @@ pub(crate) fn bind_expression(
     expression: &Expression,
     bindings: &mut Vec<Binding>,
 ) -> Result<(), Failure<Fault>>
-    ensures { Does result bindings.new.items (bound_at scopes.now (names_in_expression (expression_tree expression.now)) bindings.old.items) }
+    ensures { Does result bindings.new.items
+        (bound_at scopes.now (names_in_expression (expression_tree expression.now)) bindings.old.items) }
 {
     match expression {
         Expression::Constant(_) | Expression::List(_) => Ok(()),
@@ -72,7 +73,8 @@ pub(crate) fn bind_reference(
     reference: &Reference,
     bindings: &mut Vec<Binding>,
 ) -> Result<(), Failure<Fault>>
-    ensures { Does result bindings.new.items (bound_at scopes.now (names_in_reference (reference_tree reference.now)) bindings.old.items) }
+    ensures { Does result bindings.new.items
+        (bound_at scopes.now (names_in_reference (reference_tree reference.now)) bindings.old.items) }
 {
     bind_name(scopes, reference.name, bindings)?;
     bind_arguments(scopes, reference.arguments.as_slice(), bindings)?;
@@ -90,7 +92,8 @@ pub(crate) fn bind_arguments(
     arguments: &[Expression],
     bindings: &mut Vec<Binding>,
 ) -> Result<(), Failure<Fault>>
-    ensures { Does result bindings.new.items (bound_at scopes.now (names_in_arguments (argument_trees arguments.now)) bindings.old.items) }
+    ensures { Does result bindings.new.items
+        (bound_at scopes.now (names_in_arguments (argument_trees arguments.now)) bindings.old.items) }
 {
     for argument in arguments {
         bind_expression(scopes, argument, bindings)?;
@@ -105,7 +108,9 @@ pub(crate) fn bind_optional(
     expression: &Option<Box<Expression>>,
     bindings: &mut Vec<Binding>,
 ) -> Result<(), Failure<Fault>>
-    ensures { Does result bindings.new.items (bound_at scopes.now (names_in_optional names_in_expression (option_map (λ held. expression_tree held.value) expression.now)) bindings.old.items) }
+    ensures { Does result bindings.new.items
+        (bound_at scopes.now (names_in_optional names_in_expression (option_map
+        (λ held. expression_tree held.value) expression.now)) bindings.old.items) }
 {
     match expression {
         Some(expression) => bind_expression(scopes, expression, bindings),
@@ -120,7 +125,9 @@ pub(crate) fn bind_call(
     procedure: &Selector,
     bindings: &mut Vec<Binding>,
 ) -> Result<(), Failure<Fault>>
-    ensures { Does result bindings.new.items (bound_at scopes.now (procedure.now.name ∷ names_in_arguments (argument_trees procedure.now.arguments.items)) bindings.old.items) }
+    ensures { Does result bindings.new.items
+        (bound_at scopes.now (procedure.now.name ∷ names_in_arguments
+        (argument_trees procedure.now.arguments.items)) bindings.old.items) }
 {
     bind_name(scopes, procedure.name, bindings)?;
     bind_arguments(scopes, procedure.arguments.as_slice(), bindings)
@@ -133,7 +140,9 @@ pub(crate) fn bind_targets(
     targets: &[Reference],
     bindings: &mut Vec<Binding>,
 ) -> Result<(), Failure<Fault>>
-    ensures { Does result bindings.new.items (bound_at scopes.now (flat_map names_in_reference (map reference_tree targets.now)) bindings.old.items) }
+    ensures { Does result bindings.new.items
+        (bound_at scopes.now (flat_map names_in_reference (map reference_tree targets.now))
+        bindings.old.items) }
 {
     for target in targets {
         bind_reference(scopes, target, bindings)?;
@@ -148,7 +157,10 @@ pub(crate) fn bind_assignment(
     assignment: &Assignment,
     bindings: &mut Vec<Binding>,
 ) -> Result<(), Failure<Fault>>
-    ensures { Does result bindings.new.items (bound_at scopes.now (flat_map names_in_reference (target_trees assignment.now.target assignment.now.others.items) ++ names_in_expression (expression_tree assignment.now.value)) bindings.old.items) }
+    ensures { Does result bindings.new.items
+        (bound_at scopes.now (flat_map names_in_reference
+        (target_trees assignment.now.target assignment.now.others.items) ++ names_in_expression
+        (expression_tree assignment.now.value)) bindings.old.items) }
 {
     bind_reference(scopes, &assignment.target, bindings)?;
     bind_targets(scopes, assignment.others.as_slice(), bindings)?;
@@ -162,7 +174,9 @@ fn bind_step(
     step: &Option<Expression>,
     bindings: &mut Vec<Binding>,
 ) -> Result<(), Failure<Fault>>
-    ensures { Does result bindings.new.items (bound_at scopes.now (names_in_optional names_in_expression (option_map expression_tree step.now)) bindings.old.items) }
+    ensures { Does result bindings.new.items
+        (bound_at scopes.now (names_in_optional names_in_expression
+        (option_map expression_tree step.now)) bindings.old.items) }
 {
     match step {
         Some(step) => bind_expression(scopes, step, bindings),
@@ -177,7 +191,8 @@ fn bind_bounds(
     iteration: &Iteration,
     bindings: &mut Vec<Binding>,
 ) -> Result<(), Failure<Fault>>
-    ensures { Does result bindings.new.items (bound_at scopes.now (names_in_bounds (iteration_tree iteration.now)) bindings.old.items) }
+    ensures { Does result bindings.new.items
+        (bound_at scopes.now (names_in_bounds (iteration_tree iteration.now)) bindings.old.items) }
 {
     bind_expression(scopes, &iteration.first, bindings)?;
     bind_expression(scopes, &iteration.last, bindings)?;
@@ -191,7 +206,8 @@ pub(crate) fn bind_iteration(
     iteration: &Iteration,
     bindings: &mut Vec<Binding>,
 ) -> Result<(), Failure<Fault>>
-    ensures { Does result bindings.new.items (bound_at scopes.now (names_in_iteration (iteration_tree iteration.now)) bindings.old.items) }
+    ensures { Does result bindings.new.items
+        (bound_at scopes.now (names_in_iteration (iteration_tree iteration.now)) bindings.old.items) }
 {
     bind_name(scopes, iteration.variable, bindings)?;
     bind_bounds(scopes, iteration, bindings)
@@ -204,7 +220,8 @@ pub(crate) fn bind_restricted(
     restricted: &Restricted,
     bindings: &mut Vec<Binding>,
 ) -> Result<(), Failure<Fault>>
-    ensures { Does result bindings.new.items (bound_at scopes.now (names_in_restricted (restricted_tree restricted.now)) bindings.old.items) }
+    ensures { Does result bindings.new.items
+        (bound_at scopes.now (names_in_restricted (restricted_tree restricted.now)) bindings.old.items) }
 {
     match &restricted.origin {
         Origin::Constant(_) => Ok(()),
@@ -219,7 +236,9 @@ pub(crate) fn bind_values(
     values: &[Restricted],
     bindings: &mut Vec<Binding>,
 ) -> Result<(), Failure<Fault>>
-    ensures { Does result bindings.new.items (bound_at scopes.now (flat_map names_in_restricted (map restricted_tree values.now)) bindings.old.items) }
+    ensures { Does result bindings.new.items
+        (bound_at scopes.now (flat_map names_in_restricted (map restricted_tree values.now))
+        bindings.old.items) }
 {
     for value in values {
         bind_restricted(scopes, value, bindings)?;
@@ -234,7 +253,8 @@ pub(crate) fn bind_base(
     subject: &Subject,
     bindings: &mut Vec<Binding>,
 ) -> Result<(), Failure<Fault>>
-    ensures { Does result bindings.new.items (bound_at scopes.now (names_in_subject (subject_tree subject.now)) bindings.old.items) }
+    ensures { Does result bindings.new.items
+        (bound_at scopes.now (names_in_subject (subject_tree subject.now)) bindings.old.items) }
 {
     match subject {
         Subject::Single {
@@ -252,7 +272,8 @@ pub(crate) fn bind_item(
     item: &Item,
     bindings: &mut Vec<Binding>,
 ) -> Result<(), Failure<Fault>>
-    ensures { Does result bindings.new.items (bound_at scopes.now (names_in_item (item_tree item.now)) bindings.old.items) }
+    ensures { Does result bindings.new.items
+        (bound_at scopes.now (names_in_item (item_tree item.now)) bindings.old.items) }
 {
     bind_base(scopes, &item.subject, bindings)?;
     if let Some(at) = &item.at {
