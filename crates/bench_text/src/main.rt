@@ -1,5 +1,5 @@
 //! Reads a source of a kind up to a phase, and prints how many microseconds each phase took and how much memory the program had at
-//! most: `bench_text page|statements|names|semicolons|literally|nesting read|scan|expand|parse|all`, where `parse` leaves expansion
+//! most: `bench_text page|statements|names|semicolons|labels|literally|nesting read|scan|expand|parse|all`, where `parse` leaves expansion
 //! out. `bench/text` prints ratios of these.
 #![tactic(auto)]
 

@@ -87,6 +87,7 @@ pub fn source_of(alloc: Global, kind: &str) -> Result<Option<Vec<u8>>, AllocErro
         "statements" => module_of(alloc, b"X=A+1;Y(I)=X*2-Z;", b"")?,
         "names" => module_of(alloc, b"COUNTER,LIMIT,TOTAL$SUM,", b"X=1;")?,
         "semicolons" => module_of(alloc, b";", b"")?,
+        "labels" => module_of(alloc, b"L:;", b"")?,
         "literally" => definitions(alloc)?,
         "nesting" => nesting(alloc)?,
         _ => return Ok(None),

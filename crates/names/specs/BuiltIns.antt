@@ -22,7 +22,8 @@ built_in_of name = lookup (bytes_eq name) built_ins
 
 -- What a use of a name is bound to, if the name is known. A declaration hides a built-in procedure of its name.
 abbrev pub binding_of : Here → List ℕ → Option Binding
-binding_of here name = option_or (option_map Declared (entity_of here name)) (option_map BuiltInName (built_in_of name))
+binding_of here name =
+    option_or (option_map Declared (entity_of here name)) (option_map BuiltInName (built_in_of name))
 
 -- what the name after GOTO is bound to
 abbrev pub jump_of : Here → List ℕ → Binding

@@ -10,5 +10,6 @@ use Rattle.names.specs.declared.fault.Fault.TheVariants.{DeclaredTwice}
 -- refused.
 abbrev pub Declares : {A B : Type 0} → Result A (Failure Fault) → Identifier → Bool → B → B → Type 0
 Declares (Ok done) name again now after = (again ≡ false) × (now ≡ after)
-Declares (Err (failures.Fault fault)) name again now after = (again ≡ true) × (fault ≡ DeclaredTwice name.place.line)
+Declares (Err (failures.Fault fault)) name again now after =
+    (again ≡ true) × (fault ≡ DeclaredTwice name.place.line)
 Declares (Err failures.Memory) name again now after = Unit {0}

@@ -124,10 +124,12 @@ with_name name entity here = record here { body = body_with_name name entity her
 
 -- an object, a procedure, a LITERALLY definition
 abbrev pub with_object : List ℕ → Here → Here
-with_object name here = with_name name (Object here.objects) (record here { objects = here.objects + 1 })
+with_object name here =
+    with_name name (Object here.objects) (record here { objects = here.objects + 1 })
 
 abbrev pub with_procedure : List ℕ → Here → Here
-with_procedure name here = with_name name (Procedure here.procedures) (record here { procedures = here.procedures + 1 })
+with_procedure name here =
+    with_name name (Procedure here.procedures) (record here { procedures = here.procedures + 1 })
 
 abbrev pub with_definition : List ℕ → Here → Here
 with_definition name here = with_name name Definition here

@@ -17,7 +17,8 @@ abbrev mutual
   names_in_expression (BinaryNode operator left right) = names_in_expression left ++ names_in_expression right
 
   pub names_in_reference : ReferenceTree → List Identifier
-  names_in_reference (ReferenceTo name arguments member) = name ∷ names_in_arguments arguments ++ names_in_member member
+  names_in_reference (ReferenceTo name arguments member) =
+      name ∷ names_in_arguments arguments ++ names_in_member member
 
   pub names_in_member : MemberTree → List Identifier
   names_in_member NoMember = []

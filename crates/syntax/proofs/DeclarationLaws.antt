@@ -1,5 +1,6 @@
--- What is read as a list of elements or as the head of a procedure is spelled so, and what is spelled so is read.
-use Rattle.std.proofs.Common.{◌≡◌, inl, inr, false, List, [], ◌∷◌, drop, length, Option, Some, None, Ok, refl, sym, ◌∙◌, ap, subst, arith}
+-- What is read as a list of elements or as the head of a procedure is spelled so, and what is spelled so is
+-- read.
+use Rattle.std.proofs.Common.{◌≡◌, inl, inr, false, List, [], ◌∷◌, drop, length, Option, Some, None, Ok, refl, sym, ◌∙◌, ap, arith}
 use Rattle.std.specs.List.{AllByRecursion}
 use Rattle.words.specs.declared.vocabulary.Mark.TheVariants as marks
 use Rattle.words.specs.declared.vocabulary.ReservedWord.TheVariants as words
@@ -11,43 +12,42 @@ use Rattle.trees.specs.declared.identifier.Identifier.{Identifier}
 use Rattle.trees.specs.declared.identifier.Place.{Place}
 use Rattle.trees.specs.Forms.{IsNotEmpty, IsElement}
 use Rattle.trees.specs.Spelling.{optional, between_commas, scalar_symbols, linkage_symbols, names_symbols, element_symbols, parameters_symbols, reentrant_symbols, heading_symbols}
-use Rattle.trees.specs.Symbols.{Symbol, NameSymbol, ReservedSymbol, MarkSymbol}
+use Rattle.trees.specs.Symbols.{Symbol, NameSymbol, ReservedSymbol, MarkSymbol, SemicolonSymbol}
 use Rattle.trees.specs.Trees.{ElementTree, HeadingTree}
 use Rattle.syntax.proofs.ListLaws.{items-sound}
-use Rattle.syntax.proofs.LookingLemmas.{if_false, if_cases, bind_ok, bind_at, same_reading, place_of_word-is, mark-ok, word-ok, name-ok}
-use Rattle.syntax.specs.internal.Declarations.{next_scalar, result_type, next_linkage, linkage, element, elements, parameters, reentrant_of, reentrant, heading}
-use Rattle.syntax.specs.internal.Lists.{Shrinks, items}
-use Rattle.syntax.specs.internal.Looking.{at_mark, place_of_word, mark, word, name}
-use Rattle.syntax.proofs.ItemLaws.{list-reads, optional-lengthens, between_commas-lengthens, scalar-lengthens, names-sound, names-reads, linkage-spelled, linkage-reads, EndsItem, element-sound, element-reads, names-lengthens, linkage-lengthens, element-lengthens, element-keeps}
-use Rattle.syntax.proofs.RestrictedLaws.{Spelled, respelled, Lengthens, result_type-spelled, result_type-reads}
+use Rattle.syntax.proofs.ReaderLemmas.{if_false, if_cases, bind_ok, bind_at, place_of_word-is, mark-ok, word-ok, name-ok}
+use Rattle.syntax.specs.internal.Declarations.{next_scalar, result_type, next_linkage, linkage, element, parameters, reentrant_of, reentrant, heading}
+use Rattle.syntax.specs.internal.Lists.{Keeps, Shrinks, items}
+use Rattle.syntax.specs.internal.Reader.{at_mark, place_of_word, mark, word, name}
+use Rattle.syntax.proofs.DeclarationItems.{list-reads, optional-lengthens, between_commas-lengthens, scalar-lengthens, names-sound, names-reads, linkage-spelled, linkage-reads, EndsItem, element-sound, element-reads, names-lengthens, linkage-lengthens, element-lengthens, element-keeps}
+use Rattle.syntax.proofs.DeclarationParts.{Spelled, respelled, Lengthens, result_type-spelled, result_type-reads}
 
--- what stands between DECLARE and its semicolon is spelled so
-pub elements-sound : (s r : List Symbol) (es : List ElementTree) → elements s ≡ Ok (es, r) → (s ≡ between_commas element_symbols es (MarkSymbol marks.Semicolon ∷ r)) × IsNotEmpty es × AllByRecursion IsElement es
-unfolding elements
-elements-sound s r es e =
-    let a = bind_ok (items element s) _ _ e in
-    let b = bind_ok (mark marks.Semicolon a.0.1) _ _ a.2 in
-    let found = items-sound element element_symbols IsElement element-sound s a.0.1 a.0.0 a.1 in
-    let same = same_reading a.0.0 es b.0 r b.2 in
-    let spelled : s ≡ between_commas element_symbols a.0.0 (MarkSymbol marks.Semicolon ∷ b.0) =
-    found.0 ∙ ap (between_commas element_symbols a.0.0) (mark-ok marks.Semicolon a.0.1 b.0 b.1) in (
-      respelled (λ es r. between_commas element_symbols es (MarkSymbol marks.Semicolon ∷ r)) s a.0.0 es b.0 r b.2 spelled,
-      subst IsNotEmpty same.0 found.1,
-      subst (AllByRecursion IsElement) same.0 found.2,
+-- the elements that DECLARE declares are spelled so
+pub elements-sound : (s r : List Symbol) (es : List ElementTree) → items element s ≡ Ok (es, r)
+    → (s ≡ between_commas element_symbols es r) × IsNotEmpty es × AllByRecursion IsElement es
+elements-sound s r es e = items-sound element element_symbols IsElement element-sound s r es e
+
+pub elements-reads : (es : List ElementTree) (p : Place) (r : List Symbol)
+    → IsNotEmpty es
+    → AllByRecursion IsElement es
+    → items element (between_commas element_symbols es (SemicolonSymbol p ∷ r))
+    ≡ Ok (es, SemicolonSymbol p ∷ r)
+elements-reads es p r some all =
+    list-reads element element_symbols IsElement EndsItem element-keeps element-reads
+    (λ rest. (refl, refl, refl))
+    es (SemicolonSymbol p ∷ r) some all (refl, refl, refl) refl
+
+pub elements-keeps : Keeps (items element)
+elements-keeps s r es e =
+    omega (
+      arith,
+      ap length (elements-sound s r es e).0,
+      between_commas-lengthens element_symbols element-lengthens es r,
     )
 
-pub elements-reads : (es : List ElementTree) (r : List Symbol) → IsNotEmpty es → AllByRecursion IsElement es → elements (between_commas element_symbols es (MarkSymbol marks.Semicolon ∷ r)) ≡ Ok (es, r)
-unfolding elements
-elements-reads es r some all =
-    let behind : List Symbol = MarkSymbol marks.Semicolon ∷ r in
-    bind_at (items element (between_commas element_symbols es behind)) _ _
-    (list-reads element element_symbols IsElement EndsItem element-keeps element-reads (λ rest. (refl, refl, refl)) es behind some all (refl, refl, refl) refl)
-
-pub elements-shrinks : Shrinks elements
-elements-shrinks s r es e =
-    omega (arith, ap length (elements-sound s r es e).0, between_commas-lengthens element_symbols element-lengthens es (MarkSymbol marks.Semicolon ∷ r))
-
-parameters-some : (ps : List Identifier) (r : List Symbol) → IsNotEmpty ps → parameters_symbols ps r ≡ names_symbols ps r
+parameters-some : (ps : List Identifier) (r : List Symbol)
+    → IsNotEmpty ps
+    → parameters_symbols ps r ≡ names_symbols ps r
 parameters-some [] r some = absurd some
 parameters-some (p ∷ ps) r some = refl
 
@@ -59,35 +59,48 @@ parameters-spelled s r ps e = elim (if_cases (at_mark marks.LeftParenthesis s) _
   | inr h ↦ respelled parameters_symbols s [] ps s r h.1 refl
 ]
 
-pub parameters-reads : (ps : List Identifier) (r : List Symbol) → at_mark marks.LeftParenthesis r ≡ false → parameters (parameters_symbols ps r) ≡ Ok (ps, r)
+pub parameters-reads : (ps : List Identifier) (r : List Symbol)
+    → at_mark marks.LeftParenthesis r ≡ false
+    → parameters (parameters_symbols ps r) ≡ Ok (ps, r)
 parameters-reads [] r ends = if_false (at_mark marks.LeftParenthesis r) _ _ ends
 parameters-reads (p ∷ ps) r ends = names-reads (p ∷ ps) r tt
 
-reentrant_of-spelled : (found : Option Place) (s : List Symbol) → place_of_word words.Reentrant s ≡ found → (r : List Symbol) (p : Option Place) → reentrant_of found s ≡ Ok (p, r) → s ≡ optional reentrant_symbols p r
+reentrant_of-spelled : (found : Option Place) (s : List Symbol)
+    → place_of_word words.Reentrant s ≡ found
+    → (r : List Symbol) (p : Option Place)
+    → reentrant_of found s ≡ Ok (p, r)
+    → s ≡ optional reentrant_symbols p r
 reentrant_of-spelled None s is r p e = respelled (optional reentrant_symbols) s None p s r e refl
-reentrant_of-spelled (Some q) s is r p e = respelled (optional reentrant_symbols) s (Some q) p (drop 1 s) r e (place_of_word-is words.Reentrant s q is)
+reentrant_of-spelled (Some q) s is r p e =
+    respelled (optional reentrant_symbols) s (Some q) p (drop 1 s) r e
+    (place_of_word-is words.Reentrant s q is)
 
 pub reentrant-spelled : Spelled reentrant (optional reentrant_symbols)
 reentrant-spelled s r p e = reentrant_of-spelled (place_of_word words.Reentrant s) s refl r p e
 
-pub reentrant-reads : (p : Option Place) (r : List Symbol) → place_of_word words.Reentrant r ≡ None → reentrant (optional reentrant_symbols p r) ≡ Ok (p, r)
+pub reentrant-reads : (p : Option Place) (r : List Symbol)
+    → place_of_word words.Reentrant r ≡ None
+    → reentrant (optional reentrant_symbols p r) ≡ Ok (p, r)
 reentrant-reads None r ends = ap (λ g. reentrant_of g r) ends
 reentrant-reads (Some p) r ends = refl
 
 -- the symbols of the head of a procedure, from those of its parts
-heading-parts : (h : HeadingTree) (s colon procedure behind type link again end r : List Symbol)
-    → s ≡ NameSymbol h.name ∷ colon → colon ≡ MarkSymbol marks.Colon ∷ procedure → procedure ≡ ReservedSymbol words.Procedure ∷ behind
-    → behind ≡ parameters_symbols h.parameters type → type ≡ optional scalar_symbols h.result link → link ≡ optional linkage_symbols h.linkage again
-    → again ≡ optional reentrant_symbols h.reentrant end → end ≡ MarkSymbol marks.Semicolon ∷ r → s ≡ heading_symbols h r
-heading-parts h s colon procedure behind type link again end r first second third fourth fifth sixth seventh eighth =
+heading-parts : (h : HeadingTree) (s colon procedure later type link again r : List Symbol)
+    → s ≡ NameSymbol h.name ∷ colon
+    → colon ≡ MarkSymbol marks.Colon ∷ procedure
+    → procedure ≡ ReservedSymbol words.Procedure ∷ later
+    → later ≡ parameters_symbols h.parameters type
+    → type ≡ optional scalar_symbols h.result link
+    → link ≡ optional linkage_symbols h.linkage again
+    → again ≡ optional reentrant_symbols h.reentrant r → s ≡ heading_symbols h r
+heading-parts h s colon procedure later type link again r first second third fourth fifth sixth seventh =
     first
     ∙ ap (λ k. NameSymbol h.name ∷ k) (second
     ∙ ap (λ k. MarkSymbol marks.Colon ∷ k) (third
     ∙ ap (λ k. ReservedSymbol words.Procedure ∷ k) (fourth
     ∙ ap (parameters_symbols h.parameters) (fifth
     ∙ ap (optional scalar_symbols h.result) (sixth
-    ∙ ap (optional linkage_symbols h.linkage) (seventh
-    ∙ ap (optional reentrant_symbols h.reentrant) eighth))))))
+    ∙ ap (optional linkage_symbols h.linkage) seventh)))))
 
 -- the head of a procedure is spelled so
 pub heading-sound : (s r : List Symbol) (h : HeadingTree) → heading s ≡ Ok (h, r) → s ≡ heading_symbols h r
@@ -100,43 +113,53 @@ heading-sound s r h e =
     let f = bind_ok (result_type d.0.1) _ _ d.2 in
     let g = bind_ok (linkage f.0.1) _ _ f.2 in
     let i = bind_ok (reentrant g.0.1) _ _ g.2 in
-    let j = bind_ok (mark marks.Semicolon i.0.1) _ _ i.2 in
-    let own : HeadingTree = record { name = a.0.0; parameters = d.0.0; result = f.0.0; linkage = g.0.0; reentrant = i.0.0 } in
-    respelled heading_symbols s own h j.0 r j.2
-    (heading-parts own s a.0.1 b.0 c.0 d.0.1 f.0.1 g.0.1 i.0.1 j.0 (name-ok s a.0.1 a.0.0 a.1) (mark-ok marks.Colon a.0.1 b.0 b.1)
-    (word-ok words.Procedure b.0 c.0 c.1) (parameters-spelled c.0 d.0.1 d.0.0 d.1) (result_type-spelled d.0.1 f.0.1 f.0.0 f.1)
-    (linkage-spelled f.0.1 g.0.1 g.0.0 g.1) (reentrant-spelled g.0.1 i.0.1 i.0.0 i.1) (mark-ok marks.Semicolon i.0.1 j.0 j.1))
+    let own : HeadingTree =
+    record { name = a.0.0; parameters = d.0.0; result = f.0.0; linkage = g.0.0; reentrant = i.0.0 } in
+    respelled heading_symbols s own h i.0.1 r i.2
+    (heading-parts own s a.0.1 b.0 c.0 d.0.1 f.0.1 g.0.1 i.0.1 (name-ok s a.0.1 a.0.0 a.1)
+    (mark-ok marks.Colon a.0.1 b.0 b.1)
+    (word-ok words.Procedure b.0 c.0 c.1) (parameters-spelled c.0 d.0.1 d.0.0 d.1)
+    (result_type-spelled d.0.1 f.0.1 f.0.0 f.1)
+    (linkage-spelled f.0.1 g.0.1 g.0.0 g.1) (reentrant-spelled g.0.1 i.0.1 i.0.0 i.1))
 
--- what may stand behind the parameters, the result and the linkage of a procedure
-behind_parameters : (t : Option ScalarType) (l : Option Linkage) (p : Option Place) (r : List Symbol)
-    → at_mark marks.LeftParenthesis (optional scalar_symbols t (optional linkage_symbols l (optional reentrant_symbols p (MarkSymbol marks.Semicolon ∷ r)))) ≡ false
-behind_parameters (Some Byte) l p r = refl
-behind_parameters (Some Address) l p r = refl
-behind_parameters None (Some (Public q)) p r = refl
-behind_parameters None (Some (External q)) p r = refl
-behind_parameters None None (Some q) r = refl
-behind_parameters None None None r = refl
+-- what may stand after the parameters, the result and the linkage of a procedure
+after_parameters : (t : Option ScalarType) (l : Option Linkage) (p : Option Place) (q : Place)
+    (r : List Symbol)
+    → at_mark marks.LeftParenthesis
+    (optional scalar_symbols t
+    (optional linkage_symbols l (optional reentrant_symbols p (SemicolonSymbol q ∷ r)))) ≡ false
+after_parameters (Some Byte) l p q r = refl
+after_parameters (Some Address) l p q r = refl
+after_parameters None (Some (Public at)) p q r = refl
+after_parameters None (Some (External at)) p q r = refl
+after_parameters None None (Some at) q r = refl
+after_parameters None None None q r = refl
 
-behind_result : (l : Option Linkage) (p : Option Place) (r : List Symbol) → next_scalar (optional linkage_symbols l (optional reentrant_symbols p (MarkSymbol marks.Semicolon ∷ r))) ≡ None
-behind_result (Some (Public q)) p r = refl
-behind_result (Some (External q)) p r = refl
-behind_result None (Some q) r = refl
-behind_result None None r = refl
+after_result : (l : Option Linkage) (p : Option Place) (q : Place) (r : List Symbol)
+    → next_scalar (optional linkage_symbols l (optional reentrant_symbols p (SemicolonSymbol q ∷ r))) ≡ None
+after_result (Some (Public at)) p q r = refl
+after_result (Some (External at)) p q r = refl
+after_result None (Some at) q r = refl
+after_result None None q r = refl
 
-behind_linkage : (p : Option Place) (r : List Symbol) → next_linkage (optional reentrant_symbols p (MarkSymbol marks.Semicolon ∷ r)) ≡ None
-behind_linkage (Some q) r = refl
-behind_linkage None r = refl
+after_linkage : (p : Option Place) (q : Place) (r : List Symbol)
+    → next_linkage (optional reentrant_symbols p (SemicolonSymbol q ∷ r)) ≡ None
+after_linkage (Some at) q r = refl
+after_linkage None q r = refl
 
-pub heading-reads : (h : HeadingTree) (r : List Symbol) → heading (heading_symbols h r) ≡ Ok (h, r)
+pub heading-reads : (h : HeadingTree) (q : Place) (r : List Symbol)
+    → heading (heading_symbols h (SemicolonSymbol q ∷ r)) ≡ Ok (h, SemicolonSymbol q ∷ r)
 unfolding heading
-heading-reads h r =
-    let end : List Symbol = MarkSymbol marks.Semicolon ∷ r in
+heading-reads h q r =
+    let end : List Symbol = SemicolonSymbol q ∷ r in
     let again : List Symbol = optional reentrant_symbols h.reentrant end in
     let link : List Symbol = optional linkage_symbols h.linkage again in
     let type : List Symbol = optional scalar_symbols h.result link in
-    bind_at (parameters (parameters_symbols h.parameters type)) _ _ (parameters-reads h.parameters type (behind_parameters h.result h.linkage h.reentrant r))
-    ∙ bind_at (result_type type) _ _ (result_type-reads h.result link (behind_result h.linkage h.reentrant r))
-    ∙ bind_at (linkage link) _ _ (linkage-reads h.linkage again (behind_linkage h.reentrant r))
+    bind_at (parameters (parameters_symbols h.parameters type)) _ _
+    (parameters-reads h.parameters type (after_parameters h.result h.linkage h.reentrant q r))
+    ∙ bind_at (result_type type) _ _
+    (result_type-reads h.result link (after_result h.linkage h.reentrant q r))
+    ∙ bind_at (linkage link) _ _ (linkage-reads h.linkage again (after_linkage h.reentrant q r))
     ∙ bind_at (reentrant again) _ _ (reentrant-reads h.reentrant end refl)
 
 parameters-lengthens : Lengthens parameters_symbols
@@ -148,8 +171,7 @@ reentrant-lengthens p r = omega arith
 
 pub heading-shrinks : Shrinks heading
 heading-shrinks s r h e =
-    let end : List Symbol = MarkSymbol marks.Semicolon ∷ r in
-    let again : List Symbol = optional reentrant_symbols h.reentrant end in
+    let again : List Symbol = optional reentrant_symbols h.reentrant r in
     let link : List Symbol = optional linkage_symbols h.linkage again in
     let type : List Symbol = optional scalar_symbols h.result link in
     omega (
@@ -158,5 +180,5 @@ heading-shrinks s r h e =
       parameters-lengthens h.parameters type,
       optional-lengthens scalar_symbols scalar-lengthens h.result link,
       optional-lengthens linkage_symbols linkage-lengthens h.linkage again,
-      optional-lengthens reentrant_symbols reentrant-lengthens h.reentrant end,
+      optional-lengthens reentrant_symbols reentrant-lengthens h.reentrant r,
     )

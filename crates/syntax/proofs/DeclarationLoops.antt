@@ -8,71 +8,96 @@ use Rattle.trees.specs.Symbols.{Symbol}
 use Rattle.trees.specs.Trees.{ConstantTree, OffsetTree, ElementTree, SubjectTree, SingleSubject, GroupSubject, ItemTree, ItemElement, LiterallyElement, StringTree}
 use Rattle.trees.specs.declared.declaration.Offset.{Offset}
 use Rattle.trees.specs.Views.{constant_tree, offset_tree}
-use Rattle.syntax.specs.internal.Declarations.{next_sign, all_offsets, names, subject, base, item_behind, item, element_of, element, element_behind, group_element, subject_of}
-use Rattle.syntax.specs.internal.Looking.{Cause, Reading, ◌>>=◌, at_word, next_name, constant, string}
-use Rattle.syntax.specs.internal.Parts.{behind}
-use Rattle.syntax.proofs.RestrictedLaws.{all_offsets-step}
-use Rattle.syntax.proofs.LookingLemmas.{read}
+use Rattle.syntax.specs.internal.Declarations.{next_sign, all_offsets, names, subject, base, item_after, item, element_of, element, element_after, group_element, subject_of}
+use Rattle.syntax.specs.internal.Reader.{Cause, Reading, ◌>>=◌, at_word, next_name, constant, string}
+use Rattle.syntax.specs.internal.Lists.{after_items}
+use Rattle.syntax.proofs.DeclarationParts.{all_offsets-step}
+use Rattle.syntax.proofs.ReaderLemmas.{read}
 
 -- one more offset, and then others
-behind-offset : (before : List OffsetTree) (o : OffsetTree) (others : Reading (List OffsetTree))
-    → behind before (others >>= (λ found. Ok (o ∷ found.0, found.1))) ≡ behind (before ++ o ∷ []) others
-behind-offset before o (Ok found) = ap (λ l. Ok (l, found.1)) (sym (append_assoc before (o ∷ []) found.0))
-behind-offset before o (Err cause) = refl
+after_items-offset : (before : List OffsetTree) (o : OffsetTree) (others : Reading (List OffsetTree))
+    → after_items before (others >>= (λ found. Ok (o ∷ found.0, found.1)))
+    ≡ after_items (before ++ o ∷ []) others
+after_items-offset before o (Ok found) =
+    ap (λ l. Ok (l, found.1)) (sym (append_assoc before (o ∷ []) found.0))
+after_items-offset before o (Err cause) = refl
 
 -- a sign and a constant
 pub offsets-more : (before : List OffsetTree) (g : Sign) (c : ConstantTree) (s r : List Symbol)
-    → next_sign s ≡ Some g → constant (drop 1 s) ≡ Ok (c, r) → behind before (all_offsets s) ≡ behind (before ++ record { sign = g; constant = c } ∷ []) (all_offsets r)
+    → next_sign s ≡ Some g
+    → constant (drop 1 s) ≡ Ok (c, r)
+    → after_items before (all_offsets s)
+    ≡ after_items (before ++ record { sign = g; constant = c } ∷ []) (all_offsets r)
 offsets-more before g c s r sign e =
-    ap (behind before) (all_offsets-step s) ∙ rw (sign, e) (behind-offset before (record { sign = g; constant = c }) (all_offsets r))
+    ap (after_items before) (all_offsets-step s)
+    ∙ rw (sign, e) (after_items-offset before (record { sign = g; constant = c }) (all_offsets r))
 
 -- a sign and no constant
 pub offsets-fail : (before : List OffsetTree) (g : Sign) (s : List Symbol) (cause : Cause)
-    → next_sign s ≡ Some g → constant (drop 1 s) ≡ Err cause → behind before (all_offsets s) ≡ Err cause
-offsets-fail before g s cause sign e = ap (behind before) (all_offsets-step s) ∙ rw (sign, e) refl
+    → next_sign s ≡ Some g → constant (drop 1 s) ≡ Err cause → after_items before (all_offsets s) ≡ Err cause
+offsets-fail before g s cause sign e = ap (after_items before) (all_offsets-step s) ∙ rw (sign, e) refl
 
 -- no sign
-pub offsets-end : (before : List OffsetTree) (s : List Symbol) → next_sign s ≡ None → behind before (all_offsets s) ≡ Ok (before, s)
-offsets-end before s none = ap (behind before) (all_offsets-step s) ∙ rw none (simp append-nil)
+pub offsets-end : (before : List OffsetTree) (s : List Symbol)
+    → next_sign s ≡ None
+    → after_items before (all_offsets s) ≡ Ok (before, s)
+offsets-end before s none = ap (after_items before) (all_offsets-step s) ∙ rw none (simp append-nil)
 
-pub behind-nothing : {A : Type 0} (others : Reading (List A)) → behind [] others ≡ others
-behind-nothing (Ok found) = refl
-behind-nothing (Err cause) = refl
+pub after_items-nothing : {A : Type 0} (others : Reading (List A)) → after_items [] others ≡ others
+after_items-nothing (Ok found) = refl
+after_items-nothing (Err cause) = refl
 
-pub ruleset offset_steps = (offsets-more, offsets-fail, offsets-end, behind-nothing)
+pub ruleset offset_steps = (offsets-more, offsets-fail, offsets-end, after_items-nothing)
 
--- an item as an element, behind what is read of its subject
+-- an item as an element, after what is read of its subject
 as_element : {A : Type 0} → Reading A → (A → SubjectTree) → Reading ElementTree
-as_element {A} found its = found >>= λ (u : A × List Symbol). item_behind (its u.0) u.1 >>= λ (f : ItemTree × List Symbol). read (ItemElement f.0) f.1
+as_element {A} found its =
+    found >>= λ (u : A × List Symbol).
+    item_after (its u.0) u.1 >>= λ (f : ItemTree × List Symbol).
+    read (ItemElement f.0) f.1
 
 whole_element : Reading SubjectTree → Reading ElementTree
 whole_element found =
-    (found >>= λ (u : SubjectTree × List Symbol). item_behind u.0 u.1) >>= λ (f : ItemTree × List Symbol). read (ItemElement f.0) f.1
+    (found >>= λ (u : SubjectTree × List Symbol). item_after u.0 u.1) >>= λ (f : ItemTree × List Symbol).
+    read (ItemElement f.0) f.1
 
-whole_element-is : {A : Type 0} (found : Reading A) (its : A → SubjectTree) → whole_element (found >>= λ (u : A × List Symbol). read (its u.0) u.1) ≡ as_element found its
+whole_element-is : {A : Type 0} (found : Reading A) (its : A → SubjectTree)
+    → whole_element (found >>= λ (u : A × List Symbol). read (its u.0) u.1) ≡ as_element found its
 unfolding whole_element as_element
 whole_element-is (Ok u) its = refl
 whole_element-is (Err cause) its = refl
 
 -- an element by its first symbol
-pub element-named : (s : List Symbol) (own : Identifier) → next_name s ≡ Some own → element s ≡ element_behind own (drop 1 s)
+pub element-named : (s : List Symbol) (own : Identifier)
+    → next_name s ≡ Some own
+    → element s ≡ element_after own (drop 1 s)
 unfolding element item subject whole_element as_element
 element-named s own e =
     ap (λ g. element_of g s) e
-    ∙ ap (λ k. if at_word Literally (drop 1 s) then (string (drop 1 (drop 1 s)) >>= λ (t : StringTree × List Symbol). read (LiterallyElement own t.0) t.1) else k)
+    ∙ ap (λ k. if at_word Literally (drop 1 s) then
+    (string (drop 1 (drop 1 s)) >>= λ (t : StringTree × List Symbol). read (LiterallyElement own t.0) t.1)
+    else k)
     (ap (λ g. whole_element (subject_of g s)) e ∙ whole_element-is (base (drop 1 s)) (SingleSubject own))
 
 pub element-grouped : (s : List Symbol) → next_name s ≡ None → element s ≡ group_element s
 unfolding element item subject whole_element as_element
 element-grouped s e =
-    ap (λ g. element_of g s) e ∙ ap (λ g. whole_element (subject_of g s)) e ∙ whole_element-is (names s) GroupSubject
+    ap (λ g. element_of g s) e ∙ ap (λ g. whole_element (subject_of g s)) e
+    ∙ whole_element-is (names s) GroupSubject
 
 pub ruleset element_is = (element-named, element-grouped)
 
 -- offsets go on by a sign and a constant
-pub offsets_go_on : (whole : Reading (List OffsetTree)) (found more : List Offset) (next : Offset) (s after r : List Symbol)
-    → whole ≡ behind (map offset_tree found) (all_offsets s) → Some next.sign ≡ next_sign s → after ≡ drop 1 s → constant after ≡ Ok (constant_tree next.constant, r) → more ≡ found ++ next ∷ []
-    → whole ≡ behind (map offset_tree more) (all_offsets r)
+pub offsets_go_on : (whole : Reading (List OffsetTree)) (found more : List Offset) (next : Offset)
+    (s after r : List Symbol)
+    → whole ≡ after_items (map offset_tree found) (all_offsets s)
+    → Some next.sign ≡ next_sign s
+    → after ≡ drop 1 s
+    → constant after ≡ Ok (constant_tree next.constant, r)
+    → more ≡ found ++ next ∷ []
+    → whole ≡ after_items (map offset_tree more) (all_offsets r)
 offsets_go_on whole found more next s after r is at skipped e pushed =
-    is ∙ offsets-more (map offset_tree found) next.sign (constant_tree next.constant) s r (sym at) (ap constant (sym skipped) ∙ e)
-    ∙ ap (λ l. behind l (all_offsets r)) (sym (ap (map offset_tree) pushed ∙ map-append offset_tree found (next ∷ [])))
+    is ∙ offsets-more (map offset_tree found) next.sign (constant_tree next.constant) s r (sym at)
+    (ap constant (sym skipped) ∙ e)
+    ∙ ap (λ l. after_items l (all_offsets r))
+    (sym (ap (map offset_tree) pushed ∙ map-append offset_tree found (next ∷ [])))

@@ -1,24 +1,29 @@
 -- What reading expressions, and what is declared, gives, and how it ends.
-use Rattle.std.proofs.Common.{◌≡◌, ℕ, Bool, true, false, nat_le, List, ◌∷◌, Some, None, if◌then◌else◌, refl, ◌∙◌, ap, arith}
+use Rattle.std.proofs.Common.{◌≡◌, ℕ, Bool, true, false, nat_le, List, Some, None, if◌then◌else◌, refl, ◌∙◌, ap, arith}
 use Rattle.std.proofs.lemmas.Bool.{leb-true, leb-false}
 use Rattle.std.specs.List.{AllByRecursion}
-use Rattle.words.specs.declared.vocabulary.Mark.TheVariants.{LeftParenthesis, Semicolon}
-use Rattle.trees.specs.Forms.{expr_level, IsExpression, IsReference, AreArguments, IsNotEmpty, IsElement}
+use Rattle.words.specs.declared.vocabulary.Mark.TheVariants.{LeftParenthesis}
+use Rattle.trees.specs.Forms.{expr_level, IsNotEmpty, IsElement}
+use Rattle.trees.specs.internal.Forms.{IsExpression, IsReference, AreArguments}
 use Rattle.trees.specs.Nesting.{expression_height, reference_height, arguments_height}
-use Rattle.trees.specs.Spelling.{expression_symbols, reference_symbols, arguments_symbols, between_commas, element_symbols, heading_symbols}
-use Rattle.trees.specs.Symbols.{Symbol, MarkSymbol}
+use Rattle.trees.specs.Spelling.{between_commas, element_symbols, heading_symbols}
+use Rattle.trees.specs.internal.Spelling.{expression_symbols, reference_symbols, arguments_symbols}
+use Rattle.trees.specs.Symbols.{Symbol}
 use Rattle.trees.specs.Trees.{ExpressionTree, ReferenceTree, ArgumentTrees, ElementTree}
-use Rattle.syntax.specs.internal.Declarations.{elements, heading}
+use Rattle.syntax.specs.internal.Declarations.{element, heading}
+use Rattle.syntax.specs.internal.Lists.{items}
 use Rattle.syntax.specs.internal.Expressions.{expression, reference, arguments}
-use Rattle.syntax.specs.internal.Looking.{TooDeep, Reading, at_mark}
+use Rattle.syntax.specs.internal.Reader.{TooDeep, Reading, at_mark}
 use Rattle.syntax.proofs.DeclarationLaws.{elements-sound, heading-sound}
 use Rattle.syntax.proofs.ExpressionLaws.{depth_fault, EndsReference, EndsExpression, expression-sound, reference-sound, arguments-sound, expression-reads, reference-reads, arguments-reads}
 use Rattle.syntax.proofs.ListLaws.{gave}
-use Rattle.syntax.proofs.VerdictLists.{GetsSpelled}
-use Rattle.syntax.proofs.Verdicts.{Verdict, fits, too_deep}
+use Rattle.syntax.proofs.StatementVerdictLists.{GetsSpelled}
+use Rattle.syntax.proofs.StatementVerdictRules.{Verdict, fits, too_deep}
 
-pub expression-gets : (room : ℕ) → GetsSpelled expression_symbols (IsExpression expr_level) (expression room expr_level)
-expression-gets room s = record { holds = λ a e. let h = expression-sound room expr_level (omega arith) s a.0 a.1 e in (h.0, h.1) }
+pub expression-gets : (room : ℕ)
+    → GetsSpelled expression_symbols (IsExpression expr_level) (expression room expr_level)
+expression-gets room s =
+    record { holds = λ a e. let h = expression-sound room expr_level (omega arith) s a.0 a.1 e in (h.0, h.1) }
 
 pub reference-gets : (room : ℕ) → GetsSpelled reference_symbols IsReference (reference (expression room))
 reference-gets room s = record { holds = λ a e. let h = reference-sound room s a.0 a.1 e in (h.0, h.1) }
@@ -26,32 +31,48 @@ reference-gets room s = record { holds = λ a e. let h = reference-sound room s 
 pub arguments-gets : (room : ℕ) → GetsSpelled arguments_symbols AreArguments (arguments (expression room))
 arguments-gets room s = record { holds = λ a e. let h = arguments-sound room s a.0 a.1 e in (h.0, h.1) }
 
--- the elements that DECLARE declares, with the semicolon behind them
+-- the elements that DECLARE declares
 abbrev pub elements_symbols : List ElementTree → List Symbol → List Symbol
-elements_symbols elements rest = between_commas element_symbols elements (MarkSymbol Semicolon ∷ rest)
+elements_symbols elements rest = between_commas element_symbols elements rest
 
-pub elements-gets : GetsSpelled elements_symbols (λ all. IsNotEmpty all × AllByRecursion IsElement all) elements
+pub elements-gets : GetsSpelled elements_symbols (λ all. IsNotEmpty all × AllByRecursion IsElement all)
+    (items element)
 elements-gets s = record { holds = λ a e. let h = elements-sound s a.1 a.0 e in (h.0, (h.1, h.2)) }
 
 pub heading-gets : GetsSpelled heading_symbols (λ h. Unit {0}) heading
 heading-gets s = record { holds = λ a e. (heading-sound s a.1 a.0 e, tt) }
 
 -- what fails only for the depth
-depth-verdict : {A : Type 0} {r : Reading A} {a : A} {rest : List Symbol} {height room : ℕ} {strict : Bool} → r ≡ gave (depth_fault height room) a rest → Verdict r (a, rest) strict room height (Unit {0})
-depth-verdict {r = r} {a = a} {rest = rest} {height = height} {room = room} {strict = strict} e = go (nat_le height room) refl
+depth-verdict : {A : Type 0} {r : Reading A} {a : A} {rest : List Symbol} {height room : ℕ} {strict : Bool}
+    → r ≡ gave (depth_fault height room) a rest
+    → Verdict r (a, rest) strict room height (Unit {0})
+depth-verdict {r = r} {a = a} {rest = rest} {height = height} {room = room} {strict = strict} e =
+    go (nat_le height room) refl
   where
     go : (b : Bool) → nat_le height room ≡ b → Verdict r (a, rest) strict room height (Unit {0})
-    go true h = fits (e ∙ ap (λ t. gave (if t then None else Some TooDeep) a rest) h) (leb-true height room h) (λ _. tt)
-    go false h = too_deep (e ∙ ap (λ t. gave (if t then None else Some TooDeep) a rest) h) (leb-false height room h)
+    go true h =
+        fits (e ∙ ap (λ t. gave (if t then None else Some TooDeep) a rest) h) (leb-true height room h)
+        (λ _. tt)
+    go false h =
+        too_deep (e ∙ ap (λ t. gave (if t then None else Some TooDeep) a rest) h) (leb-false height room h)
 
-pub expression-verdict : (strict : Bool) (room level : ℕ) (t : ExpressionTree) (r : List Symbol) → IsExpression level t → EndsExpression r
-    → Verdict (expression room level (expression_symbols t r)) (t, r) strict room (expression_height t) (Unit {0})
+pub expression-verdict : (strict : Bool) (room level : ℕ) (t : ExpressionTree) (r : List Symbol)
+    → IsExpression level t
+    → EndsExpression r
+    → Verdict (expression room level (expression_symbols t r)) (t, r) strict room (expression_height t)
+    (Unit {0})
 expression-verdict strict room level t r h ends = depth-verdict (expression-reads room level t r h ends)
 
-pub reference-verdict : (strict : Bool) (room : ℕ) (t : ReferenceTree) (r : List Symbol) → IsReference t → EndsReference r
-    → Verdict (reference (expression room) (reference_symbols t r)) (t, r) strict room (reference_height t) (Unit {0})
+pub reference-verdict : (strict : Bool) (room : ℕ) (t : ReferenceTree) (r : List Symbol)
+    → IsReference t
+    → EndsReference r
+    → Verdict (reference (expression room) (reference_symbols t r)) (t, r) strict room (reference_height t)
+    (Unit {0})
 reference-verdict strict room t r h ends = depth-verdict (reference-reads room t r h ends)
 
-pub arguments-verdict : (strict : Bool) (room : ℕ) (t : ArgumentTrees) (r : List Symbol) → AreArguments t → at_mark LeftParenthesis r ≡ false
-    → Verdict (arguments (expression room) (arguments_symbols t r)) (t, r) strict room (arguments_height t) (Unit {0})
+pub arguments-verdict : (strict : Bool) (room : ℕ) (t : ArgumentTrees) (r : List Symbol)
+    → AreArguments t
+    → at_mark LeftParenthesis r ≡ false
+    → Verdict (arguments (expression room) (arguments_symbols t r)) (t, r) strict room (arguments_height t)
+    (Unit {0})
 arguments-verdict strict room t r h ends = depth-verdict (arguments-reads room t r h ends)

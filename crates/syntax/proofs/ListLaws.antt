@@ -6,18 +6,18 @@ use Rattle.trees.specs.Forms.{IsNotEmpty}
 use Rattle.trees.specs.Spelling.{more_after_commas, between_commas}
 use Rattle.trees.specs.Symbols.{Symbol, MarkSymbol}
 use Rattle.syntax.specs.internal.Lists.{more_items, all_more_items, items, many_items, many, Keeps, Shrinks}
-use Rattle.syntax.specs.internal.Looking.{Cause, Unexpected, Reading, ◌>>=◌, at_mark}
-use Rattle.syntax.proofs.LookingLemmas.{at_mark-is, if_true, if_false, if_cases, if_ok, bind_ok, bind_at, bind_fails, read, same_reading}
+use Rattle.syntax.specs.internal.Reader.{Parser, Cause, Unexpected, Reading, ◌>>=◌, at_mark}
+use Rattle.syntax.proofs.ReaderLemmas.{at_mark-is, if_true, if_false, if_cases, if_ok, bind_ok, bind_at, bind_fails, read, same_reading}
 
 -- an item, and then others
-abbrev pub item_then : {A : Type 0} → (List Symbol → Reading A) → (List Symbol → Reading (List A)) → List Symbol → Reading (List A)
+abbrev pub item_then : {A : Type 0} → (Parser A) → (Parser (List A)) → Parser (List A)
 item_then item again symbols = do
   first ← item symbols
   others ← again first.1
   Ok (first.0 ∷ others.0, others.1)
 
 -- an item alone matters where what goes on is the same
-item_then-same : {A : Type 0} (item : List Symbol → Reading A) (again other : List Symbol → Reading (List A)) (s : List Symbol)
+item_then-same : {A : Type 0} (item : Parser A) (again other : Parser (List A)) (s : List Symbol)
     → ((a : A) (r : List Symbol) → item s ≡ read a r → again r ≡ other r)
     → item_then item again s ≡ item_then item other s
 item_then-same {A} item again other s same = go (item s) same
@@ -29,7 +29,11 @@ item_then-same {A} item again other s same = go (item s) same
     go (Err c) h = refl
 
 -- any count that is enough gives the same
-pub more_items-enough : {A : Type 0} (item : List Symbol → Reading A) → Keeps item → (count more : ℕ) (s : List Symbol) → length s ≤ count → length s ≤ more
+pub more_items-enough : {A : Type 0} (item : Parser A)
+    → Keeps item
+    → (count more : ℕ) (s : List Symbol)
+    → length s ≤ count
+    → length s ≤ more
     → more_items item count s ≡ more_items item more s
 more_items-enough item keeps zero zero s l h = refl
 more_items-enough item keeps zero (suc more) [] l h = refl
@@ -40,21 +44,29 @@ more_items-enough item keeps (suc count) (suc more) [] l h = refl
 more_items-enough item keeps (suc count) (suc more) (x ∷ s) l h =
     ap (λ t. if at_mark Comma (x ∷ s) then t else read [] (x ∷ s))
     (item_then-same item (more_items item count) (more_items item more) s
-    (λ a r e. let short : length r ≤ length s = keeps s r a e in more_items-enough item keeps count more r (omega arith) (omega arith)))
+    (λ a r e. let short : length r ≤ length s = keeps s r a e in
+    more_items-enough item keeps count more r (omega arith) (omega arith)))
 
 -- {`,` item}
-pub all_more_items-step : {A : Type 0} (item : List Symbol → Reading A) → Keeps item → (s : List Symbol)
-    → all_more_items item s ≡ (if at_mark Comma s then item_then item (all_more_items item) (drop 1 s) else read [] s)
+pub all_more_items-step : {A : Type 0} (item : Parser A) → Keeps item → (s : List Symbol)
+    → all_more_items item s
+    ≡ (if at_mark Comma s then item_then item (all_more_items item) (drop 1 s) else read [] s)
 unfolding all_more_items
 all_more_items-step item keeps [] = refl
 all_more_items-step item keeps (x ∷ s) =
     ap (λ t. if at_mark Comma (x ∷ s) then t else read [] (x ∷ s))
     (item_then-same item (more_items item (length s)) (all_more_items item) s
-    (λ a r e. let short : length r ≤ length s = keeps s r a e in more_items-enough item keeps (length s) (length r) r (omega arith) (omega arith)))
+    (λ a r e. let short : length r ≤ length s = keeps s r a e in
+    more_items-enough item keeps (length s) (length r) r (omega arith) (omega arith)))
 
 -- where there is nothing left and no end, there is no item
-pub many_items-enough : {A : Type 0} (ends : List Symbol → Bool) (item : List Symbol → Reading A) → Shrinks item → item [] ≡ Err Unexpected
-    → (count more : ℕ) (s : List Symbol) → length s ≤ count → length s ≤ more → many_items ends item count s ≡ many_items ends item more s
+pub many_items-enough : {A : Type 0} (ends : List Symbol → Bool) (item : Parser A)
+    → Shrinks item
+    → item [] ≡ Err Unexpected
+    → (count more : ℕ) (s : List Symbol)
+    → length s ≤ count
+    → length s ≤ more
+    → many_items ends item count s ≡ many_items ends item more s
 many_items-enough ends item shrinks none zero zero s l h = refl
 many_items-enough ends item shrinks none zero (suc more) [] l h =
     ap (λ t. if ends [] then read [] [] else t) (sym (bind_fails (item []) _ Unexpected none))
@@ -65,14 +77,20 @@ many_items-enough ends item shrinks none (suc count) zero (x ∷ s) l h = absurd
 many_items-enough ends item shrinks none (suc count) (suc more) s l h =
     ap (λ t. if ends s then read [] s else t)
     (item_then-same item (many_items ends item count) (many_items ends item more) s
-    (λ a r e. let short : length r < length s = shrinks s r a e in many_items-enough ends item shrinks none count more r (omega arith) (omega arith)))
+    (λ a r e. let short : length r < length s = shrinks s r a e in
+    many_items-enough ends item shrinks none count more r (omega arith) (omega arith)))
 
 -- if an item can be read at all, then there is none where nothing is left
-abbrev pub Starts : {A : Type 0} → (List Symbol → Reading A) → Type 0
-Starts {A} item = (symbols rest : List Symbol) (a : A) → item symbols ≡ Ok (a, rest) → item [] ≡ Err Unexpected
+abbrev pub Starts : {A : Type 0} → (Parser A) → Type 0
+Starts {A} item =
+    (symbols rest : List Symbol) (a : A) → item symbols ≡ Ok (a, rest) → item [] ≡ Err Unexpected
 
 -- {item}, where there is a symbol
-pub many-step : {A : Type 0} (ends : List Symbol → Bool) (item : List Symbol → Reading A) → Shrinks item → Starts item → (s : List Symbol) → 0 < length s
+pub many-step : {A : Type 0} (ends : List Symbol → Bool) (item : Parser A)
+    → Shrinks item
+    → Starts item
+    → (s : List Symbol)
+    → 0 < length s
     → many ends item s ≡ (if ends s then read [] s else item_then item (many ends item) s)
 unfolding many
 many-step ends item shrinks starts [] long = absurd (omega arith)
@@ -81,30 +99,28 @@ many-step ends item shrinks starts (x ∷ s) long =
     (item_then-same item (many_items ends item (length s)) (many ends item) (x ∷ s)
     (λ a r e.
     let short : length r < length (x ∷ s) = shrinks (x ∷ s) r a e in
-    many_items-enough ends item shrinks (starts (x ∷ s) r a e) (length s) (length r) r (omega arith) (omega arith)))
+    many_items-enough ends item shrinks (starts (x ∷ s) r a e) (length s) (length r) r (omega arith)
+    (omega arith)))
 
 -- {item}, where nothing is left
-pub many-nothing : {A : Type 0} (ends : List Symbol → Bool) (item : List Symbol → Reading A) → many ends item [] ≡ (if ends [] then read [] [] else Err Unexpected)
+pub many-nothing : {A : Type 0} (ends : List Symbol → Bool) (item : Parser A)
+    → many ends item [] ≡ (if ends [] then read [] [] else Err Unexpected)
 unfolding many
 many-nothing ends item = refl
 
 -- {item}, where the list ends
-pub many-end : {A : Type 0} (ends : List Symbol → Bool) (item : List Symbol → Reading A) (s : List Symbol) → ends s ≡ true → many ends item s ≡ read [] s
+pub many-end : {A : Type 0} (ends : List Symbol → Bool) (item : Parser A) (s : List Symbol)
+    → ends s ≡ true
+    → many ends item s ≡ read [] s
 unfolding many
 many-end ends item [] end = if_true (ends []) _ _ end
 many-end ends item (x ∷ s) end = if_true (ends (x ∷ s)) _ _ end
 
--- {item}, where no item begins with nothing
-pub many-equation : {A : Type 0} (ends : List Symbol → Bool) (item : List Symbol → Reading A) → Shrinks item → item [] ≡ Err Unexpected → (s : List Symbol)
-    → many ends item s ≡ (if ends s then read [] s else item_then item (many ends item) s)
-many-equation ends item shrinks none [] =
-    many-nothing ends item ∙ ap (λ t. if ends [] then read [] [] else t) (sym (bind_fails (item []) _ Unexpected none))
-many-equation ends item shrinks none (x ∷ s) = many-step ends item shrinks (λ _ _ _ _. none) (x ∷ s) (omega arith)
-
 -- the parts of an item and others
-pub item_then-ok : {A : Type 0} (item : List Symbol → Reading A) (again : List Symbol → Reading (List A)) (s r : List Symbol) (all : List A)
+pub item_then-ok : {A : Type 0} (item : Parser A) (again : Parser (List A)) (s r : List Symbol) (all : List A)
     → item_then item again s ≡ read all r
-    → (a : A) × (rest : List Symbol) × (others : List A) × (item s ≡ read a rest) × (again rest ≡ read others r) × (all ≡ a ∷ others)
+    → (a : A) × (rest : List Symbol) × (others : List A) × (item s ≡ read a rest)
+    × (again rest ≡ read others r) × (all ≡ a ∷ others)
 item_then-ok item again s r all e =
     let first = bind_ok (item s) _ _ e in
     let others = bind_ok (again first.0.1) _ _ first.2 in
@@ -112,83 +128,63 @@ item_then-ok item again s r all e =
     (first.0.0, first.0.1, others.0.0, first.1, others.1 ∙ ap (λ q. read others.0.0 q) same.1, sym same.0)
 
 -- what an item is spelled by, and what holds of it
-abbrev pub IsSound : {A : Type 0} → (List Symbol → Reading A) → (A → List Symbol → List Symbol) → (A → Type 0) → Type 0
-IsSound {A} item spell P = (symbols rest : List Symbol) (a : A) → item symbols ≡ Ok (a, rest) → (symbols ≡ spell a rest) × P a
+abbrev pub IsSound : {A : Type 0} → (Parser A) → (A → List Symbol → List Symbol) → (A → Type 0) → Type 0
+IsSound {A} item spell P =
+    (symbols rest : List Symbol) (a : A) → item symbols ≡ Ok (a, rest) → (symbols ≡ spell a rest) × P a
 
--- what items behind commas are spelled by
-abbrev IsRest : {A : Type 0} → (A → List Symbol → List Symbol) → (A → Type 0) → List Symbol → List Symbol → List A → Type 0
+-- what items after commas are spelled by
+abbrev IsRest : {A : Type 0}
+    → (A → List Symbol → List Symbol)
+    → (A → Type 0)
+    → List Symbol
+    → List Symbol
+    → List A
+    → Type 0
 IsRest spell P s r all = (s ≡ more_after_commas spell all r) × AllByRecursion P all
 
-no_rest : {A : Type 0} (spell : A → List Symbol → List Symbol) (P : A → Type 0) (s r : List Symbol) (all : List A) → read [] s ≡ read all r → IsRest spell P s r all
+no_rest : {A : Type 0} (spell : A → List Symbol → List Symbol) (P : A → Type 0) (s r : List Symbol)
+    (all : List A)
+    → read [] s ≡ read all r
+    → IsRest spell P s r all
 no_rest spell P s r [] e = ((same_reading [] [] s r e).1, tt)
 no_rest spell P s r (a ∷ all) e = absurd (let none : [] ≡ a ∷ all = (same_reading [] (a ∷ all) s r e).0 in cc)
 
-more_items-sound : {A : Type 0} (item : List Symbol → Reading A) (spell : A → List Symbol → List Symbol) (P : A → Type 0) → IsSound item spell P
-    → (count : ℕ) (s r : List Symbol) (all : List A) → more_items item count s ≡ read all r → IsRest spell P s r all
+more_items-sound : {A : Type 0} (item : Parser A) (spell : A → List Symbol → List Symbol) (P : A → Type 0)
+    → IsSound item spell P
+    → (count : ℕ) (s r : List Symbol) (all : List A)
+    → more_items item count s ≡ read all r
+    → IsRest spell P s r all
 more_items-sound item spell P sound zero s r all e = no_rest spell P s r all e
 more_items-sound item spell P sound (suc count) s r all e =
     ⊎_elim
     (λ yes_comma.
     let parts = item_then-ok item (more_items item count) (drop 1 s) r all yes_comma.1 in
     let first = sound (drop 1 s) parts.1 parts.0 parts.3 in
-    let behind = more_items-sound item spell P sound count parts.1 r parts.2 parts.4 in
+    let later = more_items-sound item spell P sound count parts.1 r parts.2 parts.4 in
     let comma : s ≡ MarkSymbol Comma ∷ drop 1 s = at_mark-is Comma s yes_comma.0 in
     let spelled : s ≡ more_after_commas spell (parts.0 ∷ parts.2) r =
-    comma ∙ ap (λ k. MarkSymbol Comma ∷ k) (first.0 ∙ ap (spell parts.0) behind.0) in
-    subst (IsRest spell P s r) (sym parts.5) (spelled, (first.1, behind.1)))
+    comma ∙ ap (λ k. MarkSymbol Comma ∷ k) (first.0 ∙ ap (spell parts.0) later.0) in
+    subst (IsRest spell P s r) (sym parts.5) (spelled, (first.1, later.1)))
     (λ no_comma. no_rest spell P s r all no_comma.1)
     (if_cases (at_mark Comma s) _ _ _ e)
 
 -- what items are spelled by
-pub items-sound : {A : Type 0} (item : List Symbol → Reading A) (spell : A → List Symbol → List Symbol) (P : A → Type 0) → IsSound item spell P
-    → (s r : List Symbol) (all : List A) → items item s ≡ read all r → (s ≡ between_commas spell all r) × IsNotEmpty all × AllByRecursion P all
+pub items-sound : {A : Type 0} (item : Parser A) (spell : A → List Symbol → List Symbol) (P : A → Type 0)
+    → IsSound item spell P
+    → (s r : List Symbol) (all : List A)
+    → items item s ≡ read all r
+    → (s ≡ between_commas spell all r) × IsNotEmpty all × AllByRecursion P all
 unfolding all_more_items
 items-sound item spell P sound s r all e =
     let parts = item_then-ok item (all_more_items item) s r all e in
     let first = sound s parts.1 parts.0 parts.3 in
-    let behind = more_items-sound item spell P sound (length parts.1) parts.1 r parts.2 parts.4 in
-    let spelled : s ≡ between_commas spell (parts.0 ∷ parts.2) r = first.0 ∙ ap (spell parts.0) behind.0 in
-    subst (λ l. (s ≡ between_commas spell l r) × IsNotEmpty l × AllByRecursion P l) (sym parts.5) (spelled, tt, (first.1, behind.1))
-
--- {..}
-abbrev pub one_after_another : {A : Type 0} → (A → List Symbol → List Symbol) → List A → List Symbol → List Symbol
-one_after_another symbols [] rest = rest
-one_after_another symbols (first ∷ others) rest = symbols first (one_after_another symbols others rest)
-
-abbrev AreMany : {A : Type 0} → (List Symbol → Bool) → (A → List Symbol → List Symbol) → (A → Type 0) → List Symbol → List Symbol → List A → Type 0
-AreMany ends spell P s r all = (s ≡ one_after_another spell all r) × (ends r ≡ true) × AllByRecursion P all
-
-not_many : {A : Type 0} (ends : List Symbol → Bool) (spell : A → List Symbol → List Symbol) (P : A → Type 0) (s r : List Symbol) (all : List A)
-    → ends s ≡ true → read [] s ≡ read all r → AreMany ends spell P s r all
-not_many ends spell P s r [] end e =
-    let same = (same_reading [] [] s r e).1 in
-    (same, ap ends (sym same) ∙ end, tt)
-not_many ends spell P s r (a ∷ all) end e = absurd (let none : [] ≡ a ∷ all = (same_reading [] (a ∷ all) s r e).0 in cc)
-
-many_items-sound : {A : Type 0} (ends : List Symbol → Bool) (item : List Symbol → Reading A) (spell : A → List Symbol → List Symbol) (P : A → Type 0) → IsSound item spell P
-    → (count : ℕ) (s r : List Symbol) (all : List A) → many_items ends item count s ≡ read all r → AreMany ends spell P s r all
-many_items-sound ends item spell P sound zero s r all e =
-    let parts = if_ok (ends s) (read [] s) Unexpected (all, r) e in
-    not_many ends spell P s r all parts.0 parts.1
-many_items-sound ends item spell P sound (suc count) s r all e =
-    ⊎_elim
-    (λ at_end. not_many ends spell P s r all at_end.0 at_end.1)
-    (λ goes_on.
-    let parts = item_then-ok item (many_items ends item count) s r all goes_on.1 in
-    let first = sound s parts.1 parts.0 parts.3 in
-    let behind = many_items-sound ends item spell P sound count parts.1 r parts.2 parts.4 in
-    let spelled : s ≡ one_after_another spell (parts.0 ∷ parts.2) r = first.0 ∙ ap (spell parts.0) behind.0 in
-    subst (AreMany ends spell P s r) (sym parts.5) (spelled, behind.1, (first.1, behind.2)))
-    (if_cases (ends s) _ _ _ e)
-
--- what one after another is spelled by, up to where the list ends
-pub many-sound : {A : Type 0} (ends : List Symbol → Bool) (item : List Symbol → Reading A) (spell : A → List Symbol → List Symbol) (P : A → Type 0) → IsSound item spell P
-    → (s r : List Symbol) (all : List A) → many ends item s ≡ read all r → (s ≡ one_after_another spell all r) × (ends r ≡ true) × AllByRecursion P all
-unfolding many
-many-sound ends item spell P sound s r all e = many_items-sound ends item spell P sound (length s) s r all e
+    let later = more_items-sound item spell P sound (length parts.1) parts.1 r parts.2 parts.4 in
+    let spelled : s ≡ between_commas spell (parts.0 ∷ parts.2) r = first.0 ∙ ap (spell parts.0) later.0 in
+    subst (λ l. (s ≡ between_commas spell l r) × IsNotEmpty l × AllByRecursion P l) (sym parts.5)
+    (spelled, tt, (first.1, later.1))
 
 -- what is read, or why there is nothing
-abbrev pub gave : {A : Type 0} → Option Cause → A → List Symbol → Reading A
+abbrev pub gave : {A : Type 0} → Option Cause → A → Parser A
 gave None a rest = Ok (a, rest)
 gave (Some cause) a rest = Err cause
 
@@ -201,124 +197,65 @@ abbrev pub first_fault : {A : Type 0} → (A → Option Cause) → List A → Op
 first_fault fault [] = None
 first_fault fault (first ∷ others) = earlier (fault first) (first_fault fault others)
 
--- no fault at all
-pub first_fault-none : {A : Type 0} (fault : A → Option Cause) → ((a : A) → fault a ≡ None) → (all : List A) → first_fault fault all ≡ None
-first_fault-none fault none [] = refl
-first_fault-none fault none (a ∷ all) = ap (λ f. earlier f (first_fault fault all)) (none a) ∙ first_fault-none fault none all
-
 -- an item and others, with their faults
-pub item_then-gave : {A : Type 0} (item : List Symbol → Reading A) (again : List Symbol → Reading (List A)) (s rest r : List Symbol) (a : A) (others : List A) (fault other : Option Cause)
-    → item s ≡ gave fault a rest → again rest ≡ gave other others r → item_then item again s ≡ gave (earlier fault other) (a ∷ others) r
+pub item_then-gave : {A : Type 0} (item : Parser A) (again : Parser (List A)) (s rest r : List Symbol) (a : A)
+    (others : List A) (fault other : Option Cause)
+    → item s ≡ gave fault a rest
+    → again rest ≡ gave other others r
+    → item_then item again s ≡ gave (earlier fault other) (a ∷ others) r
 item_then-gave item again s rest r a others (Some cause) other e h = bind_fails (item s) _ cause e
-item_then-gave item again s rest r a others None (Some cause) e h = bind_at (item s) _ (a, rest) e ∙ bind_fails (again rest) _ cause h
-item_then-gave item again s rest r a others None None e h = bind_at (item s) _ (a, rest) e ∙ bind_at (again rest) _ (others, r) h
+item_then-gave item again s rest r a others None (Some cause) e h =
+    bind_at (item s) _ (a, rest) e ∙ bind_fails (again rest) _ cause h
+item_then-gave item again s rest r a others None None e h =
+    bind_at (item s) _ (a, rest) e ∙ bind_at (again rest) _ (others, r) h
 
--- each value that has the form is read again, or has a fault, where what stands behind it may stand there
-abbrev pub Reads : {A : Type 0} → (List Symbol → Reading A) → (A → List Symbol → List Symbol) → (A → Type 0) → (List Symbol → Type 0) → (A → Option Cause) → Type 0
-Reads {A} item spell P Behind fault = (a : A) (rest : List Symbol) → P a → Behind rest → item (spell a rest) ≡ gave (fault a) a rest
+-- each value that has the form is read again, or has a fault, where what stands after it may stand there
+abbrev pub Reads : {A : Type 0}
+    → (Parser A)
+    → (A → List Symbol → List Symbol)
+    → (A → Type 0)
+    → (List Symbol → Type 0)
+    → (A → Option Cause)
+    → Type 0
+Reads {A} item spell P Follows fault =
+    (a : A) (rest : List Symbol) → P a → Follows rest → item (spell a rest) ≡ gave (fault a) a rest
 
-more_items-reads : {A : Type 0} (item : List Symbol → Reading A) (spell : A → List Symbol → List Symbol) (P : A → Type 0) (Behind : List Symbol → Type 0) (fault : A → Option Cause)
-    → Keeps item → Reads item spell P Behind fault → ((rest : List Symbol) → Behind (MarkSymbol Comma ∷ rest))
-    → (all : List A) (r : List Symbol) → AllByRecursion P all → Behind r → at_mark Comma r ≡ false
+more_items-reads : {A : Type 0} (item : Parser A) (spell : A → List Symbol → List Symbol) (P : A → Type 0)
+    (Follows : List Symbol → Type 0) (fault : A → Option Cause)
+    → Keeps item → Reads item spell P Follows fault → ((rest : List Symbol) → Follows (MarkSymbol Comma ∷ rest))
+    → (all : List A) (r : List Symbol) → AllByRecursion P all → Follows r → at_mark Comma r ≡ false
     → all_more_items item (more_after_commas spell all r) ≡ gave (first_fault fault all) all r
-more_items-reads item spell P Behind fault keeps reads comma [] r h behind ends =
+more_items-reads item spell P Follows fault keeps reads comma [] r h later ends =
     all_more_items-step item keeps r ∙ if_false (at_mark Comma r) _ _ ends
-more_items-reads item spell P Behind fault keeps reads comma (a ∷ []) r h behind ends =
+more_items-reads item spell P Follows fault keeps reads comma (a ∷ []) r h later ends =
     all_more_items-step item keeps (more_after_commas spell (a ∷ []) r)
-    ∙ item_then-gave item (all_more_items item) (spell a r) r r a [] (fault a) None (reads a r h.0 behind)
-    (more_items-reads item spell P Behind fault keeps reads comma [] r h.1 behind ends)
-more_items-reads item spell P Behind fault keeps reads comma (a ∷ b ∷ all) r h behind ends =
+    ∙ item_then-gave item (all_more_items item) (spell a r) r r a [] (fault a) None (reads a r h.0 later)
+    (more_items-reads item spell P Follows fault keeps reads comma [] r h.1 later ends)
+more_items-reads item spell P Follows fault keeps reads comma (a ∷ b ∷ all) r h later ends =
     let others : List Symbol = more_after_commas spell (b ∷ all) r in
     all_more_items-step item keeps (more_after_commas spell (a ∷ b ∷ all) r)
-    ∙ item_then-gave item (all_more_items item) (spell a others) others r a (b ∷ all) (fault a) (first_fault fault (b ∷ all))
+    ∙ item_then-gave item (all_more_items item) (spell a others) others r a (b ∷ all) (fault a)
+    (first_fault fault (b ∷ all))
     (reads a others h.0 (comma _))
-    (more_items-reads item spell P Behind fault keeps reads comma (b ∷ all) r h.1 behind ends)
+    (more_items-reads item spell P Follows fault keeps reads comma (b ∷ all) r h.1 later ends)
 
 -- items that are spelled are read again
-pub items-reads : {A : Type 0} (item : List Symbol → Reading A) (spell : A → List Symbol → List Symbol) (P : A → Type 0) (Behind : List Symbol → Type 0) (fault : A → Option Cause)
-    → Keeps item → Reads item spell P Behind fault → ((rest : List Symbol) → Behind (MarkSymbol Comma ∷ rest))
-    → (all : List A) (r : List Symbol) → IsNotEmpty all → AllByRecursion P all → Behind r → at_mark Comma r ≡ false
+pub items-reads : {A : Type 0} (item : Parser A) (spell : A → List Symbol → List Symbol) (P : A → Type 0)
+    (Follows : List Symbol → Type 0) (fault : A → Option Cause)
+    → Keeps item → Reads item spell P Follows fault → ((rest : List Symbol) → Follows (MarkSymbol Comma ∷ rest))
+    → (all : List A) (r : List Symbol)
+    → IsNotEmpty all
+    → AllByRecursion P all
+    → Follows r
+    → at_mark Comma r ≡ false
     → items item (between_commas spell all r) ≡ gave (first_fault fault all) all r
-items-reads item spell P Behind fault keeps reads comma [] r some h behind ends = absurd some
-items-reads item spell P Behind fault keeps reads comma (a ∷ []) r some h behind ends =
-    item_then-gave item (all_more_items item) (spell a r) r r a [] (fault a) None (reads a r h.0 behind)
-    (more_items-reads item spell P Behind fault keeps reads comma [] r tt behind ends)
-items-reads item spell P Behind fault keeps reads comma (a ∷ b ∷ all) r some h behind ends =
+items-reads item spell P Follows fault keeps reads comma [] r some h later ends = absurd some
+items-reads item spell P Follows fault keeps reads comma (a ∷ []) r some h later ends =
+    item_then-gave item (all_more_items item) (spell a r) r r a [] (fault a) None (reads a r h.0 later)
+    (more_items-reads item spell P Follows fault keeps reads comma [] r tt later ends)
+items-reads item spell P Follows fault keeps reads comma (a ∷ b ∷ all) r some h later ends =
     let others : List Symbol = more_after_commas spell (b ∷ all) r in
-    item_then-gave item (all_more_items item) (spell a others) others r a (b ∷ all) (fault a) (first_fault fault (b ∷ all))
+    item_then-gave item (all_more_items item) (spell a others) others r a (b ∷ all) (fault a)
+    (first_fault fault (b ∷ all))
     (reads a others h.0 (comma _))
-    (more_items-reads item spell P Behind fault keeps reads comma (b ∷ all) r h.1 behind ends)
-
--- one after another that are spelled are read again, up to where the list ends
-pub many-reads : {A : Type 0} (ends : List Symbol → Bool) (item : List Symbol → Reading A) (spell : A → List Symbol → List Symbol) (P : A → Type 0) (Behind : List Symbol → Type 0) (fault : A → Option Cause)
-    → Shrinks item → Starts item → Reads item spell P Behind fault
-    → ((a : A) (rest : List Symbol) → P a → Behind (spell a rest) × (ends (spell a rest) ≡ false) × (0 < length (spell a rest)))
-    → (all : List A) (r : List Symbol) → AllByRecursion P all → Behind r → ends r ≡ true
-    → many ends item (one_after_another spell all r) ≡ gave (first_fault fault all) all r
-many-reads ends item spell P Behind fault shrinks starts reads begins [] r h behind end = many-end ends item r end
-many-reads ends item spell P Behind fault shrinks starts reads begins (a ∷ []) r h behind end =
-    let head = begins a r h.0 in
-    many-step ends item shrinks starts (spell a r) head.2
-    ∙ if_false (ends (spell a r)) _ _ head.1
-    ∙ item_then-gave item (many ends item) (spell a r) r r a [] (fault a) None (reads a r h.0 behind)
-    (many-reads ends item spell P Behind fault shrinks starts reads begins [] r tt behind end)
-many-reads ends item spell P Behind fault shrinks starts reads begins (a ∷ b ∷ all) r h behind end =
-    let others : List Symbol = one_after_another spell (b ∷ all) r in
-    let head = begins a others h.0 in
-    let next = begins b (one_after_another spell all r) h.1.0 in
-    many-step ends item shrinks starts (spell a others) head.2
-    ∙ if_false (ends (spell a others)) _ _ head.1
-    ∙ item_then-gave item (many ends item) (spell a others) others r a (b ∷ all) (fault a) (first_fault fault (b ∷ all))
-    (reads a others h.0 next.0)
-    (many-reads ends item spell P Behind fault shrinks starts reads begins (b ∷ all) r h.1 behind end)
-
--- lists take no symbols away from behind them
-more_items-keeps : {A : Type 0} (item : List Symbol → Reading A) → Keeps item → (count : ℕ) → Keeps (more_items item count)
-more_items-keeps item keeps zero s r all e = let same : s ≡ r = (same_reading [] all s r e).1 in omega (arith, ap length same)
-more_items-keeps item keeps (suc count) s r all e =
-    ⊎_elim
-    (λ yes_comma.
-    let parts = item_then-ok item (more_items item count) (drop 1 s) r all yes_comma.1 in
-    let first : length parts.1 ≤ length (drop 1 s) = keeps (drop 1 s) parts.1 parts.0 parts.3 in
-    let behind : length r ≤ length parts.1 = more_items-keeps item keeps count parts.1 r parts.2 parts.4 in
-    omega (arith, length-drop 1 s))
-    (λ no_comma. let same : s ≡ r = (same_reading [] all s r no_comma.1).1 in omega (arith, ap length same))
-    (if_cases (at_mark Comma s) _ _ _ e)
-
-pub all_more_items-keeps : {A : Type 0} (item : List Symbol → Reading A) → Keeps item → Keeps (all_more_items item)
-unfolding all_more_items
-all_more_items-keeps item keeps s r all e = more_items-keeps item keeps (length s) s r all e
-
-pub items-keeps : {A : Type 0} (item : List Symbol → Reading A) → Keeps item → Keeps (items item)
-items-keeps item keeps s r all e =
-    let parts = item_then-ok item (all_more_items item) s r all e in
-    let first : length parts.1 ≤ length s = keeps s parts.1 parts.0 parts.3 in
-    let behind : length r ≤ length parts.1 = all_more_items-keeps item keeps parts.1 r parts.2 parts.4 in
-    omega arith
-
-pub items-shrinks : {A : Type 0} (item : List Symbol → Reading A) → Shrinks item → Shrinks (items item)
-items-shrinks item shrinks s r all e =
-    let keeps : Keeps item = λ s r a e. let short : length r < length s = shrinks s r a e in omega arith in
-    let parts = item_then-ok item (all_more_items item) s r all e in
-    let first : length parts.1 < length s = shrinks s parts.1 parts.0 parts.3 in
-    let behind : length r ≤ length parts.1 = all_more_items-keeps item keeps parts.1 r parts.2 parts.4 in
-    omega arith
-
-many_items-keeps : {A : Type 0} (ends : List Symbol → Bool) (item : List Symbol → Reading A) → Keeps item → (count : ℕ) → Keeps (many_items ends item count)
-many_items-keeps ends item keeps zero s r all e =
-    let parts = if_ok (ends s) (read [] s) Unexpected (all, r) e in
-    let same : s ≡ r = (same_reading [] all s r parts.1).1 in
-    omega (arith, ap length same)
-many_items-keeps ends item keeps (suc count) s r all e =
-    ⊎_elim
-    (λ at_end. let same : s ≡ r = (same_reading [] all s r at_end.1).1 in omega (arith, ap length same))
-    (λ goes_on.
-    let parts = item_then-ok item (many_items ends item count) s r all goes_on.1 in
-    let first : length parts.1 ≤ length s = keeps s parts.1 parts.0 parts.3 in
-    let behind : length r ≤ length parts.1 = many_items-keeps ends item keeps count parts.1 r parts.2 parts.4 in
-    omega arith)
-    (if_cases (ends s) _ _ _ e)
-
-pub many-keeps : {A : Type 0} (ends : List Symbol → Bool) (item : List Symbol → Reading A) → Keeps item → Keeps (many ends item)
-unfolding many
-many-keeps ends item keeps s r all e = many_items-keeps ends item keeps (length s) s r all e
+    (more_items-reads item spell P Follows fault keeps reads comma (b ∷ all) r h.1 later ends)

@@ -1,5 +1,5 @@
--- What is read of statements and declarations is spelled by the symbols, and the grammar has it.
-use Rattle.std.proofs.Common.{◌≡◌, ℕ, zero, suc, Bool, true, false, ◌==◌, List, [], ◌∷◌, drop, Option, Some, None, IfSome, Err, if◌then◌else◌, refl, sym, ◌∙◌, ap, subst}
+-- What is read of statements and declarations is derived from the symbols.
+use Rattle.std.proofs.Common.{◌≡◌, ℕ, zero, suc, Bool, true, false, List, [], ◌∷◌, drop, length, Option, Some, None, Err, if◌then◌else◌, refl, sym, ◌∙◌, ap, subst}
 use Rattle.std.specs.List.{AllByRecursion}
 use Rattle.words.specs.declared.vocabulary.Mark.{Mark}
 use Rattle.words.specs.declared.vocabulary.Mark.TheVariants as marks
@@ -7,22 +7,29 @@ use Rattle.words.specs.declared.vocabulary.ReservedWord.{ReservedWord}
 use Rattle.words.specs.declared.vocabulary.ReservedWord.TheVariants as words
 use Rattle.trees.specs.declared.identifier.Identifier.{Identifier}
 use Rattle.trees.specs.declared.identifier.Place.{Place}
-use Rattle.trees.specs.Forms.{expr_level, IsExpression, IsReference, IsIteration, IsStatement, AreStatements, IsDeclaration, AreDeclarations, ends_in_open_if}
-use Rattle.trees.specs.Spelling.{optional, name_symbols, expression_symbols, reference_symbols, ending_symbols, step_symbols, iteration_symbols, statement_symbols, statements_symbols, declaration_symbols, declarations_symbols}
-use Rattle.trees.specs.Symbols.{Symbol, NameSymbol, NumberSymbol, StringSymbol, ReservedSymbol, PlacedSymbol, MarkSymbol, UnknownSymbol}
-use Rattle.trees.specs.Trees.{ExpressionTree, StatementTree, StatementTrees, DeclarationTree, DeclarationTrees}
-use Rattle.syntax.specs.declared.statements.Beginning.TheVariants as beginnings
-use Rattle.syntax.specs.internal.Expressions.{expression, reference}
-use Rattle.syntax.specs.internal.Looking.{TooDeep, Reading, mark_number, at_word, next_name, mark, word, name}
-use Rattle.syntax.specs.internal.Statements.{statements_of, declarations_of, ends_declarations, statements, declarations, block, end_of_do, body_of_do, end_name, ending, assignment, call, return_value, otherwise, conditional, step, iteration, simple_do, while_do, case_do, iterative_do, do_statement, halt, beginning_of, statement_by, procedure, declare_or, statement, declaration}
+use Rattle.trees.specs.Derivation.{DerivesExpression, DerivesArguments, DerivesTargets, DerivesStatement, labelled, unlabelled, DerivesKind, null, assignment as assignment_line, call as call_line, return, return_value as return_value_line, halt as halt_line, goto as goto_line, if_then, if_then_else, simple_do as simple_do_line, do_while, iterative_do as iterative_do_line, iterative_do_by, do_case, DerivesStatements, no_statement, next_statement, DerivesDeclaration, declare as declare_line, procedure as procedure_line, DerivesDeclarations, no_declaration, next_declaration}
+use Rattle.trees.specs.Forms.{expr_level, IsNotEmpty, ends_in_open_if, is_open_if}
+use Rattle.trees.specs.internal.Forms.{IsReference}
+use Rattle.trees.specs.internal.Spelling.{reference_symbols}
+use Rattle.trees.specs.Spelling.{between_commas, optional, name_symbols, element_symbols, heading_symbols, ending_symbols}
+use Rattle.trees.specs.Symbols.{Symbol, NameSymbol, NumberSymbol, StringSymbol, ReservedSymbol, PlacedSymbol, MarkSymbol, SemicolonSymbol, UnknownSymbol}
+use Rattle.trees.specs.Trees.{ExpressionTree, ArgumentTrees, ReferenceTree, IterationTree, StatementTree, LabelledStatement, StatementKindTree, IfStatement, IterateStatement, ElseTree, NoElse, ElseStatement, StatementTrees, DeclarationTree, DeclareTree, ProcedureTree, DeclarationTrees}
+use Rattle.trees.proofs.Derivations.{expression-derived, arguments-derived, targets-derived}
+use Rattle.syntax.specs.internal.Expressions.{expression, reference, arguments}
+use Rattle.syntax.specs.internal.Lists.{items, many, many_items}
+use Rattle.syntax.specs.internal.Reader.{Parser, TooDeep, Reading, at_mark, at_word, next_name, mark, semicolon, word, name}
+use Rattle.syntax.specs.internal.Statements.{BlockParser, at_semicolon, labels_before, after_labels, statements_of, declarations_of, ends_declarations, statements, declarations, block, end_of_do, body_of_do, end_name, ending, assignment, call, return_value, otherwise, conditional, step, iteration, simple_do, while_do, case_do, iterative_do, do_statement, halt, goto, beginning_of, kind_by, statement_by, procedure, declare, declare_or, statement, declaration}
 use Rattle.syntax.proofs.ExpressionVerdicts.{expression-gets, reference-gets, arguments-gets, elements-gets, heading-gets}
-use Rattle.syntax.proofs.LookingLemmas.{at_mark-is, at_word-is, mark-ok, word-ok, name-ok, next_name-is, equal_marks}
-use Rattle.syntax.proofs.VerdictLists.{spells, GetsSpelled, many-gets, items-gets}
-use Rattle.syntax.proofs.Verdicts.{Gets, gets_ok, gets_nothing, gets_bind, gets_if, gets_more}
+use Rattle.syntax.proofs.ReaderLemmas.{at_mark-is, at_word-is, mark-ok, semicolon-ok, word-ok, name-ok, next_name-is}
+use Rattle.syntax.proofs.StatementVerdictLists.{items-gets}
+use Rattle.syntax.proofs.StatementVerdictRules.{Gets, gets_ok, gets_nothing, gets_bind, gets_if, gets_more}
 
 -- single symbols
 pub mark-gets : (m : Mark) (s : List Symbol) → Gets (λ r. s ≡ MarkSymbol m ∷ r) (mark m s)
 mark-gets m s = record { holds = λ r e. mark-ok m s r e }
+
+pub semicolon-gets : (s : List Symbol) → Gets (λ found. s ≡ SemicolonSymbol found.0 ∷ found.1) (semicolon s)
+semicolon-gets s = record { holds = λ found e. semicolon-ok s found.1 found.0 e }
 
 word-gets : (w : ReservedWord) (s : List Symbol) → Gets (λ r. s ≡ ReservedSymbol w ∷ r) (word w s)
 word-gets w s = record { holds = λ r e. word-ok w s r e }
@@ -30,281 +37,493 @@ word-gets w s = record { holds = λ r e. word-ok w s r e }
 pub name-gets : (s : List Symbol) → Gets (λ found. s ≡ NameSymbol found.0 ∷ found.1) (name s)
 name-gets s = record { holds = λ found e. name-ok s found.1 found.0 e }
 
--- what is read of a statement: no ELSE stands behind an IF without one
-abbrev pub IsStatementRead : List Symbol → StatementTree × List Symbol → Type 0
-IsStatementRead s found = (s ≡ statement_symbols found.0 found.1) × IsStatement found.0 × (ends_in_open_if found.0 ≡ true → at_word words.Else found.1 ≡ false)
+at_semicolon-is : (s : List Symbol)
+    → at_semicolon s ≡ true
+    → (place : Place) × (s ≡ SemicolonSymbol place ∷ drop 1 s)
+at_semicolon-is (SemicolonSymbol place ∷ rest) e = (place, refl)
+at_semicolon-is [] e = absurd cc
+at_semicolon-is (x ∷ rest) e = absurd cc
 
-abbrev pub GetsStatements : (List Symbol → Reading StatementTree) → Type 0
+-- what is read of expressions, arguments and targets
+expression-derives : (room : ℕ) (s : List Symbol)
+    → Gets (λ found. DerivesExpression expr_level s found.0 found.1) (expression room expr_level s)
+expression-derives room s =
+    gets_more (expression-gets room s) λ found h.
+    subst (λ (k : List Symbol). DerivesExpression expr_level k found.0 found.1) (sym h.0)
+    (expression-derived expr_level found.0 found.1 h.1)
+
+arguments-derives : (room : ℕ) (s : List Symbol)
+    → Gets (λ found. DerivesArguments s found.0 found.1) (arguments (expression room) s)
+arguments-derives room s =
+    gets_more (arguments-gets room s) λ found h.
+    subst (λ (k : List Symbol). DerivesArguments k found.0 found.1) (sym h.0)
+    (arguments-derived found.0 found.1 h.1)
+
+all_targets-derived : (targets : List ReferenceTree) (rest : List Symbol)
+    → IsNotEmpty targets
+    → AllByRecursion IsReference targets
+    → DerivesTargets (between_commas reference_symbols targets rest) targets rest
+all_targets-derived [] rest some h = absurd some
+all_targets-derived (first ∷ others) rest some h = targets-derived first others rest h.0 h.1
+
+targets-derives : (room : ℕ) (s : List Symbol)
+    → Gets (λ found. DerivesTargets s found.0 found.1) (items (reference (expression room)) s)
+targets-derives room s =
+    gets_more (items-gets reference_symbols IsReference (reference (expression room)) (reference-gets room)
+    s) λ found h.
+    subst (λ (k : List Symbol). DerivesTargets k found.0 found.1) (sym h.0)
+    (all_targets-derived found.0 found.1 h.1.0 h.1.1)
+
+-- the same, where what is left is known
+expression-left : {level : ℕ} {s rest left : List Symbol} {t : ExpressionTree} → rest ≡ left
+    → DerivesExpression level s t rest → DerivesExpression level s t left
+expression-left {level} {s} {rest} {left} {t} e d =
+    subst (λ (k : List Symbol). DerivesExpression level s t k) e d
+
+arguments-left : {s rest left : List Symbol} {t : ArgumentTrees} → rest ≡ left
+    → DerivesArguments s t rest → DerivesArguments s t left
+arguments-left {s} {rest} {left} {t} e d = subst (λ (k : List Symbol). DerivesArguments s t k) e d
+
+targets-left : {s rest left : List Symbol} {t : List ReferenceTree} → rest ≡ left
+    → DerivesTargets s t rest → DerivesTargets s t left
+targets-left {s} {rest} {left} {t} e d = subst (λ (k : List Symbol). DerivesTargets s t k) e d
+
+statement-left : {s rest left : List Symbol} {t : StatementTree} → rest ≡ left
+    → DerivesStatement s t rest → DerivesStatement s t left
+statement-left {s} {rest} {left} {t} e d = subst (λ (k : List Symbol). DerivesStatement s t k) e d
+
+pub statements-left : {s rest left : List Symbol} {t : StatementTrees} → rest ≡ left
+    → DerivesStatements s t rest → DerivesStatements s t left
+statements-left {s} {rest} {left} {t} e d = subst (λ (k : List Symbol). DerivesStatements s t k) e d
+
+-- the same, where the first symbols are known
+kind-from : {s other rest : List Symbol} {t : StatementKindTree}
+    → s ≡ other
+    → DerivesKind other t rest
+    → DerivesKind s t rest
+kind-from {s} {other} {rest} {t} e d = subst (λ (k : List Symbol). DerivesKind k t rest) (sym e) d
+
+-- what is read of a statement: no ELSE stands after an IF without one
+abbrev pub IsStatementRead : List Symbol → StatementTree × List Symbol → Type 0
+IsStatementRead s found =
+    DerivesStatement s found.0 found.1
+    × (ends_in_open_if found.0 ≡ true → at_word words.Else found.1 ≡ false)
+
+abbrev pub IsKindRead : List Symbol → StatementKindTree × List Symbol → Type 0
+IsKindRead s found =
+    DerivesKind s found.0 found.1
+    × (is_open_if found.0 ≡ true → at_word words.Else found.1 ≡ false)
+
+abbrev pub GetsStatements : Parser StatementTree → Type 0
 GetsStatements inner = (s : List Symbol) → Gets (IsStatementRead s) (inner s)
 
-abbrev pub GetsDeclarations : (List Symbol → Reading DeclarationTree) → Type 0
-GetsDeclarations = GetsSpelled declaration_symbols IsDeclaration
+abbrev pub GetsDeclarations : Parser DeclarationTree → Type 0
+GetsDeclarations inner = (s : List Symbol) → Gets (λ found. DerivesDeclaration s found.0 found.1) (inner s)
 
 -- what is read of declarations and statements
 abbrev pub IsBlockRead : List Symbol → (DeclarationTrees × StatementTrees) × List Symbol → Type 0
-IsBlockRead s found = (s ≡ declarations_symbols found.0.0 (statements_symbols found.0.1 found.1)) × AreDeclarations found.0.0 × AreStatements found.0.1
+IsBlockRead s found =
+    (middle : List Symbol)
+    × DerivesDeclarations s found.0.0 middle
+    × DerivesStatements middle found.0.1 found.1
 
-abbrev pub GetsBlocks : (List Symbol → Reading (DeclarationTrees × StatementTrees)) → Type 0
+abbrev pub GetsBlocks : BlockParser → Type 0
 GetsBlocks inside = (s : List Symbol) → Gets (IsBlockRead s) (inside s)
 
--- lists as trees
-pub statements_of-spelled : (all : List StatementTree) (r : List Symbol) → statements_symbols (statements_of all) r ≡ spells statement_symbols all r
-statements_of-spelled [] r = refl
-statements_of-spelled (first ∷ others) r = ap (statement_symbols first) (statements_of-spelled others r)
+-- lists
+many_statements-gets : (inner : Parser StatementTree) → GetsStatements inner → (count : ℕ) (s : List Symbol)
+    → Gets (λ found. DerivesStatements s (statements_of found.0) found.1)
+    (many_items (at_word words.End) inner count s)
+many_statements-gets inner sound zero s = gets_if (λ e. gets_ok no_statement) (λ _. gets_nothing)
+many_statements-gets inner sound (suc count) s =
+    gets_if (λ e. gets_ok no_statement) λ _.
+    gets_bind (sound s) λ first h.
+    gets_bind (many_statements-gets inner sound count first.1) λ others hs.
+    gets_ok (next_statement h.0 hs)
 
-statements_of-are : (all : List StatementTree) → AllByRecursion IsStatement all → AreStatements (statements_of all)
-statements_of-are [] h = tt
-statements_of-are (first ∷ others) h = (h.0, statements_of-are others h.1)
+statements-gets : (inner : Parser StatementTree) → GetsStatements inner → (s : List Symbol)
+    → Gets (λ found. DerivesStatements s found.0 found.1) (statements inner s)
+unfolding many
+statements-gets inner sound s = gets_bind (many_statements-gets inner sound (length s) s) λ found h. gets_ok h
 
-pub declarations_of-spelled : (all : List DeclarationTree) (r : List Symbol) → declarations_symbols (declarations_of all) r ≡ spells declaration_symbols all r
-declarations_of-spelled [] r = refl
-declarations_of-spelled (first ∷ others) r = ap (declaration_symbols first) (declarations_of-spelled others r)
+many_declarations-gets : (inner : Parser DeclarationTree)
+    → GetsDeclarations inner
+    → (count : ℕ) (s : List Symbol)
+    → Gets (λ found. DerivesDeclarations s (declarations_of found.0) found.1)
+    (many_items ends_declarations inner count s)
+many_declarations-gets inner sound zero s = gets_if (λ e. gets_ok no_declaration) (λ _. gets_nothing)
+many_declarations-gets inner sound (suc count) s =
+    gets_if (λ e. gets_ok no_declaration) λ _.
+    gets_bind (sound s) λ first h.
+    gets_bind (many_declarations-gets inner sound count first.1) λ others hs.
+    gets_ok (next_declaration h hs)
 
-declarations_of-are : (all : List DeclarationTree) → AllByRecursion IsDeclaration all → AreDeclarations (declarations_of all)
-declarations_of-are [] h = tt
-declarations_of-are (first ∷ others) h = (h.0, declarations_of-are others h.1)
-
-statements-gets : (inner : List Symbol → Reading StatementTree) → GetsStatements inner → GetsSpelled statements_symbols AreStatements (statements inner)
-statements-gets inner sound s =
-    gets_bind (many-gets (at_word words.End) statement_symbols IsStatement inner (λ q. gets_more (sound q) (λ found h. (h.0, h.1))) s) λ found h.
-    gets_ok (h.0 ∙ sym (statements_of-spelled found.0 found.1), statements_of-are found.0 h.1)
-
-declarations-gets : (inner : List Symbol → Reading DeclarationTree) → GetsDeclarations inner → GetsSpelled declarations_symbols AreDeclarations (declarations inner)
+declarations-gets : (inner : Parser DeclarationTree) → GetsDeclarations inner → (s : List Symbol)
+    → Gets (λ found. DerivesDeclarations s found.0 found.1) (declarations inner s)
+unfolding many
 declarations-gets inner sound s =
-    gets_bind (many-gets ends_declarations declaration_symbols IsDeclaration inner sound s) λ found h.
-    gets_ok (h.0 ∙ sym (declarations_of-spelled found.0 found.1), declarations_of-are found.0 h.1)
+    gets_bind (many_declarations-gets inner sound (length s) s) λ found h. gets_ok h
 
-pub block-gets : (declared : List Symbol → Reading DeclarationTree) (inner : List Symbol → Reading StatementTree) → GetsDeclarations declared → GetsStatements inner → GetsBlocks (block declared inner)
+pub block-gets : (declared : Parser DeclarationTree) (inner : Parser StatementTree)
+    → GetsDeclarations declared
+    → GetsStatements inner
+    → GetsBlocks (block declared inner)
 unfolding block
 block-gets declared inner sound also s =
     gets_bind (declarations-gets declared sound s) λ first h.
     gets_bind (statements-gets inner also first.1) λ body hs.
-    let e₁ = h.0 in
-    let e₂ = hs.0 in
-    gets_ok (cc, h.1, hs.1)
+    gets_ok (first.1, h, hs)
 
--- what stands behind the statements of a DO
-end_of_do-gets : (s : List Symbol) → Gets (λ r. s ≡ ending_symbols None r) (end_of_do s)
+-- what stands after the statements of a DO
+end_of_do-gets : (s : List Symbol)
+    → Gets (λ r. (end : Place) × (s ≡ ReservedSymbol words.End ∷ SemicolonSymbol end ∷ r)) (end_of_do s)
 end_of_do-gets s =
-    gets_bind (word-gets words.End s) λ behind e₁.
-    gets_more (mark-gets marks.Semicolon behind) (λ r e₂. cc)
+    gets_bind (word-gets words.End s) λ after e₁.
+    gets_bind (semicolon-gets after) λ end e₂.
+    gets_ok (end.0, cc)
 
--- statements with END and a semicolon behind them
-abbrev body_symbols : StatementTrees → List Symbol → List Symbol
-body_symbols body rest = statements_symbols body (ending_symbols None rest)
+-- statements, and END and a semicolon after them
+abbrev IsBodyRead : List Symbol → StatementTrees × List Symbol → Type 0
+IsBodyRead s found =
+    (end : Place) × DerivesStatements s found.0 (ReservedSymbol words.End ∷ SemicolonSymbol end ∷ found.1)
 
-body_of_do-gets : (inner : List Symbol → Reading StatementTree) → GetsStatements inner → GetsSpelled body_symbols AreStatements (body_of_do inner)
+body_of_do-gets : (inner : Parser StatementTree) → GetsStatements inner → (s : List Symbol)
+    → Gets (IsBodyRead s) (body_of_do inner s)
 unfolding body_of_do
 body_of_do-gets inner sound s =
     gets_bind (statements-gets inner sound s) λ body h.
-    gets_bind (end_of_do-gets body.1) λ rest e₂.
-    let e₁ = h.0 in
-    gets_ok (cc, h.1)
+    gets_bind (end_of_do-gets body.1) λ rest e.
+    gets_ok (e.0, statements-left e.1 h)
 
--- the name behind END
-end_name-gets : (strict : Bool) (own : Identifier) (found : Option Identifier) (s : List Symbol) → next_name s ≡ found → Gets (λ got. s ≡ optional name_symbols got.0 (MarkSymbol marks.Semicolon ∷ got.1)) (end_name strict own found s)
-end_name-gets strict own None s e = gets_bind (mark-gets marks.Semicolon s) λ rest e₁. gets_ok e₁
+-- the name after END
+abbrev IsEndRead : List Symbol → Option Identifier × List Symbol → Type 0
+IsEndRead s got = (end : Place) × (s ≡ optional name_symbols got.0 (SemicolonSymbol end ∷ got.1))
+
+end_name-gets : (strict : Bool) (own : Identifier) (found : Option Identifier) (s : List Symbol)
+    → next_name s ≡ found
+    → Gets (IsEndRead s) (end_name strict own found s)
+end_name-gets strict own None s e = gets_bind (semicolon-gets s) λ end e₁. gets_ok (end.0, e₁)
 end_name-gets strict own (Some found) s e =
     gets_if (λ _. gets_nothing) λ _.
-    gets_bind (mark-gets marks.Semicolon (drop 1 s)) λ rest e₁.
+    gets_bind (semicolon-gets (drop 1 s)) λ end e₁.
     let e₂ = next_name-is s found e in
-    gets_ok {a = (Some found, rest)} cc
+    gets_ok {a = (Some found, end.1)} (end.0, cc)
 
-pub ending-gets : (strict : Bool) (own : Identifier) (s : List Symbol) → Gets (λ got. s ≡ ending_symbols got.0 got.1) (ending strict own s)
+pub ending-gets : (strict : Bool) (own : Identifier) (s : List Symbol)
+    → Gets (λ got. (end : Place) × (s ≡ ending_symbols got.0 (SemicolonSymbol end ∷ got.1)))
+    (ending strict own s)
 unfolding ending
 ending-gets strict own s =
-    gets_bind (word-gets words.End s) λ behind e₁.
-    gets_more (end_name-gets strict own (next_name behind) behind refl) (λ got e₂. cc)
+    gets_bind (word-gets words.End s) λ after e₁.
+    gets_more (end_name-gets strict own (next_name after) after refl) (λ got e₂. let e = e₂.1 in (e₂.0, cc))
 
--- each statement, behind what it begins with
-assignment-gets : (room : ℕ) (s : List Symbol) → Gets (IsStatementRead s) (assignment (expression room) s)
+-- each statement, after what it begins with
+assignment-gets : (room : ℕ) (s : List Symbol) → Gets (IsKindRead s) (assignment (expression room) s)
 unfolding assignment
 assignment-gets room s =
-    gets_bind (items-gets reference_symbols IsReference (reference (expression room)) (reference-gets room) s) λ targets h.
-    gets_bind (mark-gets marks.EqualSign targets.1) λ behind e₁.
-    gets_bind (expression-gets room behind) λ value hs.
-    gets_bind (mark-gets marks.Semicolon value.1) λ rest e₂.
-    let e = h.0 in
-    let e₃ = hs.0 in
-    gets_ok (cc, (h.1.0, h.1.1, hs.1), λ open_if. absurd cc)
+    gets_bind (targets-derives room s) λ targets h.
+    gets_bind (mark-gets marks.EqualSign targets.1) λ after e₁.
+    gets_bind (expression-derives room after) λ value hs.
+    gets_bind (semicolon-gets value.1) λ end e₂.
+    gets_ok (assignment_line (targets-left e₁ h) (expression-left e₂ hs), λ open_if. absurd cc)
 
--- a statement behind its first word
-abbrev IsReadBehind : ReservedWord → Place → List Symbol → StatementTree × List Symbol → Type 0
-IsReadBehind w place s found = IsStatementRead (PlacedSymbol w place ∷ s) found
+-- a statement after its first word
+abbrev IsReadAfter : ReservedWord → Place → List Symbol → StatementKindTree × List Symbol → Type 0
+IsReadAfter w place s found = IsKindRead (PlacedSymbol w place ∷ s) found
 
-call-gets : (room : ℕ) (place : Place) (s : List Symbol) → Gets (IsReadBehind words.Call place s) (call (expression room) place s)
+after-same : {w : ReservedWord} {place : Place} {s other rest : List Symbol} {t : StatementKindTree}
+    → s ≡ other
+    → DerivesKind (PlacedSymbol w place ∷ other) t rest → DerivesKind (PlacedSymbol w place ∷ s) t rest
+after-same {w} {place} e d = kind-from (ap (λ k. PlacedSymbol w place ∷ k) e) d
+
+call-gets : (room : ℕ) (place : Place) (s : List Symbol)
+    → Gets (IsReadAfter words.Call place s) (call (expression room) place s)
 unfolding call
 call-gets room place s =
     gets_bind (name-gets s) λ procedure e₁.
-    gets_bind (arguments-gets room procedure.1) λ found h.
-    gets_bind (mark-gets marks.Semicolon found.1) λ rest e₂.
-    let e = h.0 in
-    gets_ok (cc, h.1, λ open_if. absurd cc)
+    gets_bind (arguments-derives room procedure.1) λ found h.
+    gets_bind (semicolon-gets found.1) λ end e₂.
+    gets_ok (after-same e₁ (call_line (arguments-left e₂ h)), λ open_if. absurd cc)
 
-return_value-gets : (room : ℕ) (place : Place) (s : List Symbol) → Gets (IsReadBehind words.Return place s) (return_value (expression room) place s)
+return_value-gets : (room : ℕ) (place : Place) (s : List Symbol)
+    → Gets (IsReadAfter words.Return place s) (return_value (expression room) place s)
 unfolding return_value
 return_value-gets room place s =
     gets_if
-    (λ e. let e₁ = at_mark-is marks.Semicolon s e in gets_ok (cc, tt, λ open_if. absurd cc))
+    (λ e. let found = at_semicolon-is s e in gets_ok (after-same found.1 return, λ open_if. absurd cc))
     λ _.
-    gets_bind (expression-gets room s) λ value h.
-    gets_bind (mark-gets marks.Semicolon value.1) λ rest e₂.
-    let e = h.0 in
-    gets_ok (cc, h.1, λ open_if. absurd cc)
+    gets_bind (expression-derives room s) λ value h.
+    gets_bind (semicolon-gets value.1) λ end e₂.
+    gets_ok (return_value_line (expression-left e₂ h), λ open_if. absurd cc)
 
-halt-gets : (place : Place) (s : List Symbol) → Gets (IsReadBehind words.Halt place s) (halt place s)
+halt-gets : (place : Place) (s : List Symbol) → Gets (IsReadAfter words.Halt place s) (halt place s)
 halt-gets place s =
-    gets_bind (mark-gets marks.Semicolon s) λ rest e.
-    gets_ok (cc, tt, λ open_if. absurd cc)
+    gets_bind (semicolon-gets s) λ end e.
+    gets_ok (after-same e halt_line, λ open_if. absurd cc)
 
-otherwise-gets : (inner : List Symbol → Reading StatementTree) → GetsStatements inner → (place : Place) (condition : ExpressionTree) (body : StatementTree) (s after : List Symbol)
-    → IsExpression expr_level condition → after ≡ expression_symbols condition (ReservedSymbol words.Then ∷ statement_symbols body s) → IsStatement body → (ends_in_open_if body ≡ true → at_word words.Else s ≡ false)
-    → Gets (IsReadBehind words.If place after) (otherwise inner place condition body s)
-otherwise-gets inner sound place condition body s after c e h open_if =
+goto-gets : (place : Place) (s : List Symbol) → Gets (IsReadAfter words.Goto place s) (goto place s)
+unfolding goto
+goto-gets place s =
+    gets_bind (name-gets s) λ label e₁.
+    gets_bind (semicolon-gets label.1) λ end e₂.
+    gets_ok (after-same (e₁ ∙ ap (λ k. NameSymbol label.0 ∷ k) e₂) goto_line, λ open_if. absurd cc)
+
+-- what is read of ELSE and its statement
+data ElseRead (s : List Symbol) : ElseTree × List Symbol → Type 0 where
+  no_else : at_word words.Else s ≡ false → ElseRead s (NoElse, s)
+  some_else : {after rest : List Symbol} {t : StatementTree}
+      → s ≡ ReservedSymbol words.Else ∷ after
+      → at_word words.Else s ≡ true
+      → DerivesStatement after t rest
+      → (ends_in_open_if t ≡ true → at_word words.Else rest ≡ false)
+      → ElseRead s (ElseStatement t, rest)
+
+otherwise-gets : (inner : Parser StatementTree) → GetsStatements inner → (s : List Symbol)
+    → Gets (ElseRead s) (otherwise inner s)
+otherwise-gets inner sound s =
     gets_if
     (λ more.
-    gets_bind (sound (drop 1 s)) λ other hs.
-    let e₁ = at_word-is words.Else s more in
-    let e₂ = hs.0 in
-    gets_ok (cc, (c, h, closed more, hs.1), hs.2))
-    (λ none. gets_ok (cc, (c, h), λ _. none))
-  where
-    closed : at_word words.Else s ≡ true → ends_in_open_if body ≡ false
-    closed more = go (ends_in_open_if body) open_if
-      where
-        go : (b : Bool) → (b ≡ true → at_word words.Else s ≡ false) → b ≡ false
-        go true h = let none = h refl in absurd cc
-        go false h = refl
+    gets_bind (sound (drop 1 s)) λ other h.
+    gets_ok (some_else (at_word-is words.Else s more) more h.0 h.1))
+    (λ none. gets_ok (no_else none))
 
-conditional-gets : (room : ℕ) (inner : List Symbol → Reading StatementTree) → GetsStatements inner → (place : Place) (s : List Symbol) → Gets (IsReadBehind words.If place s) (conditional (expression room) inner place s)
+if-read : {place : Place} {s middle left : List Symbol} {condition : ExpressionTree} {body : StatementTree}
+    → (found : ElseTree × List Symbol)
+    → DerivesExpression expr_level s condition (ReservedSymbol words.Then ∷ middle)
+    → DerivesStatement middle body left
+    → (ends_in_open_if body ≡ true → at_word words.Else left ≡ false)
+    → ElseRead left found
+    → IsReadAfter words.If place s (IfStatement place condition body found.0, found.1)
+if-read found d₁ d₂ open_if (no_else none) = (if_then d₁ d₂, λ _. none)
+if-read {left = left} {body = body} found d₁ d₂ open_if (some_else e more d₃ later) =
+    (if_then_else d₁ (statement-left e d₂) (closed (ends_in_open_if body) open_if) d₃, later)
+  where
+    closed : (b : Bool) → (b ≡ true → at_word words.Else left ≡ false) → b ≡ false
+    closed true h = let none = h refl in absurd cc
+    closed false h = refl
+
+conditional-gets : (room : ℕ) (inner : Parser StatementTree)
+    → GetsStatements inner
+    → (place : Place) (s : List Symbol)
+    → Gets (IsReadAfter words.If place s) (conditional (expression room) inner place s)
 unfolding conditional
 conditional-gets room inner sound place s =
-    gets_bind (expression-gets room s) λ condition h.
-    gets_bind (word-gets words.Then condition.1) λ behind e₁.
-    gets_bind (sound behind) λ body hs.
-    let e₂ = h.0 in
-    let e₃ = hs.0 in
-    otherwise-gets inner sound place condition.0 body.0 body.1 s h.1 (cc) hs.1 hs.2
+    gets_bind (expression-derives room s) λ condition h.
+    gets_bind (word-gets words.Then condition.1) λ after e₁.
+    gets_bind (sound after) λ body hs.
+    gets_bind (otherwise-gets inner sound body.1) λ other ho.
+    gets_ok (if-read other (expression-left e₁ h) hs.0 hs.1 ho)
 
-step-gets : (room : ℕ) → GetsSpelled (optional step_symbols) (λ value. IfSome value (IsExpression expr_level)) (step (expression room))
+-- BY and a step, or none
+data StepRead (s : List Symbol) : Option ExpressionTree × List Symbol → Type 0 where
+  no_step : StepRead s (None, s)
+  some_step : {after rest : List Symbol} {t : ExpressionTree}
+      → s ≡ ReservedSymbol words.By ∷ after
+      → DerivesExpression expr_level after t rest
+      → StepRead s (Some t, rest)
+
+step-gets : (room : ℕ) (s : List Symbol) → Gets (StepRead s) (step (expression room) s)
 step-gets room s =
     gets_if
     (λ more.
-    gets_bind (expression-gets room (drop 1 s)) λ found h.
-    let e₁ = at_word-is words.By s more in
-    let e₂ = h.0 in
-    gets_ok (cc, h.1))
-    (λ _. gets_ok (refl, tt))
+    gets_bind (expression-derives room (drop 1 s)) λ found h.
+    gets_ok (some_step (at_word-is words.By s more) h))
+    (λ _. gets_ok no_step)
 
-iteration-gets : (room : ℕ) → GetsSpelled iteration_symbols IsIteration (iteration (expression room))
+-- the head of an iterative DO: whatever statements follow, it is one with them
+abbrev IsHeadRead : List Symbol → IterationTree × List Symbol → Type 0
+IsHeadRead s found =
+    (place end : Place) (body : StatementTrees) (rest : List Symbol)
+    → DerivesStatements found.1 body (ReservedSymbol words.End ∷ SemicolonSymbol end ∷ rest)
+    → DerivesKind (PlacedSymbol words.Do place ∷ s) (IterateStatement place found.0 body) rest
+
+head-read : {variable : Identifier} {first last : ExpressionTree} {s symbols to left rest : List Symbol}
+    {start : Place}
+    → (found : Option ExpressionTree × List Symbol)
+    → s ≡ NameSymbol variable ∷ MarkSymbol marks.EqualSign ∷ symbols
+    → DerivesExpression expr_level symbols first (ReservedSymbol words.To ∷ to)
+    → DerivesExpression expr_level to last left
+    → StepRead left found
+    → found.1 ≡ SemicolonSymbol start ∷ rest
+    → IsHeadRead s (record { variable = variable; first = first; last = last; step = found.0 }, rest)
+head-read found e d₁ d₂ no_step e₂ place end body rest d =
+    after-same e (iterative_do_line d₁ (expression-left e₂ d₂) d)
+head-read found e d₁ d₂ (some_step e₁ d₃) e₂ place end body rest d =
+    after-same e (iterative_do_by d₁ (expression-left e₁ d₂) (expression-left e₂ d₃) d)
+
+iteration-gets : (room : ℕ) (s : List Symbol) → Gets (IsHeadRead s) (iteration (expression room) s)
 unfolding iteration
 iteration-gets room s =
     gets_bind (name-gets s) λ its_variable e₁.
-    gets_bind (mark-gets marks.EqualSign its_variable.1) λ behind e₂.
-    gets_bind (expression-gets room behind) λ its_first h₁.
-    gets_bind (word-gets words.To its_first.1) λ after e₃.
-    gets_bind (expression-gets room after) λ its_last h₂.
+    gets_bind (mark-gets marks.EqualSign its_variable.1) λ after e₂.
+    gets_bind (expression-derives room after) λ its_first h₁.
+    gets_bind (word-gets words.To its_first.1) λ to e₃.
+    gets_bind (expression-derives room to) λ its_last h₂.
     gets_bind (step-gets room its_last.1) λ its_step h₃.
-    gets_bind (mark-gets marks.Semicolon its_step.1) λ rest e₄.
-    let e₅ = h₁.0 in
-    let e₆ = h₂.0 in
-    let e₇ = h₃.0 in
-    gets_ok (cc, (h₁.1, h₂.1, h₃.1))
+    gets_bind (semicolon-gets its_step.1) λ start e₄.
+    gets_ok (head-read its_step (e₁ ∙ ap (λ k. NameSymbol its_variable.0 ∷ k) e₂) (expression-left e₃ h₁) h₂
+    h₃ e₄)
 
-simple_do-gets : (inside : List Symbol → Reading (DeclarationTrees × StatementTrees)) → GetsBlocks inside → (place : Place) (s : List Symbol) → Gets (IsReadBehind words.Do place (MarkSymbol marks.Semicolon ∷ s)) (simple_do inside place s)
+simple_do-gets : (inside : BlockParser) → GetsBlocks inside
+    → (place start : Place) (s : List Symbol)
+    → Gets (IsReadAfter words.Do place (SemicolonSymbol start ∷ s)) (simple_do inside place s)
 unfolding simple_do
-simple_do-gets inside sound place s =
+simple_do-gets inside sound place start s =
     gets_bind (sound s) λ found h.
-    gets_bind (end_of_do-gets found.1) λ rest e₁.
-    let e₂ = h.0 in
-    gets_ok (cc, (h.1, h.2), λ open_if. absurd cc)
+    gets_bind (end_of_do-gets found.1) λ rest e.
+    gets_ok (simple_do_line h.1 (statements-left e.1 h.2), λ open_if. absurd cc)
 
-while_do-gets : (room : ℕ) (inner : List Symbol → Reading StatementTree) → GetsStatements inner → (place : Place) (s : List Symbol) → Gets (IsReadBehind words.Do place (ReservedSymbol words.While ∷ s)) (while_do (expression room) inner place s)
+while_do-gets : (room : ℕ) (inner : Parser StatementTree)
+    → GetsStatements inner
+    → (place : Place) (s : List Symbol)
+    → Gets (IsReadAfter words.Do place (ReservedSymbol words.While ∷ s))
+    (while_do (expression room) inner place s)
 unfolding while_do
 while_do-gets room inner sound place s =
-    gets_bind (expression-gets room s) λ condition h.
-    gets_bind (mark-gets marks.Semicolon condition.1) λ behind e₁.
-    gets_bind (body_of_do-gets inner sound behind) λ body hs.
-    let e₂ = h.0 in
-    let e₃ = hs.0 in
-    gets_ok (cc, (h.1, hs.1), λ open_if. absurd cc)
+    gets_bind (expression-derives room s) λ condition h.
+    gets_bind (semicolon-gets condition.1) λ start e₁.
+    gets_bind (body_of_do-gets inner sound start.1) λ body hs.
+    gets_ok (do_while (expression-left e₁ h) hs.1, λ open_if. absurd cc)
 
-case_do-gets : (room : ℕ) (inner : List Symbol → Reading StatementTree) → GetsStatements inner → (place : Place) (s : List Symbol) → Gets (IsReadBehind words.Do place (ReservedSymbol words.Case ∷ s)) (case_do (expression room) inner place s)
+case_do-gets : (room : ℕ) (inner : Parser StatementTree)
+    → GetsStatements inner
+    → (place : Place) (s : List Symbol)
+    → Gets (IsReadAfter words.Do place (ReservedSymbol words.Case ∷ s))
+    (case_do (expression room) inner place s)
 unfolding case_do
 case_do-gets room inner sound place s =
-    gets_bind (expression-gets room s) λ choice h.
-    gets_bind (mark-gets marks.Semicolon choice.1) λ behind e₁.
-    gets_bind (body_of_do-gets inner sound behind) λ body hs.
-    let e₂ = h.0 in
-    let e₃ = hs.0 in
-    gets_ok (cc, (h.1, hs.1), λ open_if. absurd cc)
+    gets_bind (expression-derives room s) λ choice h.
+    gets_bind (semicolon-gets choice.1) λ start e₁.
+    gets_bind (body_of_do-gets inner sound start.1) λ body hs.
+    gets_ok (do_case (expression-left e₁ h) hs.1, λ open_if. absurd cc)
 
-iterative_do-gets : (room : ℕ) (inner : List Symbol → Reading StatementTree) → GetsStatements inner → (place : Place) (s : List Symbol) → Gets (IsReadBehind words.Do place s) (iterative_do (expression room) inner place s)
+iterative_do-gets : (room : ℕ) (inner : Parser StatementTree)
+    → GetsStatements inner
+    → (place : Place) (s : List Symbol)
+    → Gets (IsReadAfter words.Do place s) (iterative_do (expression room) inner place s)
 unfolding iterative_do
 iterative_do-gets room inner sound place s =
     gets_bind (iteration-gets room s) λ head h.
     gets_bind (body_of_do-gets inner sound head.1) λ body hs.
-    let e₂ = h.0 in
-    let e₃ = hs.0 in
-    gets_ok (cc, (h.1, hs.1), λ open_if. absurd cc)
+    gets_ok (h place hs.0 body.0 body.1 hs.1, λ open_if. absurd cc)
 
--- what was read behind symbols that are the same
-behind_same : {w : ReservedWord} {place : Place} {r : Reading StatementTree} (s other : List Symbol) → s ≡ other → Gets (IsReadBehind w place other) r → Gets (IsReadBehind w place s) r
-behind_same {w} {place} {r} s other e h = subst (λ (k : List Symbol). Gets (IsReadBehind w place k) r) (sym e) h
+-- what was read after symbols that are the same
+after_same : {w : ReservedWord} {place : Place} {r : Reading StatementKindTree} (s other : List Symbol)
+    → s ≡ other
+    → Gets (IsReadAfter w place other) r → Gets (IsReadAfter w place s) r
+after_same {w} {place} {r} s other e h = subst (λ (k : List Symbol). Gets (IsReadAfter w place k) r) (sym e) h
 
-do_statement-gets : (room : ℕ) (inner : List Symbol → Reading StatementTree) (inside : List Symbol → Reading (DeclarationTrees × StatementTrees)) → GetsStatements inner → GetsBlocks inside → (place : Place) (s : List Symbol)
-    → Gets (IsReadBehind words.Do place s) (do_statement (expression room) inner inside place s)
+do_statement-gets : (room : ℕ) (inner : Parser StatementTree) (inside : BlockParser)
+    → GetsStatements inner
+    → GetsBlocks inside
+    → (place : Place) (s : List Symbol)
+    → Gets (IsReadAfter words.Do place s) (do_statement (expression room) inner inside place s)
 unfolding do_statement
 do_statement-gets room inner inside sound also place s =
     gets_if
-    (λ e. behind_same s _ (at_mark-is marks.Semicolon s e) (simple_do-gets inside also place (drop 1 s)))
+    (λ e. let found = at_semicolon-is s e in after_same s _ found.1
+    (simple_do-gets inside also place found.0 (drop 1 s)))
     λ _. gets_if
-    (λ e. behind_same s _ (at_word-is words.While s e) (while_do-gets room inner sound place (drop 1 s)))
+    (λ e. after_same s _ (at_word-is words.While s e) (while_do-gets room inner sound place (drop 1 s)))
     λ _. gets_if
-    (λ e. behind_same s _ (at_word-is words.Case s e) (case_do-gets room inner sound place (drop 1 s)))
+    (λ e. after_same s _ (at_word-is words.Case s e) (case_do-gets room inner sound place (drop 1 s)))
     (λ _. iterative_do-gets room inner sound place s)
 
--- a statement, by its first symbol
-statement_by-gets : (room : ℕ) (inner : List Symbol → Reading StatementTree) (inside : List Symbol → Reading (DeclarationTrees × StatementTrees)) → GetsStatements inner → GetsBlocks inside → (s : List Symbol)
-    → Gets (IsStatementRead s) (statement_by (expression room) inner inside (beginning_of s) s)
-statement_by-gets room inner inside sound also [] = gets_nothing
-statement_by-gets room inner inside sound also (NameSymbol n ∷ s) = assignment-gets room (NameSymbol n ∷ s)
-statement_by-gets room inner inside sound also (NumberSymbol n ∷ s) = gets_nothing
-statement_by-gets room inner inside sound also (StringSymbol t ∷ s) = gets_nothing
-statement_by-gets room inner inside sound also (ReservedSymbol w ∷ s) = gets_nothing
-statement_by-gets room inner inside sound also (UnknownSymbol ∷ s) = gets_nothing
-statement_by-gets room inner inside sound also (MarkSymbol m ∷ s) = go (mark_number m == mark_number marks.Semicolon) refl
-  where
-    go : (b : Bool) → (mark_number m == mark_number marks.Semicolon) ≡ b
-        → Gets (IsStatementRead (MarkSymbol m ∷ s)) (statement_by (expression room) inner inside (if b then beginnings.Semicolon else beginnings.Other) (MarkSymbol m ∷ s))
-    go true e = let same = equal_marks m marks.Semicolon e in gets_ok (cc, tt, λ open_if. absurd cc)
-    go false e = gets_nothing
-statement_by-gets room inner inside sound also (PlacedSymbol words.Call place ∷ s) = call-gets room place s
-statement_by-gets room inner inside sound also (PlacedSymbol words.Return place ∷ s) = return_value-gets room place s
-statement_by-gets room inner inside sound also (PlacedSymbol words.Halt place ∷ s) = halt-gets place s
-statement_by-gets room inner inside sound also (PlacedSymbol words.If place ∷ s) = conditional-gets room inner sound place s
-statement_by-gets room inner inside sound also (PlacedSymbol words.Do place ∷ s) = do_statement-gets room inner inside sound also place s
-statement_by-gets room inner inside sound also (PlacedSymbol w place ∷ s) = gets_nothing
+-- a statement without labels, by its first symbol
+kind_by-gets : (room : ℕ) (inner : Parser StatementTree) (inside : BlockParser)
+    → GetsStatements inner
+    → GetsBlocks inside
+    → (s : List Symbol)
+    → Gets (IsKindRead s) (kind_by (expression room) inner inside (beginning_of s) s)
+kind_by-gets room inner inside sound also [] = gets_nothing
+kind_by-gets room inner inside sound also (NameSymbol n ∷ s) = assignment-gets room (NameSymbol n ∷ s)
+kind_by-gets room inner inside sound also (NumberSymbol n ∷ s) = gets_nothing
+kind_by-gets room inner inside sound also (StringSymbol t ∷ s) = gets_nothing
+kind_by-gets room inner inside sound also (ReservedSymbol w ∷ s) = gets_nothing
+kind_by-gets room inner inside sound also (UnknownSymbol ∷ s) = gets_nothing
+kind_by-gets room inner inside sound also (MarkSymbol m ∷ s) = gets_nothing
+kind_by-gets room inner inside sound also (SemicolonSymbol place ∷ s) = gets_ok (null, λ open_if. absurd cc)
+kind_by-gets room inner inside sound also (PlacedSymbol words.Call place ∷ s) = call-gets room place s
+kind_by-gets room inner inside sound also (PlacedSymbol words.Return place ∷ s) =
+    return_value-gets room place s
+kind_by-gets room inner inside sound also (PlacedSymbol words.Halt place ∷ s) = halt-gets place s
+kind_by-gets room inner inside sound also (PlacedSymbol words.Goto place ∷ s) = goto-gets place s
+kind_by-gets room inner inside sound also (PlacedSymbol words.If place ∷ s) =
+    conditional-gets room inner sound place s
+kind_by-gets room inner inside sound also (PlacedSymbol words.Do place ∷ s) =
+    do_statement-gets room inner inside sound also place s
+kind_by-gets room inner inside sound also (PlacedSymbol w place ∷ s) = gets_nothing
 
-procedure-gets : (strict : Bool) (inside : List Symbol → Reading (DeclarationTrees × StatementTrees)) → GetsBlocks inside → GetsDeclarations (procedure strict inside)
+-- labels
+labels-derive : (s : List Symbol) {t : StatementKindTree} {rest : List Symbol}
+    → DerivesKind (after_labels s) t rest
+    → DerivesStatement s (LabelledStatement (labels_before s) t) rest
+labels-derive (NameSymbol n ∷ second ∷ more) {t} {rest} d =
+    go (at_mark marks.Colon (second ∷ more)) refl (λ later. labels-derive more later) d
+  where
+    colon : at_mark marks.Colon (second ∷ more) ≡ true
+        → NameSymbol n ∷ MarkSymbol marks.Colon ∷ more ≡ NameSymbol n ∷ second ∷ more
+    colon e = ap (λ k. NameSymbol n ∷ k) (sym (at_mark-is marks.Colon (second ∷ more) e))
+
+    go : (b : Bool) → at_mark marks.Colon (second ∷ more) ≡ b
+        → (DerivesKind (after_labels more) t rest → DerivesStatement more
+        (LabelledStatement (labels_before more) t) rest)
+        → DerivesKind (if b then after_labels more else NameSymbol n ∷ second ∷ more) t rest
+        → DerivesStatement (NameSymbol n ∷ second ∷ more)
+        (LabelledStatement (if b then n ∷ labels_before more else []) t) rest
+    go true e others d =
+        subst (λ (k : List Symbol). DerivesStatement k (LabelledStatement (n ∷ labels_before more) t) rest)
+        (colon e)
+        (labelled (others d))
+    go false e others d = unlabelled d
+labels-derive (NameSymbol n ∷ []) d = unlabelled d
+labels-derive [] d = unlabelled d
+labels-derive (x ∷ more) d = unlabelled d
+
+-- a statement with its labels
+statement_by-gets : (room : ℕ) (inner : Parser StatementTree) (inside : BlockParser)
+    → GetsStatements inner
+    → GetsBlocks inside
+    → (s : List Symbol)
+    → Gets (IsStatementRead s) (statement_by (expression room) inner inside s)
+statement_by-gets room inner inside sound also s =
+    gets_bind (kind_by-gets room inner inside sound also (after_labels s)) λ found h.
+    gets_ok (labels-derive s h.0, h.1)
+
+procedure-gets : (strict : Bool) (inside : BlockParser) → GetsBlocks inside
+    → GetsDeclarations (procedure strict inside)
 unfolding procedure
 procedure-gets strict inside sound s =
     gets_bind (heading-gets s) λ head h.
-    gets_bind (sound head.1) λ found hs.
-    gets_bind (ending-gets strict head.0.name found.1) λ its_end e.
-    let e₁ = h.0 in
-    let e₂ = hs.0 in
-    gets_ok (cc, (hs.1, hs.2))
+    gets_bind (semicolon-gets head.1) λ start e₁.
+    gets_bind (sound start.1) λ found hs.
+    gets_bind (ending-gets strict head.0.name found.1) λ its_end e₂.
+    gets_ok
+    (subst (λ (k : List Symbol). DerivesDeclaration k (ProcedureTree head.0 found.0.0 found.0.1 its_end.0)
+    its_end.1)
+    (sym (h.0 ∙ ap (heading_symbols head.0) e₁))
+    (procedure_line start.0 e₂.0 hs.1 (statements-left e₂.1 hs.2)))
 
-declare_or-gets : (procedures : List Symbol → Reading DeclarationTree) → GetsDeclarations procedures → GetsDeclarations (declare_or procedures)
+declare-gets : (s : List Symbol)
+    → Gets (λ found. DerivesDeclaration (ReservedSymbol words.Declare ∷ s) found.0 found.1) (declare s)
+unfolding declare
+declare-gets s =
+    gets_bind (elements-gets s) λ found h.
+    gets_bind (semicolon-gets found.1) λ end e.
+    gets_ok
+    (subst (λ (k : List Symbol). DerivesDeclaration (ReservedSymbol words.Declare ∷ k) (DeclareTree found.0)
+    end.1)
+    (sym (h.0 ∙ ap (between_commas element_symbols found.0) e))
+    (declare_line end.0 h.1.0 h.1.1))
+
+declare_or-gets : (procedures : Parser DeclarationTree) → GetsDeclarations procedures
+    → GetsDeclarations (declare_or procedures)
 unfolding declare_or
 declare_or-gets procedures sound s =
     gets_if
     (λ e.
-    gets_bind (elements-gets (drop 1 s)) λ found h.
-    let e₁ = at_word-is words.Declare s e in
-    let e₂ = h.0 in
-    gets_ok (cc, h.1))
+    gets_more (declare-gets (drop 1 s)) λ found d.
+    subst (λ (k : List Symbol). DerivesDeclaration k found.0 found.1) (sym (at_word-is words.Declare s e)) d)
     (λ _. sound s)
 
 mutual
@@ -313,12 +532,15 @@ mutual
   pub statement-gets : (strict : Bool) (room : ℕ) → GetsStatements (statement strict room)
   statement-gets strict zero s = gets_nothing
   statement-gets strict (suc room) s =
-      statement_by-gets room (statement strict room) (block (declaration strict room) (statement strict room)) (statement-gets strict room)
-      (block-gets (declaration strict room) (statement strict room) (declaration-gets strict room) (statement-gets strict room)) s
+      statement_by-gets room (statement strict room)
+      (block (declaration strict room) (statement strict room)) (statement-gets strict room)
+      (block-gets (declaration strict room) (statement strict room) (declaration-gets strict room)
+      (statement-gets strict room)) s
 
   pub declaration-gets : (strict : Bool) (room : ℕ) → GetsDeclarations (declaration strict room)
   declaration-gets strict zero s = declare_or-gets (λ others. Err TooDeep) (λ q. gets_nothing) s
   declaration-gets strict (suc room) s =
       declare_or-gets (procedure strict (block (declaration strict room) (statement strict room)))
       (procedure-gets strict (block (declaration strict room) (statement strict room))
-      (block-gets (declaration strict room) (statement strict room) (declaration-gets strict room) (statement-gets strict room))) s
+      (block-gets (declaration strict room) (statement strict room) (declaration-gets strict room)
+      (statement-gets strict room))) s

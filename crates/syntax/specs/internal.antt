@@ -1,8 +1,8 @@
-pub mod Looking
+pub mod Reader
 pub mod Lists
 pub mod Expressions
+pub mod Measured
 pub mod Declarations
 pub mod Statements
 pub mod Inside
-pub mod Parts
-pub mod Giving
+pub mod Results

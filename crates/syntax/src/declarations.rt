@@ -3,10 +3,10 @@
 ghost use Rattle.std.specs.Prelude.{◌≡◌, Ok, map};
 ghost use Rattle.std.specs.Option.{option_map};
 ghost use Rattle.trees.specs.Views.{origin_tree, restricted_tree, item_type_tree, at_tree, value_list_tree, subject_tree, item_tree, element_tree, heading_tree, offset_tree};
-ghost use Rattle.syntax.specs.internal.Declarations.{origin, next_sign, all_offsets, restricted, next_scalar, scalar, result_type, count, dimension_inside, dimension, member, item_type, next_linkage, linkage, at, next_storage, value_list, base, names, item_behind, element_behind, element, elements, parameters, reentrant, heading};
-ghost use Rattle.syntax.specs.internal.Giving.{Gives};
+ghost use Rattle.syntax.specs.internal.Declarations.{origin, next_sign, all_offsets, restricted, next_scalar, scalar, result_type, count, dimension_inside, dimension, member, item_type, next_linkage, linkage, at, next_storage, value_list, base, names, item_after, element_after, element, parameters, reentrant, heading};
+ghost use Rattle.syntax.specs.internal.Results.{Gives};
 ghost use Rattle.syntax.specs.internal.Lists.{items};
-ghost use Rattle.syntax.specs.internal.Looking.{name};
+ghost use Rattle.syntax.specs.internal.Reader.{name};
 
 use crate::fault::Fault;
 use crate::reader::Reader;
@@ -146,7 +146,7 @@ impl<'a> Reader<'a> {
     }
 
     // BYTE | ADDRESS | STRUCTURE `(` member {`,` member} `)`
-    #[tactic(auto, using(crate::proofs::ListedItems::listed), unfolding(crate::specs::internal::Declarations::item_type))]
+    #[tactic(auto, using(crate::proofs::ListItems::listed), unfolding(crate::specs::internal::Declarations::item_type))]
     fn take_item_type(&mut self) -> Result<ItemType, Failure<Fault>>
         ensures { Gives item_type_tree result self.new (item_type self.old) }
     {
@@ -180,7 +180,7 @@ impl<'a> Reader<'a> {
         Some(found)
     }
 
-    // [AT `(` place `)`]
+    // [AT `(` restricted `)`]
     #[tactic(auto, unfolding(crate::specs::internal::Declarations::at))]
     fn take_at(&mut self) -> Result<Option<At>, Failure<Fault>>
         ensures { Gives (option_map at_tree) result self.new (at self.old) }
@@ -206,8 +206,8 @@ impl<'a> Reader<'a> {
         Some(Storage::Data(place))
     }
 
-    // [INITIAL `(` list `)` | DATA `(` list `)`]
-    #[tactic(auto, using(crate::proofs::ListedItems::listed), unfolding(crate::specs::internal::Declarations::value_list))]
+    // [INITIAL `(` restricted {`,` restricted} `)` | DATA `(` restricted {`,` restricted} `)`]
+    #[tactic(auto, using(crate::proofs::ListItems::listed), unfolding(crate::specs::internal::Declarations::value_list))]
     fn take_value_list(&mut self) -> Result<Option<ValueList>, Failure<Fault>>
         ensures { Gives (option_map value_list_tree) result self.new (value_list self.old) }
     {
@@ -233,7 +233,7 @@ impl<'a> Reader<'a> {
     }
 
     // `(` name {`,` name} `)`
-    #[tactic(auto, using(crate::proofs::ListedItems::listed), unfolding(crate::specs::internal::Declarations::names))]
+    #[tactic(auto, using(crate::proofs::ListItems::listed), unfolding(crate::specs::internal::Declarations::names))]
     fn take_names(&mut self) -> Result<Vec<Identifier>, Failure<Fault>>
         ensures { Gives (λ found. found.items) result self.new (names self.old) }
     {
@@ -243,9 +243,9 @@ impl<'a> Reader<'a> {
         Ok(found)
     }
 
-    // What stands behind the subject of an item.
-    fn take_item_behind(&mut self, subject: Subject) -> Result<Item, Failure<Fault>>
-        ensures { Gives item_tree result self.new (item_behind (subject_tree subject) self.old) }
+    // What stands after the subject of an item.
+    fn take_item_after(&mut self, subject: Subject) -> Result<Item, Failure<Fault>>
+        ensures { Gives item_tree result self.new (item_after (subject_tree subject) self.old) }
     {
         let dimension = self.take_dimension()?;
         let item_type = self.take_item_type()?;
@@ -262,9 +262,9 @@ impl<'a> Reader<'a> {
         })
     }
 
-    // What stands behind the name with which an element begins.
-    fn take_element_behind(&mut self, name: Identifier) -> Result<Element, Failure<Fault>>
-        ensures { Gives element_tree result self.new (element_behind name self.old) }
+    // What stands after the name with which an element begins.
+    fn take_element_after(&mut self, name: Identifier) -> Result<Element, Failure<Fault>>
+        ensures { Gives element_tree result self.new (element_after name self.old) }
     {
         if self.at_word(ReservedWord::Literally) {
             self.skip();
@@ -272,7 +272,7 @@ impl<'a> Reader<'a> {
             return Ok(Element::literally(self.alloc, name, text)?);
         }
         let base = self.take_base()?;
-        let found = self.take_item_behind(Subject::Single { name, base })?;
+        let found = self.take_item_after(Subject::Single { name, base })?;
         Ok(Element::item(self.alloc, found)?)
     }
 
@@ -283,21 +283,11 @@ impl<'a> Reader<'a> {
     {
         if let Some(name) = self.next_name() {
             self.skip();
-            return self.take_element_behind(name);
+            return self.take_element_after(name);
         }
         let names = self.take_names()?;
-        let found = self.take_item_behind(Subject::Group(names))?;
+        let found = self.take_item_after(Subject::Group(names))?;
         Ok(Element::item(self.alloc, found)?)
-    }
-
-    /// element {`,` element} `;`, behind DECLARE
-    #[tactic(auto, using(crate::proofs::ListedItems::listed), unfolding(crate::specs::internal::Declarations::elements))]
-    pub(crate) fn take_elements(&mut self) -> Result<Vec<Element>, Failure<Fault>>
-        ensures { Gives (λ found. map element_tree found.items) result self.new (elements self.old) }
-    {
-        let found = self.take_list::<Element>()?;
-        self.take_mark(Mark::Semicolon)?;
-        Ok(found)
     }
 
     // [`(` name {`,` name} `)`]
@@ -329,7 +319,7 @@ impl<'a> Reader<'a> {
         Some(place)
     }
 
-    /// name `:` PROCEDURE [`(` name {`,` name} `)`] [BYTE | ADDRESS] [PUBLIC | EXTERNAL] [REENTRANT] `;`
+    /// name `:` PROCEDURE [`(` name {`,` name} `)`] [BYTE | ADDRESS] [PUBLIC | EXTERNAL] [REENTRANT]
     #[tactic(auto, unfolding(crate::specs::internal::Declarations::heading))]
     pub(crate) fn take_heading(&mut self) -> Result<Heading, Failure<Fault>>
         ensures { Gives heading_tree result self.new (heading self.old) }
@@ -341,7 +331,6 @@ impl<'a> Reader<'a> {
         let result = self.take_result_type();
         let linkage = self.take_linkage();
         let reentrant = self.take_reentrant();
-        self.take_mark(Mark::Semicolon)?;
         Ok(Heading {
             name,
             parameters,

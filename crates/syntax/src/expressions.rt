@@ -1,14 +1,14 @@
 //! Expressions.
 
 ghost use Rattle.std.specs.Prelude.{◌≡◌, ◌<◌, ◌≤◌, ◌+◌, suc, map, IfOk};
-ghost use Rattle.trees.specs.Views.{constant_tree, expression_tree, reference_tree, argument_trees};
-ghost use Rattle.syntax.specs.internal.Expressions.{arguments, reference, location, assigned, closed, parenthesized, primary, operand, all_operators, expression, expression_less, next_operator};
+ghost use Rattle.trees.specs.declared.module.TheConstants.{NESTING_LIMIT};
+ghost use Rattle.syntax.specs.internal.Expressions.{arguments, reference_after, reference, location, assigned, closed, parenthesized, primary, operand, all_operators, expression, expression_less, next_operator, operator_on};
 ghost use Rattle.trees.specs.Forms.{expr_level};
 ghost use Rattle.trees.specs.Trees.{ReferenceLeaf};
-ghost use Rattle.syntax.specs.internal.Giving.{Gives};
+ghost use Rattle.syntax.specs.internal.Results.{Gives};
 ghost use Rattle.syntax.specs.internal.Lists.{items};
-ghost use Rattle.syntax.specs.internal.Looking.{constant, name};
-ghost use Rattle.syntax.specs.internal.Parts.{reference_behind, operator_on};
+ghost use Rattle.syntax.specs.internal.Measured.{measured_tree, measured_reference, measured_arguments, measured_items};
+ghost use Rattle.syntax.specs.internal.Reader.{constant, name};
 
 use crate::fault::Fault;
 use crate::measured::{
@@ -23,10 +23,10 @@ use words::{Mark, ReservedWord};
 impl<'a> Reader<'a> {
     /// An expression at a level, of no more levels than the room.
     #[cycle(expression)]
-    #[tactic(auto, using(crate::proofs::Operators::expression_at, crate::proofs::Operators::expression_none))]
+    #[tactic(auto, using(crate::proofs::ExpressionLoops::expression_at, crate::proofs::ExpressionLoops::expression_none))]
     pub(crate) fn expression(&mut self, level: u8, room: u8) -> Result<Measured, Failure<Fault>>
-        requires { room ≤ 64 }
-        ensures gives { Gives (λ found. expression_tree found.expression) result self.new (expression room level self.old) }
+        requires { room ≤ NESTING_LIMIT }
+        ensures gives { Gives measured_tree result self.new (expression room level self.old) }
         ensures fits { IfOk result (λ found. found.height ≤ room) }
     {
         if room == 0 {
@@ -36,13 +36,14 @@ impl<'a> Reader<'a> {
         self.operators(level, room - 1, left)
     }
 
-    // Operators that may stand at a level, with what stands behind them, behind a left operand.
+    // Operators that may stand at a level, with what stands after them, after a left operand.
     #[cycle(expression)]
-    #[tactic(auto, using(crate::proofs::Operators::operators_deep, crate::proofs::Operators::operators_end))]
+    #[tactic(auto, using(crate::proofs::ExpressionLoops::operators_deep, crate::proofs::ExpressionLoops::operators_end))]
     fn operators(&mut self, level: u8, room: u8, left: Measured) -> Result<Measured, Failure<Fault>>
-        requires room { room < 64 }
+        requires room { room < NESTING_LIMIT }
         requires left { left.height ≤ room + 1 }
-        ensures gives { Gives (λ found. expression_tree found.expression) result self.new (all_operators (expression room) (suc room) level (expression_tree left.expression) self.old) }
+        ensures gives { Gives measured_tree result self.new
+            (all_operators (expression room) (suc room) level (measured_tree left) self.old) }
         ensures fits { IfOk result (λ found. found.height ≤ room + 1) }
     {
         let mut left = left;
@@ -57,7 +58,8 @@ impl<'a> Reader<'a> {
         Ok(left)
     }
 
-    // The next word, if it is an operator that goes on with an expression of a level, where what comes out must stand at another.
+    // The next word, if it is an operator that goes on with an expression of level `top`, where the whole
+    // must stand at `level`.
     fn operator_on(&self, level: u8, top: u8) -> Option<BinaryOperator>
         ensures { result ≡ operator_on level top (next_operator self.now) }
     {
@@ -74,8 +76,9 @@ impl<'a> Reader<'a> {
     #[cycle(expression)]
     #[tactic(auto, unfolding(crate::specs::internal::Expressions::operand))]
     fn operand(&mut self, level: u8, room: u8) -> Result<Measured, Failure<Fault>>
-        requires { room < 64 }
-        ensures gives { Gives (λ found. expression_tree found.expression) result self.new (operand (expression room) (expression_less room) level self.old) }
+        requires { room < NESTING_LIMIT }
+        ensures gives { Gives measured_tree result self.new
+            (operand (expression room) (expression_less room) level self.old) }
         ensures fits { IfOk result (λ found. found.height ≤ room + 1) }
     {
         if self.at_word(ReservedWord::Not) && level <= NEGATION_LEVEL {
@@ -93,10 +96,11 @@ impl<'a> Reader<'a> {
 
     // A constant, a reference, a location or an expression in parentheses.
     #[cycle(expression)]
-    #[tactic(auto, using(crate::proofs::Operators::primary_constant, crate::proofs::Operators::primary_parenthesized, crate::proofs::Operators::primary_location))]
+    #[tactic(auto, using(crate::proofs::ExpressionLoops::primary_constant, crate::proofs::ExpressionLoops::primary_parenthesized, crate::proofs::ExpressionLoops::primary_location))]
     fn primary(&mut self, room: u8) -> Result<Measured, Failure<Fault>>
-        requires { room < 64 }
-        ensures gives { Gives (λ found. expression_tree found.expression) result self.new (primary (expression room) (expression_less room) self.old) }
+        requires { room < NESTING_LIMIT }
+        ensures gives { Gives measured_tree result self.new
+            (primary (expression room) (expression_less room) self.old) }
         ensures fits { IfOk result (λ found. found.height ≤ room + 1) }
     {
         if self.at_mark(Mark::LeftParenthesis) {
@@ -112,16 +116,17 @@ impl<'a> Reader<'a> {
             return Ok(Measured::constant(found));
         };
         self.skip();
-        let found = self.reference_behind(base, room)?;
+        let found = self.reference_after(base, room)?;
         Ok(Measured::reference(self.alloc, found)?)
     }
 
-    // What stands behind an opening parenthesis: an expression, or an assignment.
+    // What stands after an opening parenthesis: an expression, or an assignment.
     #[cycle(expression)]
     #[tactic(auto, unfolding(crate::specs::internal::Expressions::parenthesized))]
     fn parenthesized(&mut self, room: u8) -> Result<Measured, Failure<Fault>>
-        requires { room < 64 }
-        ensures gives { Gives (λ found. expression_tree found.expression) result self.new (parenthesized (expression room) (expression_less room) self.old) }
+        requires { room < NESTING_LIMIT }
+        ensures gives { Gives measured_tree result self.new
+            (parenthesized (expression room) (expression_less room) self.old) }
         ensures fits { IfOk result (λ found. found.height ≤ room + 1) }
     {
         let inner = self.expression(EXPRESSION_LEVEL, room)?;
@@ -135,13 +140,14 @@ impl<'a> Reader<'a> {
         }
     }
 
-    // What stands behind an opening parenthesis and the reference that is assigned to.
+    // What stands after an opening parenthesis and the reference that is assigned to.
     #[cycle(expression)]
-    #[tactic(auto, using(crate::proofs::Operators::expression_less_at))]
+    #[tactic(auto, using(crate::proofs::ExpressionLoops::expression_less_at))]
     fn assigned(&mut self, target: MeasuredReference, room: u8) -> Result<Measured, Failure<Fault>>
-        requires room { room < 64 }
+        requires room { room < NESTING_LIMIT }
         requires target { target.height < room }
-        ensures gives { Gives (λ found. expression_tree found.expression) result self.new (assigned (expression_less room) (ReferenceLeaf (reference_tree target.reference)) self.old) }
+        ensures gives { Gives measured_tree result self.new
+            (assigned (expression_less room) (ReferenceLeaf (measured_reference target)) self.old) }
         ensures fits { IfOk result (λ found. found.height ≤ room + 1) }
     {
         self.take_mark(Mark::AssignSign)?;
@@ -150,12 +156,12 @@ impl<'a> Reader<'a> {
         Ok(Measured::assignment(self.alloc, target, value)?)
     }
 
-    // What stands behind a period: a reference, or constants in parentheses.
+    // What stands after a period: a reference, or constants in parentheses.
     #[cycle(expression)]
-    #[tactic(auto, using(crate::proofs::ListedItems::listed), unfolding(crate::specs::internal::Expressions::location, crate::specs::internal::Expressions::reference))]
+    #[tactic(auto, using(crate::proofs::ListItems::listed), unfolding(crate::specs::internal::Expressions::location, crate::specs::internal::Expressions::reference))]
     fn location(&mut self, room: u8) -> Result<Measured, Failure<Fault>>
-        requires { room < 64 }
-        ensures gives { Gives (λ found. expression_tree found.expression) result self.new (location (expression room) self.old) }
+        requires { room < NESTING_LIMIT }
+        ensures gives { Gives measured_tree result self.new (location (expression room) self.old) }
         ensures fits { IfOk result (λ found. found.height ≤ room + 1) }
     {
         if self.at_mark(Mark::LeftParenthesis) {
@@ -165,48 +171,49 @@ impl<'a> Reader<'a> {
             return Ok(Measured::list(constants));
         }
         let base = self.take_name()?;
-        let found = self.reference_behind(base, room)?;
+        let found = self.reference_after(base, room)?;
         Ok(Measured::location(self.alloc, found)?)
     }
 
     /// A reference whose arguments take no more levels than the room.
     #[tactic(auto, unfolding(crate::specs::internal::Expressions::reference))]
     pub(crate) fn reference(&mut self, room: u8) -> Result<MeasuredReference, Failure<Fault>>
-        requires { room ≤ 64 }
-        ensures gives { Gives (λ found. reference_tree found.reference) result self.new (reference (expression room) self.old) }
+        requires { room ≤ NESTING_LIMIT }
+        ensures gives { Gives measured_reference result self.new (reference (expression room) self.old) }
         ensures fits { IfOk result (λ found. found.height ≤ room) }
     {
         let base = self.take_name()?;
-        self.reference_behind(base, room)
+        self.reference_after(base, room)
     }
 
-    // What stands behind the name of a reference: arguments, and perhaps a member with its own.
+    // [arguments] [`.` name [arguments]], after the name of a reference.
     #[cycle(expression)]
-    fn reference_behind(
+    fn reference_after(
         &mut self,
-        base: Identifier,
+        name: Identifier,
         room: u8,
     ) -> Result<MeasuredReference, Failure<Fault>>
-        requires { room ≤ 64 }
-        ensures gives { Gives (λ found. reference_tree found.reference) result self.new (reference_behind (expression room) base self.old) }
+        requires { room ≤ NESTING_LIMIT }
+        ensures gives { Gives measured_reference result self.new
+            (reference_after (expression room) name self.old) }
         ensures fits { IfOk result (λ found. found.height ≤ room) }
     {
-        let its_arguments = self.arguments(room)?;
+        let arguments = self.arguments(room)?;
         if !self.at_mark(Mark::Period) {
-            return Ok(MeasuredReference::whole(self.alloc, base, its_arguments)?);
+            return Ok(MeasuredReference::whole(self.alloc, name, arguments)?);
         }
         self.skip();
         let member = self.take_name()?;
-        let behind = self.arguments(room)?;
-        Ok(MeasuredReference::member(self.alloc, base, its_arguments, member, behind)?)
+        let its_arguments = self.arguments(room)?;
+        Ok(MeasuredReference::member(self.alloc, name, arguments, member, its_arguments)?)
     }
 
     /// Arguments in parentheses that take no more levels than the room, or none.
     #[cycle(expression)]
-    #[tactic(auto, using(crate::proofs::Arguments::arguments_of_map))]
+    #[tactic(auto, using(crate::proofs::MeasuredHeights::arguments_of_map))]
     pub(crate) fn arguments(&mut self, room: u8) -> Result<MeasuredArguments, Failure<Fault>>
-        requires { room ≤ 64 }
-        ensures gives { Gives (λ found. argument_trees found.items.items) result self.new (arguments (expression room) self.old) }
+        requires { room ≤ NESTING_LIMIT }
+        ensures gives { Gives measured_arguments result self.new (arguments (expression room) self.old) }
         ensures fits { IfOk result (λ found. found.height ≤ room) }
     {
         if !self.at_mark(Mark::LeftParenthesis) {
@@ -221,8 +228,8 @@ impl<'a> Reader<'a> {
     // Expressions between commas.
     #[cycle(expression)]
     fn expressions(&mut self, room: u8) -> Result<MeasuredArguments, Failure<Fault>>
-        requires { room ≤ 64 }
-        ensures gives { Gives (λ found. map expression_tree found.items.items) result self.new (items (expression room expr_level) self.old) }
+        requires { room ≤ NESTING_LIMIT }
+        ensures gives { Gives measured_items result self.new (items (expression room expr_level) self.old) }
         ensures fits { IfOk result (λ found. found.height ≤ room) }
     {
         let first = self.expression(EXPRESSION_LEVEL, room)?;

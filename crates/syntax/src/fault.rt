@@ -5,7 +5,7 @@ use thiserror::Error;
 /// Why words are no module. Lines are counted from 1.
 #[derive(Clone, Copy, Debug, PartialEq, Eq, Error)]
 pub enum Fault {
-    /// A word that no module has there, with its line, or the end of the words, with the line of the last one, or 1.
+    /// A word that no module has there, or the end of the words, with the line of the last one, or 1.
     #[error("line {line}: a word that cannot stand here")]
     Word { line: u32 },
     /// The word begins what would be nested more than 64 levels deep.

@@ -2,9 +2,9 @@
 
 ghost use Rattle.std.specs.Prelude.{List, map};
 ghost use Rattle.trees.specs.Symbols.{Symbol};
-ghost use Rattle.syntax.specs.internal.Giving.{Gives};
+ghost use Rattle.syntax.specs.internal.Results.{Gives};
 ghost use Rattle.syntax.specs.internal.Lists.{items, Keeps};
-ghost use Rattle.syntax.specs.internal.Looking.{Reading};
+ghost use Rattle.syntax.specs.internal.Reader.{Reading};
 
 use crate::fault::Fault;
 use crate::reader::Reader;
@@ -47,7 +47,7 @@ impl<'a> Reader<'a> {
 impl Listed for Constant {
     ghost use Rattle.trees.specs.Trees.{ConstantTree};
     ghost use Rattle.trees.specs.Views.{constant_tree};
-    ghost use Rattle.syntax.specs.internal.Looking.{constant};
+    ghost use Rattle.syntax.specs.internal.Reader.{constant};
 
     ghost Tree = { ConstantTree };
 
@@ -62,7 +62,7 @@ impl Listed for Constant {
 
 impl Listed for Identifier {
     ghost use Rattle.trees.specs.declared.identifier.Identifier as identifiers;
-    ghost use Rattle.syntax.specs.internal.Looking.{name};
+    ghost use Rattle.syntax.specs.internal.Reader.{name};
 
     ghost Tree = { identifiers.Identifier };
 

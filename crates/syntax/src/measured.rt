@@ -1,23 +1,28 @@
-//! Expressions with what their reader asks of them again and again: how high they are, and where they may stand.
+//! Expressions with how many levels they take, and at which levels of the grammar they may stand.
 
 ghost use Rattle.std.specs.Prelude.{◌≡◌, ◌<◌, ◌+◌, suc, max, [], ◌∷◌, ◌++◌, IfOk, OnOk, IfSome, IsNone, false, map};
-ghost use Rattle.trees.specs.Forms.{expr_level, neg_level, rel_level, sec_level, primary_level, level_of, left_level, unary_level_of};
+ghost use Rattle.trees.specs.Forms.{expr_level, neg_level, rel_level, sec_level, primary_level, level_of};
+ghost use Rattle.trees.specs.internal.Forms.{left_level, unary_level_of};
 ghost use Rattle.trees.specs.Nesting.{expression_height, reference_height, arguments_height};
-ghost use Rattle.trees.specs.Trees.{ConstantLeaf, ReferenceLeaf, LocationLeaf, ListLeaf, ParenthesizedNode, AssignmentNode, UnaryNode, BinaryNode, WholeReference, MemberReference, NoArguments};
+ghost use Rattle.trees.specs.Trees.{ConstantLeaf, ReferenceLeaf, LocationLeaf, ListLeaf, ParenthesizedNode, AssignmentNode, UnaryNode, BinaryNode, ReferenceTo, NoMember, MemberOf, NoArguments};
 ghost use Rattle.trees.specs.Views.{constant_tree, expression_tree, reference_tree, argument_trees, reference_of, is_reference_leaf};
 ghost use Rattle.syntax.specs.internal.Expressions.{top_level};
 
 use std::alloc::{AllocError, Global};
 use trees::{BinaryOperator, Constant, Expression, Identifier, Reference, Selector, UnaryOperator};
 
-/// The level of whole expressions.
+/// The level of whole expressions, joined by OR and XOR.
 pub(crate) const EXPRESSION_LEVEL: u8 = 0;
+/// The level of what AND joins.
+pub(crate) const CONJUNCTION_LEVEL: u8 = 1;
 /// The level of NOT and its operand.
 pub(crate) const NEGATION_LEVEL: u8 = 2;
 /// The level of comparisons.
-pub(crate) const COMPARISON_LEVEL: u8 = 3;
+pub(crate) const RELATION_LEVEL: u8 = 3;
 /// The level of sums.
 pub(crate) const SUM_LEVEL: u8 = 4;
+/// The level of products, quotients and remainders.
+pub(crate) const TERM_LEVEL: u8 = 5;
 /// The level of `-` before its operand.
 pub(crate) const SIGN_LEVEL: u8 = 6;
 /// The level of what no operator joins.
@@ -56,15 +61,15 @@ pub(crate) fn level_of(operator: BinaryOperator) -> u8
 {
     match operator {
         BinaryOperator::Or | BinaryOperator::Xor => EXPRESSION_LEVEL,
-        BinaryOperator::And => 1,
+        BinaryOperator::And => CONJUNCTION_LEVEL,
         BinaryOperator::Equal
         | BinaryOperator::Less
         | BinaryOperator::Greater
         | BinaryOperator::LessOrEqual
         | BinaryOperator::GreaterOrEqual
-        | BinaryOperator::Unequal => COMPARISON_LEVEL,
+        | BinaryOperator::Unequal => RELATION_LEVEL,
         BinaryOperator::Add | BinaryOperator::Subtract => SUM_LEVEL,
-        BinaryOperator::Multiply | BinaryOperator::Divide | BinaryOperator::Modulo => 5,
+        BinaryOperator::Multiply | BinaryOperator::Divide | BinaryOperator::Modulo => TERM_LEVEL,
     }
 }
 
@@ -72,7 +77,7 @@ pub(crate) fn level_of(operator: BinaryOperator) -> u8
 pub(crate) fn left_level(level: u8) -> u8
     ensures { result ≡ left_level level }
 {
-    if level == COMPARISON_LEVEL {
+    if level == RELATION_LEVEL {
         SUM_LEVEL
     } else {
         level
@@ -80,6 +85,8 @@ pub(crate) fn left_level(level: u8) -> u8
 }
 
 impl Measured {
+    ghost use Rattle.syntax.specs.internal.Measured.{MakesMeasured};
+
     /// A constant.
     pub(crate) fn constant(constant: Constant) -> Measured
         ensures view { expression_tree result.expression ≡ ConstantLeaf (constant_tree constant) }
@@ -107,7 +114,7 @@ impl Measured {
     /// A reference.
     pub(crate) fn reference(alloc: Global, found: MeasuredReference) -> Result<Measured, AllocError>
         requires { found.height < 255 }
-        ensures view { IfOk result (λ made. expression_tree made.expression ≡ ReferenceLeaf (reference_tree found.reference)) }
+        ensures view { MakesMeasured result (ReferenceLeaf (reference_tree found.reference)) }
         ensures height { IfOk result (λ made. made.height ≡ found.height + 1) }
     {
         let MeasuredReference { reference, height } = found;
@@ -121,7 +128,7 @@ impl Measured {
     /// `.` and a reference.
     pub(crate) fn location(alloc: Global, found: MeasuredReference) -> Result<Measured, AllocError>
         requires { found.height < 255 }
-        ensures view { IfOk result (λ made. expression_tree made.expression ≡ LocationLeaf (reference_tree found.reference)) }
+        ensures view { MakesMeasured result (LocationLeaf (reference_tree found.reference)) }
         ensures height { IfOk result (λ made. made.height ≡ found.height + 1) }
     {
         let MeasuredReference { reference, height } = found;
@@ -135,7 +142,7 @@ impl Measured {
     /// An expression in parentheses.
     pub(crate) fn parenthesized(alloc: Global, inner: Measured) -> Result<Measured, AllocError>
         requires { inner.height < 255 }
-        ensures view { IfOk result (λ made. expression_tree made.expression ≡ ParenthesizedNode (expression_tree inner.expression)) }
+        ensures view { MakesMeasured result (ParenthesizedNode (expression_tree inner.expression)) }
         ensures height { IfOk result (λ made. made.height ≡ inner.height + 1) }
     {
         Ok(Measured {
@@ -153,7 +160,8 @@ impl Measured {
     ) -> Result<Measured, AllocError>
         requires target { target.height < 254 }
         requires value { value.height < 254 }
-        ensures view { IfOk result (λ made. expression_tree made.expression ≡ AssignmentNode (reference_tree target.reference) (expression_tree value.expression)) }
+        ensures view { MakesMeasured result
+            (AssignmentNode (reference_tree target.reference) (expression_tree value.expression)) }
         ensures height { IfOk result (λ made. made.height ≡ max target.height value.height + 2) }
     {
         Ok(Measured {
@@ -170,7 +178,7 @@ impl Measured {
         operand: Measured,
     ) -> Result<Measured, AllocError>
         requires { operand.height < 255 }
-        ensures view { IfOk result (λ made. expression_tree made.expression ≡ UnaryNode operator (expression_tree operand.expression)) }
+        ensures view { MakesMeasured result (UnaryNode operator (expression_tree operand.expression)) }
         ensures height { IfOk result (λ made. made.height ≡ operand.height + 1) }
     {
         let level = match operator {
@@ -193,7 +201,8 @@ impl Measured {
     ) -> Result<Measured, AllocError>
         requires left { left.height < 255 }
         requires right { right.height < 255 }
-        ensures view { IfOk result (λ made. expression_tree made.expression ≡ BinaryNode operator (expression_tree left.expression) (expression_tree right.expression)) }
+        ensures view { MakesMeasured result
+            (BinaryNode operator (expression_tree left.expression) (expression_tree right.expression)) }
         ensures height { IfOk result (λ made. made.height ≡ max left.height right.height + 1) }
     {
         Ok(Measured {
@@ -205,7 +214,8 @@ impl Measured {
 
     /// The reference that an expression is, if it is one.
     pub(crate) fn into_reference(self) -> Option<MeasuredReference>
-        ensures found { IfSome result (λ found. expression_tree self.expression ≡ ReferenceLeaf (reference_tree found.reference)) }
+        ensures found { IfSome result
+            (λ found. expression_tree self.expression ≡ ReferenceLeaf (reference_tree found.reference)) }
         ensures height { IfSome result (λ found. self.height ≡ found.height + 1) }
         ensures other { IsNone result → is_reference_leaf (expression_tree self.expression) ≡ false }
     {
@@ -220,13 +230,16 @@ impl Measured {
 }
 
 impl MeasuredReference {
+    ghost use Rattle.syntax.specs.internal.Measured.{MakesReference};
+
     /// A name with its arguments.
     pub(crate) fn whole(
         alloc: Global,
         name: Identifier,
         arguments: MeasuredArguments,
     ) -> Result<MeasuredReference, AllocError>
-        ensures view { IfOk result (λ made. reference_tree made.reference ≡ WholeReference name (argument_trees arguments.items.items)) }
+        ensures view { MakesReference result
+            (ReferenceTo name (argument_trees arguments.items.items) NoMember) }
         ensures height { IfOk result (λ made. made.height ≡ arguments.height) }
     {
         let MeasuredArguments { items, height } = arguments;
@@ -248,7 +261,9 @@ impl MeasuredReference {
         member: Identifier,
         its_arguments: MeasuredArguments,
     ) -> Result<MeasuredReference, AllocError>
-        ensures view { IfOk result (λ made. reference_tree made.reference ≡ MemberReference name (argument_trees arguments.items.items) member (argument_trees its_arguments.items.items)) }
+        ensures view { MakesReference result
+            (ReferenceTo name (argument_trees arguments.items.items)
+            (MemberOf member (argument_trees its_arguments.items.items))) }
         ensures height { IfOk result (λ made. made.height ≡ max arguments.height its_arguments.height) }
     {
         let height = arguments.height.max(its_arguments.height);
@@ -293,7 +308,7 @@ impl MeasuredArguments {
     }
 
     /// One more argument.
-    #[tactic(auto, using(crate::proofs::Arguments::arguments_height_push))]
+    #[tactic(auto, using(crate::proofs::MeasuredHeights::arguments_height_push))]
     pub(crate) fn push(&mut self, next: Measured) -> Result<(), AllocError>
         ensures view { OnOk result (self.new.items.items ≡ self.old.items.items ++ next.expression ∷ []) }
         ensures height { OnOk result (self.new.height ≡ max self.old.height next.height) }

@@ -3,31 +3,30 @@
 ghost use Rattle.std.specs.Prelude.{◌≡◌, ◌≢◌, ◌≤◌, true, List, [], OnOk, IfOk, IfErr, Some};
 ghost use Rattle.failure.specs.Failure.{IfFault};
 ghost use Rattle.words.specs.Spelling.{Lexeme, lexemes_of};
+ghost use Rattle.trees.specs.declared.module.TheConstants.{NESTING_LIMIT};
 ghost use Rattle.trees.specs.Derivation.{Derives, DerivesAtMostOne, DerivesButForDepth, DerivesButForEndName};
 ghost use Rattle.trees.specs.Trees.{ModuleTree};
-ghost use Rattle.trees.specs.Views.{declaration_trees, statement_trees, module_tree};
+ghost use Rattle.trees.specs.Views.{module_tree};
 ghost use Rattle.syntax.specs.Faults.{IsOfDepth, IsOfEndName, IsRefused};
-ghost use Rattle.syntax.specs.internal.Giving.{cause_of};
-ghost use Rattle.syntax.specs.internal.Inside.{Makes};
-ghost use Rattle.syntax.specs.internal.Looking.{Unexpected};
-ghost use Rattle.syntax.specs.internal.Statements.{whole_module};
+ghost use Rattle.syntax.specs.internal.Results.{cause_of};
+ghost use Rattle.syntax.specs.internal.Inside.{Makes, block_trees};
+ghost use Rattle.syntax.specs.internal.Reader.{Unexpected};
+ghost use Rattle.syntax.specs.internal.Statements.{module_of, whole_module};
 
 use crate::fault::Fault;
 use crate::reader::Reader;
 use failure::Failure;
 use std::alloc::Global;
 use std::marker::Model;
-use trees::{Block, Identifier, Module, Place};
+use trees::{Block, Identifier, Module, NESTING_LIMIT, Place};
 use words::{Mark, ReservedWord, Word};
-
-/// How many levels may be nested.
-const NESTING_LIMIT: u8 = 64;
 
 /// The module that the words derive. Takes time and memory in proportion to the words (which no clause says).
 pub fn parse(alloc: Global, words: &[Word]) -> Result<Module, Failure<Fault>>
     ensures ok { IfOk result (λ parsed. Derives (lexemes_of words.now) (module_tree parsed)) }
     ensures one_tree { (all : List Lexeme) → DerivesAtMostOne all }
-    ensures refused { IfFault result (λ fault. (tree : ModuleTree) → Derives (lexemes_of words.now) tree → ⊥) }
+    ensures refused { IfFault result
+        (λ fault. (tree : ModuleTree) → Derives (lexemes_of words.now) tree → ⊥) }
     ensures depth { DerivesButForDepth (lexemes_of words.now) → IsRefused result IsOfDepth }
     ensures end_name { DerivesButForEndName (lexemes_of words.now) → IsRefused result IsOfEndName }
 {
@@ -37,7 +36,7 @@ pub fn parse(alloc: Global, words: &[Word]) -> Result<Module, Failure<Fault>>
 
 // A module of its parts.
 fn module_of(name: Identifier, place: Place, body: Block, end_name: Option<Identifier>) -> Module
-    ensures { module_tree result ≡ record { name = name; place = place; declarations = declaration_trees body.declarations.items; statements = statement_trees body.statements.items; end_name = end_name } }
+    ensures { module_tree result ≡ module_of name place (block_trees body) end_name }
 {
     Module {
         name,
@@ -48,16 +47,16 @@ fn module_of(name: Identifier, place: Place, body: Block, end_name: Option<Ident
 }
 
 impl<'a> Reader<'a> {
-    // name `:` DO `;` {declaration} {statement} END [name] `;`, and nothing behind it.
-    #[tactic(auto, using(crate::proofs::Giving::fails_bind, crate::proofs::Giving::fails_behind), unfolding(crate::specs::internal::Statements::whole_module))]
+    // name `:` DO `;` {declaration} {statement} END [name] `;`, and nothing after it.
+    #[tactic(auto, using(crate::proofs::ReaderResults::fails_bind, crate::proofs::ReaderResults::fails_after), unfolding(crate::specs::internal::Statements::whole_module))]
     fn take_module(&mut self, room: u8) -> Result<Module, Failure<Fault>>
-        requires { room ≤ 64 }
+        requires { room ≤ NESTING_LIMIT }
         ensures { Makes module_tree result (whole_module true room self.old) }
     {
         let name = self.take_name()?;
         self.take_mark(Mark::Colon)?;
         let place = self.take_placed(ReservedWord::Do)?;
-        self.take_mark(Mark::Semicolon)?;
+        self.take_semicolon()?;
         let body = self.take_block(room)?;
         let end_name = self.take_ending(&name)?;
         self.take_end()?;

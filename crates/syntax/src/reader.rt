@@ -6,9 +6,8 @@ ghost use Rattle.trees.specs.Symbols.{symbol_of, MarkSymbol, ReservedSymbol};
 ghost use Rattle.words.specs.Strings.{characters_of, unquoted};
 ghost use Rattle.trees.specs.Views.{constant_tree, string_tree};
 ghost use Rattle.syntax.specs.internal.Expressions.{operator_of, next_operator};
-ghost use Rattle.syntax.specs.internal.Giving.{left_of, cause_of, Gives, Leaves};
-ghost use Rattle.syntax.specs.internal.Looking.{Cause, Unexpected, TooDeep, at_mark, at_word, keeps_place, place_of_word, next_name, mark, word, taken, name, number, string, constant};
-ghost use Rattle.syntax.specs.internal.Parts.{string_constant, number_constant};
+ghost use Rattle.syntax.specs.internal.Results.{left_of, cause_of, Gives, Leaves};
+ghost use Rattle.syntax.specs.internal.Reader.{Cause, Unexpected, TooDeep, at_mark, at_word, is_semicolon, keeps_place, place_of_word, next_semicolon, next_name, mark, word, semicolon, taken, name, number, string, constant, string_constant, number_constant};
 
 use crate::fault::Fault;
 use failure::Failure;
@@ -29,7 +28,7 @@ pub(crate) struct Reader<'a> {
 impl<'a> Model for Reader<'a> {
     ghost use Rattle.std.specs.Prelude.{List};
     ghost use Rattle.trees.specs.Symbols.{Symbol};
-    ghost use Rattle.syntax.specs.internal.Giving.{left_of};
+    ghost use Rattle.syntax.specs.internal.Results.{left_of};
 
     ghost Value = { List Symbol };
 
@@ -75,13 +74,15 @@ impl<'a> Reader<'a> {
 
     // The next word.
     fn next(&self) -> Option<&'a Word<'a>>
-        ensures { MatchOption result (self.now ≡ []) (λ word. self.now ≡ symbol_of (lexeme_of word.now) ∷ drop 1 self.now) }
+        ensures { MatchOption result (self.now ≡ [])
+            (λ word. self.now ≡ symbol_of (lexeme_of word.now) ∷ drop 1 self.now) }
     {
         self.rest.first()
     }
 
-    /// Whether the next word is a mark.
+    /// Whether the next word is a mark other than a semicolon.
     pub(crate) fn at_mark(&self, mark: Mark) -> bool
+        requires { is_semicolon mark ≡ false }
         ensures { result ≡ at_mark mark self.now }
     {
         match self.next() {
@@ -101,7 +102,7 @@ impl<'a> Reader<'a> {
         }
     }
 
-    /// The next word is left behind.
+    /// The next word is left after.
     pub(crate) fn skip(&mut self)
         requires { self.old ≢ [] }
         ensures { self.new ≡ drop 1 self.old }
@@ -119,6 +120,16 @@ impl<'a> Reader<'a> {
     {
         match self.next() {
             Some(word) if is_reserved(word.kind, wanted) => Some(place_of(word)),
+            _ => None,
+        }
+    }
+
+    /// The place of a semicolon, if it is the next word.
+    pub(crate) fn next_semicolon(&self) -> Option<Place>
+        ensures { result ≡ next_semicolon self.now }
+    {
+        match self.next() {
+            Some(word) if is_mark(word.kind, Mark::Semicolon) => Some(place_of(word)),
             _ => None,
         }
     }
@@ -144,8 +155,9 @@ impl<'a> Reader<'a> {
         }
     }
 
-    /// A mark.
+    /// A mark other than a semicolon.
     pub(crate) fn take_mark(&mut self, wanted: Mark) -> Result<(), Failure<Fault>>
+        requires { is_semicolon wanted ≡ false }
         ensures { Leaves result self.new (mark wanted self.old) }
     {
         if !self.at_mark(wanted) {
@@ -153,6 +165,19 @@ impl<'a> Reader<'a> {
         }
         self.skip();
         Ok(())
+    }
+
+    /// A semicolon.
+    pub(crate) fn take_semicolon(&mut self) -> Result<Place, Failure<Fault>>
+        ensures { Gives (λ place. place) result self.new (semicolon self.old) }
+    {
+        match self.next_semicolon() {
+            Some(place) => {
+                self.skip();
+                Ok(place)
+            }
+            None => Err(self.unexpected()),
+        }
     }
 
     /// A reserved word whose place is not kept.
@@ -250,7 +275,8 @@ impl<'a> Reader<'a> {
 
     // Whether the next word is a string.
     fn at_string(&self) -> bool
-        ensures { MatchBool result (constant self.now ≡ string_constant self.now) (constant self.now ≡ number_constant self.now) }
+        ensures { MatchBool result (constant self.now ≡ string_constant self.now)
+            (constant self.now ≡ number_constant self.now) }
     {
         match self.next() {
             Some(word) => word.kind == Kind::String,
@@ -309,7 +335,7 @@ fn characters_of(alloc: Global, text: &[u8]) -> Result<Vec<u8>, AllocError>
     }
 }
 
-// The bytes that a string stands for, from the bytes behind its opening quote: of two quotes one stays.
+// The bytes that a string stands for, from the bytes after its opening quote: of two quotes one stays.
 fn unquoted(alloc: Global, text: &[u8]) -> Result<Vec<u8>, AllocError>
     ensures { IfOk result (λ made. made.items ≡ unquoted false text.now) }
 {

@@ -1,17 +1,18 @@
 //! Statements.
 
-ghost use Rattle.std.specs.Prelude.{◌≡◌, ◌<◌, ◌≤◌, true, not, [], ◌∷◌, map, length, OnOk, IfErr, Some};
+ghost use Rattle.std.specs.Prelude.{◌≡◌, ◌<◌, ◌≤◌, true, not, [], ◌∷◌, map, length, OnOk, IfOk, IfErr, Some, None};
 ghost use Rattle.std.specs.Option.{option_map};
 ghost use Rattle.words.specs.Spelling.{lexeme_of};
+ghost use Rattle.trees.specs.declared.module.TheConstants.{NESTING_LIMIT};
 ghost use Rattle.trees.specs.Forms.{expr_level};
 ghost use Rattle.trees.specs.Symbols.{symbol_of};
-ghost use Rattle.trees.specs.Views.{expression_tree, reference_tree, argument_trees, statement_tree, statement_trees, declaration_tree, declaration_trees, iteration_tree};
+ghost use Rattle.trees.specs.Views.{expression_tree, reference_tree, argument_trees, statement_tree, kind_tree, else_tree, statement_trees, declaration_tree, declaration_trees, iteration_tree};
 ghost use Rattle.syntax.specs.internal.Expressions.{expression, reference, arguments};
-ghost use Rattle.syntax.specs.internal.Giving.{cause_of, Gives, Leaves};
-ghost use Rattle.syntax.specs.internal.Inside.{block_in, block_trees, condition, is_name_symbol, next_beginning, other_statement, statement_inside};
+ghost use Rattle.syntax.specs.internal.Results.{cause_of, Gives, Leaves};
+ghost use Rattle.syntax.specs.internal.Inside.{block_in, block_trees, condition, is_name_symbol, kind_inside, next_beginning};
 ghost use Rattle.syntax.specs.internal.Lists.{all_more_items};
-ghost use Rattle.syntax.specs.internal.Looking.{Unexpected, next_name};
-ghost use Rattle.syntax.specs.internal.Statements.{beginning_at, begins_procedure, ends_declarations, end_of_do, end_name, ending, assignment, call, return_value, halt, conditional, step, iteration, body_of_do, do_statement, statements, declarations, procedure, statement, declaration};
+ghost use Rattle.syntax.specs.internal.Reader.{Unexpected, next_name};
+ghost use Rattle.syntax.specs.internal.Statements.{at_semicolon, beginning_at, next_label, labels_before, after_labels, begins_procedure, ends_declarations, end_of_do, end_name, ending, assignment, call, return_value, halt, goto, otherwise, conditional, step, iteration, body_of_do, do_statement, statements, declarations, procedure, declare, statement, declaration};
 
 use crate::fault::Fault;
 use crate::measured::EXPRESSION_LEVEL;
@@ -19,19 +20,20 @@ use crate::reader::{Reader, is_mark, is_reserved, place_of};
 use failure::Failure;
 use std::marker::Model;
 use trees::{
-    Block, Declaration, Expression, Identifier, Iteration, Name, Place, Reference, Selector,
-    Statement,
+    Block, Declaration, Element, Expression, Identifier, Iteration, Name, Place, Reference,
+    Selector, Statement, StatementKind,
 };
 use words::{Kind, Mark, ReservedWord, Word};
 
 // What a statement begins with, by its first word.
 #[derive(Clone, Copy, Debug, PartialEq, Eq)]
 pub(crate) enum Beginning {
-    Semicolon,
+    Semicolon(Place),
     Name,
     Call(Place),
     Return(Place),
     Halt(Place),
+    Goto(Place),
     If(Place),
     Do(Place),
     // No statement begins so.
@@ -46,6 +48,7 @@ fn beginning_at(word: ReservedWord, place: Place) -> Beginning
         ReservedWord::Call => Beginning::Call(place),
         ReservedWord::Return => Beginning::Return(place),
         ReservedWord::Halt => Beginning::Halt(place),
+        ReservedWord::Goto => Beginning::Goto(place),
         ReservedWord::If => Beginning::If(place),
         ReservedWord::Do => Beginning::Do(place),
         _ => Beginning::Other,
@@ -59,14 +62,15 @@ fn is_name(word: &Word) -> bool
     word.kind == Kind::Name && Name::from_text(word.text).is_some()
 }
 
-// What a statement begins with at a word. A word that is a name of other characters is found by whoever takes it.
-#[tactic(auto, using(crate::proofs::Beginnings::next_beginning_reserved, crate::proofs::Beginnings::next_beginning_name))]
+// What a statement begins with at a word. A word that is said to be a name and has other characters is found by
+// whoever takes it.
+#[tactic(auto, using(crate::proofs::StatementBeginnings::next_beginning_reserved, crate::proofs::StatementBeginnings::next_beginning_name))]
 fn beginning_with(word: &Word) -> Beginning
     ensures { result ≡ next_beginning (symbol_of (lexeme_of word.now) ∷ []) }
 {
     match word.kind {
         Kind::Name => Beginning::Name,
-        Kind::Mark(Mark::Semicolon) => Beginning::Semicolon,
+        Kind::Mark(Mark::Semicolon) => Beginning::Semicolon(place_of(word)),
         Kind::Reserved(reserved) => beginning_at(reserved, place_of(word)),
         _ => Beginning::Other,
     }
@@ -104,18 +108,25 @@ impl<'a> Reader<'a> {
         self.at_word(ReservedWord::Declare) || self.begins_procedure()
     }
 
+    // Whether a semicolon stands here.
+    fn at_semicolon(&self) -> bool
+        ensures { result ≡ at_semicolon self.now }
+    {
+        self.next_semicolon().is_some()
+    }
+
     // END `;`
-    #[tactic(auto, using(crate::proofs::Giving::fails_bind))]
+    #[tactic(auto, using(crate::proofs::ReaderResults::fails_bind))]
     fn take_end_of_do(&mut self) -> Result<(), Failure<Fault>>
         ensures { Leaves result self.new (end_of_do self.old) }
     {
         self.take_word(ReservedWord::End)?;
-        self.take_mark(Mark::Semicolon)?;
+        self.take_semicolon()?;
         Ok(())
     }
 
     /// END [name] `;`, where what ends has a name of its own.
-    #[tactic(auto, using(crate::proofs::Giving::fails_bind), unfolding(crate::specs::internal::Statements::ending))]
+    #[tactic(auto, using(crate::proofs::ReaderResults::fails_bind), unfolding(crate::specs::internal::Statements::ending))]
     pub(crate) fn take_ending(
         &mut self,
         own: &Identifier,
@@ -127,14 +138,14 @@ impl<'a> Reader<'a> {
         Ok(found)
     }
 
-    // [name] `;`, behind END.
-    #[tactic(auto, using(crate::proofs::Giving::fails_bind))]
+    // [name] `;`, after END.
+    #[tactic(auto, using(crate::proofs::ReaderResults::fails_bind))]
     fn take_end_name(&mut self, own: Identifier) -> Result<Option<Identifier>, Failure<Fault>>
         ensures { Gives (λ found. found) result self.new (end_name true own (next_name self.old) self.old) }
     {
         match self.next_name() {
             None => {
-                self.take_mark(Mark::Semicolon)?;
+                self.take_semicolon()?;
                 Ok(None)
             }
             Some(found) => {
@@ -144,15 +155,15 @@ impl<'a> Reader<'a> {
                     }));
                 }
                 self.skip();
-                self.take_mark(Mark::Semicolon)?;
+                self.take_semicolon()?;
                 Ok(Some(found))
             }
         }
     }
 
-    // expr
+    // expression
     fn take_expression(&mut self, room: u8) -> Result<Expression, Failure<Fault>>
-        requires { room ≤ 64 }
+        requires { room ≤ NESTING_LIMIT }
         ensures { Gives expression_tree result self.new (expression room expr_level self.old) }
     {
         let found = self.expression(EXPRESSION_LEVEL, room)?;
@@ -161,41 +172,43 @@ impl<'a> Reader<'a> {
 
     // reference
     fn take_reference(&mut self, room: u8) -> Result<Reference, Failure<Fault>>
-        requires { room ≤ 64 }
+        requires { room ≤ NESTING_LIMIT }
         ensures { Gives reference_tree result self.new (reference (expression room) self.old) }
     {
         let found = self.reference(room)?;
         Ok(found.reference)
     }
 
-    // [args]
+    // [arguments]
     fn take_arguments(&mut self, room: u8) -> Result<Vec<Expression>, Failure<Fault>>
-        requires { room ≤ 64 }
-        ensures { Gives (λ found. argument_trees found.items) result self.new (arguments (expression room) self.old) }
+        requires { room ≤ NESTING_LIMIT }
+        ensures { Gives (λ found. argument_trees found.items) result self.new
+            (arguments (expression room) self.old) }
     {
         let found = self.arguments(room)?;
         Ok(found.items)
     }
 
-    // reference {`,` reference} `=` expr `;`
-    #[tactic(auto, using(crate::proofs::Giving::fails_bind), unfolding(crate::specs::internal::Statements::assignment))]
-    fn take_assignment(&mut self, room: u8) -> Result<Statement, Failure<Fault>>
-        requires { room ≤ 64 }
-        ensures { Gives statement_tree result self.new (assignment (expression room) self.old) }
+    // reference {`,` reference} `=` expression `;`
+    #[tactic(auto, using(crate::proofs::ReaderResults::fails_bind), unfolding(crate::specs::internal::Statements::assignment))]
+    fn take_assignment(&mut self, room: u8) -> Result<StatementKind, Failure<Fault>>
+        requires { room ≤ NESTING_LIMIT }
+        ensures { Gives kind_tree result self.new (assignment (expression room) self.old) }
     {
         let first = self.take_reference(room)?;
         let others = self.take_more_targets(room)?;
         self.take_mark(Mark::EqualSign)?;
         let value = self.take_expression(room)?;
-        self.take_mark(Mark::Semicolon)?;
-        Ok(Statement::assignment(self.alloc, first, others, value)?)
+        self.take_semicolon()?;
+        Ok(StatementKind::assignment(self.alloc, first, others, value)?)
     }
 
     // {`,` reference}
-    #[tactic(auto, using(crate::proofs::TargetLoop::target_loop))]
+    #[tactic(auto, using(crate::proofs::StatementTargets::target_loop))]
     fn take_more_targets(&mut self, room: u8) -> Result<Vec<Reference>, Failure<Fault>>
-        requires { room ≤ 64 }
-        ensures { Gives (λ found. map reference_tree found.items) result self.new (all_more_items (reference (expression room)) self.old) }
+        requires { room ≤ NESTING_LIMIT }
+        ensures { Gives (λ found. map reference_tree found.items) result self.new
+            (all_more_items (reference (expression room)) self.old) }
     {
         let mut targets = Vec::new(self.alloc);
         'more: while self.at_mark(Mark::Comma) {
@@ -207,47 +220,57 @@ impl<'a> Reader<'a> {
         Ok(targets)
     }
 
-    // name [args] `;`, behind CALL.
-    #[tactic(auto, using(crate::proofs::Giving::fails_bind), unfolding(crate::specs::internal::Statements::call))]
-    fn take_call(&mut self, place: Place, room: u8) -> Result<Statement, Failure<Fault>>
-        requires { room ≤ 64 }
-        ensures { Gives statement_tree result self.new (call (expression room) place self.old) }
+    // name [arguments] `;`, after CALL.
+    #[tactic(auto, using(crate::proofs::ReaderResults::fails_bind), unfolding(crate::specs::internal::Statements::call))]
+    fn take_call(&mut self, place: Place, room: u8) -> Result<StatementKind, Failure<Fault>>
+        requires { room ≤ NESTING_LIMIT }
+        ensures { Gives kind_tree result self.new (call (expression room) place self.old) }
     {
         let name = self.take_name()?;
         let arguments = self.take_arguments(room)?;
-        self.take_mark(Mark::Semicolon)?;
+        self.take_semicolon()?;
         let procedure = Selector { name, arguments };
-        Ok(Statement::call(self.alloc, place, procedure)?)
+        Ok(StatementKind::call(self.alloc, place, procedure)?)
     }
 
-    // [expr] `;`, behind RETURN.
-    #[tactic(auto, using(crate::proofs::Giving::fails_bind), unfolding(crate::specs::internal::Statements::return_value))]
-    fn take_return(&mut self, place: Place, room: u8) -> Result<Statement, Failure<Fault>>
-        requires { room ≤ 64 }
-        ensures { Gives statement_tree result self.new (return_value (expression room) place self.old) }
+    // [expression] `;`, after RETURN.
+    #[tactic(auto, using(crate::proofs::ReaderResults::fails_bind), unfolding(crate::specs::internal::Statements::return_value))]
+    fn take_return(&mut self, place: Place, room: u8) -> Result<StatementKind, Failure<Fault>>
+        requires { room ≤ NESTING_LIMIT }
+        ensures { Gives kind_tree result self.new (return_value (expression room) place self.old) }
     {
-        if self.at_mark(Mark::Semicolon) {
+        if self.at_semicolon() {
             self.skip();
-            return Ok(Statement::return_value(self.alloc, place, None)?);
+            return Ok(StatementKind::return_value(self.alloc, place, None)?);
         }
         let value = self.take_expression(room)?;
-        self.take_mark(Mark::Semicolon)?;
-        Ok(Statement::return_value(self.alloc, place, Some(value))?)
+        self.take_semicolon()?;
+        Ok(StatementKind::return_value(self.alloc, place, Some(value))?)
     }
 
-    // `;`, behind HALT.
-    #[tactic(auto, using(crate::proofs::Giving::fails_bind))]
-    fn take_halt(&mut self, place: Place) -> Result<Statement, Failure<Fault>>
-        ensures { Gives statement_tree result self.new (halt place self.old) }
+    // `;`, after HALT.
+    #[tactic(auto, using(crate::proofs::ReaderResults::fails_bind))]
+    fn take_halt(&mut self, place: Place) -> Result<StatementKind, Failure<Fault>>
+        ensures { Gives kind_tree result self.new (halt place self.old) }
     {
-        self.take_mark(Mark::Semicolon)?;
-        Ok(Statement::halt(place))
+        self.take_semicolon()?;
+        Ok(StatementKind::halt(place))
     }
 
-    // name `=` expr TO expr [BY expr] `;`
-    #[tactic(auto, using(crate::proofs::Giving::fails_bind), unfolding(crate::specs::internal::Statements::iteration))]
+    // name `;`, after GOTO.
+    #[tactic(auto, using(crate::proofs::ReaderResults::fails_bind), unfolding(crate::specs::internal::Statements::goto))]
+    fn take_goto(&mut self, place: Place) -> Result<StatementKind, Failure<Fault>>
+        ensures { Gives kind_tree result self.new (goto place self.old) }
+    {
+        let label = self.take_name()?;
+        self.take_semicolon()?;
+        Ok(StatementKind::goto(self.alloc, place, label)?)
+    }
+
+    // name `=` expression TO expression [BY expression] `;`
+    #[tactic(auto, using(crate::proofs::ReaderResults::fails_bind), unfolding(crate::specs::internal::Statements::iteration))]
     fn take_iteration(&mut self, room: u8) -> Result<Iteration, Failure<Fault>>
-        requires { room ≤ 64 }
+        requires { room ≤ NESTING_LIMIT }
         ensures { Gives iteration_tree result self.new (iteration (expression room) self.old) }
     {
         let variable = self.take_name()?;
@@ -256,7 +279,7 @@ impl<'a> Reader<'a> {
         self.take_word(ReservedWord::To)?;
         let last = self.take_expression(room)?;
         let step = self.take_step(room)?;
-        self.take_mark(Mark::Semicolon)?;
+        self.take_semicolon()?;
         Ok(Iteration {
             variable,
             first,
@@ -265,11 +288,12 @@ impl<'a> Reader<'a> {
         })
     }
 
-    // [BY expr]
-    #[tactic(auto, using(crate::proofs::Giving::fails_bind))]
+    // [BY expression]
+    #[tactic(auto, using(crate::proofs::ReaderResults::fails_bind))]
     fn take_step(&mut self, room: u8) -> Result<Option<Expression>, Failure<Fault>>
-        requires { room ≤ 64 }
-        ensures { Gives (λ found. option_map expression_tree found) result self.new (step (expression room) self.old) }
+        requires { room ≤ NESTING_LIMIT }
+        ensures { Gives (λ found. option_map expression_tree found) result self.new
+            (step (expression room) self.old) }
     {
         if !self.at_word(ReservedWord::By) {
             return Ok(None);
@@ -279,14 +303,14 @@ impl<'a> Reader<'a> {
         Ok(Some(step))
     }
 
-    // expr `;`
-    #[tactic(auto, using(crate::proofs::Giving::fails_bind))]
+    // expression `;`
+    #[tactic(auto, using(crate::proofs::ReaderResults::fails_bind))]
     fn take_condition(&mut self, room: u8) -> Result<Expression, Failure<Fault>>
-        requires { room ≤ 64 }
+        requires { room ≤ NESTING_LIMIT }
         ensures { Gives expression_tree result self.new (condition (expression room) self.old) }
     {
         let condition = self.take_expression(room)?;
-        self.take_mark(Mark::Semicolon)?;
+        self.take_semicolon()?;
         Ok(condition)
     }
 
@@ -301,25 +325,55 @@ impl<'a> Reader<'a> {
         Ok(())
     }
 
-    /// A statement of no more levels than the room.
+    // The label that stands here, if one does: a name before a colon.
+    #[tactic(auto, using(crate::proofs::StatementLabels::label_rules))]
+    fn next_label(&self) -> Option<Identifier>
+        ensures { result ≡ next_label self.now }
+    {
+        match self.words() {
+            [_, colon, ..] if is_mark(colon.kind, Mark::Colon) => self.next_name(),
+            _ => None,
+        }
+    }
+
+    // The labels before a statement.
+    #[tactic(auto, using(crate::proofs::StatementLabels::label_rules))]
+    fn take_labels(&mut self) -> Result<Vec<Identifier>, Failure<Fault>>
+        ensures ok { IfOk result (λ found. found.items ≡ labels_before self.old) }
+        ensures left { IfOk result (λ found. self.new ≡ after_labels self.old) }
+        ensures err { IfErr result (λ failure. cause_of failure ≡ None) }
+    {
+        let mut labels = Vec::new(self.alloc);
+        'more: while let Some(label) = self.next_label() {
+            self.skip();
+            self.skip();
+            labels.push(label)?;
+        }
+        labels.shrink_to_fit();
+        Ok(labels)
+    }
+
+    /// A statement of no more levels than the room. Its labels take none.
     #[cycle(statement)]
-    #[tactic(auto, using(crate::proofs::Giving::fails_bind, crate::proofs::Insides::statement_in))]
+    #[tactic(auto, using(crate::proofs::ReaderResults::fails_bind, crate::proofs::StatementInsides::statement_in))]
     fn take_statement(&mut self, room: u8) -> Result<Statement, Failure<Fault>>
-        requires { room ≤ 64 }
+        requires { room ≤ NESTING_LIMIT }
         ensures { Gives statement_tree result self.new (statement true room self.old) }
     {
         if room == 0 {
             return Err(self.too_deep());
         }
-        self.take_inside(room - 1)
+        let labels = self.take_labels()?;
+        let kind = self.take_kind(room - 1)?;
+        Ok(Statement::new(labels, kind))
     }
 
-    // A statement whose parts fit into a room.
+    // A statement without labels whose parts fit into a room.
     #[cycle(statement)]
-    #[tactic(auto, using(crate::proofs::Giving::fails_bind))]
-    fn take_inside(&mut self, room: u8) -> Result<Statement, Failure<Fault>>
-        requires { room ≤ 64 }
-        ensures { Gives statement_tree result self.new (statement_inside room self.old) }
+    #[tactic(auto, using(crate::proofs::ReaderResults::fails_bind))]
+    fn take_kind(&mut self, room: u8) -> Result<StatementKind, Failure<Fault>>
+        requires { room ≤ NESTING_LIMIT }
+        ensures { Gives kind_tree result self.new (kind_inside room self.old) }
     {
         let beginning = self.beginning();
         if beginning == Beginning::Other {
@@ -333,32 +387,35 @@ impl<'a> Reader<'a> {
             Beginning::Call(place) => self.take_call(place, room),
             Beginning::Return(place) => self.take_return(place, room),
             Beginning::Halt(place) => self.take_halt(place),
+            Beginning::Goto(place) => self.take_goto(place),
             Beginning::If(place) => self.take_if(place, room),
             Beginning::Do(place) => self.take_do(place, room),
-            _ => Ok(Statement::null()),
+            Beginning::Semicolon(place) => Ok(StatementKind::null(place)),
+            Beginning::Name | Beginning::Other => Err(self.unexpected()),
         }
     }
 
-    // expr THEN statement [ELSE statement], behind IF.
+    // expression THEN statement [ELSE statement], after IF.
     #[cycle(statement)]
-    #[tactic(auto, using(crate::proofs::Giving::fails_bind), unfolding(crate::specs::internal::Statements::conditional))]
-    fn take_if(&mut self, place: Place, room: u8) -> Result<Statement, Failure<Fault>>
-        requires { room ≤ 64 }
-        ensures { Gives statement_tree result self.new (conditional (expression room) (statement true room) place self.old) }
+    #[tactic(auto, using(crate::proofs::ReaderResults::fails_bind), unfolding(crate::specs::internal::Statements::conditional))]
+    fn take_if(&mut self, place: Place, room: u8) -> Result<StatementKind, Failure<Fault>>
+        requires { room ≤ NESTING_LIMIT }
+        ensures { Gives kind_tree result self.new
+            (conditional (expression room) (statement true room) place self.old) }
     {
         let condition = self.take_expression(room)?;
         self.take_word(ReservedWord::Then)?;
         let body = self.take_statement(room)?;
         let otherwise = self.take_otherwise(room)?;
-        Ok(Statement::if_then(self.alloc, place, condition, body, otherwise)?)
+        Ok(StatementKind::if_then(self.alloc, place, condition, body, otherwise)?)
     }
 
     // [ELSE statement]
     #[cycle(statement)]
-    #[tactic(auto, using(crate::proofs::Giving::fails_bind))]
+    #[tactic(auto, using(crate::proofs::ReaderResults::fails_bind))]
     fn take_otherwise(&mut self, room: u8) -> Result<Option<Statement>, Failure<Fault>>
-        requires { room ≤ 64 }
-        ensures { Gives (λ found. option_map statement_tree found) result self.new (other_statement (statement true room) self.old) }
+        requires { room ≤ NESTING_LIMIT }
+        ensures { Gives else_tree result self.new (otherwise (statement true room) self.old) }
     {
         if !self.at_word(ReservedWord::Else) {
             return Ok(None);
@@ -368,42 +425,44 @@ impl<'a> Reader<'a> {
         Ok(Some(statement))
     }
 
-    // What stands behind DO.
+    // What stands after DO.
     #[cycle(statement)]
-    #[tactic(auto, using(crate::proofs::Giving::fails_bind), unfolding(crate::specs::internal::Statements::do_statement, crate::specs::internal::Statements::simple_do, crate::specs::internal::Statements::while_do, crate::specs::internal::Statements::case_do, crate::specs::internal::Statements::iterative_do))]
-    fn take_do(&mut self, place: Place, room: u8) -> Result<Statement, Failure<Fault>>
-        requires { room ≤ 64 }
-        ensures { Gives statement_tree result self.new (do_statement (expression room) (statement true room) (block_in room) place self.old) }
+    #[tactic(auto, using(crate::proofs::ReaderResults::fails_bind), unfolding(crate::specs::internal::Statements::do_statement, crate::specs::internal::Statements::simple_do, crate::specs::internal::Statements::while_do, crate::specs::internal::Statements::case_do, crate::specs::internal::Statements::iterative_do))]
+    fn take_do(&mut self, place: Place, room: u8) -> Result<StatementKind, Failure<Fault>>
+        requires { room ≤ NESTING_LIMIT }
+        ensures { Gives kind_tree result self.new
+            (do_statement (expression room) (statement true room) (block_in room) place self.old) }
     {
-        if self.at_mark(Mark::Semicolon) {
+        if self.at_semicolon() {
             self.skip();
             let block = self.take_block(room)?;
             self.take_end_of_do()?;
-            return Ok(Statement::simple_do(self.alloc, place, block)?);
+            return Ok(StatementKind::simple_do(self.alloc, place, block)?);
         }
         if self.at_word(ReservedWord::While) {
             self.skip();
             let condition = self.take_condition(room)?;
             let body = self.take_body(room)?;
-            return Ok(Statement::do_while(self.alloc, place, condition, body)?);
+            return Ok(StatementKind::do_while(self.alloc, place, condition, body)?);
         }
         if self.at_word(ReservedWord::Case) {
             self.skip();
             let choice = self.take_condition(room)?;
             let body = self.take_body(room)?;
-            return Ok(Statement::do_case(self.alloc, place, choice, body)?);
+            return Ok(StatementKind::do_case(self.alloc, place, choice, body)?);
         }
         let iteration = self.take_iteration(room)?;
         let body = self.take_body(room)?;
-        Ok(Statement::iterative_do(self.alloc, place, iteration, body)?)
+        Ok(StatementKind::iterative_do(self.alloc, place, iteration, body)?)
     }
 
     // {statement} END `;`
     #[cycle(statement)]
-    #[tactic(auto, using(crate::proofs::Giving::fails_bind), unfolding(crate::specs::internal::Statements::body_of_do))]
+    #[tactic(auto, using(crate::proofs::ReaderResults::fails_bind), unfolding(crate::specs::internal::Statements::body_of_do))]
     fn take_body(&mut self, room: u8) -> Result<Vec<Statement>, Failure<Fault>>
-        requires { room ≤ 64 }
-        ensures { Gives (λ found. statement_trees found.items) result self.new (body_of_do (statement true room) self.old) }
+        requires { room ≤ NESTING_LIMIT }
+        ensures { Gives (λ found. statement_trees found.items) result self.new
+            (body_of_do (statement true room) self.old) }
     {
         let statements = self.take_statements(room)?;
         self.take_end_of_do()?;
@@ -414,8 +473,9 @@ impl<'a> Reader<'a> {
     #[cycle(statement)]
     #[tactic(auto, using(crate::proofs::StatementLoops::statement_loop))]
     fn take_statements(&mut self, room: u8) -> Result<Vec<Statement>, Failure<Fault>>
-        requires { room ≤ 64 }
-        ensures { Gives (λ found. statement_trees found.items) result self.new (statements (statement true room) self.old) }
+        requires { room ≤ NESTING_LIMIT }
+        ensures { Gives (λ found. statement_trees found.items) result self.new
+            (statements (statement true room) self.old) }
     {
         let mut statements = Vec::new(self.alloc);
         'more: while !self.at_word(ReservedWord::End) {
@@ -429,9 +489,9 @@ impl<'a> Reader<'a> {
 
     /// {declaration} {statement}
     #[cycle(statement)]
-    #[tactic(auto, using(crate::proofs::Giving::fails_bind), unfolding(crate::specs::internal::Statements::block))]
+    #[tactic(auto, using(crate::proofs::ReaderResults::fails_bind), unfolding(crate::specs::internal::Statements::block))]
     pub(crate) fn take_block(&mut self, room: u8) -> Result<Block, Failure<Fault>>
-        requires { room ≤ 64 }
+        requires { room ≤ NESTING_LIMIT }
         ensures { Gives block_trees result self.new (block_in room self.old) }
     {
         let declarations = self.take_declarations(room)?;
@@ -446,8 +506,9 @@ impl<'a> Reader<'a> {
     #[cycle(statement)]
     #[tactic(auto, using(crate::proofs::StatementLoops::declaration_loop))]
     fn take_declarations(&mut self, room: u8) -> Result<Vec<Declaration>, Failure<Fault>>
-        requires { room ≤ 64 }
-        ensures { Gives (λ found. declaration_trees found.items) result self.new (declarations (declaration true room) self.old) }
+        requires { room ≤ NESTING_LIMIT }
+        ensures { Gives (λ found. declaration_trees found.items) result self.new
+            (declarations (declaration true room) self.old) }
     {
         let mut declarations = Vec::new(self.alloc);
         'more: while self.begins_declaration() {
@@ -460,15 +521,14 @@ impl<'a> Reader<'a> {
 
     // A declaration of no more levels than the room.
     #[cycle(statement)]
-    #[tactic(auto, using(crate::proofs::Giving::fails_bind, crate::proofs::Insides::declaration_in), unfolding(crate::specs::internal::Statements::declare_or))]
+    #[tactic(auto, using(crate::proofs::ReaderResults::fails_bind, crate::proofs::StatementInsides::declaration_in), unfolding(crate::specs::internal::Statements::declare_or))]
     fn take_declaration(&mut self, room: u8) -> Result<Declaration, Failure<Fault>>
-        requires { room ≤ 64 }
+        requires { room ≤ NESTING_LIMIT }
         ensures { Gives declaration_tree result self.new (declaration true room self.old) }
     {
         if self.at_word(ReservedWord::Declare) {
             self.skip();
-            let elements = self.take_elements()?;
-            return Ok(Declaration::declare(elements));
+            return self.take_declare();
         }
         if room == 0 {
             return Err(self.too_deep());
@@ -476,14 +536,25 @@ impl<'a> Reader<'a> {
         self.take_procedure(room - 1)
     }
 
+    // element {`,` element} `;`, after DECLARE.
+    #[tactic(auto, using(crate::proofs::ReaderResults::fails_bind, crate::proofs::ListItems::listed), unfolding(crate::specs::internal::Statements::declare))]
+    fn take_declare(&mut self) -> Result<Declaration, Failure<Fault>>
+        ensures { Gives declaration_tree result self.new (declare self.old) }
+    {
+        let elements = self.take_list::<Element>()?;
+        self.take_semicolon()?;
+        Ok(Declaration::declare(elements))
+    }
+
     // A procedure whose inside fits into a room.
     #[cycle(statement)]
-    #[tactic(auto, using(crate::proofs::Giving::fails_bind), unfolding(crate::specs::internal::Statements::procedure))]
+    #[tactic(auto, using(crate::proofs::ReaderResults::fails_bind), unfolding(crate::specs::internal::Statements::procedure))]
     fn take_procedure(&mut self, room: u8) -> Result<Declaration, Failure<Fault>>
-        requires { room ≤ 64 }
+        requires { room ≤ NESTING_LIMIT }
         ensures { Gives declaration_tree result self.new (procedure true (block_in room) self.old) }
     {
         let heading = self.take_heading()?;
+        self.take_semicolon()?;
         let body = self.take_block(room)?;
         let end_name = self.take_ending(&heading.name)?;
         Ok(Declaration::procedure(self.alloc, heading, body, end_name)?)

@@ -78,6 +78,42 @@ static STATEMENTS: [(&str, &str); 16] = [
     ),
 ];
 
+static LABELS: [(&str, &str); 9] = [
+    (
+        "M: DO; L: A = 1; GOTO L; END;",
+        "(M L: (= A 1) (GOTO L) END)",
+    ),
+    ("M: DO; A: B: ; END;", "(M A: B: ; END)"),
+    (
+        "M: DO; L: DO; L: GOTO L; END; END;",
+        "(M L: (DO L: (GOTO L)) END)",
+    ),
+    (
+        "M: DO; IF A THEN L: HALT; ELSE K: ; END;",
+        "(M (IF A L: (HALT) K: ;) END)",
+    ),
+    (
+        "M: DO; IF A THEN L: IF B THEN C = 1; ELSE GOTO L; END;",
+        "(M (IF A L: (IF B (= C 1) (GOTO L))) END)",
+    ),
+    (
+        "M: DO; DO CASE N; L: ; K: HALT; END; END;",
+        "(M (CASE N L: ; K: (HALT)) END)",
+    ),
+    (
+        "M: DO; DECLARE A BYTE; P: PROCEDURE; L: RETURN; END P; L: CALL P; END M;",
+        "(M (DECLARE (A BYTE)) (PROCEDURE P L: (RETURN) END P) L: (CALL P) END M)",
+    ),
+    (
+        "M: DO; DO I = 1 TO 9; L: M: A(I) = 0; END; END M;",
+        "(M (FROM I 1 9 L: M: (= A(I) 0)) END M)",
+    ),
+    (
+        "M: DO; P: Q = 1; R: S.T = 2; END;",
+        "(M P: (= Q 1) R: (= S.T 2) END)",
+    ),
+];
+
 static EXPRESSIONS: [(&str, &str); 17] = [
     ("M: DO; A = B - C - D; END;", "(M (= A (- (- B C) D)) END)"),
     (
@@ -198,6 +234,11 @@ fn modules(rt: HostRuntime) -> Result<(), Fail> {
 #[test]
 fn statements(rt: HostRuntime) -> Result<(), Fail> {
     have_shapes(&rt, rt.alloc(), &STATEMENTS)
+}
+
+#[test]
+fn labels(rt: HostRuntime) -> Result<(), Fail> {
+    have_shapes(&rt, rt.alloc(), &LABELS)
 }
 
 #[test]

@@ -4,6 +4,8 @@
 #[cfg(test)]
 mod accepted;
 #[cfg(test)]
+mod constructors;
+#[cfg(test)]
 mod memory;
 #[cfg(test)]
 mod refused;

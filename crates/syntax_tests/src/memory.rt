@@ -11,7 +11,7 @@ use words::Word;
 
 const SOURCE: &[u8] =
     b"M: DO; DECLARE A(2) BYTE INITIAL (1, 'X'), N LITERALLY 'A(0) + 1'; P: PROCEDURE (X); DECLARE X BYTE; IF X THEN RETURN; END P; \
-DO WHILE N < 3; A(0), A(1) = -(A(0) := N) * 2; CALL P(.(1, 'AB')); END; END M;";
+DO WHILE N < 3; A(0), A(1) = -(A(0) := N) * 2; CALL P(.(1, 'AB')); END; L: GOTO L; END M;";
 
 // The words of a source.
 fn words_of<'a>(alloc: Global, source: &'a [u8]) -> Result<Vec<Word<'a>>, words::Fault>

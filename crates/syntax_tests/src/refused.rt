@@ -34,7 +34,7 @@ fn check_fault(
 }
 
 // Words that no module has where they stand, each with its line.
-static WORDS: [(&[u8], u32); 17] = [
+static WORDS: [(&[u8], u32); 28] = [
     (b"", 1),
     (b"\n\nM", 3),
     (b"M: DO;\nX = ;\nEND;", 2),
@@ -52,6 +52,17 @@ static WORDS: [(&[u8], u32); 17] = [
     (b"M: DO; DECLARE A BYTE\nB BYTE; END;", 2),
     (b"M: DO; DECLARE A(\nB) BYTE; END;", 2),
     (b"M: DO; DECLARE A BYTE\n", 1),
+    (b"M:\nN: DO; END;", 2),
+    (b"M: DO; L:\nEND;", 2),
+    (b"M: DO; L:\n: X = 1; END;", 2),
+    (b"M: DO; L:\nDECLARE A BYTE; END;", 2),
+    (b"M: DO; L: P:\nPROCEDURE; END; END;", 2),
+    (b"M: DO; IF A THEN B = 1; L:\nELSE C = 1; END;", 2),
+    (b"M: DO; L\n; END;", 2),
+    (b"M: DO; GOTO\n; END;", 2),
+    (b"M: DO; GOTO L\nK; END;", 2),
+    (b"M: DO;\nGO TO L; END;", 2),
+    (b"M: DO; DECLARE L\nLABEL; END;", 2),
 ];
 
 #[test]
@@ -99,8 +110,9 @@ fn nested(
 }
 
 // What is nested: the text before, what opens and closes a level, what stands inside, and how many levels there may be.
-static NESTED: [(&[u8], &[u8], &[u8], &[u8], usize); 4] = [
+static NESTED: [(&[u8], &[u8], &[u8], &[u8], usize); 5] = [
     (b"M: DO;\n", b"DO;", b"", b"END;", 64),
+    (b"M: DO;\n", b"L: K: DO;", b"", b"END;", 64),
     (b"M: DO;\n", b"P: PROCEDURE; ", b"", b"END;", 64),
     (b"M: DO;\nX = ", b"(", b"1", b")", 62),
     (b"M: DO;\nX = ", b"NOT ", b"1", b"", 62),

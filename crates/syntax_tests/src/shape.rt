@@ -1,16 +1,16 @@
 //! The shape of a tree as a text, without places: operators stand before their operands, and a tree that is in parentheses in the
-//! source stands between `<` and `>`. `room` bounds how deep the trees go.
+//! source stands between `<` and `>`. A label stands before its statement, with its colon. `room` bounds how deep the trees go.
 
 use std::fmt;
 use trees::{
     At, BinaryOperator, Block, Constant, Declaration, Dimension, Element, Expression, Heading,
     Identifier, Item, ItemType, Iteration, Linkage, Member, Module, Offset, Origin, Procedure,
-    Reference, Restricted, ScalarType, Selector, Sign, Statement, Storage, StringLiteral, Subject,
-    UnaryOperator, ValueList,
+    Reference, Restricted, ScalarType, Selector, Sign, Statement, StatementKind, Storage,
+    StringLiteral, Subject, UnaryOperator, ValueList,
 };
 
 /// How deep a tree may go.
-const ROOM: usize = 200;
+const ROOM: usize = 300;
 
 /// A module, to be written.
 #[derive(Clone, Copy)]
@@ -70,9 +70,24 @@ fn write_statement<W: fmt::Write>(
     if room == 0 {
         return Err(fmt::Error);
     }
-    match statement {
-        Statement::Null => f.write_str(";")?,
-        Statement::Assignment(assignment) => {
+    for label in &statement.labels {
+        write!(f, "{}: ", label.name)?;
+    }
+    write_kind(f, &statement.kind, room - 1)
+}
+
+#[cycle(statement)]
+fn write_kind<W: fmt::Write>(
+    f: &mut fmt::Formatter<W>,
+    kind: &StatementKind,
+    room: usize,
+) -> fmt::Result {
+    if room == 0 {
+        return Err(fmt::Error);
+    }
+    match kind {
+        StatementKind::Null(_) => f.write_str(";")?,
+        StatementKind::Assignment(assignment) => {
             f.write_str("(= ")?;
             write_reference(f, &assignment.target, room - 1)?;
             for target in &assignment.others {
@@ -82,20 +97,21 @@ fn write_statement<W: fmt::Write>(
             f.write_str(" ")?;
             write_expression(f, &assignment.value, room - 1)?;
         }
-        Statement::Call { procedure, .. } => {
+        StatementKind::Call { procedure, .. } => {
             f.write_str("(CALL ")?;
             selector(f, procedure, room - 1)?;
         }
-        Statement::Return { value: None, .. } => f.write_str("(RETURN")?,
-        Statement::Return {
+        StatementKind::Return { value: None, .. } => f.write_str("(RETURN")?,
+        StatementKind::Return {
             value: Some(value),
             ..
         } => {
             f.write_str("(RETURN ")?;
             write_expression(f, value, room - 1)?;
         }
-        Statement::Halt(_) => f.write_str("(HALT")?,
-        Statement::If(conditional) => {
+        StatementKind::Halt(_) => f.write_str("(HALT")?,
+        StatementKind::Goto { label, .. } => write!(f, "(GOTO {}", label.name)?,
+        StatementKind::If(conditional) => {
             f.write_str("(IF ")?;
             write_expression(f, &conditional.condition, room - 1)?;
             f.write_str(" ")?;
@@ -105,26 +121,26 @@ fn write_statement<W: fmt::Write>(
                 write_statement(f, otherwise, room - 1)?;
             }
         }
-        Statement::Do { block: inside, .. } => {
+        StatementKind::Do { block: inside, .. } => {
             f.write_str("(DO")?;
             block(f, inside, room - 1)?;
         }
-        Statement::While(held) => {
+        StatementKind::While(held) => {
             f.write_str("(WHILE ")?;
             write_expression(f, &held.condition, room - 1)?;
             statements(f, held.body.as_slice(), room - 1)?;
         }
-        Statement::Iterate(held) => {
+        StatementKind::Iterate(held) => {
             iteration(f, &held.iteration, room - 1)?;
             statements(f, held.body.as_slice(), room - 1)?;
         }
-        Statement::Case(held) => {
+        StatementKind::Case(held) => {
             f.write_str("(CASE ")?;
             write_expression(f, &held.choice, room - 1)?;
             statements(f, held.body.as_slice(), room - 1)?;
         }
     }
-    if matches!(statement, Statement::Null) {
+    if matches!(kind, StatementKind::Null(_)) {
         Ok(())
     } else {
         f.write_str(")")

@@ -10,7 +10,8 @@ use Rattle.trees.specs.Trees.{ReferenceLeaf, ReferenceTo, NoArguments, NoMember}
 use Rattle.trees.specs.Rows.{at, nested_if_words, nested_if_tree, left_sum, right_sum}
 
 variable-derived : {name : Identifier} {rest : List Symbol}
-    → DerivesExpression expr_level (NameSymbol name ∷ rest) (ReferenceLeaf (ReferenceTo name NoArguments NoMember)) rest
+    → DerivesExpression expr_level (NameSymbol name ∷ rest)
+    (ReferenceLeaf (ReferenceTo name NoArguments NoMember)) rest
 variable-derived =
     next_level (next_level (next_level (next_level (next_level (next_level (next_level
     (reference (whole no_arguments))))))))

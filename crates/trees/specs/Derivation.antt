@@ -1,5 +1,5 @@
--- When words derive a module: a case for each line of the grammar. In each, the symbols before `rest` are those of
--- the tree.
+-- When words derive a module: a case for each line of the grammar.
+-- In each, the symbols before `rest` are those of the tree.
 use Rattle.std.specs.Prelude.{◌≡◌, ℕ, suc, ◌<◌, false, List, [], ◌∷◌, Option, Some, None}
 use Rattle.std.specs.List.{AllByRecursion}
 use Rattle.words.specs.declared.vocabulary.Mark.TheVariants.{EqualSign, MinusSign, LeftParenthesis, RightParenthesis, Comma, Colon, Period, AssignSign}
@@ -16,31 +16,32 @@ use Rattle.trees.specs.Forms.{expr_level, conj_level, neg_level, rel_level, sum_
 use Rattle.trees.specs.Nesting.{module_height, IsNestedWithin, ModuleEndsMatch}
 use Rattle.trees.specs.Spelling.{binary_symbol, between_commas, constant_symbols, element_symbols, heading_symbols, ending_symbols}
 use Rattle.trees.specs.Symbols.{Symbol, NameSymbol, NumberSymbol, StringSymbol, ReservedSymbol, PlacedSymbol, MarkSymbol, SemicolonSymbol, symbols_of}
-use Rattle.trees.specs.Trees.{StringTree, ConstantTree, NumberConstant, StringConstant, ExpressionTree, ConstantLeaf, ReferenceLeaf, LocationLeaf, ListLeaf, ParenthesizedNode, AssignmentNode, UnaryNode, BinaryNode, ReferenceTree, ReferenceTo, NoMember, MemberOf, ArgumentTrees, NoArguments, MoreArguments, ElementTree, HeadingTree, StatementTree, LabelledStatement, StatementKindTree, NullStatement, AssignmentStatement, CallStatement, ReturnStatement, HaltStatement, GotoStatement, IfStatement, NoElse, ElseStatement, DoStatement, WhileStatement, IterateStatement, CaseStatement, StatementTrees, NoStatements, MoreStatements, DeclarationTree, DeclareTree, ProcedureTree, DeclarationTrees, NoDeclarations, MoreDeclarations, ModuleTree}
+use Rattle.trees.specs.Trees.{StringTree, ConstantTree, NumberConstant, StringConstant, ExpressionTree, ConstantLeaf, ReferenceLeaf, LocationLeaf, ListLeaf, ParenthesizedNode, AssignmentNode, UnaryNode, BinaryNode, ReferenceTree, ReferenceTo, NoMember, MemberOf, ArgumentTrees, NoArguments, MoreArguments, ElementTree, HeadingTree, IterationTree, StatementTree, LabelledStatement, StatementKindTree, NullStatement, AssignmentStatement, CallStatement, ReturnStatement, HaltStatement, GotoStatement, IfStatement, NoElse, ElseStatement, DoStatement, WhileStatement, IterateStatement, CaseStatement, StatementTrees, NoStatements, MoreStatements, DeclarationTree, DeclareTree, ProcedureTree, DeclarationTrees, NoDeclarations, MoreDeclarations, ModuleTree}
 
 mutual
   -- the symbols derive an expression at a level of the grammar
   pub data DerivesExpression : ℕ → List Symbol → ExpressionTree → List Symbol → Type 0 where
-    -- expr: conj; conj: neg; neg: rel; rel: sum; sum: term; term: sec; sec: primary
+    -- expression: conjunction; conjunction: negation; negation: relation; relation: sum; sum: term; term: sign;
+    -- sign: primary
     next_level : {level : ℕ} {symbols rest : List Symbol} {tree : ExpressionTree}
         → DerivesExpression (suc level) symbols tree rest
         → DerivesExpression level symbols tree rest
-    -- expr: conj {(OR | XOR) conj}
+    -- expression: conjunction {(OR | XOR) conjunction}
     or_chain : {symbols middle rest : List Symbol} {left right : ExpressionTree} {operator : BinaryOperator}
         → level_of operator ≡ expr_level
         → DerivesExpression expr_level symbols left (binary_symbol operator ∷ middle)
         → DerivesExpression conj_level middle right rest
         → DerivesExpression expr_level symbols (BinaryNode operator left right) rest
-    -- conj: neg {AND neg}
+    -- conjunction: negation {AND negation}
     and_chain : {symbols middle rest : List Symbol} {left right : ExpressionTree}
         → DerivesExpression conj_level symbols left (ReservedSymbol words.And ∷ middle)
         → DerivesExpression neg_level middle right rest
         → DerivesExpression conj_level symbols (BinaryNode And left right) rest
-    -- neg: NOT neg
+    -- negation: NOT negation
     negation : {symbols rest : List Symbol} {operand : ExpressionTree}
         → DerivesExpression neg_level symbols operand rest
         → DerivesExpression neg_level (ReservedSymbol words.Not ∷ symbols) (UnaryNode Not operand) rest
-    -- rel: sum (`=` | `<` | `>` | `<=` | `>=` | `<>`) sum
+    -- relation: sum (`=` | `<` | `>` | `<=` | `>=` | `<>`) sum
     comparison : {symbols middle rest : List Symbol} {left right : ExpressionTree} {operator : BinaryOperator}
         → level_of operator ≡ rel_level
         → DerivesExpression sum_level symbols left (binary_symbol operator ∷ middle)
@@ -52,22 +53,24 @@ mutual
         → DerivesExpression sum_level symbols left (binary_symbol operator ∷ middle)
         → DerivesExpression term_level middle right rest
         → DerivesExpression sum_level symbols (BinaryNode operator left right) rest
-    -- term: sec {(`*` | `/` | MOD) sec}
+    -- term: sign {(`*` | `/` | MOD) sign}
     term_chain : {symbols middle rest : List Symbol} {left right : ExpressionTree} {operator : BinaryOperator}
         → level_of operator ≡ term_level
         → DerivesExpression term_level symbols left (binary_symbol operator ∷ middle)
         → DerivesExpression sec_level middle right rest
         → DerivesExpression term_level symbols (BinaryNode operator left right) rest
-    -- sec: `-` primary
+    -- sign: `-` primary
     minus : {symbols rest : List Symbol} {operand : ExpressionTree}
         → DerivesExpression primary_level symbols operand rest
         → DerivesExpression sec_level (MarkSymbol MinusSign ∷ symbols) (UnaryNode Negate operand) rest
     -- primary: number
     number : {value : Number} {rest : List Symbol}
-        → DerivesExpression primary_level (NumberSymbol value ∷ rest) (ConstantLeaf (NumberConstant value)) rest
+        → DerivesExpression primary_level (NumberSymbol value ∷ rest)
+        (ConstantLeaf (NumberConstant value)) rest
     -- primary: string
     string : {text : StringTree} {rest : List Symbol}
-        → DerivesExpression primary_level (StringSymbol text ∷ rest) (ConstantLeaf (StringConstant text)) rest
+        → DerivesExpression primary_level (StringSymbol text ∷ rest)
+        (ConstantLeaf (StringConstant text)) rest
     -- primary: reference
     reference : {symbols rest : List Symbol} {tree : ReferenceTree}
         → DerivesReference symbols tree rest
@@ -80,23 +83,26 @@ mutual
     list : {constants : List ConstantTree} {rest : List Symbol}
         → IsNotEmpty constants
         → DerivesExpression primary_level (MarkSymbol Period ∷ MarkSymbol LeftParenthesis
-        ∷ between_commas constant_symbols constants (MarkSymbol RightParenthesis ∷ rest)) (ListLeaf constants) rest
-    -- primary: `(` expr `)`
+        ∷ between_commas constant_symbols constants (MarkSymbol RightParenthesis ∷ rest))
+        (ListLeaf constants) rest
+    -- primary: `(` expression `)`
     parenthesized : {symbols rest : List Symbol} {tree : ExpressionTree}
         → DerivesExpression expr_level symbols tree (MarkSymbol RightParenthesis ∷ rest)
         → DerivesExpression primary_level (MarkSymbol LeftParenthesis ∷ symbols) (ParenthesizedNode tree) rest
-    -- primary: `(` reference `:=` expr `)`
-    embedded_assignment : {symbols middle rest : List Symbol} {target : ReferenceTree} {value : ExpressionTree}
+    -- primary: `(` reference `:=` expression `)`
+    embedded_assignment : {symbols middle rest : List Symbol} {target : ReferenceTree}
+        {value : ExpressionTree}
         → DerivesReference symbols target (MarkSymbol AssignSign ∷ middle)
         → DerivesExpression expr_level middle value (MarkSymbol RightParenthesis ∷ rest)
-        → DerivesExpression primary_level (MarkSymbol LeftParenthesis ∷ symbols) (AssignmentNode target value) rest
+        → DerivesExpression primary_level (MarkSymbol LeftParenthesis ∷ symbols)
+        (AssignmentNode target value) rest
 
   pub data DerivesReference : List Symbol → ReferenceTree → List Symbol → Type 0 where
-    -- reference: name [args]
+    -- reference: name [arguments]
     whole : {name : Identifier} {symbols rest : List Symbol} {arguments : ArgumentTrees}
         → DerivesArguments symbols arguments rest
         → DerivesReference (NameSymbol name ∷ symbols) (ReferenceTo name arguments NoMember) rest
-    -- reference: name [args] `.` name [args]
+    -- reference: name [arguments] `.` name [arguments]
     with_member : {name member : Identifier} {symbols middle rest : List Symbol}
         {arguments its_arguments : ArgumentTrees}
         → DerivesArguments symbols arguments (MarkSymbol Period ∷ NameSymbol member ∷ middle)
@@ -104,16 +110,16 @@ mutual
         → DerivesReference (NameSymbol name ∷ symbols)
         (ReferenceTo name arguments (MemberOf member its_arguments)) rest
 
-  -- [args]
+  -- [arguments]
   pub data DerivesArguments : List Symbol → ArgumentTrees → List Symbol → Type 0 where
     no_arguments : {rest : List Symbol} → DerivesArguments rest NoArguments rest
-    -- args: `(` expr {`,` expr} `)`
+    -- arguments: `(` expression {`,` expression} `)`
     some_arguments : {symbols middle rest : List Symbol} {first : ExpressionTree} {others : ArgumentTrees}
         → DerivesExpression expr_level symbols first middle
         → DerivesMoreArguments middle others rest
         → DerivesArguments (MarkSymbol LeftParenthesis ∷ symbols) (MoreArguments first others) rest
 
-  -- {`,` expr} `)`
+  -- {`,` expression} `)`
   pub data DerivesMoreArguments : List Symbol → ArgumentTrees → List Symbol → Type 0 where
     last_argument : {rest : List Symbol}
         → DerivesMoreArguments (MarkSymbol RightParenthesis ∷ rest) NoArguments rest
@@ -131,6 +137,10 @@ pub data DerivesTargets : List Symbol → List ReferenceTree → List Symbol →
       → DerivesReference symbols target (MarkSymbol Comma ∷ middle)
       → DerivesTargets middle others rest
       → DerivesTargets symbols (target ∷ others) rest
+
+-- the head of an iterative DO
+abbrev head : Identifier → ExpressionTree → ExpressionTree → Option ExpressionTree → IterationTree
+head variable first last step = record { variable = variable; first = first; last = last; step = step }
 
 mutual
   pub data DerivesStatement : List Symbol → StatementTree → List Symbol → Type 0 where
@@ -150,13 +160,13 @@ mutual
     -- statement: `;`
     null : {place : Place} {rest : List Symbol}
         → DerivesKind (SemicolonSymbol place ∷ rest) (NullStatement place) rest
-    -- statement: reference {`,` reference} `=` expr `;`
+    -- statement: reference {`,` reference} `=` expression `;`
     assignment : {end : Place} {symbols middle rest : List Symbol} {targets : List ReferenceTree}
         {value : ExpressionTree}
         → DerivesTargets symbols targets (MarkSymbol EqualSign ∷ middle)
         → DerivesExpression expr_level middle value (SemicolonSymbol end ∷ rest)
         → DerivesKind symbols (AssignmentStatement targets value) rest
-    -- statement: CALL name [args] `;`
+    -- statement: CALL name [arguments] `;`
     call : {place end : Place} {name : Identifier} {symbols rest : List Symbol} {arguments : ArgumentTrees}
         → DerivesArguments symbols arguments (SemicolonSymbol end ∷ rest)
         → DerivesKind (PlacedSymbol words.Call place ∷ NameSymbol name ∷ symbols)
@@ -165,7 +175,7 @@ mutual
     return : {place end : Place} {rest : List Symbol}
         → DerivesKind (PlacedSymbol words.Return place ∷ SemicolonSymbol end ∷ rest)
         (ReturnStatement place None) rest
-    -- statement: RETURN expr `;`
+    -- statement: RETURN expression `;`
     return_value : {place end : Place} {symbols rest : List Symbol} {value : ExpressionTree}
         → DerivesExpression expr_level symbols value (SemicolonSymbol end ∷ rest)
         → DerivesKind (PlacedSymbol words.Return place ∷ symbols) (ReturnStatement place (Some value)) rest
@@ -176,12 +186,13 @@ mutual
     goto : {place end : Place} {label : Identifier} {rest : List Symbol}
         → DerivesKind (PlacedSymbol words.Goto place ∷ NameSymbol label ∷ SemicolonSymbol end ∷ rest)
         (GotoStatement place label) rest
-    -- statement: IF expr THEN statement
-    if_then : {place : Place} {symbols middle rest : List Symbol} {condition : ExpressionTree} {body : StatementTree}
+    -- statement: IF expression THEN statement
+    if_then : {place : Place} {symbols middle rest : List Symbol} {condition : ExpressionTree}
+        {body : StatementTree}
         → DerivesExpression expr_level symbols condition (ReservedSymbol words.Then ∷ middle)
         → DerivesStatement middle body rest
         → DerivesKind (PlacedSymbol words.If place ∷ symbols) (IfStatement place condition body NoElse) rest
-    -- statement: IF expr THEN statement ELSE statement, where the ELSE goes with no IF nearer to it
+    -- statement: IF expression THEN statement ELSE statement, where the ELSE goes with no IF nearer to it
     if_then_else : {place : Place} {symbols middle after rest : List Symbol} {condition : ExpressionTree}
         {body otherwise : StatementTree}
         → DerivesExpression expr_level symbols condition (ReservedSymbol words.Then ∷ middle)
@@ -197,32 +208,32 @@ mutual
         → DerivesStatements middle body (ReservedSymbol words.End ∷ SemicolonSymbol end ∷ rest)
         → DerivesKind (PlacedSymbol words.Do place ∷ SemicolonSymbol start ∷ symbols)
         (DoStatement place declared body) rest
-    -- statement: DO WHILE expr `;` {statement} END `;`
+    -- statement: DO WHILE expression `;` {statement} END `;`
     do_while : {place start end : Place} {symbols middle rest : List Symbol} {condition : ExpressionTree}
         {body : StatementTrees}
         → DerivesExpression expr_level symbols condition (SemicolonSymbol start ∷ middle)
         → DerivesStatements middle body (ReservedSymbol words.End ∷ SemicolonSymbol end ∷ rest)
         → DerivesKind (PlacedSymbol words.Do place ∷ ReservedSymbol words.While ∷ symbols)
         (WhileStatement place condition body) rest
-    -- statement: DO name `=` expr TO expr `;` {statement} END `;`
+    -- statement: DO name `=` expression TO expression `;` {statement} END `;`
     iterative_do : {place start end : Place} {variable : Identifier} {symbols to middle rest : List Symbol}
         {first last : ExpressionTree} {body : StatementTrees}
         → DerivesExpression expr_level symbols first (ReservedSymbol words.To ∷ to)
         → DerivesExpression expr_level to last (SemicolonSymbol start ∷ middle)
         → DerivesStatements middle body (ReservedSymbol words.End ∷ SemicolonSymbol end ∷ rest)
         → DerivesKind (PlacedSymbol words.Do place ∷ NameSymbol variable ∷ MarkSymbol EqualSign ∷ symbols)
-        (IterateStatement place (record { variable = variable; first = first; last = last; step = None }) body) rest
-    -- statement: DO name `=` expr TO expr BY expr `;` {statement} END `;`
-    iterative_do_by : {place start end : Place} {variable : Identifier} {symbols to by middle rest : List Symbol}
+        (IterateStatement place (head variable first last None) body) rest
+    -- statement: DO name `=` expression TO expression BY expression `;` {statement} END `;`
+    iterative_do_by : {place start end : Place} {variable : Identifier}
+        {symbols to by middle rest : List Symbol}
         {first last step : ExpressionTree} {body : StatementTrees}
         → DerivesExpression expr_level symbols first (ReservedSymbol words.To ∷ to)
         → DerivesExpression expr_level to last (ReservedSymbol words.By ∷ by)
         → DerivesExpression expr_level by step (SemicolonSymbol start ∷ middle)
         → DerivesStatements middle body (ReservedSymbol words.End ∷ SemicolonSymbol end ∷ rest)
         → DerivesKind (PlacedSymbol words.Do place ∷ NameSymbol variable ∷ MarkSymbol EqualSign ∷ symbols)
-        (IterateStatement place (record { variable = variable; first = first; last = last; step = Some step }) body)
-        rest
-    -- statement: DO CASE expr `;` {statement} END `;`
+        (IterateStatement place (head variable first last (Some step)) body) rest
+    -- statement: DO CASE expression `;` {statement} END `;`
     do_case : {place start end : Place} {symbols middle rest : List Symbol} {choice : ExpressionTree}
         {body : StatementTrees}
         → DerivesExpression expr_level symbols choice (SemicolonSymbol start ∷ middle)
@@ -256,7 +267,8 @@ mutual
   -- {declaration}
   pub data DerivesDeclarations : List Symbol → DeclarationTrees → List Symbol → Type 0 where
     no_declaration : {rest : List Symbol} → DerivesDeclarations rest NoDeclarations rest
-    next_declaration : {symbols middle rest : List Symbol} {first : DeclarationTree} {others : DeclarationTrees}
+    next_declaration : {symbols middle rest : List Symbol} {first : DeclarationTree}
+        {others : DeclarationTrees}
         → DerivesDeclaration symbols first middle
         → DerivesDeclarations middle others rest
         → DerivesDeclarations symbols (MoreDeclarations first others) rest

@@ -10,4 +10,5 @@ is_name_character c = is_ascii_uppercase c || is_ascii_digit c
 -- a capital letter, and then at most 30 capital letters and digits
 abbrev pub is_name : List ℕ → Bool
 is_name [] = false
-is_name (first ∷ rest) = is_ascii_uppercase first && list_all is_name_character rest && nat_le (length rest) 30
+is_name (first ∷ rest) =
+    is_ascii_uppercase first && list_all is_name_character rest && nat_le (length rest) 30

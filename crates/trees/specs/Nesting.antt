@@ -23,7 +23,8 @@ abbrev mutual
 
   -- the levels of a reference's arguments; the reference itself is none
   pub reference_height : ReferenceTree → ℕ
-  reference_height (ReferenceTo name arguments member) = max (arguments_height arguments) (member_height member)
+  reference_height (ReferenceTo name arguments member) =
+      max (arguments_height arguments) (member_height member)
 
   pub member_height : MemberTree → ℕ
   member_height NoMember = 0
@@ -56,19 +57,22 @@ abbrev mutual
 
   pub kind_height : StatementKindTree → ℕ
   kind_height (NullStatement place) = 1
-  kind_height (AssignmentStatement targets value) = suc (max (targets_height targets) (expression_height value))
+  kind_height (AssignmentStatement targets value) =
+      suc (max (targets_height targets) (expression_height value))
   kind_height (CallStatement place name arguments) = suc (arguments_height arguments)
   kind_height (ReturnStatement place value) = suc (optional_height value)
   kind_height (HaltStatement place) = 1
   kind_height (GotoStatement place label) = 1
   kind_height (IfStatement place condition body otherwise) =
       suc (max (expression_height condition) (max (statement_height body) (else_height otherwise)))
-  kind_height (DoStatement place declared body) = suc (max (declarations_height declared) (statements_height body))
+  kind_height (DoStatement place declared body) =
+      suc (max (declarations_height declared) (statements_height body))
   kind_height (WhileStatement place condition body) =
       suc (max (expression_height condition) (statements_height body))
   kind_height (IterateStatement place iteration body) =
       suc (max (iteration_height iteration) (statements_height body))
-  kind_height (CaseStatement place choice body) = suc (max (expression_height choice) (statements_height body))
+  kind_height (CaseStatement place choice body) =
+      suc (max (expression_height choice) (statements_height body))
 
   pub else_height : ElseTree → ℕ
   else_height NoElse = 0
@@ -85,7 +89,8 @@ abbrev mutual
 
   pub declarations_height : DeclarationTrees → ℕ
   declarations_height NoDeclarations = 0
-  declarations_height (MoreDeclarations first others) = max (declaration_height first) (declarations_height others)
+  declarations_height (MoreDeclarations first others) =
+      max (declaration_height first) (declarations_height others)
 
 -- the levels within a module
 abbrev pub module_height : ModuleTree → ℕ
@@ -111,7 +116,8 @@ abbrev mutual
   KindEndsMatch (ReturnStatement place value) = Unit {0}
   KindEndsMatch (HaltStatement place) = Unit {0}
   KindEndsMatch (GotoStatement place label) = Unit {0}
-  KindEndsMatch (IfStatement place condition body otherwise) = StatementEndsMatch body × ElseEndsMatch otherwise
+  KindEndsMatch (IfStatement place condition body otherwise) =
+      StatementEndsMatch body × ElseEndsMatch otherwise
   KindEndsMatch (DoStatement place declared body) = DeclarationsEndsMatch declared × StatementsEndsMatch body
   KindEndsMatch (WhileStatement place condition body) = StatementsEndsMatch body
   KindEndsMatch (IterateStatement place iteration body) = StatementsEndsMatch body
@@ -132,7 +138,8 @@ abbrev mutual
 
   pub DeclarationsEndsMatch : DeclarationTrees → Type 0
   DeclarationsEndsMatch NoDeclarations = Unit {0}
-  DeclarationsEndsMatch (MoreDeclarations first others) = DeclarationEndsMatch first × DeclarationsEndsMatch others
+  DeclarationsEndsMatch (MoreDeclarations first others) =
+      DeclarationEndsMatch first × DeclarationsEndsMatch others
 
 -- the names after END in a module match
 abbrev pub ModuleEndsMatch : ModuleTree → Type 0

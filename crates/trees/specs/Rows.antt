@@ -99,7 +99,8 @@ abbrev with_argument : List ℕ → ℕ → ExpressionTree → ExpressionTree
 with_argument name start argument =
     ReferenceLeaf (ReferenceTo (named name start) (MoreArguments argument NoArguments) NoMember)
 
-arguments_height : expression_height (with_argument (codes "A") 0 (with_argument (codes "B") 2 (literal 1 4))) ≡ 3
+arguments_height :
+    expression_height (with_argument (codes "A") 0 (with_argument (codes "B") 2 (literal 1 4))) ≡ 3
 arguments_height = refl
 
 -- (A := 1) takes two, and its value one more

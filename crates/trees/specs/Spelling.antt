@@ -1,4 +1,5 @@
--- How the parts of declarations, and what ends a block, are spelled: their symbols, and then the symbols after them.
+-- How the parts of declarations, and what ends a block, are spelled: their symbols, and then the symbols after
+-- them.
 use Rattle.std.specs.Prelude.{List, [], ◌∷◌, Option, Some, None}
 use Rattle.words.specs.declared.vocabulary.Mark.TheVariants.{EqualSign, LessSign, GreaterSign, LessEqualSign, GreaterEqualSign, UnequalSign, PlusSign, MinusSign, Asterisk, Slash, LeftParenthesis, RightParenthesis, Comma, Colon, Period}
 use Rattle.words.specs.declared.vocabulary.ReservedWord.TheVariants as words
@@ -27,13 +28,21 @@ optional symbols None rest = rest
 optional symbols (Some a) rest = symbols a rest
 
 -- {`,` ..}
-abbrev pub more_after_commas : {A : Type 0} → (A → List Symbol → List Symbol) → List A → List Symbol → List Symbol
+abbrev pub more_after_commas : {A : Type 0}
+    → (A → List Symbol → List Symbol)
+    → List A
+    → List Symbol
+    → List Symbol
 more_after_commas symbols [] rest = rest
 more_after_commas symbols (first ∷ others) rest =
     MarkSymbol Comma ∷ symbols first (more_after_commas symbols others rest)
 
 -- .. {`,` ..}
-abbrev pub between_commas : {A : Type 0} → (A → List Symbol → List Symbol) → List A → List Symbol → List Symbol
+abbrev pub between_commas : {A : Type 0}
+    → (A → List Symbol → List Symbol)
+    → List A
+    → List Symbol
+    → List Symbol
 between_commas symbols [] rest = rest
 between_commas symbols (first ∷ others) rest = symbols first (more_after_commas symbols others rest)
 
@@ -79,9 +88,10 @@ offsets_symbols [] rest = rest
 offsets_symbols (offset ∷ others) rest =
     sign_symbol offset.sign ∷ constant_symbols offset.constant (offsets_symbols others rest)
 
--- place: constant {(`+` | `-`) constant} | `.` name {(`+` | `-`) constant}
+-- restricted: (constant | `.` name) {(`+` | `-`) constant}
 abbrev pub restricted_symbols : RestrictedTree → List Symbol → List Symbol
-restricted_symbols restricted rest = origin_symbols restricted.origin (offsets_symbols restricted.offsets rest)
+restricted_symbols restricted rest =
+    origin_symbols restricted.origin (offsets_symbols restricted.offsets rest)
 
 -- BYTE | ADDRESS
 abbrev pub scalar_symbols : ScalarType → List Symbol → List Symbol
@@ -90,9 +100,10 @@ scalar_symbols Address rest = ReservedSymbol words.Address ∷ rest
 
 -- `(` number `)`
 abbrev pub count_symbols : Number → List Symbol → List Symbol
-count_symbols number rest = MarkSymbol LeftParenthesis ∷ NumberSymbol number ∷ MarkSymbol RightParenthesis ∷ rest
+count_symbols number rest =
+    MarkSymbol LeftParenthesis ∷ NumberSymbol number ∷ MarkSymbol RightParenthesis ∷ rest
 
--- dim: `(` number `)` | `(` `*` `)`
+-- dimension: `(` number `)` | `(` `*` `)`
 abbrev pub dimension_symbols : Dimension → List Symbol → List Symbol
 dimension_symbols (Count number) rest = count_symbols number rest
 dimension_symbols Implied rest =
@@ -103,7 +114,7 @@ abbrev pub member_symbols : Member → List Symbol → List Symbol
 member_symbols member rest =
     NameSymbol member.name ∷ optional count_symbols member.dimension (scalar_symbols member.scalar rest)
 
--- kind: BYTE | ADDRESS | STRUCTURE `(` member {`,` member} `)`
+-- type: BYTE | ADDRESS | STRUCTURE `(` member {`,` member} `)`
 abbrev pub item_type_symbols : ItemTypeTree → List Symbol → List Symbol
 item_type_symbols (ScalarItem scalar) rest = scalar_symbols scalar rest
 item_type_symbols (StructureItem members) rest =
@@ -115,7 +126,7 @@ abbrev pub linkage_symbols : Linkage → List Symbol → List Symbol
 linkage_symbols (Public place) rest = PlacedSymbol words.Public place ∷ rest
 linkage_symbols (External place) rest = PlacedSymbol words.External place ∷ rest
 
--- AT `(` place `)`
+-- AT `(` restricted `)`
 abbrev pub at_symbols : AtTree → List Symbol → List Symbol
 at_symbols at rest =
     PlacedSymbol words.At at.place ∷ MarkSymbol LeftParenthesis
@@ -126,7 +137,7 @@ abbrev pub storage_symbol : Storage → Symbol
 storage_symbol (Initial place) = PlacedSymbol words.Initial place
 storage_symbol (Data place) = PlacedSymbol words.Data place
 
--- INITIAL `(` list `)` | DATA `(` list `)`, where list: place {`,` place}
+-- values: (INITIAL | DATA) `(` restricted {`,` restricted} `)`
 abbrev pub value_list_symbols : ValueListTree → List Symbol → List Symbol
 value_list_symbols list rest =
     storage_symbol list.storage ∷ MarkSymbol LeftParenthesis
@@ -146,8 +157,8 @@ abbrev pub subject_symbols : SubjectTree → List Symbol → List Symbol
 subject_symbols (SingleSubject name base) rest = NameSymbol name ∷ optional base_symbols base rest
 subject_symbols (GroupSubject names) rest = names_symbols names rest
 
--- item: (name [BASED name] | `(` name {`,` name} `)`) [dim] kind [PUBLIC | EXTERNAL] [AT `(` place `)`]
---     [INITIAL `(` list `)` | DATA `(` list `)`]
+-- item: (name [BASED name] | `(` name {`,` name} `)`) [dimension] type
+--     [PUBLIC | EXTERNAL] [AT `(` restricted `)`] [values]
 abbrev pub item_symbols : ItemTree → List Symbol → List Symbol
 item_symbols item rest =
     subject_symbols item.subject (optional dimension_symbols item.dimension (item_type_symbols item.item_type

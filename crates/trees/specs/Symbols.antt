@@ -52,7 +52,8 @@ mark_symbol mark place = MarkSymbol mark
 -- the symbol of a word of a kind, from its bytes and its place
 abbrev pub symbol_at : Kind → List ℕ → Place → Symbol
 symbol_at Name text place =
-    if is_name (name_of text) then NameSymbol (record { name = name_of text; place = place }) else UnknownSymbol
+    if is_name (name_of text) then NameSymbol (record { name = name_of text; place = place })
+    else UnknownSymbol
 symbol_at (Reserved word) text place = reserved_symbol word place
 symbol_at (NumberWord value) text place = NumberSymbol (record { value = value; place = place })
 symbol_at String text place = StringSymbol (record { characters = characters_of text; place = place })

@@ -156,11 +156,15 @@ iteration_tree iteration = record {
   step = option_map expression_tree iteration.step;
 }
 
+-- the trees of the targets of an assignment
+abbrev pub target_trees : Reference → List Reference → List ReferenceTree
+target_trees first others = reference_tree first ∷ map reference_tree others
+
 abbrev mutual
   pub kind_tree : StatementKind → StatementKindTree
   kind_tree (kinds.Null place) = NullStatement place
   kind_tree (kinds.Assignment assignment) =
-      AssignmentStatement (reference_tree assignment.value.target ∷ map reference_tree assignment.value.others.items)
+      AssignmentStatement (target_trees assignment.value.target assignment.value.others.items)
       (expression_tree assignment.value.value)
   kind_tree (kinds.Call place procedure) =
       CallStatement place procedure.value.name (argument_trees procedure.value.arguments.items)
@@ -196,7 +200,8 @@ abbrev mutual
 
   pub declaration_rows : {count : _} → Row_of-Declaration count → DeclarationTrees
   declaration_rows end_of-Declaration = NoDeclarations
-  declaration_rows (more_of-Declaration first rest) = MoreDeclarations (declaration_tree first) (declaration_rows rest)
+  declaration_rows (more_of-Declaration first rest) =
+      MoreDeclarations (declaration_tree first) (declaration_rows rest)
 
 abbrev pub statement_tree : Statement → StatementTree
 statement_tree statement = LabelledStatement statement.labels.items (kind_tree statement.kind)
@@ -204,10 +209,6 @@ statement_tree statement = LabelledStatement statement.labels.items (kind_tree s
 -- where there was memory, such a statement was made
 abbrev pub MakesKind : {E : Type 0} → Result StatementKind E → StatementKindTree → Type 0
 MakesKind result tree = IfOk result (λ made. kind_tree made ≡ tree)
-
--- the trees of the targets of an assignment
-abbrev pub target_trees : Reference → List Reference → List ReferenceTree
-target_trees first others = reference_tree first ∷ map reference_tree others
 
 -- the statement after ELSE, if there is one
 abbrev pub else_tree : Option Statement → ElseTree

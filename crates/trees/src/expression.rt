@@ -165,7 +165,8 @@ impl Expression {
         target: Reference,
         value: Expression,
     ) -> Result<Expression, AllocError>
-        ensures view { MakesExpression result (AssignmentNode (reference_tree target) (expression_tree value)) }
+        ensures view { MakesExpression result
+            (AssignmentNode (reference_tree target) (expression_tree value)) }
     {
         let target = Box::new(alloc, target)?;
         let value = Box::new(alloc, value)?;
@@ -190,7 +191,8 @@ impl Expression {
         left: Expression,
         right: Expression,
     ) -> Result<Expression, AllocError>
-        ensures view { MakesExpression result (BinaryNode operator (expression_tree left) (expression_tree right)) }
+        ensures view { MakesExpression result
+            (BinaryNode operator (expression_tree left) (expression_tree right)) }
     {
         let left = Box::new(alloc, left)?;
         Ok(Expression::Binary(operator, left, Box::new(alloc, right)?))
@@ -198,7 +200,8 @@ impl Expression {
 
     /// The reference that an expression is, or the expression itself, where it is none.
     pub fn into_reference(self) -> Result<Reference, Expression>
-        ensures found { IfOk result (λ reference. expression_tree self ≡ ReferenceLeaf (reference_tree reference)) }
+        ensures found { IfOk result
+            (λ reference. expression_tree self ≡ ReferenceLeaf (reference_tree reference)) }
         ensures other { IfErr result (λ kept. expression_tree kept ≡ expression_tree self) }
         ensures not_one { IfErr result (λ _. is_reference_leaf (expression_tree self) ≡ false) }
     {

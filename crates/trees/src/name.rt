@@ -7,7 +7,8 @@ ghost use Rattle.trees.specs.Names.{is_name, is_name_character};
 use std::fmt;
 use std::marker::Model;
 
-/// A name: a capital letter, and then at most 30 capital letters and digits. It borrows nothing from a source.
+/// A name: a capital letter, and then at most 30 capital letters and digits. It borrows nothing from a
+/// source.
 #[derive(Clone, Copy, Debug, PartialEq, Eq, Hash)]
 pub struct Name {
     bytes: [u8; 31],
@@ -40,7 +41,8 @@ fn is_character(byte: u8) -> bool
 
 // The first character of a name, and the text after it.
 fn first_character(text: &[u8]) -> Option<(u8, &[u8])>
-    ensures first { MatchOption result (name_of text.now ≡ []) (λ f. name_of text.now ≡ f.0 ∷ name_of f.1.now) }
+    ensures first { MatchOption result
+        (name_of text.now ≡ []) (λ f. name_of text.now ≡ f.0 ∷ name_of f.1.now) }
     ensures shorter { IfSome result (λ found. length found.1.now < length text.now) }
 {
     let mut rest = text;

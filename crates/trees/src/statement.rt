@@ -150,7 +150,8 @@ impl StatementKind {
         others: Vec<Reference>,
         value: Expression,
     ) -> Result<StatementKind, AllocError>
-        ensures view { MakesKind result (AssignmentStatement (target_trees first others.items) (expression_tree value)) }
+        ensures view { MakesKind result
+            (AssignmentStatement (target_trees first others.items) (expression_tree value)) }
     {
         let assignment = Assignment {
             target: first,
@@ -166,7 +167,8 @@ impl StatementKind {
         place: Place,
         procedure: Selector,
     ) -> Result<StatementKind, AllocError>
-        ensures view { MakesKind result (CallStatement place procedure.name (argument_trees procedure.arguments.items)) }
+        ensures view { MakesKind result
+            (CallStatement place procedure.name (argument_trees procedure.arguments.items)) }
     {
         let procedure = Box::new(alloc, procedure)?;
         Ok(StatementKind::Call { place, procedure })
@@ -225,7 +227,8 @@ impl StatementKind {
     /// A simple DO.
     #[tactic(auto, using(crate::specs::declared::statement::StatementKind::the_lemmas, crate::proofs::Views::statement_rows_are, crate::proofs::Views::declaration_rows_are))]
     pub fn simple_do(alloc: Global, place: Place, block: Block) -> Result<StatementKind, AllocError>
-        ensures view { MakesKind result (DoStatement place (block_declarations block) (block_statements block)) }
+        ensures view { MakesKind result
+            (DoStatement place (block_declarations block) (block_statements block)) }
     {
         let block = Box::new(alloc, block)?;
         Ok(StatementKind::Do { place, block })
@@ -239,7 +242,8 @@ impl StatementKind {
         condition: Expression,
         body: Vec<Statement>,
     ) -> Result<StatementKind, AllocError>
-        ensures view { MakesKind result (WhileStatement place (expression_tree condition) (statement_trees body.items)) }
+        ensures view { MakesKind result
+            (WhileStatement place (expression_tree condition) (statement_trees body.items)) }
     {
         let statement = DoWhile {
             place,
@@ -257,7 +261,8 @@ impl StatementKind {
         iteration: Iteration,
         body: Vec<Statement>,
     ) -> Result<StatementKind, AllocError>
-        ensures view { MakesKind result (IterateStatement place (iteration_tree iteration) (statement_trees body.items)) }
+        ensures view { MakesKind result
+            (IterateStatement place (iteration_tree iteration) (statement_trees body.items)) }
     {
         let statement = IterativeDo {
             place,
@@ -275,7 +280,8 @@ impl StatementKind {
         choice: Expression,
         body: Vec<Statement>,
     ) -> Result<StatementKind, AllocError>
-        ensures view { MakesKind result (CaseStatement place (expression_tree choice) (statement_trees body.items)) }
+        ensures view { MakesKind result
+            (CaseStatement place (expression_tree choice) (statement_trees body.items)) }
     {
         let statement = DoCase {
             place,

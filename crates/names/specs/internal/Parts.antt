@@ -8,6 +8,8 @@ use Rattle.trees.specs.declared.statement.IfThen.{IfThen, out-IfThen}
 use Rattle.trees.specs.declared.statement.IterativeDo.{IterativeDo, out-IterativeDo}
 use Rattle.trees.specs.declared.statement.Procedure.{Procedure, out-Procedure}
 use Rattle.trees.specs.Trees.{StatementKindTree, IfStatement, DoStatement, WhileStatement, IterateStatement, CaseStatement, DeclarationTree}
+use Rattle.names.specs.Environment.{Here}
+use Rattle.names.specs.Events.{Seen, in_turn, see_all, see_block, declares_parameter}
 use Rattle.trees.specs.Views.{expression_tree, iteration_tree, statement_tree, statement_trees, else_tree, block_declarations, block_statements, procedure_tree}
 
 abbrev pub if_tree : IfThen → StatementKindTree
@@ -36,3 +38,9 @@ case_tree choice =
 abbrev pub procedure_parts : Procedure → DeclarationTree
 procedure_parts procedure =
     procedure_tree (out-Procedure procedure).heading (out-Procedure procedure).body (out-Procedure procedure).end_name
+
+-- what stands in a procedure
+abbrev pub see_body : Procedure → Here → Seen
+see_body procedure =
+    in_turn (see_all declares_parameter (out-Procedure procedure).heading.parameters.items)
+    (see_block (block_declarations (out-Procedure procedure).body) (block_statements (out-Procedure procedure).body))

@@ -6,7 +6,7 @@ use Rattle.trees.specs.declared.identifier.Identifier.{Identifier}
 use Rattle.names.specs.declared.entity.Binding.{Binding}
 use Rattle.names.specs.declared.fault.Fault.{Fault}
 use Rattle.names.specs.declared.fault.Fault.TheVariants.{Unknown}
-use Rattle.names.specs.Environment.{Here}
+use Rattle.names.specs.Environment.{Here, at_the_start}
 use Rattle.names.specs.BuiltIns.{binding_of}
 use Rattle.names.specs.Events.{Seen}
 use Rattle.names.specs.Binding.{bindings_of, first_fault}
@@ -21,10 +21,12 @@ abbrev pub unless : {A : Type 0} → Option Fault → A → Result A Fault
 unless None a = Ok a
 unless (Some fault) a = Err fault
 
--- what a part of a text gives, after these bindings
-unfoldable pub walked : Seen → List Binding → Result Walk Fault
-walked seen bindings =
-    unless (first_fault seen.events) (record { here = seen.here; bindings = bindings ++ bindings_of seen.events })
+-- what a part of a text gives from a place on
+unfoldable pub gives : (Here → Seen) → Walk → Result Walk Fault
+gives part walk = unless (first_fault (part walk.here).events) (record {
+  here = (part walk.here).here;
+  bindings = walk.bindings ++ bindings_of (part walk.here).events;
+})
 
 -- a name with its binding, after these bindings
 abbrev pub bound_name : Identifier → Option Binding → List Binding → Result (List Binding) Fault
@@ -56,6 +58,6 @@ abbrev pub Does : {A B : Type 0} → Result A (Failure Fault) → B → Result B
 Does (Ok done) now given = given ≡ Ok now
 Does (Err failure) now given = FailsBy (fault_in failure) given
 
--- what a part of a text gives from a place on
-abbrev pub gives : (Here → Seen) → Walk → Result Walk Fault
-gives part walk = walked (part walk.here) walk.bindings
+-- the start of a module
+abbrev pub at_start : Walk
+at_start = record { here = at_the_start; bindings = [] }

@@ -18,11 +18,11 @@ use Rattle.trees.specs.declared.identifier.Number.{Number}
 use Rattle.trees.specs.declared.identifier.Place.{Place}
 use Rattle.trees.specs.Symbols.{Symbol}
 use Rattle.trees.specs.Trees.{OriginTree, ConstantOrigin, LocationOrigin, OffsetTree, RestrictedTree, ItemTypeTree, ScalarItem, StructureItem, AtTree, ValueListTree, SubjectTree, SingleSubject, GroupSubject, ItemTree, ElementTree, LiterallyElement, ItemElement, HeadingTree}
-use Rattle.syntax.specs.internal.Looking.{Reading, Unexpected, ◌>>=◌, at_mark, at_word, place_of_word, next_name, mark, word, name, number, string, constant}
+use Rattle.syntax.specs.internal.Reader.{Parser, Unexpected, ◌>>=◌, at_mark, at_word, place_of_word, next_name, mark, word, name, number, string, constant}
 use Rattle.syntax.specs.internal.Lists.{items}
 
 -- constant | `.` name
-abbrev pub origin : List Symbol → Reading OriginTree
+abbrev pub origin : Parser OriginTree
 origin symbols =
     if at_mark marks.Period symbols then (do
       found ← name (drop 1 symbols)
@@ -37,8 +37,8 @@ next_sign symbols =
     if at_mark marks.PlusSign symbols then Some Plus
     else (if at_mark marks.MinusSign symbols then Some Minus else None)
 
--- a constant behind a sign, and what goes on behind it
-abbrev pub offset_then : (List Symbol → Reading (List OffsetTree)) → Option Sign → List Symbol → Reading (List OffsetTree)
+-- a constant after a sign, and what goes on after it
+abbrev pub offset_then : Parser (List OffsetTree) → Option Sign → Parser (List OffsetTree)
 offset_then again None symbols = Ok ([], symbols)
 offset_then again (Some sign) symbols = do
   found ← constant (drop 1 symbols)
@@ -46,16 +46,16 @@ offset_then again (Some sign) symbols = do
   Ok ((record { sign = sign; constant = found.0 }) ∷ others.0, others.1)
 
 -- {(`+` | `-`) constant}
-abbrev pub offsets : ℕ → List Symbol → Reading (List OffsetTree)
+abbrev pub offsets : ℕ → Parser (List OffsetTree)
 offsets zero symbols = Ok ([], symbols)
 offsets (suc count) symbols = offset_then (offsets count) (next_sign symbols) symbols
 
 -- {(`+` | `-`) constant}, as many as there are
-unfoldable pub all_offsets : List Symbol → Reading (List OffsetTree)
+unfoldable pub all_offsets : Parser (List OffsetTree)
 all_offsets symbols = offsets (length symbols) symbols
 
 -- constant {(`+` | `-`) constant} | `.` name {(`+` | `-`) constant}
-unfoldable pub restricted : List Symbol → Reading RestrictedTree
+unfoldable pub restricted : Parser RestrictedTree
 restricted symbols = do
   first ← origin symbols
   others ← all_offsets first.1
@@ -68,23 +68,23 @@ next_scalar symbols =
     else (if at_word words.Address symbols then Some Address else None)
 
 -- BYTE | ADDRESS
-abbrev pub scalar_of : Option ScalarType → List Symbol → Reading ScalarType
+abbrev pub scalar_of : Option ScalarType → Parser ScalarType
 scalar_of None symbols = Err Unexpected
 scalar_of (Some scalar) symbols = Ok (scalar, drop 1 symbols)
 
-abbrev pub scalar : List Symbol → Reading ScalarType
+abbrev pub scalar : Parser ScalarType
 scalar symbols = scalar_of (next_scalar symbols) symbols
 
 -- [BYTE | ADDRESS]
-abbrev pub result_of : Option ScalarType → List Symbol → Reading (Option ScalarType)
+abbrev pub result_of : Option ScalarType → Parser (Option ScalarType)
 result_of None symbols = Ok (None, symbols)
 result_of (Some scalar) symbols = Ok (Some scalar, drop 1 symbols)
 
-abbrev pub result_type : List Symbol → Reading (Option ScalarType)
+abbrev pub result_type : Parser (Option ScalarType)
 result_type symbols = result_of (next_scalar symbols) symbols
 
 -- [`(` number `)`]
-abbrev pub count : List Symbol → Reading (Option Number)
+abbrev pub count : Parser (Option Number)
 count symbols =
     if at_mark marks.LeftParenthesis symbols then (do
       found ← number (drop 1 symbols)
@@ -93,7 +93,7 @@ count symbols =
     else Ok (None, symbols)
 
 -- `*` | number
-abbrev pub dimension_inside : List Symbol → Reading Dimension
+abbrev pub dimension_inside : Parser Dimension
 dimension_inside symbols =
     if at_mark marks.Asterisk symbols then Ok (Implied, drop 1 symbols)
     else (do
@@ -101,7 +101,7 @@ dimension_inside symbols =
       Ok (Count (found.0), found.1))
 
 -- [`(` number `)` | `(` `*` `)`]
-abbrev pub dimension : List Symbol → Reading (Option Dimension)
+abbrev pub dimension : Parser (Option Dimension)
 dimension symbols =
     if at_mark marks.LeftParenthesis symbols then (do
       found ← dimension_inside (drop 1 symbols)
@@ -110,7 +110,7 @@ dimension symbols =
     else Ok (None, symbols)
 
 -- name [`(` number `)`] (BYTE | ADDRESS)
-unfoldable pub member : List Symbol → Reading Member
+unfoldable pub member : Parser Member
 member symbols = do
   own ← name symbols
   elements ← count own.1
@@ -118,11 +118,11 @@ member symbols = do
   Ok (record { name = own.0; dimension = elements.0; scalar = its_type.0 }, its_type.1)
 
 -- BYTE | ADDRESS | STRUCTURE `(` member {`,` member} `)`
-unfoldable pub item_type : List Symbol → Reading ItemTypeTree
+unfoldable pub item_type : Parser ItemTypeTree
 item_type symbols =
     if at_word words.Structure symbols then (do
-      behind ← mark marks.LeftParenthesis (drop 1 symbols)
-      found ← items member behind
+      later ← mark marks.LeftParenthesis (drop 1 symbols)
+      found ← items member later
       rest ← mark marks.RightParenthesis found.1
       Ok (StructureItem found.0, rest))
     else (do
@@ -142,23 +142,23 @@ abbrev pub next_linkage : List Symbol → Option Linkage
 next_linkage symbols = linkage_of (place_of_word words.Public symbols) (place_of_word words.External symbols)
 
 -- [PUBLIC | EXTERNAL]
-abbrev pub linkage_then : Option Linkage → List Symbol → Reading (Option Linkage)
+abbrev pub linkage_then : Option Linkage → Parser (Option Linkage)
 linkage_then None symbols = Ok (None, symbols)
 linkage_then (Some found) symbols = Ok (Some found, drop 1 symbols)
 
-abbrev pub linkage : List Symbol → Reading (Option Linkage)
+abbrev pub linkage : Parser (Option Linkage)
 linkage symbols = linkage_then (next_linkage symbols) symbols
 
--- [AT `(` place `)`]
-abbrev pub at_of : Option Place → List Symbol → Reading (Option AtTree)
+-- [AT `(` restricted `)`]
+abbrev pub at_of : Option Place → Parser (Option AtTree)
 at_of None symbols = Ok (None, symbols)
 at_of (Some place) symbols = do
-  behind ← mark marks.LeftParenthesis (drop 1 symbols)
-  found ← restricted behind
+  later ← mark marks.LeftParenthesis (drop 1 symbols)
+  found ← restricted later
   rest ← mark marks.RightParenthesis found.1
   Ok (Some (record { place = place; address = found.0 }), rest)
 
-unfoldable pub at : List Symbol → Reading (Option AtTree)
+unfoldable pub at : Parser (Option AtTree)
 at symbols = at_of (place_of_word words.At symbols) symbols
 
 -- the next symbol, if it is INITIAL or DATA
@@ -173,20 +173,20 @@ storage_of None other = data_of other
 abbrev pub next_storage : List Symbol → Option Storage
 next_storage symbols = storage_of (place_of_word words.Initial symbols) (place_of_word words.Data symbols)
 
--- [INITIAL `(` list `)` | DATA `(` list `)`]
-abbrev pub values_of : Option Storage → List Symbol → Reading (Option ValueListTree)
+-- [INITIAL `(` restricted {`,` restricted} `)` | DATA `(` restricted {`,` restricted} `)`]
+abbrev pub values_of : Option Storage → Parser (Option ValueListTree)
 values_of None symbols = Ok (None, symbols)
 values_of (Some storage) symbols = do
-  behind ← mark marks.LeftParenthesis (drop 1 symbols)
-  found ← items restricted behind
+  later ← mark marks.LeftParenthesis (drop 1 symbols)
+  found ← items restricted later
   rest ← mark marks.RightParenthesis found.1
   Ok (Some (record { storage = storage; values = found.0 }), rest)
 
-unfoldable pub value_list : List Symbol → Reading (Option ValueListTree)
+unfoldable pub value_list : Parser (Option ValueListTree)
 value_list symbols = values_of (next_storage symbols) symbols
 
 -- [BASED name]
-abbrev pub base : List Symbol → Reading (Option Identifier)
+abbrev pub base : Parser (Option Identifier)
 base symbols =
     if at_word words.Based symbols then (do
       found ← name (drop 1 symbols)
@@ -194,15 +194,15 @@ base symbols =
     else Ok (None, symbols)
 
 -- `(` name {`,` name} `)`
-unfoldable pub names : List Symbol → Reading (List Identifier)
+unfoldable pub names : Parser (List Identifier)
 names symbols = do
-  behind ← mark marks.LeftParenthesis symbols
-  found ← items name behind
+  later ← mark marks.LeftParenthesis symbols
+  found ← items name later
   rest ← mark marks.RightParenthesis found.1
   Ok (found.0, rest)
 
 -- name [BASED name] | `(` name {`,` name} `)`
-abbrev pub subject_of : Option Identifier → List Symbol → Reading SubjectTree
+abbrev pub subject_of : Option Identifier → Parser SubjectTree
 subject_of (Some own) symbols = do
   found ← base (drop 1 symbols)
   Ok (SingleSubject own found.0, found.1)
@@ -210,32 +210,42 @@ subject_of None symbols = do
   found ← names symbols
   Ok (GroupSubject found.0, found.1)
 
-unfoldable pub subject : List Symbol → Reading SubjectTree
+unfoldable pub subject : Parser SubjectTree
 subject symbols = subject_of (next_name symbols) symbols
 
--- what stands behind the subject of an item
-abbrev pub item_behind : SubjectTree → List Symbol → Reading ItemTree
-item_behind its_subject symbols = do
+-- what stands after the subject of an item
+abbrev pub item_after : SubjectTree → Parser ItemTree
+item_after its_subject symbols = do
   its_dimension ← dimension symbols
   its_type ← item_type its_dimension.1
   its_linkage ← linkage its_type.1
   its_place ← at its_linkage.1
   its_values ← value_list its_place.1
-  Ok (record { subject = its_subject; dimension = its_dimension.0; item_type = its_type.0; linkage = its_linkage.0; at = its_place.0; value_list = its_values.0 }, its_values.1)
+  Ok (
+    record {
+      subject = its_subject;
+      dimension = its_dimension.0;
+      item_type = its_type.0;
+      linkage = its_linkage.0;
+      at = its_place.0;
+      value_list = its_values.0;
+    },
+    its_values.1,
+  )
 
 -- an item
-unfoldable pub item : List Symbol → Reading ItemTree
+unfoldable pub item : Parser ItemTree
 item symbols = do
   its_subject ← subject symbols
-  item_behind its_subject.0 its_subject.1
+  item_after its_subject.0 its_subject.1
 
 -- name LITERALLY string | item
-abbrev pub item_element : List Symbol → Reading ElementTree
+abbrev pub item_element : Parser ElementTree
 item_element symbols = do
   found ← item symbols
   Ok (ItemElement found.0, found.1)
 
-abbrev pub element_of : Option Identifier → List Symbol → Reading ElementTree
+abbrev pub element_of : Option Identifier → Parser ElementTree
 element_of None symbols = item_element symbols
 element_of (Some own) symbols =
     if at_word words.Literally (drop 1 symbols) then (do
@@ -243,55 +253,56 @@ element_of (Some own) symbols =
       Ok (LiterallyElement own text.0, text.1))
     else item_element symbols
 
-unfoldable pub element : List Symbol → Reading ElementTree
+unfoldable pub element : Parser ElementTree
 element symbols = element_of (next_name symbols) symbols
 
--- an element behind the name with which it begins
-abbrev pub element_behind : Identifier → List Symbol → Reading ElementTree
-element_behind own symbols =
+-- an element after the name with which it begins
+abbrev pub element_after : Identifier → Parser ElementTree
+element_after own symbols =
     if at_word words.Literally symbols then (do
       text ← string (drop 1 symbols)
       Ok (LiterallyElement own text.0, text.1))
     else (do
       its_base ← base symbols
-      found ← item_behind (SingleSubject own its_base.0) its_base.1
+      found ← item_after (SingleSubject own its_base.0) its_base.1
       Ok (ItemElement found.0, found.1))
 
 -- an element that begins with no name
-abbrev pub group_element : List Symbol → Reading ElementTree
+abbrev pub group_element : Parser ElementTree
 group_element symbols = do
   its_names ← names symbols
-  found ← item_behind (GroupSubject its_names.0) its_names.1
+  found ← item_after (GroupSubject its_names.0) its_names.1
   Ok (ItemElement found.0, found.1)
 
--- element {`,` element} `;`, behind DECLARE
-unfoldable pub elements : List Symbol → Reading (List ElementTree)
-elements symbols = do
-  found ← items element symbols
-  rest ← mark marks.Semicolon found.1
-  Ok (found.0, rest)
-
 -- [`(` name {`,` name} `)`]
-abbrev pub parameters : List Symbol → Reading (List Identifier)
+abbrev pub parameters : Parser (List Identifier)
 parameters symbols = if at_mark marks.LeftParenthesis symbols then names symbols else Ok ([], symbols)
 
 -- [REENTRANT]
-abbrev pub reentrant_of : Option Place → List Symbol → Reading (Option Place)
+abbrev pub reentrant_of : Option Place → Parser (Option Place)
 reentrant_of None symbols = Ok (None, symbols)
 reentrant_of (Some place) symbols = Ok (Some place, drop 1 symbols)
 
-abbrev pub reentrant : List Symbol → Reading (Option Place)
+abbrev pub reentrant : Parser (Option Place)
 reentrant symbols = reentrant_of (place_of_word words.Reentrant symbols) symbols
 
--- name `:` PROCEDURE [`(` name {`,` name} `)`] [BYTE | ADDRESS] [PUBLIC | EXTERNAL] [REENTRANT] `;`
-unfoldable pub heading : List Symbol → Reading HeadingTree
+-- name `:` PROCEDURE [`(` name {`,` name} `)`] [BYTE | ADDRESS] [PUBLIC | EXTERNAL] [REENTRANT]
+unfoldable pub heading : Parser HeadingTree
 heading symbols = do
   own ← name symbols
   colon ← mark marks.Colon own.1
-  behind ← word words.Procedure colon
-  its_parameters ← parameters behind
+  later ← word words.Procedure colon
+  its_parameters ← parameters later
   its_result ← result_type its_parameters.1
   its_linkage ← linkage its_result.1
   its_reentrant ← reentrant its_linkage.1
-  rest ← mark marks.Semicolon its_reentrant.1
-  Ok (record { name = own.0; parameters = its_parameters.0; result = its_result.0; linkage = its_linkage.0; reentrant = its_reentrant.0 }, rest)
+  Ok (
+    record {
+      name = own.0;
+      parameters = its_parameters.0;
+      result = its_result.0;
+      linkage = its_linkage.0;
+      reentrant = its_reentrant.0;
+    },
+    its_reentrant.1,
+  )

@@ -1,4 +1,5 @@
--- How the parser reads expressions: an operand, and then operators with what stands behind them, as long as they may stand there.
+-- How the parser reads expressions: an operand, and then operators with what stands after them, as long as
+-- they may stand there.
 use Rattle.std.specs.Prelude.{ℕ, zero, suc, Bool, ◌&&◌, nat_le, nat_lt, List, [], ◌∷◌, drop, length, Option, Some, None, Ok, Err, if◌then◌else◌}
 use Rattle.words.specs.declared.vocabulary.Mark.TheVariants as marks
 use Rattle.words.specs.declared.vocabulary.ReservedWord.TheVariants as words
@@ -6,12 +7,17 @@ use Rattle.trees.specs.declared.expression.BinaryOperator.{BinaryOperator}
 use Rattle.trees.specs.declared.expression.BinaryOperator.TheVariants.{Or, Xor, And, Equal, Less, Greater, LessOrEqual, GreaterOrEqual, Unequal, Add, Subtract, Multiply, Divide, Modulo}
 use Rattle.trees.specs.declared.expression.UnaryOperator.TheVariants.{Not, Negate}
 use Rattle.trees.specs.declared.identifier.Identifier.{Identifier}
-use Rattle.trees.specs.Forms.{expr_level, neg_level, sec_level, primary_level, level_of, left_level, unary_level_of}
+use Rattle.trees.specs.Forms.{expr_level, neg_level, sec_level, primary_level, level_of}
+use Rattle.trees.specs.internal.Forms.{left_level, unary_level_of}
 use Rattle.trees.specs.Nesting.{expression_height}
 use Rattle.trees.specs.Symbols.{Symbol, MarkSymbol, ReservedSymbol}
-use Rattle.trees.specs.Trees.{ExpressionTree, ConstantLeaf, ReferenceLeaf, LocationLeaf, ListLeaf, ParenthesizedNode, AssignmentNode, UnaryNode, BinaryNode, ReferenceTree, WholeReference, MemberReference, ArgumentTrees, NoArguments, MoreArguments}
-use Rattle.syntax.specs.internal.Looking.{Reading, Unexpected, TooDeep, ◌>>=◌, at_mark, at_word, mark, name, next_name, constant}
+use Rattle.trees.specs.Trees.{ExpressionTree, ConstantLeaf, ReferenceLeaf, LocationLeaf, ListLeaf, ParenthesizedNode, AssignmentNode, UnaryNode, BinaryNode, ReferenceTree, ReferenceTo, MemberTree, NoMember, MemberOf, ArgumentTrees, NoArguments, MoreArguments}
+use Rattle.syntax.specs.internal.Reader.{Parser, Unexpected, TooDeep, ◌>>=◌, at_mark, at_word, mark, name, next_name, constant}
 use Rattle.syntax.specs.internal.Lists.{items}
+
+-- how an expression at a level is read
+abbrev pub ExpressionParser : Type 0
+ExpressionParser = ℕ → Parser ExpressionTree
 
 -- the operator of a symbol between operands
 abbrev pub operator_of : Symbol → Option BinaryOperator
@@ -46,13 +52,18 @@ top_level tree = primary_level
 abbrev pub goes_on : ℕ → ℕ → BinaryOperator → Bool
 goes_on level top operator = nat_le level (level_of operator) && nat_le (left_level (level_of operator)) top
 
+-- an operator that goes on with an expression of a level, where what comes out must stand at another
+abbrev pub operator_on : ℕ → ℕ → Option BinaryOperator → Option BinaryOperator
+operator_on level top None = None
+operator_on level top (Some operator) = if goes_on level top operator then Some operator else None
+
 -- the trees of a list of arguments
 abbrev pub arguments_of : List ExpressionTree → ArgumentTrees
 arguments_of [] = NoArguments
 arguments_of (first ∷ others) = MoreArguments first (arguments_of others)
 
--- [`(` expr {`,` expr} `)`], where the expressions are read so
-abbrev pub arguments : (ℕ → List Symbol → Reading ExpressionTree) → List Symbol → Reading ArgumentTrees
+-- [`(` expression {`,` expression} `)`], where the expressions are read so
+abbrev pub arguments : ExpressionParser → Parser ArgumentTrees
 arguments inner symbols =
     if at_mark marks.LeftParenthesis symbols then (do
       found ← items (inner expr_level) (drop 1 symbols)
@@ -60,24 +71,30 @@ arguments inner symbols =
       Ok (arguments_of found.0, rest))
     else Ok (NoArguments, symbols)
 
--- [`.` name [args]], behind a name with its arguments
-abbrev pub member_of : (ℕ → List Symbol → Reading ExpressionTree) → Identifier → ArgumentTrees → List Symbol → Reading ReferenceTree
-member_of inner base its_arguments symbols =
+-- [`.` name [arguments]]
+abbrev pub member_of : ExpressionParser → Parser MemberTree
+member_of inner symbols =
     if at_mark marks.Period symbols then (do
       member ← name (drop 1 symbols)
-      behind ← arguments inner member.1
-      Ok (MemberReference base its_arguments member.0 behind.0, behind.1))
-    else Ok (WholeReference base its_arguments, symbols)
+      found ← arguments inner member.1
+      Ok (MemberOf member.0 found.0, found.1))
+    else Ok (NoMember, symbols)
 
--- reference: name [args] [`.` name [args]]
-unfoldable pub reference : (ℕ → List Symbol → Reading ExpressionTree) → List Symbol → Reading ReferenceTree
+-- [arguments] [`.` name [arguments]], after the name of a reference
+abbrev pub reference_after : ExpressionParser → Identifier → Parser ReferenceTree
+reference_after inner base symbols = do
+  its_arguments ← arguments inner symbols
+  its_member ← member_of inner its_arguments.1
+  Ok (ReferenceTo base its_arguments.0 its_member.0, its_member.1)
+
+-- reference: name [arguments] [`.` name [arguments]]
+unfoldable pub reference : ExpressionParser → Parser ReferenceTree
 reference inner symbols = do
   base ← name symbols
-  found ← arguments inner base.1
-  member_of inner base.0 found.0 found.1
+  reference_after inner base.0 base.1
 
--- what stands behind a period: a reference, or constants in parentheses
-unfoldable pub location : (ℕ → List Symbol → Reading ExpressionTree) → List Symbol → Reading ExpressionTree
+-- what stands after a period: a reference, or constants in parentheses
+unfoldable pub location : ExpressionParser → Parser ExpressionTree
 location inner symbols =
     if at_mark marks.LeftParenthesis symbols then (do
       found ← items constant (drop 1 symbols)
@@ -87,35 +104,35 @@ location inner symbols =
       found ← reference inner symbols
       Ok (LocationLeaf found.0, found.1))
 
--- `:=` expr `)`, behind a reference
-abbrev pub assigned : (ℕ → List Symbol → Reading ExpressionTree) → ExpressionTree → List Symbol → Reading ExpressionTree
+-- `:=` expression `)`, after a reference
+abbrev pub assigned : ExpressionParser → ExpressionTree → Parser ExpressionTree
 assigned deeper (ReferenceLeaf target) symbols = do
-  behind ← mark marks.AssignSign symbols
-  value ← deeper expr_level behind
+  later ← mark marks.AssignSign symbols
+  value ← deeper expr_level later
   rest ← mark marks.RightParenthesis value.1
   Ok (AssignmentNode target value.0, rest)
 assigned deeper tree symbols = Err Unexpected
 
--- what stands behind an opening parenthesis and an expression
-abbrev pub closed : (ℕ → List Symbol → Reading ExpressionTree) → ExpressionTree → List Symbol → Reading ExpressionTree
+-- what stands after an opening parenthesis and an expression
+abbrev pub closed : ExpressionParser → ExpressionTree → Parser ExpressionTree
 closed deeper tree symbols =
     if at_mark marks.RightParenthesis symbols then Ok (ParenthesizedNode tree, drop 1 symbols)
     else assigned deeper tree symbols
 
--- what stands behind an opening parenthesis: expr `)`, or reference `:=` expr `)`
-unfoldable pub parenthesized : (ℕ → List Symbol → Reading ExpressionTree) → (ℕ → List Symbol → Reading ExpressionTree) → List Symbol → Reading ExpressionTree
+-- what stands after an opening parenthesis: expression `)`, or reference `:=` expression `)`
+unfoldable pub parenthesized : ExpressionParser → ExpressionParser → Parser ExpressionTree
 parenthesized inner deeper symbols = do
   found ← inner expr_level symbols
   closed deeper found.0 found.1
 
 -- a constant, a reference, a location or an expression in parentheses
-unfoldable pub primary : (ℕ → List Symbol → Reading ExpressionTree) → (ℕ → List Symbol → Reading ExpressionTree) → List Symbol → Reading ExpressionTree
+unfoldable pub primary : ExpressionParser → ExpressionParser → Parser ExpressionTree
 primary inner deeper symbols =
     if at_mark marks.LeftParenthesis symbols then parenthesized inner deeper (drop 1 symbols)
     else (if at_mark marks.Period symbols then location inner (drop 1 symbols)
     else leaf inner (next_name symbols) symbols)
   where
-    leaf : (ℕ → List Symbol → Reading ExpressionTree) → Option Identifier → List Symbol → Reading ExpressionTree
+    leaf : ExpressionParser → Option Identifier → Parser ExpressionTree
     leaf inner (Some base) symbols = do
       found ← reference inner symbols
       Ok (ReferenceLeaf found.0, found.1)
@@ -124,7 +141,7 @@ primary inner deeper symbols =
       Ok (ConstantLeaf found.0, found.1)
 
 -- an operator before its operand, or a primary, at a level
-unfoldable pub operand : (ℕ → List Symbol → Reading ExpressionTree) → (ℕ → List Symbol → Reading ExpressionTree) → ℕ → List Symbol → Reading ExpressionTree
+unfoldable pub operand : ExpressionParser → ExpressionParser → ℕ → Parser ExpressionTree
 operand inner deeper level symbols =
     if at_word words.Not symbols && nat_le level neg_level then (do
       found ← inner neg_level (drop 1 symbols)
@@ -134,8 +151,15 @@ operand inner deeper level symbols =
       Ok (UnaryNode Negate found.0, found.1))
     else primary inner deeper symbols)
 
--- an operator with what stands behind it, and what goes on behind these; the whole takes no more levels than the room
-abbrev pub operator_then : (ℕ → List Symbol → Reading ExpressionTree) → (ExpressionTree → List Symbol → Reading ExpressionTree) → ℕ → ℕ → ExpressionTree → Option BinaryOperator → List Symbol → Reading ExpressionTree
+-- an operator with what stands after it, and what goes on after these; the whole takes no more levels than
+-- the room
+abbrev pub operator_then : ExpressionParser
+    → (ExpressionTree → Parser ExpressionTree)
+    → ℕ
+    → ℕ
+    → ExpressionTree
+    → Option BinaryOperator
+    → Parser ExpressionTree
 operator_then inner again room level left None symbols = Ok (left, symbols)
 operator_then inner again room level left (Some operator) symbols =
     if goes_on level (top_level left) operator then
@@ -145,25 +169,25 @@ operator_then inner again room level left (Some operator) symbols =
     else Err TooDeep)
     else Ok (left, symbols)
 
--- operators that may stand at a level, with what stands behind them, behind a left operand
-abbrev pub operators : (ℕ → List Symbol → Reading ExpressionTree) → ℕ → ℕ → ℕ → ExpressionTree → List Symbol → Reading ExpressionTree
+-- operators that may stand at a level, with what stands after them, after a left operand
+abbrev pub operators : ExpressionParser → ℕ → ℕ → ℕ → ExpressionTree → Parser ExpressionTree
 operators inner room level zero left symbols = Ok (left, symbols)
 operators inner room level (suc count) left symbols =
     operator_then inner (operators inner room level count) room level left (next_operator symbols) symbols
 
 -- operators, as many as there are
-unfoldable pub all_operators : (ℕ → List Symbol → Reading ExpressionTree) → ℕ → ℕ → ExpressionTree → List Symbol → Reading ExpressionTree
+unfoldable pub all_operators : ExpressionParser → ℕ → ℕ → ExpressionTree → Parser ExpressionTree
 all_operators inner room level left symbols = operators inner room level (length symbols) left symbols
 
 -- an expression at a level, of no more levels than the room
 unfoldable mutual
-  pub expression : ℕ → ℕ → List Symbol → Reading ExpressionTree
+  pub expression : ℕ → ℕ → Parser ExpressionTree
   expression zero level symbols = Err TooDeep
   expression (suc room) level symbols = do
     left ← operand (expression room) (expression_less room) level symbols
     all_operators (expression room) (suc room) level left.0 left.1
 
   -- an expression of one level less than the room
-  pub expression_less : ℕ → ℕ → List Symbol → Reading ExpressionTree
+  pub expression_less : ℕ → ℕ → Parser ExpressionTree
   expression_less zero level symbols = Err TooDeep
   expression_less (suc room) level symbols = expression room level symbols

@@ -1,25 +1,23 @@
--- What the parser reads inside of statements and declarations, where names behind END are compared.
-use Rattle.std.specs.Prelude.{◌≡◌, ℕ, Bool, true, false, List, [], ◌∷◌, drop, Option, Some, None, Result, Ok, Err, if◌then◌else◌}
-use Rattle.words.specs.declared.vocabulary.Mark.TheVariants.{Semicolon}
-use Rattle.words.specs.declared.vocabulary.ReservedWord.TheVariants.{Else}
+-- What the parser reads inside of statements and declarations, where names after END are compared.
+use Rattle.std.specs.Prelude.{◌≡◌, ℕ, Bool, true, false, List, [], ◌∷◌, Result, Ok, Err}
 use Rattle.trees.specs.declared.statement.Block.{Block}
 use Rattle.trees.specs.declared.statement.Declaration.{Declaration}
 use Rattle.trees.specs.declared.statement.Statement.{Statement}
 use Rattle.trees.specs.Forms.{expr_level}
 use Rattle.trees.specs.Symbols.{Symbol, NameSymbol, UnknownSymbol}
-use Rattle.trees.specs.Trees.{ExpressionTree, StatementTree, StatementTrees, MoreStatements, DeclarationTrees, MoreDeclarations}
-use Rattle.trees.specs.Views.{statement_tree, statement_trees, declaration_tree, declaration_trees}
+use Rattle.trees.specs.Trees.{ExpressionTree, StatementTree, StatementKindTree, StatementTrees, MoreStatements, DeclarationTrees, MoreDeclarations}
+use Rattle.trees.specs.Views.{statement_tree, declaration_tree, block_declarations, block_statements}
 use Rattle.failure.specs.declared.Failure.{Failure}
 use Rattle.syntax.specs.declared.fault.Fault.{Fault}
 use Rattle.syntax.specs.declared.statements.Beginning.{Beginning}
 use Rattle.syntax.specs.declared.statements.Beginning.TheVariants.{Name}
-use Rattle.syntax.specs.internal.Expressions.{expression}
-use Rattle.syntax.specs.internal.Giving.{Fails}
-use Rattle.syntax.specs.internal.Looking.{Reading, Cause, ◌>>=◌, at_word, mark}
-use Rattle.syntax.specs.internal.Statements.{Expressions, statement, declaration, statement_by, beginning_of, block}
+use Rattle.syntax.specs.internal.Expressions.{ExpressionParser, expression}
+use Rattle.syntax.specs.internal.Results.{Fails}
+use Rattle.syntax.specs.internal.Reader.{Parser, Reading, Cause, ◌>>=◌, semicolon}
+use Rattle.syntax.specs.internal.Statements.{BlockParser, labels_before, after_labels, labelled, statement, declaration, kind_by, beginning_of, block}
 
 -- {declaration} {statement}, in a room
-abbrev pub block_in : ℕ → List Symbol → Reading (DeclarationTrees × StatementTrees)
+abbrev pub block_in : ℕ → BlockParser
 block_in room symbols = block (declaration true room) (statement true room) symbols
 
 -- what a statement begins with, where a symbol that the grammar doesn't have is taken for a name
@@ -27,28 +25,25 @@ abbrev pub next_beginning : List Symbol → Beginning
 next_beginning (UnknownSymbol ∷ rest) = Name
 next_beginning symbols = beginning_of symbols
 
+-- a statement without labels whose parts fit into a room
+abbrev pub kind_inside : ℕ → Parser StatementKindTree
+kind_inside room symbols =
+    kind_by (expression room) (statement true room) (block_in room) (next_beginning symbols) symbols
+
 -- a statement whose parts fit into a room
-abbrev pub statement_inside : ℕ → List Symbol → Reading StatementTree
-statement_inside room symbols = statement_by (expression room) (statement true room) (block_in room) (next_beginning symbols) symbols
+abbrev pub statement_inside : ℕ → Parser StatementTree
+statement_inside room symbols = labelled (labels_before symbols) (kind_inside room (after_labels symbols))
 
 -- the trees of a block
 abbrev pub block_trees : Block → DeclarationTrees × StatementTrees
-block_trees block = (declaration_trees block.declarations.items, statement_trees block.statements.items)
+block_trees block = (block_declarations block, block_statements block)
 
--- expr `;`
-abbrev pub condition : Expressions → List Symbol → Reading ExpressionTree
+-- expression `;`
+abbrev pub condition : ExpressionParser → Parser ExpressionTree
 condition inner symbols = do
   found ← inner expr_level symbols
-  rest ← mark Semicolon found.1
-  Ok (found.0, rest)
-
--- [ELSE statement]
-abbrev pub other_statement : (List Symbol → Reading StatementTree) → List Symbol → Reading (Option StatementTree)
-other_statement inner symbols =
-    if at_word Else symbols then (do
-      found ← inner (drop 1 symbols)
-      Ok (Some (found.0), found.1))
-    else Ok (None, symbols)
+  end ← semicolon found.1
+  Ok (found.0, end.1)
 
 -- whether a symbol is a name
 abbrev pub is_name_symbol : Symbol → Bool
@@ -58,22 +53,24 @@ is_name_symbol symbol = false
 -- statements, and then other ones
 abbrev pub statements_before : List Statement → StatementTrees → StatementTrees
 statements_before [] others = others
-statements_before (first ∷ rest) others = MoreStatements (statement_tree first) (statements_before rest others)
+statements_before (first ∷ rest) others =
+    MoreStatements (statement_tree first) (statements_before rest others)
 
--- what is read behind statements, with these before it
-abbrev pub behind_statements : List Statement → Reading StatementTrees → Reading StatementTrees
-behind_statements made (Ok found) = Ok (statements_before made found.0, found.1)
-behind_statements made (Err cause) = Err cause
+-- what is read after statements, with these before it
+abbrev pub after_statements : List Statement → Reading StatementTrees → Reading StatementTrees
+after_statements made (Ok found) = Ok (statements_before made found.0, found.1)
+after_statements made (Err cause) = Err cause
 
 -- declarations, and then other ones
 abbrev pub declarations_before : List Declaration → DeclarationTrees → DeclarationTrees
 declarations_before [] others = others
-declarations_before (first ∷ rest) others = MoreDeclarations (declaration_tree first) (declarations_before rest others)
+declarations_before (first ∷ rest) others =
+    MoreDeclarations (declaration_tree first) (declarations_before rest others)
 
--- what is read behind declarations, with these before it
-abbrev pub behind_declarations : List Declaration → Reading DeclarationTrees → Reading DeclarationTrees
-behind_declarations made (Ok found) = Ok (declarations_before made found.0, found.1)
-behind_declarations made (Err cause) = Err cause
+-- what is read after declarations, with these before it
+abbrev pub after_declarations : List Declaration → Reading DeclarationTrees → Reading DeclarationTrees
+after_declarations made (Ok found) = Ok (declarations_before made found.0, found.1)
+after_declarations made (Err cause) = Err cause
 
 -- what was returned is what the whole is read as
 abbrev pub Makes : {X Y : Type 0} → (X → Y) → Result X (Failure Fault) → Result Y Cause → Type 0

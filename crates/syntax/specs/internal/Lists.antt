@@ -1,11 +1,12 @@
--- How the parser reads lists. The numbers bound how many items there can be: the symbols that are left are always enough.
-use Rattle.std.specs.Prelude.{◌≡◌, ℕ, zero, suc, ◌≤◌, ◌<◌, Bool, List, [], ◌∷◌, drop, length, Ok, Err, if◌then◌else◌}
+-- How the parser reads lists. The numbers bound how many items there can be: the symbols that are left are
+-- always enough.
+use Rattle.std.specs.Prelude.{◌≡◌, ℕ, zero, suc, ◌≤◌, ◌<◌, Bool, List, [], ◌∷◌, ◌++◌, drop, length, Ok, Err, if◌then◌else◌}
 use Rattle.words.specs.declared.vocabulary.Mark.TheVariants.{Comma}
 use Rattle.trees.specs.Symbols.{Symbol}
-use Rattle.syntax.specs.internal.Looking.{Reading, Unexpected, ◌>>=◌, at_mark}
+use Rattle.syntax.specs.internal.Reader.{Parser, Reading, Unexpected, ◌>>=◌, at_mark}
 
 -- {`,` item}
-abbrev pub more_items : {A : Type 0} → (List Symbol → Reading A) → ℕ → List Symbol → Reading (List A)
+abbrev pub more_items : {A : Type 0} → Parser A → ℕ → Parser (List A)
 more_items item zero symbols = Ok ([], symbols)
 more_items item (suc count) symbols =
     if at_mark Comma symbols then (do
@@ -15,18 +16,23 @@ more_items item (suc count) symbols =
     else Ok ([], symbols)
 
 -- {`,` item}, as many as there are
-unfoldable pub all_more_items : {A : Type 0} → (List Symbol → Reading A) → List Symbol → Reading (List A)
+unfoldable pub all_more_items : {A : Type 0} → Parser A → Parser (List A)
 all_more_items item symbols = more_items item (length symbols) symbols
 
 -- item {`,` item}
-abbrev pub items : {A : Type 0} → (List Symbol → Reading A) → List Symbol → Reading (List A)
+abbrev pub items : {A : Type 0} → Parser A → Parser (List A)
 items item symbols = do
   first ← item symbols
   others ← all_more_items item first.1
   Ok (first.0 ∷ others.0, others.1)
 
+-- what is read after items, with these before it
+abbrev pub after_items : {A : Type 0} → List A → Reading (List A) → Reading (List A)
+after_items before (Ok others) = Ok (before ++ others.0, others.1)
+after_items before (Err cause) = Err cause
+
 -- {item}, up to where a list ends
-abbrev pub many_items : {A : Type 0} → (List Symbol → Bool) → (List Symbol → Reading A) → ℕ → List Symbol → Reading (List A)
+abbrev pub many_items : {A : Type 0} → (List Symbol → Bool) → Parser A → ℕ → Parser (List A)
 many_items ends item zero symbols = if ends symbols then Ok ([], symbols) else Err Unexpected
 many_items ends item (suc count) symbols =
     if ends symbols then Ok ([], symbols) else (do
@@ -35,12 +41,18 @@ many_items ends item (suc count) symbols =
       Ok (first.0 ∷ others.0, others.1))
 
 -- {item}, as many as there are
-unfoldable pub many : {A : Type 0} → (List Symbol → Bool) → (List Symbol → Reading A) → List Symbol → Reading (List A)
+unfoldable pub many : {A : Type 0} → (List Symbol → Bool) → Parser A → Parser (List A)
 many ends item symbols = many_items ends item (length symbols) symbols
 
--- what is read takes no symbols away from behind it, or at least one
-abbrev pub Keeps : {A : Type 0} → (List Symbol → Reading A) → Type 0
-Keeps {A} item = (symbols rest : List Symbol) (a : A) → item symbols ≡ Ok (a, rest) → length rest ≤ length symbols
+-- reading leaves no more symbols than there were, or fewer
+abbrev pub Keeps : {A : Type 0} → Parser A → Type 0
+Keeps {A} item =
+    (symbols rest : List Symbol) (a : A)
+    → item symbols ≡ Ok (a, rest)
+    → length rest ≤ length symbols
 
-abbrev pub Shrinks : {A : Type 0} → (List Symbol → Reading A) → Type 0
-Shrinks {A} item = (symbols rest : List Symbol) (a : A) → item symbols ≡ Ok (a, rest) → length rest < length symbols
+abbrev pub Shrinks : {A : Type 0} → Parser A → Type 0
+Shrinks {A} item =
+    (symbols rest : List Symbol) (a : A)
+    → item symbols ≡ Ok (a, rest)
+    → length rest < length symbols

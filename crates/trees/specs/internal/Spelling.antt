@@ -27,28 +27,29 @@ abbrev mutual
   expression_symbols (AssignmentNode target value) rest =
       MarkSymbol LeftParenthesis ∷ reference_symbols target
       (MarkSymbol AssignSign ∷ expression_symbols value (MarkSymbol RightParenthesis ∷ rest))
-  expression_symbols (UnaryNode operator operand) rest = unary_symbol operator ∷ expression_symbols operand rest
+  expression_symbols (UnaryNode operator operand) rest =
+      unary_symbol operator ∷ expression_symbols operand rest
   expression_symbols (BinaryNode operator left right) rest =
       expression_symbols left (binary_symbol operator ∷ expression_symbols right rest)
 
-  -- reference: name [args] [`.` name [args]]
+  -- reference: name [arguments] [`.` name [arguments]]
   pub reference_symbols : ReferenceTree → List Symbol → List Symbol
   reference_symbols (ReferenceTo name arguments member) rest =
       NameSymbol name ∷ arguments_symbols arguments (member_of_symbols member rest)
 
-  -- [`.` name [args]]
+  -- [`.` name [arguments]]
   pub member_of_symbols : MemberTree → List Symbol → List Symbol
   member_of_symbols NoMember rest = rest
   member_of_symbols (MemberOf name arguments) rest =
       MarkSymbol Period ∷ NameSymbol name ∷ arguments_symbols arguments rest
 
-  -- [args], where args: `(` expr {`,` expr} `)`
+  -- [arguments], where arguments: `(` expression {`,` expression} `)`
   pub arguments_symbols : ArgumentTrees → List Symbol → List Symbol
   arguments_symbols NoArguments rest = rest
   arguments_symbols (MoreArguments first others) rest =
       MarkSymbol LeftParenthesis ∷ expression_symbols first (more_arguments_symbols others rest)
 
-  -- {`,` expr} `)`
+  -- {`,` expression} `)`
   pub more_arguments_symbols : ArgumentTrees → List Symbol → List Symbol
   more_arguments_symbols NoArguments rest = MarkSymbol RightParenthesis ∷ rest
   more_arguments_symbols (MoreArguments first others) rest =

@@ -2,8 +2,7 @@ use Rattle.std.proofs.Common.{◌≡◌, ◌≤◌, ◌+◌, ◌*◌, suc, map, 
 use Rattle.trees.specs.Forms.{expr_level}
 use Rattle.trees.specs.Views.{expression_tree}
 use Rattle.syntax.specs.internal.Expressions.{expression, all_operators}
-use Rattle.syntax.specs.internal.Lists.{items, all_more_items}
-use Rattle.syntax.specs.internal.Parts.{behind}
+use Rattle.syntax.specs.internal.Lists.{items, all_more_items, after_items}
 use Rattle.syntax.proofs.reader.Reader.+expression.Given as goal
 
 abbrev pub decreases-expression : goal.decreases-expression
@@ -27,8 +26,8 @@ decreases-assigned l = 10 * l.room + 6
 abbrev pub decreases-location : goal.decreases-location
 decreases-location l = 10 * l.room + 5
 
-abbrev pub decreases-reference_behind : goal.decreases-reference_behind
-decreases-reference_behind l = 10 * l.room + 4
+abbrev pub decreases-reference_after : goal.decreases-reference_after
+decreases-reference_after l = 10 * l.room + 4
 
 abbrev pub decreases-arguments : goal.decreases-arguments
 decreases-arguments l = 10 * l.room + 3
@@ -38,7 +37,9 @@ decreases-expressions l = 10 * l.room + 2
 
 abbrev pub invariant-expressions-more : goal.invariant-expressions-more
 invariant-expressions-more l = record {
-  all : items (expression l.room expr_level) l.fn.self ≡ behind (map expression_tree l.found.items.items) (all_more_items (expression l.room expr_level) l.self);
+  all : items (expression l.room expr_level) l.fn.self
+      ≡ after_items (map expression_tree l.found.items.items)
+      (all_more_items (expression l.room expr_level) l.self);
   fits : l.found.height ≤ l.room;
 }
 
@@ -47,7 +48,9 @@ decreases-expressions-more l = length l.self
 
 abbrev pub invariant-operators-more : goal.invariant-operators-more
 invariant-operators-more l = record {
-  all : all_operators (expression l.room) (suc l.room) l.level (expression_tree l.fn.left.expression) l.fn.self ≡ all_operators (expression l.room) (suc l.room) l.level (expression_tree l.left.expression) l.self;
+  all : all_operators (expression l.room) (suc l.room) l.level
+      (expression_tree l.fn.left.expression) l.fn.self
+      ≡ all_operators (expression l.room) (suc l.room) l.level (expression_tree l.left.expression) l.self;
   fits : l.left.height ≤ l.room + 1;
 }
 

@@ -1,6 +1,6 @@
 use Rattle.std.proofs.Common.{not, sym, ◌∙◌, ap}
 use Rattle.std.proofs.lemmas.Result.{err_from_is_err_and}
-use Rattle.syntax.proofs.Insides.{statement-deep, declaration-deep, declare-ok, declare-fails}
+use Rattle.syntax.proofs.StatementInsides.{statement-deep, declaration-deep, declaration-declares}
 use Rattle.syntax.proofs.StatementLoops.{statements-fails, statements-fails_at_end, declarations-fails}
 use Rattle.syntax.proofs.reader.Reader.+statement.Goals as goal
 
@@ -15,25 +15,24 @@ take_statements-returns-in_err-expect_word t c =
 
 pub take_statements-returns-in_err-statement : goal.take_statements-returns-in_err-statement
 take_statements-returns-in_err-statement t c =
-    let p = err_from_is_err_and c.from_residual-in_err-statement.result c.from_residual-in_err-statement.ensures.1 in
+    let p =
+    err_from_is_err_and c.from_residual-in_err-statement.result c.from_residual-in_err-statement.ensures.1 in
     rw (p.1, p.2)
-    (statements-fails _ _ _ _ _ c.more.invariant c.in_ok-expect_word.ensures.ok (sym c.more-test.true ∙ c.at_word.ensures) c.in_err-statement.ensures)
+    (statements-fails _ _ _ _ _ c.more.invariant c.in_ok-expect_word.ensures.ok
+    (sym c.more-test.true ∙ c.at_word.ensures) c.in_err-statement.ensures)
 
 pub take_declarations-returns-in_err-declaration : goal.take_declarations-returns-in_err-declaration
 take_declarations-returns-in_err-declaration t c =
     let p = err_from_is_err_and c.from_residual.result c.from_residual.ensures.1 in
     rw (p.1, p.2)
-    (declarations-fails _ _ _ _ _ c.more.invariant (ap not (sym c.more-test.true) ∙ c.begins_declaration.ensures) c.in_err-declaration.ensures)
+    (declarations-fails _ _ _ _ _ c.more.invariant
+    (ap not (sym c.more-test.true) ∙ c.begins_declaration.ensures) c.in_err-declaration.ensures)
 
 pub take_declaration-returns-then-room-eq0 : goal.take_declaration-returns-then-room-eq0
 take_declaration-returns-then-room-eq0 t c =
     declaration-deep _ _ _ c.if-room-eq0.true (sym c.if-at_word.false ∙ c.at_word.ensures) c.too_deep.ensures
 
-pub take_declaration-returns-in_err-elements : goal.take_declaration-returns-in_err-elements
-take_declaration-returns-in_err-elements t c =
-    let p = err_from_is_err_and c.from_residual.result c.from_residual.ensures.1 in
-    rw (p.1, p.2) (declare-fails _ _ _ _ (sym c.if-at_word.true ∙ c.at_word.ensures) c.skip.ensures c.in_err-elements.ensures)
-
 pub take_declaration-returns-then-at_word : goal.take_declaration-returns-then-at_word
 take_declaration-returns-then-at_word t c =
-    rw c.declare.ensures.view (declare-ok _ _ _ _ _ (sym c.if-at_word.true ∙ c.at_word.ensures) c.skip.ensures c.in_ok-elements.ensures)
+    rw (declaration-declares _ _ _ (sym c.if-at_word.true ∙ c.at_word.ensures) c.skip.ensures)
+    c.take_declare.ensures

@@ -1,5 +1,5 @@
 use Rattle.std.proofs.Common.{◌≡◌, true, ◌+◌, ◌*◌, length}
-use Rattle.syntax.specs.internal.Inside.{behind_statements, behind_declarations}
+use Rattle.syntax.specs.internal.Inside.{after_statements, after_declarations}
 use Rattle.syntax.specs.internal.Statements.{statements, declarations, statement, declaration}
 use Rattle.syntax.proofs.reader.Reader.+statement.Given as goal
 
@@ -21,8 +21,8 @@ decreases-take_do l = 10 * l.room + 4
 abbrev pub decreases-take_if : goal.decreases-take_if
 decreases-take_if l = 10 * l.room + 2
 
-abbrev pub decreases-take_inside : goal.decreases-take_inside
-decreases-take_inside l = 10 * l.room + 5
+abbrev pub decreases-take_kind : goal.decreases-take_kind
+decreases-take_kind l = 10 * l.room + 5
 
 abbrev pub decreases-take_otherwise : goal.decreases-take_otherwise
 decreases-take_otherwise l = 10 * l.room + 1
@@ -37,13 +37,17 @@ abbrev pub decreases-take_statements : goal.decreases-take_statements
 decreases-take_statements l = 10 * l.room + 1
 
 abbrev pub invariant-take_declarations-more : goal.invariant-take_declarations-more
-invariant-take_declarations-more l = declarations (declaration true l.room) l.initial.self ≡ behind_declarations l.declarations.items (declarations (declaration true l.room) l.self)
+invariant-take_declarations-more l =
+    declarations (declaration true l.room) l.initial.self
+    ≡ after_declarations l.declarations.items (declarations (declaration true l.room) l.self)
 
 abbrev pub decreases-take_declarations-more : goal.decreases-take_declarations-more
 decreases-take_declarations-more l = length l.self
 
 abbrev pub invariant-take_statements-more : goal.invariant-take_statements-more
-invariant-take_statements-more l = statements (statement true l.room) l.initial.self ≡ behind_statements l.statements.items (statements (statement true l.room) l.self)
+invariant-take_statements-more l =
+    statements (statement true l.room) l.initial.self
+    ≡ after_statements l.statements.items (statements (statement true l.room) l.self)
 
 abbrev pub decreases-take_statements-more : goal.decreases-take_statements-more
 decreases-take_statements-more l = length l.self

@@ -1,12 +1,11 @@
 use Rattle.std.proofs.Common.{◌≡◌, length, map}
-use Rattle.syntax.specs.internal.Lists.{all_more_items, items}
-use Rattle.syntax.specs.internal.Parts.{behind}
+use Rattle.syntax.specs.internal.Lists.{all_more_items, items, after_items}
 use Rattle.syntax.proofs.reader.Reader.take_list.Given as goal
 
 abbrev pub invariant-more : goal.invariant-more
 invariant-more g l =
     items g.T.Listed.reading l.fn.self
-    ≡ behind (map g.T.Listed.tree_of l.found.items) (all_more_items g.T.Listed.reading l.self)
+    ≡ after_items (map g.T.Listed.tree_of l.found.items) (all_more_items g.T.Listed.reading l.self)
 
 abbrev pub decreases-more : goal.decreases-more
 decreases-more g l = length l.self

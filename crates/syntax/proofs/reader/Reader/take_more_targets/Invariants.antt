@@ -1,14 +1,13 @@
 use Rattle.std.proofs.Common.{◌≡◌, length, map}
 use Rattle.trees.specs.Views.{reference_tree}
 use Rattle.syntax.specs.internal.Expressions.{expression, reference}
-use Rattle.syntax.specs.internal.Lists.{all_more_items}
-use Rattle.syntax.specs.internal.Parts.{behind}
+use Rattle.syntax.specs.internal.Lists.{all_more_items, after_items}
 use Rattle.syntax.proofs.reader.Reader.take_more_targets.Given as goal
 
 abbrev pub invariant-more : goal.invariant-more
 invariant-more l =
     all_more_items (reference (expression l.room)) l.initial.self
-    ≡ behind (map reference_tree l.targets.items) (all_more_items (reference (expression l.room)) l.self)
+    ≡ after_items (map reference_tree l.targets.items) (all_more_items (reference (expression l.room)) l.self)
 
 abbrev pub decreases-more : goal.decreases-more
 decreases-more l = length l.self

@@ -1,0 +1,81 @@
+-- What was read of words, in terms of what they derive.
+use Rattle.std.proofs.Common.{◌≡◌, true, List, Result, Ok, Err, subst}
+use Rattle.std.specs.Prelude.{IfOk}
+use Rattle.words.specs.Spelling.{Lexeme}
+use Rattle.trees.specs.declared.module.Module.{Module}
+use Rattle.trees.specs.declared.module.TheConstants.{NESTING_LIMIT}
+use Rattle.trees.specs.Derivation.{Derives, DerivesButForDepth, DerivesButForEndName}
+use Rattle.trees.specs.Symbols.{Symbol, symbols_of}
+use Rattle.trees.specs.Trees.{ModuleTree}
+use Rattle.trees.specs.Views.{module_tree}
+use Rattle.failure.specs.Failure.{IfFault}
+use Rattle.failure.specs.declared.Failure.{Failure}
+use Rattle.failure.specs.declared.Failure.TheVariants as failures
+use Rattle.syntax.specs.declared.fault.Fault.{Fault}
+use Rattle.syntax.specs.declared.fault.Fault.TheVariants.{Word, Depth, EndName}
+use Rattle.syntax.specs.Faults.{IsOfDepth, IsOfEndName, IsRefused}
+use Rattle.syntax.specs.internal.Results.{Fails}
+use Rattle.syntax.specs.internal.Inside.{Makes}
+use Rattle.syntax.specs.internal.Reader.{Cause, TooDeep, OtherEndName}
+use Rattle.syntax.specs.internal.Statements.{whole_module}
+use Rattle.syntax.proofs.ParserLaws.{module_read-derives, module_derives-reads, module_deep-reads, module_end_name-reads}
+
+-- what was made of these words
+abbrev MadeOf : List Lexeme → Result Module (Failure Fault) → Type 0
+MadeOf words parsed = Makes module_tree parsed (whole_module true NESTING_LIMIT (symbols_of words))
+
+pub parsed-derives : (words : List Lexeme) (parsed : Result Module (Failure Fault)) → MadeOf words parsed
+    → IfOk parsed (λ found. Derives words (module_tree found))
+parsed-derives words (Ok found) made = module_read-derives words (module_tree found) made
+parsed-derives words (Err failure) made = tt
+
+-- where there is a tree, no fault keeps it back
+none_kept_back : (read : Result ModuleTree Cause) (tree : ModuleTree) (fault : Fault)
+    → read ≡ Ok tree → Fails (failures.Fault fault) read → ⊥
+none_kept_back read tree (Word line) whole fails = absurd cc
+none_kept_back read tree (Depth line) whole fails = absurd cc
+none_kept_back read tree (EndName line) whole fails = absurd cc
+
+pub refused-derives_none : (words : List Lexeme) (parsed : Result Module (Failure Fault))
+    → MadeOf words parsed
+    → IfFault parsed (λ fault. (tree : ModuleTree) → Derives words tree → ⊥)
+refused-derives_none words (Ok found) made = tt
+refused-derives_none words (Err (failures.Fault fault)) made =
+    λ tree derived. none_kept_back _ tree fault (module_derives-reads words tree derived) made
+refused-derives_none words (Err failures.Memory) made = tt
+
+-- the fault of too many levels
+deep_fault : (read : Result ModuleTree Cause) (fault : Fault)
+    → read ≡ Err TooDeep → Fails (failures.Fault fault) read → IsOfDepth fault
+deep_fault read (Word line) deep fails = absurd cc
+deep_fault read (Depth line) deep fails = tt
+deep_fault read (EndName line) deep fails = absurd cc
+
+pub deep-refused : (words : List Lexeme) (parsed : Result Module (Failure Fault)) → MadeOf words parsed
+    → DerivesButForDepth words → IsRefused parsed IsOfDepth
+deep-refused words (Ok found) made deep = let read = module_deep-reads words deep in absurd cc
+deep-refused words (Err (failures.Fault fault)) made deep =
+    deep_fault _ fault (module_deep-reads words deep) made
+deep-refused words (Err failures.Memory) made deep = tt
+
+-- the fault of another name after END
+end_name_fault : (read : Result ModuleTree Cause) (fault : Fault)
+    → read ≡ Err OtherEndName → Fails (failures.Fault fault) read → IsOfEndName fault
+end_name_fault read (Word line) other fails = absurd cc
+end_name_fault read (Depth line) other fails = absurd cc
+end_name_fault read (EndName line) other fails = tt
+
+pub end_name-refused : (words : List Lexeme) (parsed : Result Module (Failure Fault)) → MadeOf words parsed
+    → DerivesButForEndName words → IsRefused parsed IsOfEndName
+end_name-refused words (Ok found) made other = let read = module_end_name-reads words other in absurd cc
+end_name-refused words (Err (failures.Fault fault)) made other =
+    end_name_fault _ fault (module_end_name-reads words other) made
+end_name-refused words (Err failures.Memory) made other = tt
+
+-- what was made of symbols, where they are those of words
+pub made_of_words : (words : List Lexeme) (parsed : Result Module (Failure Fault)) (symbols : List Symbol)
+    → symbols ≡ symbols_of words
+    → Makes module_tree parsed (whole_module true NESTING_LIMIT symbols)
+    → MadeOf words parsed
+made_of_words words parsed symbols same made =
+    subst (λ s. Makes module_tree parsed (whole_module true NESTING_LIMIT s)) same made

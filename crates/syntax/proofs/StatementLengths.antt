@@ -1,0 +1,95 @@
+-- Each statement and each declaration is derived from a symbol at least.
+use Rattle.std.proofs.Common.{◌≤◌, ◌<◌, ℕ, List, ◌∷◌, length, Option, Some, None, ap, arith}
+use Rattle.trees.specs.declared.identifier.Identifier.{Identifier}
+use Rattle.trees.specs.Derivation.{DerivesExpression, DerivesReference, DerivesArguments, DerivesTargets, last_target, next_target, DerivesStatement, labelled, unlabelled, DerivesKind, null, assignment, call, return, return_value, halt, goto, if_then, if_then_else, simple_do, do_while, iterative_do, iterative_do_by, do_case, DerivesStatements, no_statement, next_statement, DerivesDeclaration, declare, procedure, DerivesDeclarations, no_declaration, next_declaration}
+use Rattle.trees.specs.Spelling.{element_symbols, ending_symbols}
+use Rattle.trees.specs.Symbols.{Symbol, SemicolonSymbol}
+use Rattle.trees.specs.Trees.{ExpressionTree, ReferenceTree, ArgumentTrees, StatementTree, StatementKindTree, StatementTrees, DeclarationTree, DeclarationTrees}
+use Rattle.trees.proofs.Derivations.{expression-spelled, reference-spelled, arguments-spelled}
+use Rattle.syntax.proofs.DeclarationLaws.{heading-reads, heading-shrinks}
+use Rattle.syntax.proofs.ExpressionLaws.{expression-long, reference-long, arguments-long}
+use Rattle.syntax.proofs.DeclarationItems.{between_commas-lengthens, element-lengthens}
+
+ending_symbols-long : (n : Option Identifier) (r : List Symbol) → length r < length (ending_symbols n r)
+ending_symbols-long None r = omega arith
+ending_symbols-long (Some n) r = omega arith
+
+expression-shorter : {level : ℕ} {s r : List Symbol} {t : ExpressionTree}
+    → DerivesExpression level s t r
+    → length r < length s
+expression-shorter {level} {s} {r} {t} d =
+    omega (arith, expression-long t r, ap length (expression-spelled d).0)
+
+reference-shorter : {s r : List Symbol} {t : ReferenceTree} → DerivesReference s t r → length r < length s
+reference-shorter {s} {r} {t} d = omega (arith, reference-long t r, ap length (reference-spelled d).0)
+
+arguments-shorter : {s r : List Symbol} {t : ArgumentTrees} → DerivesArguments s t r → length r ≤ length s
+arguments-shorter {s} {r} {t} d = omega (arith, arguments-long t r, ap length (arguments-spelled d).0)
+
+targets-shorter : {s r : List Symbol} {t : List ReferenceTree} → DerivesTargets s t r → length r < length s
+targets-shorter (last_target d) = reference-shorter d
+targets-shorter (next_target d ds) = omega (arith, reference-shorter d, targets-shorter ds)
+
+mutual
+  pub statement-shorter : {s r : List Symbol} {t : StatementTree}
+      → DerivesStatement s t r
+      → length r < length s
+  statement-shorter (labelled d) = omega (arith, statement-shorter d)
+  statement-shorter (unlabelled d) = kind-shorter d
+
+  kind-shorter : {s r : List Symbol} {t : StatementKindTree} → DerivesKind s t r → length r < length s
+  kind-shorter null = omega arith
+  kind-shorter (assignment d₁ d₂) = omega (arith, targets-shorter d₁, expression-shorter d₂)
+  kind-shorter (call d) = omega (arith, arguments-shorter d)
+  kind-shorter return = omega arith
+  kind-shorter (return_value d) = omega (arith, expression-shorter d)
+  kind-shorter halt = omega arith
+  kind-shorter goto = omega arith
+  kind-shorter (if_then d₁ d₂) = omega (arith, expression-shorter d₁, statement-shorter d₂)
+  kind-shorter (if_then_else d₁ d₂ e d₃) =
+      omega (arith, expression-shorter d₁, statement-shorter d₂, statement-shorter d₃)
+  kind-shorter (simple_do d₁ d₂) = omega (arith, declarations-shorter d₁, statements-shorter d₂)
+  kind-shorter (do_while d₁ d₂) = omega (arith, expression-shorter d₁, statements-shorter d₂)
+  kind-shorter (iterative_do d₁ d₂ d₃) =
+      omega (arith, expression-shorter d₁, expression-shorter d₂, statements-shorter d₃)
+  kind-shorter (iterative_do_by d₁ d₂ d₃ d₄) =
+      omega (
+        arith,
+        expression-shorter d₁,
+        expression-shorter d₂,
+        expression-shorter d₃,
+        statements-shorter
+            d₄,
+      )
+  kind-shorter (do_case d₁ d₂) = omega (arith, expression-shorter d₁, statements-shorter d₂)
+
+  statements-shorter : {s r : List Symbol} {t : StatementTrees}
+      → DerivesStatements s t r
+      → length r ≤ length s
+  statements-shorter no_statement = omega arith
+  statements-shorter (next_statement d ds) = omega (arith, statement-shorter d, statements-shorter ds)
+
+  pub declaration-shorter : {s r : List Symbol} {t : DeclarationTree}
+      → DerivesDeclaration s t r
+      → length r < length s
+  declaration-shorter {s} {r} (declare end {elements} some all) =
+      omega (
+        arith,
+        between_commas-lengthens element_symbols element-lengthens elements
+            (SemicolonSymbol end ∷ r),
+      )
+  declaration-shorter {s} {r} (procedure start end {heading} {symbols} {middle} {rest} {declared} {body}
+      {end_name} d₁ d₂) =
+      omega (
+        arith,
+        declarations-shorter d₁,
+        statements-shorter d₂,
+        ending_symbols-long end_name (SemicolonSymbol end ∷ r),
+        heading-shrinks _ _ heading (heading-reads heading start symbols),
+      )
+
+  declarations-shorter : {s r : List Symbol} {t : DeclarationTrees}
+      → DerivesDeclarations s t r
+      → length r ≤ length s
+  declarations-shorter no_declaration = omega arith
+  declarations-shorter (next_declaration d ds) = omega (arith, declaration-shorter d, declarations-shorter ds)

@@ -1,0 +1,44 @@
+-- What a function of the parser returned is what reading the symbols gives, unless memory ran out.
+use Rattle.std.specs.Prelude.{◌≡◌, List, Option, None, Some, Result, Ok, Err}
+use Rattle.words.specs.declared.scanner.Word as scanned
+use Rattle.words.specs.Spelling.{lexemes_of}
+use Rattle.trees.specs.Symbols.{Symbol, symbols_of}
+use Rattle.failure.specs.declared.Failure.{Failure}
+use Rattle.failure.specs.declared.Failure.TheVariants as failures
+use Rattle.syntax.specs.declared.fault.Fault.{Fault}
+use Rattle.syntax.specs.declared.fault.Fault.TheVariants.{Word, Depth, EndName}
+use Rattle.syntax.specs.internal.Reader.{Cause, Unexpected, TooDeep, OtherEndName, Reading}
+
+-- the symbols of words
+abbrev pub left_of : List scanned.Word → List Symbol
+left_of words = symbols_of (lexemes_of words)
+
+-- the cause that a failure tells of; out of memory tells of none
+abbrev pub cause_of : Failure Fault → Option Cause
+cause_of (failures.Fault (Word line)) = Some Unexpected
+cause_of (failures.Fault (Depth line)) = Some TooDeep
+cause_of (failures.Fault (EndName line)) = Some OtherEndName
+cause_of failures.Memory = None
+
+-- a cause is that for which reading gives nothing
+abbrev pub FailsBy : {Y : Type 0} → Option Cause → Result Y Cause → Type 0
+FailsBy None read = Unit {0}
+FailsBy (Some cause) read = read ≡ Err cause
+
+-- a failure has the cause for which reading gives nothing
+abbrev pub Fails : {Y : Type 0} → Failure Fault → Result Y Cause → Type 0
+Fails failure read = FailsBy (cause_of failure) read
+
+-- what was returned, with the symbols that are left, is what reading gives
+abbrev pub Gives : {X Y : Type 0} → (X → Y) → Result X (Failure Fault) → List Symbol → Reading Y → Type 0
+Gives view (Ok x) rest read = read ≡ Ok (view x, rest)
+Gives view (Err failure) rest read = Fails failure read
+
+-- the same where nothing but the symbols that are left is told
+abbrev pub Leaves : {X : Type 0}
+    → Result X (Failure Fault)
+    → List Symbol
+    → Result (List Symbol) Cause
+    → Type 0
+Leaves (Ok x) rest read = read ≡ Ok rest
+Leaves (Err failure) rest read = Fails failure read
