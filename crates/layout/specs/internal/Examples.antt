@@ -8,6 +8,7 @@ use Rattle.trees.specs.declared.declaration.Sign.TheVariants.{Plus}
 use Rattle.trees.specs.declared.declaration.Storage.TheVariants.{Initial}
 use Rattle.trees.specs.Trees.{ListLeaf, LocationOrigin, RestrictedTree, ScalarItem, ElementTree, ItemElement, HeadingTree, CallStatement as Call, DoStatement, DeclarationTree, DeclareTree, ModuleTree}
 use Rattle.names.specs.BuiltIns.{built_in_of}
+use Rattle.types.specs.declared.typed.AtAddress.TheVariants.{AtObject}
 use Rattle.types.specs.TypedTrees.{TypedModule}
 use Rattle.types.specs.Checks.{Checked}
 use Rattle.types.specs.Typing.{typing_of}
@@ -16,7 +17,8 @@ use Rattle.types.specs.internal.Measures.{structures, sends}
 use Rattle.layout.specs.declared.slot.Segment.TheVariants.{Code, Data}
 use Rattle.layout.specs.Storage.{Storage, storage_of}
 use Rattle.layout.specs.Joined.{NoPublic, PublicTwice, DeclarationsDiffer, NotOneMain, join_refusal}
-use Rattle.layout.specs.Placement.{Placement, range_of}
+use Rattle.layout.specs.Placement.{ModulePlacement, Placement, StaticPiece, ConstantPiece, AtPiece, range_of, pieces_of}
+use Rattle.layout.specs.Lawful.{address_at}
 use Rattle.layout.specs.StartingMemory.{starting_memory}
 
 -- the modules among trees that have a typing
@@ -164,3 +166,30 @@ pub filled :
     ≡ 255 ∷ 255 ∷ 7 ∷ 3 ∷ 0 ∷ 255 ∷ 9 ∷ 1 ∷ 255 ∷ []
 unfolding typing_of built_in_of starting_memory
 filled = refl
+
+-- what lies where: the static objects, the object with DATA and the constant list
+pub pieces :
+    pieces_of (typed (filled_module ∷ [])) filled_placement
+    ≡ record { kind = StaticPiece; range = range_of 2 1 }
+    ∷ record { kind = StaticPiece; range = range_of 3 2 }
+    ∷ record { kind = ConstantPiece; range = range_of 6 1 }
+    ∷ record { kind = ConstantPiece; range = range_of 7 1 }
+    ∷ []
+unfolding typing_of built_in_of
+pieces = refl
+
+-- DECLARE S(2) STRUCTURE (A BYTE, B(2) ADDRESS), X BYTE AT (.S + 8);: with S at 20, X lies at 28
+abbrev pub structures_placed : ModulePlacement
+structures_placed = record { objects = 20 ∷ 28 ∷ []; lists = [] }
+
+pub pieces_with_at :
+    pieces_of (typed (module_of (structures ∷ []) [] ∷ []))
+    (record { modules = structures_placed ∷ []; code = range_of 0 0; stack = range_of 0 0 })
+    ≡ record { kind = StaticPiece; range = range_of 20 10 }
+    ∷ record { kind = AtPiece; range = range_of 28 1 }
+    ∷ []
+unfolding typing_of built_in_of
+pieces_with_at = refl
+
+pub address_of_x : address_at structures_placed (AtObject 0 8) ≡ 28
+address_of_x = refl
