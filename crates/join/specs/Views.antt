@@ -1,0 +1,32 @@
+-- Faults and placements of the code in the words of programs.
+use Rattle.std.specs.Prelude.{ℕ, List, map, codes}
+use Rattle.join.specs.declared.fault.Fault.{Fault}
+use Rattle.join.specs.declared.fault.Fault.TheVariants as faults
+use Rattle.join.specs.declared.placement.ModulePlacement.{ModulePlacement as CodeModulePlacement}
+use Rattle.join.specs.declared.placement.Placement.{Placement as CodePlacement}
+use Rattle.layout.specs.Joined.{JoinRefusal, NoPublic, PublicTwice, DeclarationsDiffer, NotOneMain}
+use Rattle.layout.specs.Placement.{ModulePlacement, Placement}
+
+-- the number of a fault
+abbrev pub number_of : Fault → List ℕ
+number_of (faults.NoPublic name) = codes "J1"
+number_of (faults.PublicTwice name) = codes "J2"
+number_of (faults.DeclarationsDiffer name) = codes "J3"
+number_of faults.NotOneMain = codes "J4"
+
+-- why modules make no program, as a fault tells it
+abbrev pub refusal_of : Fault → JoinRefusal
+refusal_of (faults.NoPublic name) = NoPublic name
+refusal_of (faults.PublicTwice name) = PublicTwice name
+refusal_of (faults.DeclarationsDiffer name) = DeclarationsDiffer name
+refusal_of faults.NotOneMain = NotOneMain
+
+abbrev pub module_placement_view : CodeModulePlacement → ModulePlacement
+module_placement_view placed = record { objects = placed.objects.items; lists = placed.lists.items }
+
+abbrev pub placement_view : CodePlacement → Placement
+placement_view placement = record {
+  modules = map module_placement_view placement.modules.items;
+  code = placement.code;
+  stack = placement.stack;
+}

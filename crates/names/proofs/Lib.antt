@@ -1,0 +1,6 @@
+pub mod Keys
+pub mod Walks
+pub mod Loops
+pub mod Numbering
+pub mod References
+pub mod Parts

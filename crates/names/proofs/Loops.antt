@@ -1,0 +1,56 @@
+-- What is left of lists of trees, item by item.
+use Rattle.std.proofs.Common.{◌≡◌, ℕ, suc, ◌+◌, ◌<◌, List, length, drop, get_or, ◌∷◌, refl, ap, sym, subst, Option, Result, Ok, Err, ◌≤◌, [], ◌∙◌, add-one}
+use Rattle.std.proofs.Math.ListN.{drop_of_length-le}
+use Rattle.std.proofs.Math.Seq.{drop-cons}
+use Rattle.failure.specs.declared.Failure.{Failure}
+use Rattle.trees.specs.declared.statement.Declaration.{Declaration}
+use Rattle.trees.specs.declared.statement.Statement.{Statement}
+use Rattle.trees.specs.declared.expression.Expression.{Expression}
+use Rattle.trees.specs.Trees.{ArgumentTrees, MoreArguments, StatementTrees, MoreStatements, DeclarationTrees, MoreDeclarations}
+use Rattle.names.specs.declared.fault.Fault.{Fault}
+use Rattle.names.specs.internal.Walks.{FailsBy, Does, fault_in, bind_more}
+use Rattle.names.proofs.Walks.{fails_more}
+use Rattle.trees.specs.Views.{expression_tree, argument_trees, statement_tree, statement_trees, declaration_tree, declaration_trees}
+
+drop_item : {A B : Type 0} (view : List A → B) (items : List A) (i : ℕ) (item : A) → i < length items → item ≡ get_or items i item → view (drop i items) ≡ view (item ∷ drop (i + 1) items)
+drop_item view items i item within is =
+    ap view (drop-cons items i item within)
+    ∙ ap (λ first. view (first ∷ drop (suc i) items)) (sym is)
+    ∙ ap (λ n. view (item ∷ drop n items)) (sym (add-one i))
+
+pub statements_from : (statements : List Statement) (i : ℕ) (statement : Statement) → i < length statements → statement ≡ get_or statements i statement
+    → statement_trees (drop i statements) ≡ MoreStatements (statement_tree statement) (statement_trees (drop (i + 1) statements))
+statements_from statements i statement within is = drop_item statement_trees statements i statement within is
+
+pub declarations_from : (declarations : List Declaration) (i : ℕ) (declaration : Declaration) → i < length declarations → declaration ≡ get_or declarations i declaration
+    → declaration_trees (drop i declarations) ≡ MoreDeclarations (declaration_tree declaration) (declaration_trees (drop (i + 1) declarations))
+declarations_from declarations i declaration within is = drop_item declaration_trees declarations i declaration within is
+
+pub arguments_from : (arguments : List Expression) (i : ℕ) (argument : Expression) → i < length arguments → argument ≡ get_or arguments i argument
+    → argument_trees (drop i arguments) ≡ MoreArguments (expression_tree argument) (argument_trees (drop (i + 1) arguments))
+arguments_from arguments i argument within is = drop_item argument_trees arguments i argument within is
+
+-- A loop over a list, each of whose items gives a state from the one before, where all items together give `total`.
+module _ {T S : Type 0} (step : T → S → Result S Fault) (all : List T → S → Result S Fault) (cons : (first : T) (others : List T) (state : S) → all (first ∷ others) state ≡ bind_more (step first state) (all others)) where
+  item_first : (items : List T) (i : ℕ) (item : T) (state : S) (total : Result S Fault) → i < length items → item ≡ get_or items i item → all (drop i items) state ≡ total
+      → bind_more (step item state) (all (drop (i + 1) items)) ≡ total
+  item_first items i item state total within is left =
+      sym (cons item (drop (i + 1) items) state) ∙ sym (drop_item (λ items. all items state) items i item within is) ∙ left
+
+  pub goes_on : (items : List T) (i : ℕ) (item : T) (state now : S) (total : Result S Fault) → i < length items → item ≡ get_or items i item → all (drop i items) state ≡ total
+      → step item state ≡ Ok now → all (drop (i + 1) items) now ≡ total
+  goes_on items i item state now total within is left given =
+      sym (ap (λ result. bind_more result (all (drop (i + 1) items))) given) ∙ item_first items i item state total within is left
+
+  pub fails_within : (items : List T) (i : ℕ) (item : T) (state : S) (total : Result S Fault) (fault : Option Fault) → i < length items → item ≡ get_or items i item → all (drop i items) state ≡ total
+      → FailsBy fault (step item state) → FailsBy fault total
+  fails_within items i item state total fault within is left fails =
+      subst (FailsBy fault) (item_first items i item state total within is left) (fails_more fault (step item state) (all (drop (i + 1) items)) fails)
+
+  pub ended : (items : List T) (i : ℕ) (state : S) (total given : Result S Fault) → length items ≤ i → all (drop i items) state ≡ total → all [] state ≡ given → total ≡ given
+  ended items i state total given past left end =
+      sym left ∙ ap (λ rest. all rest state) (drop_of_length-le items past) ∙ end
+
+-- how a call ends that hands on the failure of another
+pub hands_on : {A B : Type 0} (result : Result A (Failure Fault)) (failure : Failure Fault) (now : B) (given : Result B Fault) → result ≡ Err failure → FailsBy (fault_in failure) given → Does result now given
+hands_on result failure now given is fails = rw is fails

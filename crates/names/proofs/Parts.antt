@@ -1,0 +1,33 @@
+-- The trees of statements and of procedures, from the parts of the code's trees.
+use Rattle.std.proofs.Common.{◌≡◌, Some, refl, arith}
+use Rattle.trees.specs.declared.identifier.Place.{Place}
+use Rattle.trees.specs.declared.statement.Block.{Block, Block', the_lemmas as blocks}
+use Rattle.trees.specs.declared.statement.Declaration.TheVariants as declarations
+use Rattle.trees.specs.declared.statement.DoCase.{DoCase, DoCase', the_lemmas as cases}
+use Rattle.trees.specs.declared.statement.DoWhile.{DoWhile, DoWhile', the_lemmas as whiles}
+use Rattle.trees.specs.declared.statement.IfThen.{IfThen, IfThen', None', Some', the_lemmas as ifs}
+use Rattle.trees.specs.declared.statement.IterativeDo.{IterativeDo, IterativeDo', the_lemmas as iterations}
+use Rattle.trees.specs.declared.statement.Procedure.{Procedure, Procedure', the_lemmas as procedures}
+use Rattle.trees.specs.declared.statement.StatementKind.TheVariants as kinds
+use Rattle.trees.specs.Views.{kind_tree, declaration_tree}
+use Rattle.trees.proofs.Views.{statement_rows_are, declaration_rows_are}
+use Rattle.names.specs.internal.Parts.{if_tree, do_tree, while_tree, iterate_tree, case_tree, procedure_parts}
+
+pub if_is : (p : _) (branch : IfThen) → kind_tree (kinds.If' p branch) ≡ if_tree branch
+if_is p (IfThen' place condition labels kind None') = grind (arith, ifs)
+if_is p (IfThen' place condition labels kind (Some' others other)) = grind (arith, ifs)
+
+pub do_is : (place : Place) (p : _) (block : Block) → kind_tree (kinds.Do' place p block) ≡ do_tree place block
+do_is place p (Block' n declared m body) = grind (arith, blocks, statement_rows_are, declaration_rows_are)
+
+pub while_is : (p : _) (turns : DoWhile) → kind_tree (kinds.While' p turns) ≡ while_tree turns
+while_is p (DoWhile' place condition n body) = grind (arith, whiles, statement_rows_are)
+
+pub iterate_is : (p : _) (turns : IterativeDo) → kind_tree (kinds.Iterate' p turns) ≡ iterate_tree turns
+iterate_is p (IterativeDo' place iteration n body) = grind (arith, iterations, statement_rows_are)
+
+pub case_is : (p : _) (choice : DoCase) → kind_tree (kinds.Case' p choice) ≡ case_tree choice
+case_is p (DoCase' place choice n body) = grind (arith, cases, statement_rows_are)
+
+pub procedure_is : (p : _) (procedure : Procedure) → declaration_tree (declarations.Procedure' p procedure) ≡ procedure_parts procedure
+procedure_is p (Procedure' heading (Block' n declared m body) end_name) = grind (arith, procedures, blocks, statement_rows_are, declaration_rows_are)

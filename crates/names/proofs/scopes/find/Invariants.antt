@@ -1,0 +1,9 @@
+use Rattle.std.proofs.Common.{◌≡◌, length, reverse}
+use Rattle.names.specs.Environment.{known_in}
+use Rattle.names.proofs.scopes.find.Given as goal
+
+abbrev pub invariant-loop-last : goal.invariant-loop-last
+invariant-loop-last l = known_in (reverse l.rest) l.fn.name ≡ known_in (reverse l.fn.tables) l.fn.name
+
+abbrev pub decreases-loop-last : goal.decreases-loop-last
+decreases-loop-last l = length l.rest

@@ -1,0 +1,6 @@
+use Rattle.std.proofs.Common.{◌≡◌}
+use Rattle.names.proofs.Keys.{same_keys}
+use Rattle.names.proofs.table.NameSet.contains.Goals as goal
+
+pub returns : goal.returns
+returns c = rw (← c.self.view_is, ← same_keys) c.contains.ensures

@@ -1,0 +1,4 @@
+pub mod Numbering
+pub mod Walks
+pub mod Parts
+pub mod Examples

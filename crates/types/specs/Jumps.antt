@@ -1,0 +1,57 @@
+-- Where the labels of lists stand, and where GOTOs go.
+use Rattle.std.specs.Prelude.{◌≡◌, ℕ, ◌+◌, ◌<◌, ◌≤◌, List, [], ◌∷◌, length, Any}
+use Rattle.types.specs.TypedTrees.{TypedStatement, LabelStatement, NullStatement, AssignmentStatement, CallStatement, MoveStatement, ReturnStatement, HaltStatement, GotoStatement, IfStatement, DoStatement, WhileStatement, IterateStatement, CaseStatement, TypedElse, NoElse, ElseStatement, TypedStatements, NoStatements, MoreStatements, TypedList, ListOf}
+
+-- the labels of a list: so many numbers from the first on
+pub record LabelsOf : Type 0 where
+  pub first : ℕ
+  pub count : ℕ
+
+abbrev pub IsAmongLabels : (label : ℕ) → LabelsOf → Type 0
+IsAmongLabels label labels = (labels.first ≤ label) × (label < labels.first + labels.count)
+
+abbrev pub labels_of_list : ℕ → List ℕ → LabelsOf
+labels_of_list first places = record { first = first; count = length places }
+
+abbrev mutual
+  -- each GOTO in a statement goes to a label of one of the lists around it
+  pub JumpsStay : (around : List LabelsOf) → TypedStatement → Type 0
+  JumpsStay around (LabelStatement label) = Unit {0}
+  JumpsStay around NullStatement = Unit {0}
+  JumpsStay around (AssignmentStatement targets value) = Unit {0}
+  JumpsStay around (CallStatement procedure values) = Unit {0}
+  JumpsStay around (MoveStatement count source destination) = Unit {0}
+  JumpsStay around (ReturnStatement value) = Unit {0}
+  JumpsStay around HaltStatement = Unit {0}
+  JumpsStay around (GotoStatement label) = Any (IsAmongLabels label) around
+  JumpsStay around (IfStatement condition body otherwise) =
+      JumpsStay around body × JumpsStayInElse around otherwise
+  JumpsStay around (DoStatement body) = JumpsStayInList around body
+  JumpsStay around (WhileStatement condition body) = JumpsStayInList around body
+  JumpsStay around (IterateStatement head body) = JumpsStayInList around body
+  JumpsStay around (CaseStatement choice body) = JumpsStayInStatements around body
+
+  pub JumpsStayInElse : (around : List LabelsOf) → TypedElse → Type 0
+  JumpsStayInElse around NoElse = Unit {0}
+  JumpsStayInElse around (ElseStatement statement) = JumpsStay around statement
+
+  pub JumpsStayInStatements : (around : List LabelsOf) → TypedStatements → Type 0
+  JumpsStayInStatements around NoStatements = Unit {0}
+  JumpsStayInStatements around (MoreStatements first others) =
+      JumpsStay around first × JumpsStayInStatements around others
+
+  pub JumpsStayInList : (around : List LabelsOf) → TypedList → Type 0
+  JumpsStayInList around (ListOf first places statements) =
+      JumpsStayInStatements (labels_of_list first places ∷ around) statements
+
+-- no jump leaves a body
+abbrev pub IsClosed : TypedList → Type 0
+IsClosed body = JumpsStayInList [] body
+
+-- The labels of statements are numbered from one on, and the places are theirs, counted from one on.
+abbrev pub LabelsStand : (label place : ℕ) → (places : List ℕ) → TypedStatements → Type 0
+LabelsStand label place places NoStatements = places ≡ []
+LabelsStand label place [] (MoreStatements (LabelStatement number) others) = ⊥
+LabelsStand label place (first ∷ places) (MoreStatements (LabelStatement number) others) =
+    (number ≡ label) × (first ≡ place) × LabelsStand (label + 1) (place + 1) places others
+LabelsStand label place places (MoreStatements statement others) = LabelsStand label (place + 1) places others

@@ -1,0 +1,172 @@
+//! Typed expressions: names resolved, each with its type, each conversion written out. Objects, procedures and constant
+//! lists are named by their numbers in the tables of the module.
+
+use crate::typed::{NumberOrigin, ShiftFunction, UnaryFunction};
+use trees::{BinaryOperator, ScalarType, UnaryOperator};
+
+/// An expression.
+#[cycle(expression)]
+#[derive(Debug, Drop)]
+pub enum TypedExpression {
+    /// A number of a type.
+    Number {
+        scalar: ScalarType,
+        value: u16,
+        origin: NumberOrigin,
+    },
+    /// The value of a scalar.
+    Value {
+        scalar: ScalarType,
+        reference: Box<TypedReference>,
+    },
+    /// Where something lies.
+    Location(Box<TypedReference>),
+    /// Where a constant list lies.
+    List(u32),
+    /// To BYTE the low byte, to ADDRESS with zeros added.
+    Conversion {
+        scalar: ScalarType,
+        inner: Box<TypedExpression>,
+    },
+    /// `(target := value)`
+    Assignment {
+        target: Box<TypedTarget>,
+        value: Box<TypedExpression>,
+    },
+    /// An operator with one operand, whose type is that of the result.
+    Unary {
+        scalar: ScalarType,
+        operator: UnaryOperator,
+        operand: Box<TypedExpression>,
+    },
+    /// An operator with two operands of one type.
+    Binary {
+        operands: ScalarType,
+        operator: BinaryOperator,
+        left: Box<TypedExpression>,
+        right: Box<TypedExpression>,
+    },
+    /// A call of a procedure with a result of a type. Each argument is of the type of its parameter.
+    Call {
+        procedure: u32,
+        scalar: ScalarType,
+        arguments: Vec<TypedExpression>,
+    },
+    /// LOW, HIGH or DOUBLE.
+    Function {
+        function: UnaryFunction,
+        operand: Box<TypedExpression>,
+    },
+    /// A shift or a rotation of a value, whose type is that of the result, by a BYTE.
+    Shift {
+        scalar: ScalarType,
+        function: ShiftFunction,
+        value: Box<TypedExpression>,
+        count: Box<TypedExpression>,
+    },
+    /// INPUT of a port.
+    Input(u8),
+}
+
+/// An object or a part of it: an element, a member of the element, by its position in the structure and where it begins
+/// there (0 where no member is meant), and an element of the member.
+#[cycle(expression)]
+#[derive(Debug, Drop)]
+pub struct TypedReference {
+    pub object: u32,
+    pub subscript: TypedSubscript,
+    pub member: Option<u32>,
+    pub offset: u32,
+    pub member_subscript: TypedSubscript,
+}
+
+/// A subscript, which is an ADDRESS, with the size of an element and how many there are; or none.
+#[cycle(expression)]
+#[derive(Debug, Drop)]
+pub enum TypedSubscript {
+    Absent,
+    Present {
+        stride: u32,
+        count: u32,
+        index: Box<TypedExpression>,
+    },
+}
+
+/// What a value of the type `from` goes to.
+#[cycle(expression)]
+#[derive(Debug, Drop)]
+pub enum TypedTarget {
+    /// A scalar of the type `to`, which the value is converted to.
+    Stored {
+        from: ScalarType,
+        to: ScalarType,
+        reference: TypedReference,
+    },
+    /// A port, which takes the low byte.
+    Sent {
+        from: ScalarType,
+        port: u8,
+    },
+}
+
+impl TypedExpression {
+    ghost use Rattle.std.specs.Prelude.{◌≡◌};
+    ghost use Rattle.types.specs.Nodes.{type_of};
+    ghost use Rattle.types.specs.Views.{expression_view};
+
+    /// The type of its value.
+    pub fn scalar(&self) -> ScalarType
+        ensures { result ≡ type_of (expression_view self.now) }
+    {
+        match self {
+            TypedExpression::Number { scalar, .. }
+            | TypedExpression::Value { scalar, .. }
+            | TypedExpression::Conversion { scalar, .. }
+            | TypedExpression::Unary { scalar, .. }
+            | TypedExpression::Call { scalar, .. }
+            | TypedExpression::Shift { scalar, .. } => *scalar,
+            TypedExpression::Location(_) | TypedExpression::List(_) => ScalarType::Address,
+            TypedExpression::Assignment { target, .. } => target.source(),
+            TypedExpression::Binary {
+                operands,
+                operator,
+                ..
+            } => type_of_result(*operator, *operands),
+            TypedExpression::Function { function, .. } => function.scalar(),
+            TypedExpression::Input(_) => ScalarType::Byte,
+        }
+    }
+}
+
+impl TypedTarget {
+    ghost use Rattle.std.specs.Prelude.{◌≡◌};
+    ghost use Rattle.types.specs.Nodes.{type_of_target};
+    ghost use Rattle.types.specs.Views.{target_view};
+
+    /// The type of the value that goes to it.
+    pub fn source(&self) -> ScalarType
+        ensures { result ≡ type_of_target (target_view self.now) }
+    {
+        match self {
+            TypedTarget::Stored { from, .. } | TypedTarget::Sent { from, .. } => *from,
+        }
+    }
+}
+
+ghost use Rattle.std.specs.Prelude.{◌≡◌};
+ghost use Rattle.types.specs.Nodes.{type_of_result as result_type};
+
+/// The type of what an operator gives for operands of a type.
+fn type_of_result(operator: BinaryOperator, operands: ScalarType) -> ScalarType
+    ensures { result ≡ result_type operator operands }
+{
+    match operator {
+        BinaryOperator::Equal
+        | BinaryOperator::Less
+        | BinaryOperator::Greater
+        | BinaryOperator::LessOrEqual
+        | BinaryOperator::GreaterOrEqual
+        | BinaryOperator::Unequal => ScalarType::Byte,
+        _ => operands,
+    }
+}

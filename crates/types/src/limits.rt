@@ -1,0 +1,15 @@
+//! The limits of what a module declares.
+
+/// The greatest number of bytes of an object.
+pub const OBJECT_LIMIT: u32 = 65_535;
+
+/// The greatest number of bytes of the variables of a REENTRANT procedure.
+pub const FRAME_LIMIT: u32 = 1024;
+
+/// The greatest number of parameters of a procedure.
+pub const PARAMETER_LIMIT: usize = 16;
+
+/// The code of a module has at most so many bytes beside its constants, and so many more for each unit of its weight.
+pub const CODE_BYTES: u32 = 2048;
+
+pub const CODE_BYTES_FOR_WEIGHT: u32 = 128;

@@ -1,0 +1,76 @@
+//! Typed modules: their tables.
+
+use crate::statement::TypedList;
+use crate::typed::{AtAddress, ConstantItem, GlobalItem, InitialValue, TypedMember, Visibility};
+use trees::{Name, ScalarType};
+
+/// The type of an object, or of the elements of an array.
+#[derive(Debug, Drop)]
+pub enum ObjectType {
+    Scalar(ScalarType),
+    Structure(Vec<TypedMember>),
+}
+
+/// Where an object lives.
+#[derive(Debug, Drop)]
+pub enum Home {
+    /// In the data segment, filled by INITIAL from its start on.
+    Data(Vec<InitialValue>),
+    /// Among the constants, filled by DATA in the same way.
+    Constant(Vec<InitialValue>),
+    /// Where AT puts it.
+    At(AtAddress),
+    /// At the address that its base has as its value.
+    Based(u32),
+    /// In another module.
+    External,
+    /// Nowhere: a parameter of an EXTERNAL procedure.
+    Absent,
+    /// In the frame of each call of a REENTRANT procedure.
+    Frame(u32),
+}
+
+/// A variable or a parameter.
+#[derive(Debug, Drop)]
+pub struct TypedObject {
+    pub name: Name,
+    /// How many elements an array has.
+    pub dimension: Option<u16>,
+    pub object_type: ObjectType,
+    pub home: Home,
+    pub is_public: bool,
+    pub is_parameter: bool,
+}
+
+/// A procedure, or the main program of a module as one.
+#[derive(Debug, Drop)]
+pub struct TypedProcedure {
+    pub name: Name,
+    pub visibility: Visibility,
+    pub result: Option<ScalarType>,
+    pub is_reentrant: bool,
+    /// In the order of the heading.
+    pub parameter_types: Vec<ScalarType>,
+    /// The numbers of the parameters' objects, in the order of the heading.
+    pub parameters: Vec<u32>,
+    /// The bytes of the variables of a REENTRANT procedure, without parameters and BASED ones; else 0.
+    pub frame_bytes: u32,
+    /// Nothing where it is EXTERNAL.
+    pub body: TypedList,
+}
+
+/// A typed module. Its tables are in the order of the text.
+#[derive(Debug, Drop)]
+pub struct Typed {
+    pub name: Name,
+    pub objects: Vec<TypedObject>,
+    pub procedures: Vec<TypedProcedure>,
+    /// The bytes of each constant list.
+    pub lists: Vec<Vec<u8>>,
+    /// The objects with DATA and the constant lists.
+    pub constants: Vec<ConstantItem>,
+    /// The PUBLIC and EXTERNAL objects and procedures.
+    pub globals: Vec<GlobalItem>,
+    /// The statements at the outer level.
+    pub main: TypedProcedure,
+}

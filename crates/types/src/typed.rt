@@ -1,0 +1,117 @@
+//! The small parts of typed trees, which are copied.
+
+use trees::{Name, ScalarType};
+
+/// The built-in functions of one value.
+#[derive(Clone, Copy, Debug, PartialEq, Eq)]
+pub enum UnaryFunction {
+    /// The low byte.
+    Low,
+    /// The high byte; 0 of a BYTE.
+    High,
+    /// The value as an ADDRESS.
+    Double,
+}
+
+/// The built-in functions that move the bits of a value by a count.
+#[derive(Clone, Copy, Debug, PartialEq, Eq)]
+pub enum ShiftFunction {
+    ShiftLeft,
+    ShiftRight,
+    RotateLeft,
+    RotateRight,
+}
+
+/// The built-in functions of an object that are numbers.
+#[derive(Clone, Copy, Debug, PartialEq, Eq)]
+pub enum Measure {
+    /// How many elements an array has.
+    Length,
+    /// The greatest subscript of an array.
+    Last,
+    /// How many bytes a variable takes.
+    Size,
+}
+
+/// How a number was written.
+#[derive(Clone, Copy, Debug, PartialEq, Eq)]
+pub enum NumberOrigin {
+    /// In digits.
+    FromDigits,
+    /// As a string of one or two characters.
+    FromString,
+    /// As LENGTH, LAST or SIZE of an object, or of a member of it, by its position in the structure.
+    FromMeasure {
+        measure: Measure,
+        object: u32,
+        member: Option<u32>,
+    },
+}
+
+/// Which modules see a procedure: its own, others too, or it is another's.
+#[derive(Clone, Copy, Debug, PartialEq, Eq)]
+pub enum Visibility {
+    Private,
+    Public,
+    External,
+}
+
+/// A member of a structure.
+#[derive(Clone, Copy, Debug, PartialEq, Eq)]
+pub struct TypedMember {
+    pub name: Name,
+    /// How many elements it has, if it is an array.
+    pub dimension: Option<u16>,
+    pub scalar: ScalarType,
+}
+
+/// What the bytes of an object are filled with.
+#[derive(Clone, Copy, Debug, PartialEq, Eq)]
+pub enum InitialValue {
+    /// A byte.
+    ByteValue(u8),
+    /// Two bytes, the low one first.
+    WordValue(u16),
+    /// Two bytes: where an object lies, and a number added to that.
+    LocationValue { object: u32, offset: u16 },
+}
+
+/// Where AT puts an object.
+#[derive(Clone, Copy, Debug, PartialEq, Eq)]
+pub enum AtAddress {
+    /// At an address.
+    AtNumber(u16),
+    /// At a distance from where another object begins.
+    AtObject { object: u32, offset: u16 },
+}
+
+/// What stands among the constants of a module, by its number.
+#[derive(Clone, Copy, Debug, PartialEq, Eq)]
+pub enum ConstantItem {
+    /// An object with DATA.
+    ConstantObject(u32),
+    /// A constant list.
+    ConstantList(u32),
+}
+
+/// What is PUBLIC or EXTERNAL in a module, by its number.
+#[derive(Clone, Copy, Debug, PartialEq, Eq)]
+pub enum GlobalItem {
+    GlobalObject(u32),
+    GlobalProcedure(u32),
+}
+
+impl UnaryFunction {
+    ghost use Rattle.std.specs.Prelude.{◌≡◌};
+    ghost use Rattle.types.specs.Nodes.{type_of_function};
+
+    /// The type of what it gives.
+    pub fn scalar(&self) -> ScalarType
+        ensures { result ≡ type_of_function self.now }
+    {
+        match self {
+            UnaryFunction::Low | UnaryFunction::High => ScalarType::Byte,
+            UnaryFunction::Double => ScalarType::Address,
+        }
+    }
+}
