@@ -1,5 +1,5 @@
 -- What is left of lists of trees, item by item.
-use Rattle.std.proofs.Common.{◌≡◌, ℕ, suc, ◌+◌, ◌<◌, List, length, drop, get_or, ◌∷◌, refl, ap, sym, subst, Option, Result, Ok, Err, ◌≤◌, [], ◌∙◌, add-one}
+use Rattle.std.proofs.Common.{◌≡◌, ℕ, suc, ◌+◌, ◌<◌, List, length, drop, get_or, ◌∷◌, ap, sym, subst, Option, Result, Ok, Err, ◌≤◌, [], ◌∙◌, add-one}
 use Rattle.std.proofs.Math.ListN.{drop_of_length-le}
 use Rattle.std.proofs.Math.Seq.{drop-cons}
 use Rattle.failure.specs.declared.Failure.{Failure}

@@ -3,3 +3,6 @@
 
 #[cfg(test)]
 mod rows;
+mod source;
+
+pub use source::bound;

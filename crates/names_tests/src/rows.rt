@@ -1,27 +1,8 @@
 //! Sources, with what their uses of names are bound to, or with the number and the line of the first fault.
 
-use failure::Failure;
-use literally::expand;
-use names::{Binding, Bound, BuiltIn, Entity, Fault, bind};
-use std::alloc::Global;
+use crate::source::bound;
+use names::{Binding, BuiltIn, Entity};
 use std::test::Fail;
-use syntax::parse;
-use words::scan;
-
-// A source with its names bound, or what is wrong with them.
-fn bound(alloc: Global, source: &[u8]) -> Result<Result<Bound, Fault>, Fail> {
-    let words = scan(alloc, &source[..source.len().min(4096)])?;
-    let words = expand(alloc, words.as_slice())?;
-    let parsed = match parse(alloc, words.as_slice()) {
-        Ok(parsed) => parsed,
-        Err(_) => return Err(Fail::new("no module")),
-    };
-    match bind(alloc, parsed) {
-        Ok(bound) => Ok(Ok(bound)),
-        Err(Failure::Fault(fault)) => Ok(Err(fault)),
-        Err(Failure::Memory) => Err(Fail::new("out of memory")),
-    }
-}
 
 // Sources whose names are all known, each with what they are bound to.
 static BOUND: [(&[u8], &[Binding]); 8] = [
