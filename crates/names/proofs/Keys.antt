@@ -1,5 +1,5 @@
 -- Names as keys: two are equal where their characters are.
-use Rattle.std.proofs.Common.{◌≡◌, ℕ, zero, suc, ◌-◌, ◌++◌, ◌&&◌, List, [], ◌∷◌, Bool, length, replicate, refl, true, false, nat_eq, arith, ap, ◌∙◌}
+use Rattle.std.proofs.Common.{◌≡◌, ℕ, suc, ◌-◌, ◌++◌, ◌&&◌, List, [], ◌∷◌, Bool, length, replicate, refl, true, false, nat_eq, arith, ap, ◌∙◌}
 use Rattle.std.proofs.lemmas.Grind.{common_steps}
 use Rattle.std.proofs.lemmas.Cmp.{nat_list_eq_equiv}
 use Rattle.std.proofs.Math.Bool.{and-false}

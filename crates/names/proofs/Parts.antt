@@ -1,5 +1,5 @@
 -- The trees of statements and of procedures, from the parts of the code's trees.
-use Rattle.std.proofs.Common.{◌≡◌, Some, refl, arith}
+use Rattle.std.proofs.Common.{◌≡◌, arith}
 use Rattle.trees.specs.declared.identifier.Place.{Place}
 use Rattle.trees.specs.declared.statement.Block.{Block, Block', the_lemmas as blocks}
 use Rattle.trees.specs.declared.statement.Declaration.TheVariants as declarations

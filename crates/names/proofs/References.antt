@@ -1,11 +1,10 @@
 -- The names in references, from the parts of the code's trees.
-use Rattle.std.proofs.Common.{◌≡◌, List, [], ◌∷◌, ◌++◌, Option, None, Some, Result, Ok, ap, sym, subst, ◌∙◌, arith, Global}
+use Rattle.std.proofs.Common.{◌≡◌, List, [], ◌∷◌, ◌++◌, Option, None, Some, Ok, ap, sym, subst, ◌∙◌, arith, Global}
 use Rattle.std.specs.declared.boxed.Box.{Box}
 use Rattle.trees.specs.declared.expression.Reference.{Reference, Reference', out-Reference, None', Some', the_lemmas}
 use Rattle.trees.specs.declared.expression.Selector.{Selector}
 use Rattle.trees.specs.declared.identifier.Identifier.{Identifier}
-use Rattle.trees.specs.Trees.{ArgumentTrees}
-use Rattle.trees.specs.Views.{reference_tree, row_trees, argument_trees}
+use Rattle.trees.specs.Views.{reference_tree, argument_trees}
 use Rattle.trees.proofs.Views.{row_trees_are}
 use Rattle.trees.specs.declared.expression.Expression.{Expression}
 use Rattle.names.specs.declared.entity.Binding.{Binding}

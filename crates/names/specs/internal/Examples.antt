@@ -3,13 +3,12 @@ use Rattle.std.specs.Prelude.{◌≡◌, ℕ, List, [], ◌∷◌, Option, Some,
 use Rattle.trees.specs.declared.declaration.ScalarType.TheVariants.{Byte}
 use Rattle.trees.specs.declared.identifier.Identifier.{Identifier}
 use Rattle.trees.specs.declared.identifier.Place.{Place}
-use Rattle.trees.specs.Trees.{ExpressionTree, ReferenceLeaf, ReferenceTree, ReferenceTo, NoMember, NoArguments, ElementTree, ItemElement, ScalarItem, SingleSubject, StatementTree, LabelledStatement, StatementKindTree, NullStatement, AssignmentStatement, CallStatement, GotoStatement, DoStatement, WhileStatement, StatementTrees, NoStatements, MoreStatements, DeclarationTree, DeclareTree, ProcedureTree, DeclarationTrees, NoDeclarations, MoreDeclarations, ModuleTree}
+use Rattle.trees.specs.Trees.{ReferenceLeaf, ReferenceTree, ReferenceTo, NoMember, NoArguments, ElementTree, ItemElement, ScalarItem, SingleSubject, StatementTree, LabelledStatement, StatementKindTree, NullStatement, AssignmentStatement, CallStatement, GotoStatement, DoStatement, WhileStatement, StatementTrees, NoStatements, MoreStatements, DeclarationTree, DeclareTree, ProcedureTree, DeclarationTrees, NoDeclarations, MoreDeclarations, ModuleTree}
 use Rattle.names.specs.declared.entity.Binding.TheVariants.{Declared, BuiltInName, UnknownLabel}
 use Rattle.names.specs.declared.entity.BuiltIn.TheVariants.{Low}
 use Rattle.names.specs.declared.entity.Entity.TheVariants.{Object, Procedure, Label}
-use Rattle.names.specs.declared.fault.Fault.{Fault}
 use Rattle.names.specs.declared.fault.Fault.TheVariants.{Unknown, DeclaredTwice}
-use Rattle.names.specs.Binding.{IsBinding, bindings_of, first_fault}
+use Rattle.names.specs.Binding.{IsBinding, first_fault}
 use Rattle.names.specs.BuiltIns.{built_in_of}
 use Rattle.names.specs.Events.{declares, events_of, in_turn, jumps_to, moves, nothing, see_item, uses_of}
 

@@ -1,5 +1,4 @@
 -- The trees of statements and of procedures, from the parts of the code's trees.
-use Rattle.std.specs.Prelude.{Option}
 use Rattle.trees.specs.declared.identifier.Place.{Place}
 use Rattle.trees.specs.declared.statement.Block.{Block}
 use Rattle.trees.specs.declared.statement.DoCase.{DoCase, out-DoCase}

@@ -1,4 +1,4 @@
-use Rattle.std.proofs.Common.{◌≡◌, ◌∙◌, rules, [], sym, subst, Ok}
+use Rattle.std.proofs.Common.{◌≡◌, ◌∙◌, rules, subst, Ok}
 use Rattle.trees.specs.Views.{block_declarations, block_statements}
 use Rattle.names.specs.Environment.{at_the_start}
 use Rattle.names.specs.Events.{see_block}

@@ -1,4 +1,4 @@
-use Rattle.std.proofs.Common.{◌≡◌, ℕ, ◌+◌, drop, rules, subst, sym, None, Some, ◌∙◌}
+use Rattle.std.proofs.Common.{rules, None, ◌∙◌}
 use Rattle.trees.specs.declared.expression.Expression.{Expression}
 use Rattle.trees.specs.Views.{expression_tree, argument_trees}
 use Rattle.names.specs.Uses.{names_in_expression, names_in_arguments}

@@ -1,4 +1,4 @@
-use Rattle.std.proofs.Common.{◌≡◌, map, rules}
+use Rattle.std.proofs.Common.{map, rules}
 use Rattle.std.specs.List.{flat_map}
 use Rattle.trees.specs.declared.expression.Reference.{Reference}
 use Rattle.trees.specs.Views.{reference_tree}

@@ -1,4 +1,4 @@
-use Rattle.std.proofs.Common.{◌≡◌, map, rules}
+use Rattle.std.proofs.Common.{map, rules}
 use Rattle.std.specs.List.{flat_map}
 use Rattle.trees.specs.declared.declaration.Restricted.{Restricted}
 use Rattle.trees.specs.Views.{restricted_tree}

@@ -1,4 +1,3 @@
-use Rattle.std.proofs.Common.{◌≡◌}
 use Rattle.names.proofs.Walks.{gives_uses, walk_at}
 use Rattle.names.proofs.binder.Binder.expression.Goals as goal
 

@@ -1,10 +1,6 @@
-use Rattle.std.proofs.Common.{◌≡◌, List, map, rules}
-use Rattle.trees.specs.declared.declaration.Element.{Element}
+use Rattle.std.proofs.Common.{List, rules}
 use Rattle.trees.specs.declared.identifier.Identifier.{Identifier}
-use Rattle.trees.specs.declared.statement.Declaration.{Declaration}
-use Rattle.trees.specs.declared.statement.Statement.{Statement}
-use Rattle.trees.specs.Views.{declaration_tree, declaration_trees, element_tree, kind_tree, statement_tree, statement_trees}
-use Rattle.names.specs.Events.{see_all, see_cases, see_declaration, see_declarations, see_element, see_kind, see_statement, see_statements, declares_object, declares_parameter, declares_label}
+use Rattle.names.specs.Events.{see_all, declares_object}
 use Rattle.names.specs.internal.Walks.{gives}
 use Rattle.names.proofs.Loops.{goes_on, fails_within, ended, hands_on}
 use Rattle.names.proofs.Walks.{gives_turn, gives_nothing}

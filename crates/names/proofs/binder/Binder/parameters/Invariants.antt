@@ -1,6 +1,5 @@
-use Rattle.std.proofs.Common.{◌≡◌, drop, map}
-use Rattle.trees.specs.Views.{declaration_trees, element_tree, statement_trees}
-use Rattle.names.specs.Events.{see_all, see_cases, see_declarations, see_element, see_statements, declares_object, declares_parameter, declares_label}
+use Rattle.std.proofs.Common.{◌≡◌, drop}
+use Rattle.names.specs.Events.{see_all, declares_parameter}
 use Rattle.names.specs.internal.Walks.{gives}
 use Rattle.names.proofs.binder.Binder.parameters.Given as goal
 

@@ -1,4 +1,4 @@
-use Rattle.std.proofs.Common.{◌≡◌, ◌∙◌}
+use Rattle.std.proofs.Common.{◌∙◌}
 use Rattle.names.specs.Events.{declares_object, nothing}
 use Rattle.names.proofs.Walks.{gives_then, gives_nothing}
 use Rattle.names.proofs.binder.Binder.subject.Goals as goal

@@ -1,4 +1,3 @@
-use Rattle.std.proofs.Common.{◌≡◌}
 use Rattle.names.proofs.Keys.{same_keys}
 use Rattle.names.proofs.table.Names.get.Goals as goal
 
