@@ -5,16 +5,11 @@
 
 mod sources;
 
-ghost use Rattle.std.specs.Prelude.{◌≤◌, length, IfOk};
-ghost use Rattle.literally.specs.Expansion.{AreShort};
-ghost use Rattle.words.specs.Spelling.{lexemes_of};
-
 use anyhow::{Context, Result, bail};
-use sources::{LONGEST, source_of};
-use std::alloc::Global;
+use sources::source_of;
 use std::time::Instant;
 use std::{env, fs};
-use words::Word;
+use words::{LONGEST_SOURCE, Word};
 
 // A plain reading: how many lines end, and the sum of all bytes.
 fn plain_reading(source: &[u8]) -> (usize, u32) {
@@ -37,14 +32,6 @@ fn greatest_memory(rt: &HostRuntime) -> Result<String> {
     bail!("the system does not tell")
 }
 
-// The words of a source, of which none is longer than a source.
-fn words_of<'a>(alloc: Global, source: &'a [u8]) -> Result<Vec<Word<'a>>, words::Fault>
-    requires { length source.now ≤ LONGEST }
-    ensures short { IfOk result (λ words. AreShort (lexemes_of words.items)) }
-{
-    words::scan(alloc, source)
-}
-
 // Prints how many microseconds a phase took.
 fn report(rt: &HostRuntime, phase: &str, begun: Instant) -> Result<()> {
     println!(rt; "{phase} {}", begun.elapsed(rt)?.as_micros())?;
@@ -60,11 +47,11 @@ fn read_up_to(rt: &HostRuntime, source: &[u8], phase: &str) -> Result<()> {
     if phase == "read" {
         return Ok(());
     }
-    if source.len() > LONGEST {
+    if source.len() > LONGEST_SOURCE {
         bail!("the source is too long");
     }
     let begun = Instant::now(rt)?;
-    let words = words_of(rt.alloc(), source)?;
+    let words = words::scan(rt.alloc(), source)?;
     report(rt, "scan", begun)?;
     if phase == "scan" {
         return Ok(());

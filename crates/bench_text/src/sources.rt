@@ -1,9 +1,7 @@
 //! The sources of the benchmark.
 
 use std::alloc::{AllocError, Global};
-
-/// The greatest length of a source.
-pub const LONGEST: usize = 1048576;
+use words::LONGEST_SOURCE;
 
 // A monitor's routine, with comments and indentation as they are usual.
 const PAGE: &[u8] = b"\
@@ -27,7 +25,7 @@ END PRINT$NUMBER;
 
 // Appends a text as often as it fits before a length.
 fn repeat(source: &mut Vec<u8>, text: &[u8], most: usize) -> Result<(), AllocError> {
-    for _ in 0..LONGEST {
+    for _ in 0..LONGEST_SOURCE {
         if source.len() >= most || most - source.len() < text.len() {
             return Ok(());
         }
@@ -38,9 +36,9 @@ fn repeat(source: &mut Vec<u8>, text: &[u8], most: usize) -> Result<(), AllocErr
 
 // A module whose inside is a text again and again, and at last another, up to a length.
 fn module_of(alloc: Global, text: &[u8], last: &[u8]) -> Result<Vec<u8>, AllocError> {
-    let mut source = Vec::with_capacity(alloc, LONGEST)?;
+    let mut source = Vec::with_capacity(alloc, LONGEST_SOURCE)?;
     source.extend_from_slice(b"M: DO;\n")?;
-    repeat(&mut source, text, LONGEST - 16)?;
+    repeat(&mut source, text, LONGEST_SOURCE - 16)?;
     source.extend_from_slice(last)?;
     source.extend_from_slice(b"END M;\n")?;
     Ok(source)

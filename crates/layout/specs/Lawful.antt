@@ -45,6 +45,8 @@ pub record IsLawful (modules : List TypedModule) (placement : Placement) : Type 
   pub for_each_module : length placement.modules ≡ length modules
   pub complete : All HasAddresses (zip modules placement.modules)
   pub in_memory : All EndsInMemory (pieces_of modules placement)
+  pub code_in_memory : placement.code.start + placement.code.len ≤ 65536
+  pub stack_in_memory : placement.stack.start + placement.stack.len ≤ 65536
   pub disjoint : AllPairs AreDisjoint (own_pieces modules placement)
   pub where_at_says : All LiesWhereAtSays (zip modules placement.modules)
   pub constants_in_code : All (LiesIn placement.code) (constant_pieces modules placement)

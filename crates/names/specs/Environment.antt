@@ -67,10 +67,13 @@ abbrev pub declared_around : List Body → List ℕ → Option Entity
 declared_around [] name = None
 declared_around (body ∷ outer) name = option_or (declared_in body name) (declared_around outer name)
 
--- What a name stands for. A name that a body declares is none of its labels, and labels are known in their own body
--- alone.
+-- What a name stands for: what its body declares so far, or else a label of the body, or else what the bodies around it
+-- declare. Labels are known in their own body alone. Where a body declares a name that is one of its labels too, the
+-- later of the two is refused.
 abbrev pub entity_of : Here → List ℕ → Option Entity
-entity_of here name = option_or (label_of here name) (declared_around (here.body ∷ here.outer_bodies) name)
+entity_of here name =
+    option_or (declared_in here.body name)
+    (option_or (label_of here name) (declared_around here.outer_bodies name))
 
 -- into a simple DO, and out of it
 abbrev pub into_block : Here → Here

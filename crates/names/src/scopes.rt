@@ -421,11 +421,11 @@ impl Scopes {
     fn entity(&self, name: Name) -> Option<Entity>
         ensures { result ≡ entity_of self.now name }
     {
-        if let Some(label) = self.body.label(name) {
-            return Some(label);
-        }
         if let Some(entity) = self.body.declared(name) {
             return Some(entity);
+        }
+        if let Some(label) = self.body.label(name) {
+            return Some(label);
         }
         find_around(self.outer_bodies.as_slice(), name)
     }

@@ -100,9 +100,10 @@ fill_characters line (character ∷ others) (Byte ∷ left) = do
   Ok (and_before (ByteValue character) filled)
 fill_characters line characters scalars = refuse WrongConstant line
 
--- A string that stands alone and begins at a BYTE fills one BYTE a character; at an ADDRESS it is one number.
+-- A string that stands alone and begins at a BYTE fills one BYTE a character; at an ADDRESS it is one number. Where
+-- nothing is left to fill, only the empty string has a place.
 abbrev pub fill_string : StringTree → List ScalarType → Checked Filled
-fill_string string [] = refuse WrongConstant string.place.line
+fill_string string [] = fill_characters string.place.line string.characters []
 fill_string string (Byte ∷ left) = fill_characters string.place.line string.characters (Byte ∷ left)
 fill_string string (Address ∷ left) = do
   number ← found (number_of_characters string.characters) WrongConstant string.place.line

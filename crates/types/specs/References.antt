@@ -1,10 +1,10 @@
 -- What references to objects mean: values, locations and targets (PL/M-80 Programming Manual, "Subscripted
 -- variables", "Structures", "Based variables").
-use Rattle.std.specs.Prelude.{ℕ, zero, suc, Bool, true, false, ◌==◌, List, Option, Some, None, Ok, nat_le, slice_get}
+use Rattle.std.specs.Prelude.{ℕ, zero, suc, Bool, true, false, not, ◌==◌, List, [], ◌∷◌, Option, Some, None, Ok, nat_le, slice_get}
 use Rattle.trees.specs.declared.declaration.ScalarType.{ScalarType}
 use Rattle.trees.specs.declared.declaration.ScalarType.TheVariants.{Address}
 use Rattle.trees.specs.declared.identifier.Identifier.{Identifier}
-use Rattle.trees.specs.Trees.{ConstantLeaf, ArgumentTrees, NoArguments, MoreArguments}
+use Rattle.trees.specs.Trees.{NumberConstant, StringConstant, ConstantLeaf, ArgumentTrees, NoArguments, MoreArguments}
 use Rattle.names.specs.declared.entity.Binding.{Binding}
 use Rattle.names.specs.declared.entity.Binding.TheVariants.{Declared, BuiltInName}
 use Rattle.names.specs.declared.entity.BuiltIn.TheVariants.{Output}
@@ -16,7 +16,6 @@ use Rattle.types.specs.declared.typed.TypedMember.{TypedMember}
 use Rattle.types.specs.TypedTrees.{TypedExpression, LocationNode, TypedReference, PartOf, Subscript, NoSubscript, At, TypedArguments, NoArguments as NoTyped, MoreArguments as MoreTyped, ObjectType, ScalarObject, StructureObject, Home, InConstants, InFrame, TypedObject, TypedProcedure, Constants}
 use Rattle.types.specs.Sizes.{size_of_scalar, size_of_element, FoundMember, member_named}
 use Rattle.types.specs.Checks.{Checked, ◌>>=◌, refuse, require, found}
-use Rattle.types.specs.Constants.{number_of_constant, line_of_constant}
 use Rattle.types.specs.Nodes.{as_type, Destination, Variable, Port}
 
 -- what is known where an expression stands: what names stand for, and the objects and procedures so far
@@ -159,12 +158,17 @@ location_of known given constants = do
   binding ← bound known given.name
   location_of_bound known binding given constants
 
--- a port: a number, or a string of one character, up to 255
+-- a port: a number up to 255, or a string of one character
+abbrev pub port_of_character : (line : ℕ) → List ℕ → Checked ℕ
+port_of_character line (character ∷ []) = Ok character
+port_of_character line characters = refuse WrongUse line
+
 abbrev pub port_of : (line : ℕ) → ArgumentTrees → Checked ℕ
-port_of line (MoreArguments (ConstantLeaf constant) NoArguments) = do
-  port ← number_of_constant constant
-  _ ← require (nat_le port 255) WrongConstant (line_of_constant constant)
-  Ok port
+port_of line (MoreArguments (ConstantLeaf (NumberConstant number)) NoArguments) = do
+  _ ← require (nat_le number.value 255) WrongConstant number.place.line
+  Ok number.value
+port_of line (MoreArguments (ConstantLeaf (StringConstant string)) NoArguments) =
+    port_of_character line string.characters
 port_of line trees = refuse WrongUse line
 
 -- what a procedure gives has no members
@@ -178,11 +182,7 @@ is_constant (InConstants values) = true
 is_constant home = false
 
 abbrev pub is_writable : TypedObject → Identifier → Checked (Unit {0})
-is_writable object name = is_written (is_constant object.home)
-  where
-    is_written : Bool → Checked (Unit {0})
-    is_written true = refuse ConstantWritten (line_of name)
-    is_written false = Ok tt
+is_writable object name = require (not (is_constant object.home)) ConstantWritten (line_of name)
 
 -- what a value can be assigned to: a scalar, or OUTPUT
 abbrev pub destination_of_bound :
