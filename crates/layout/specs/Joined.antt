@@ -6,12 +6,12 @@ use Rattle.std.specs.Option.{option_or, option_map_or}
 use Rattle.std.specs.Str.{bytes_eq}
 use Rattle.trees.specs.declared.declaration.ScalarType.{ScalarType}
 use Rattle.trees.specs.declared.declaration.ScalarType.TheVariants.{Byte, Address}
-use Rattle.types.specs.declared.typed.Visibility.{Visibility}
-use Rattle.types.specs.declared.typed.Visibility.TheVariants.{Public}
-use Rattle.types.specs.declared.typed.GlobalItem.TheVariants.{GlobalObject, GlobalProcedure}
-use Rattle.types.specs.declared.typed.GlobalItem.{GlobalItem}
-use Rattle.types.specs.declared.typed.TypedMember.{TypedMember}
-use Rattle.types.specs.TypedTrees.{NoStatements, MoreStatements, TypedList, ListOf, ObjectType, ScalarObject, StructureObject, Home, Elsewhere, TypedObject, TypedProcedure, TypedModule}
+use Rattle.typed_trees.specs.declared.parts.Visibility.{Visibility}
+use Rattle.typed_trees.specs.declared.parts.Visibility.TheVariants.{Public}
+use Rattle.typed_trees.specs.declared.parts.GlobalItem.TheVariants.{GlobalObject, GlobalProcedure}
+use Rattle.typed_trees.specs.declared.parts.GlobalItem.{GlobalItem}
+use Rattle.typed_trees.specs.declared.parts.TypedMember.{TypedMember}
+use Rattle.typed_trees.specs.TypedTrees.{NoStatements, MoreStatements, TypedList, ListOf, ObjectType, ScalarObject, StructureObject, Home, Elsewhere, TypedObject, TypedProcedure, TypedModule}
 
 -- whether two declarations agree: types, dimensions, and members by their position, whatever their names
 abbrev pub same_scalar : ScalarType → ScalarType → Bool

@@ -2,9 +2,9 @@
 use Rattle.std.specs.Prelude.{◌≡◌, ℕ, ◌+◌, ◌%◌, ◌≤◌, List, length, zip, All, AllPairs, slice_index}
 use Rattle.mem80.specs.declared.range.Range.{Range}
 use Rattle.mem80.specs.Range.{IsIn, Meets}
-use Rattle.types.specs.declared.typed.AtAddress.TheVariants.{AtNumber, AtObject}
-use Rattle.types.specs.declared.typed.AtAddress.{AtAddress}
-use Rattle.types.specs.TypedTrees.{Home, Placed, TypedObject, TypedModule}
+use Rattle.typed_trees.specs.declared.parts.AtAddress.TheVariants.{AtNumber, AtObject}
+use Rattle.typed_trees.specs.declared.parts.AtAddress.{AtAddress}
+use Rattle.typed_trees.specs.TypedTrees.{Home, Placed, TypedObject, TypedModule}
 use Rattle.layout.specs.Placement.{ModulePlacement, Placement, PlacedPiece, pieces_of, own_pieces, constant_pieces, IsWritable}
 
 -- an address for each object and each constant list of a module, and that for each module

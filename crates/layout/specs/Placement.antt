@@ -2,8 +2,8 @@
 use Rattle.std.specs.Prelude.{ℕ, Bool, true, false, List, ◌++◌, length, map, filter_map, flat_map, zip, Any, filter, Option, Some, None, option_map}
 use Rattle.mem80.specs.declared.range.Range.{Range}
 use Rattle.mem80.specs.Range.{IsIn}
-use Rattle.types.specs.TypedTrees.{Home, InData, InConstants, Placed, TypedObject, TypedModule}
-use Rattle.types.specs.Sizes.{size_of_object}
+use Rattle.typed_trees.specs.TypedTrees.{Home, InData, InConstants, Placed, TypedObject, TypedModule}
+use Rattle.typed_trees.specs.Sizes.{size_of_object}
 
 -- where the objects and the constant lists of a module lie, by their numbers; for an object that has no
 -- storage and no AT place the address says nothing

@@ -3,9 +3,9 @@
 use Rattle.std.specs.Prelude.{ℕ, ◌+◌, ◌/◌, ◌%◌, List, [], ◌∷◌, ◌++◌, map, flat_map, fold, zip, Option, slice_get, slice_index, slice_set}
 use Rattle.std.specs.List.{enumerate_from}
 use Rattle.std.specs.Option.{option_map_or, option_and_then}
-use Rattle.types.specs.declared.typed.InitialValue.TheVariants.{ByteValue, WordValue, LocationValue}
-use Rattle.types.specs.declared.typed.InitialValue.{InitialValue}
-use Rattle.types.specs.TypedTrees.{Home, InData, InConstants, TypedObject, TypedModule}
+use Rattle.typed_trees.specs.declared.parts.InitialValue.TheVariants.{ByteValue, WordValue, LocationValue}
+use Rattle.typed_trees.specs.declared.parts.InitialValue.{InitialValue}
+use Rattle.typed_trees.specs.TypedTrees.{Home, InData, InConstants, TypedObject, TypedModule}
 use Rattle.layout.specs.Joined.{InProgram, object_meant}
 use Rattle.layout.specs.Placement.{ModulePlacement, Placement}
 

@@ -4,11 +4,11 @@
 -- lists, in the order of the text.
 use Rattle.std.specs.Prelude.{ℕ, Bool, false, not, ◌==◌, List, length, map, take, take_while, Option, Some, None, Result, Ok, Err, nat_le, if◌then◌else◌, sum_by}
 use Rattle.std.specs.List.{enumerate_from}
-use Rattle.types.specs.declared.typed.ConstantItem.TheVariants.{ConstantObject, ConstantList}
-use Rattle.types.specs.declared.typed.ConstantItem.{ConstantItem}
-use Rattle.types.specs.TypedTrees.{Home, InData, InConstants, TypedObject, TypedModule}
-use Rattle.types.specs.Sizes.{size_of_object}
-use Rattle.types.specs.Weight.{size_of_constant, constant_bytes}
+use Rattle.typed_trees.specs.declared.parts.ConstantItem.TheVariants.{ConstantObject, ConstantList}
+use Rattle.typed_trees.specs.declared.parts.ConstantItem.{ConstantItem}
+use Rattle.typed_trees.specs.TypedTrees.{Home, InData, InConstants, TypedObject, TypedModule}
+use Rattle.typed_trees.specs.Sizes.{size_of_object}
+use Rattle.typed_trees.specs.Weight.{size_of_constant, constant_bytes}
 use Rattle.layout.specs.declared.fault.Fault.{Fault}
 use Rattle.layout.specs.declared.fault.Fault.TheVariants.{DataTooLarge, ConstantsTooLarge}
 use Rattle.layout.specs.declared.slot.Segment.TheVariants.{Code, Data}

@@ -6,8 +6,8 @@ use Rattle.trees.specs.declared.declaration.Linkage.TheVariants.{Public, Externa
 use Rattle.trees.specs.declared.identifier.Identifier.{Identifier}
 use Rattle.trees.specs.Trees.{HeadingTree}
 use Rattle.names.specs.Environment.{is_among}
-use Rattle.types.specs.declared.typed.GlobalItem.{GlobalItem}
-use Rattle.types.specs.TypedTrees.{Constants}
+use Rattle.typed_trees.specs.declared.parts.GlobalItem.{GlobalItem}
+use Rattle.typed_trees.specs.TypedTrees.{Constants}
 use Rattle.types.specs.References.{Known}
 
 -- what a block belongs to: the module, or a procedure, by its number and its heading

@@ -1,10 +1,10 @@
 -- The typing of expressions (PL/M-80 Programming Manual, "Expressions and assignments").
 use Rattle.std.specs.Prelude.{List, [], ◌∷◌, ◌++◌, length, Ok}
 use Rattle.trees.specs.Trees.{ConstantTree, NumberConstant, StringConstant, ExpressionTree, ConstantLeaf, ReferenceLeaf, LocationLeaf, ListLeaf, ParenthesizedNode, AssignmentNode, UnaryNode, BinaryNode, ReferenceTree, ReferenceTo, MemberTree, NoMember, MemberOf, ArgumentTrees, NoArguments, MoreArguments}
-use Rattle.types.specs.declared.typed.ConstantItem.TheVariants.{ConstantList}
-use Rattle.types.specs.declared.typed.NumberOrigin.TheVariants.{FromDigits, FromString}
-use Rattle.types.specs.declared.typed.NumberOrigin.{NumberOrigin}
-use Rattle.types.specs.TypedTrees.{TypedExpression, NumberNode, ListNode, TypedArguments, NoArguments as NoTyped, MoreArguments as MoreTyped, Constants}
+use Rattle.typed_trees.specs.declared.parts.ConstantItem.TheVariants.{ConstantList}
+use Rattle.typed_trees.specs.declared.parts.NumberOrigin.TheVariants.{FromDigits, FromString}
+use Rattle.typed_trees.specs.declared.parts.NumberOrigin.{NumberOrigin}
+use Rattle.typed_trees.specs.TypedTrees.{TypedExpression, NumberNode, ListNode, TypedArguments, NoArguments as NoTyped, MoreArguments as MoreTyped, Constants}
 use Rattle.types.specs.Checks.{Checked, ◌>>=◌}
 use Rattle.types.specs.Constants.{type_of_number, number_of_constant, bytes_of_constants}
 use Rattle.types.specs.Nodes.{unary_node, binary_node, assignment_node}

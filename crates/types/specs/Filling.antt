@@ -9,12 +9,12 @@ use Rattle.names.specs.declared.entity.Binding.{Binding}
 use Rattle.names.specs.declared.entity.Binding.TheVariants.{Declared}
 use Rattle.names.specs.declared.entity.Entity.TheVariants.{Object, Procedure}
 use Rattle.types.specs.declared.fault.Cause.TheVariants.{WrongUse, WrongConstant, NoLocation}
-use Rattle.types.specs.declared.typed.AtAddress.TheVariants.{AtNumber, AtObject}
-use Rattle.types.specs.declared.typed.AtAddress.{AtAddress}
-use Rattle.types.specs.declared.typed.InitialValue.TheVariants.{ByteValue, WordValue, LocationValue}
-use Rattle.types.specs.declared.typed.InitialValue.{InitialValue}
-use Rattle.types.specs.TypedTrees.{ObjectType, Home, BasedOn, Elsewhere, Nowhere, InFrame}
-use Rattle.types.specs.Sizes.{scalars_of_element, scalars_of_elements}
+use Rattle.typed_trees.specs.declared.parts.AtAddress.TheVariants.{AtNumber, AtObject}
+use Rattle.typed_trees.specs.declared.parts.AtAddress.{AtAddress}
+use Rattle.typed_trees.specs.declared.parts.InitialValue.TheVariants.{ByteValue, WordValue, LocationValue}
+use Rattle.typed_trees.specs.declared.parts.InitialValue.{InitialValue}
+use Rattle.typed_trees.specs.TypedTrees.{ObjectType, Home, BasedOn, Elsewhere, Nowhere, InFrame}
+use Rattle.typed_trees.specs.Sizes.{scalars_of_element, scalars_of_elements}
 use Rattle.types.specs.Checks.{Checked, ◌>>=◌, refuse, require, found}
 use Rattle.types.specs.Constants.{number_of_characters, line_of_constant, number_of_constant, with_offsets}
 use Rattle.types.specs.References.{Known, line_of, bound, object_of}

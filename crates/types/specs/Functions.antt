@@ -9,15 +9,15 @@ use Rattle.names.specs.declared.entity.BuiltIn.{BuiltIn}
 use Rattle.names.specs.declared.entity.BuiltIn.TheVariants as built_ins
 use Rattle.names.specs.declared.entity.Entity.TheVariants.{Object, Procedure}
 use Rattle.types.specs.declared.fault.Cause.TheVariants.{UnknownName, WrongUse}
-use Rattle.types.specs.declared.typed.Measure.{Measure}
-use Rattle.types.specs.declared.typed.Measure.TheVariants as measures
-use Rattle.types.specs.declared.typed.ShiftFunction.{ShiftFunction}
-use Rattle.types.specs.declared.typed.ShiftFunction.TheVariants as shifts
-use Rattle.types.specs.declared.typed.UnaryFunction.{UnaryFunction}
-use Rattle.types.specs.declared.typed.UnaryFunction.TheVariants as functions
-use Rattle.types.specs.declared.typed.NumberOrigin.TheVariants.{FromMeasure}
-use Rattle.types.specs.TypedTrees.{TypedExpression, NumberNode, ValueNode, CallNode, FunctionNode, InputNode, TypedArguments, NoArguments as NoTyped, MoreArguments as MoreTyped, TypedObject, TypedProcedure, Constants}
-use Rattle.types.specs.Sizes.{size_of_member, size_of_object, member_named}
+use Rattle.typed_trees.specs.declared.parts.Measure.{Measure}
+use Rattle.typed_trees.specs.declared.parts.Measure.TheVariants as measures
+use Rattle.typed_trees.specs.declared.parts.ShiftFunction.{ShiftFunction}
+use Rattle.typed_trees.specs.declared.parts.ShiftFunction.TheVariants as shifts
+use Rattle.typed_trees.specs.declared.parts.UnaryFunction.{UnaryFunction}
+use Rattle.typed_trees.specs.declared.parts.UnaryFunction.TheVariants as functions
+use Rattle.typed_trees.specs.declared.parts.NumberOrigin.TheVariants.{FromMeasure}
+use Rattle.typed_trees.specs.TypedTrees.{TypedExpression, NumberNode, ValueNode, CallNode, FunctionNode, InputNode, TypedArguments, NoArguments as NoTyped, MoreArguments as MoreTyped, TypedObject, TypedProcedure, Constants}
+use Rattle.typed_trees.specs.Sizes.{size_of_member, size_of_object, member_named}
 use Rattle.types.specs.Checks.{Checked, ◌>>=◌, refuse, require, found}
 use Rattle.types.specs.Constants.{type_of_number}
 use Rattle.types.specs.Nodes.{shift_node, arguments_as}

@@ -20,14 +20,14 @@ use Rattle.names.specs.declared.entity.Entity.TheVariants.{Object}
 use Rattle.names.specs.Environment.{Here, with_object, with_definition, is_declared_again}
 use Rattle.names.specs.Uses.{declared_by}
 use Rattle.types.specs.declared.fault.Cause.TheVariants.{DeclaredTwice, WrongUse, MisplacedAttribute, WrongConstant, TooLarge}
-use Rattle.types.specs.declared.limits.TheConstants.{OBJECT_LIMIT, FRAME_LIMIT}
-use Rattle.types.specs.declared.typed.AtAddress.{AtAddress}
-use Rattle.types.specs.declared.typed.ConstantItem.TheVariants.{ConstantObject}
-use Rattle.types.specs.declared.typed.GlobalItem.TheVariants.{GlobalObject}
-use Rattle.types.specs.declared.typed.InitialValue.{InitialValue}
-use Rattle.types.specs.declared.typed.TypedMember.{TypedMember}
-use Rattle.types.specs.TypedTrees.{ObjectType, ScalarObject, StructureObject, Home, InData, InConstants, Placed, BasedOn, Elsewhere, Nowhere, InFrame, TypedObject, Constants}
-use Rattle.types.specs.Sizes.{count_of, size_of_element, size_of_object}
+use Rattle.typed_trees.specs.declared.limits.TheConstants.{OBJECT_LIMIT, FRAME_LIMIT}
+use Rattle.typed_trees.specs.declared.parts.AtAddress.{AtAddress}
+use Rattle.typed_trees.specs.declared.parts.ConstantItem.TheVariants.{ConstantObject}
+use Rattle.typed_trees.specs.declared.parts.GlobalItem.TheVariants.{GlobalObject}
+use Rattle.typed_trees.specs.declared.parts.InitialValue.{InitialValue}
+use Rattle.typed_trees.specs.declared.parts.TypedMember.{TypedMember}
+use Rattle.typed_trees.specs.TypedTrees.{ObjectType, ScalarObject, StructureObject, Home, InData, InConstants, Placed, BasedOn, Elsewhere, Nowhere, InFrame, TypedObject, Constants}
+use Rattle.typed_trees.specs.Sizes.{count_of, size_of_element, size_of_object}
 use Rattle.types.specs.Checks.{Checked, ◌>>=◌, refuse, require}
 use Rattle.types.specs.References.{Known, line_of, bound, object_of}
 use Rattle.types.specs.Blocks.{Owner, TheModule, OfProcedure, Block, Progress, with_global, is_public_linkage, is_external_linkage, line_of_linkage, is_reentrant, is_external, is_module_level, declares_parameter}

@@ -1,6 +1,4 @@
 pub mod Faults
-pub mod TypedTrees
-pub mod Sizes
 pub mod Checks
 pub mod Constants
 pub mod Nodes
@@ -13,9 +11,5 @@ pub mod Items
 pub mod Statements
 pub mod Procedures
 pub mod Typing
-pub mod Charge
-pub mod Weight
-pub mod Jumps
 pub mod Untyped
-pub mod Views
 pub mod internal

@@ -15,11 +15,11 @@ use Rattle.names.specs.declared.entity.Entity.TheVariants.{Object}
 use Rattle.names.specs.Environment.{Here, is_among, into_body, out_of_body, with_procedure, with_parameter, is_declared_again, is_parameter_again}
 use Rattle.names.specs.Uses.{declared_by}
 use Rattle.types.specs.declared.fault.Cause.TheVariants.{DeclaredTwice, WrongUse, MisplacedAttribute, WrongConstant}
-use Rattle.types.specs.declared.limits.TheConstants.{PARAMETER_LIMIT}
-use Rattle.types.specs.declared.typed.Visibility.{Visibility}
-use Rattle.types.specs.declared.typed.Visibility.TheVariants.{Private, Public, External}
-use Rattle.types.specs.declared.typed.GlobalItem.TheVariants.{GlobalProcedure}
-use Rattle.types.specs.TypedTrees.{NoStatements as NoTyped, TypedList, ListOf, TypedProcedure}
+use Rattle.typed_trees.specs.declared.limits.TheConstants.{PARAMETER_LIMIT}
+use Rattle.typed_trees.specs.declared.parts.Visibility.{Visibility}
+use Rattle.typed_trees.specs.declared.parts.Visibility.TheVariants.{Private, Public, External}
+use Rattle.typed_trees.specs.declared.parts.GlobalItem.TheVariants.{GlobalProcedure}
+use Rattle.typed_trees.specs.TypedTrees.{NoStatements as NoTyped, TypedList, ListOf, TypedProcedure}
 use Rattle.types.specs.Checks.{Checked, ◌>>=◌, refuse, require}
 use Rattle.types.specs.References.{line_of}
 use Rattle.types.specs.Blocks.{OfProcedure, Block, Progress, with_global, is_external_linkage, line_of_linkage, is_reentrant, is_external, is_module_level}

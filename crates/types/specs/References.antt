@@ -12,9 +12,9 @@ use Rattle.names.specs.declared.entity.Entity.TheVariants.{Object, Procedure}
 use Rattle.names.specs.Environment.{Here}
 use Rattle.names.specs.BuiltIns.{binding_of}
 use Rattle.types.specs.declared.fault.Cause.TheVariants.{UnknownName, WrongUse, WrongConstant, ConstantWritten, NoLocation}
-use Rattle.types.specs.declared.typed.TypedMember.{TypedMember}
-use Rattle.types.specs.TypedTrees.{TypedExpression, LocationNode, TypedReference, PartOf, Subscript, NoSubscript, At, TypedArguments, NoArguments as NoTyped, MoreArguments as MoreTyped, ObjectType, ScalarObject, StructureObject, Home, InConstants, InFrame, TypedObject, TypedProcedure, Constants}
-use Rattle.types.specs.Sizes.{size_of_scalar, size_of_element, FoundMember, member_named}
+use Rattle.typed_trees.specs.declared.parts.TypedMember.{TypedMember}
+use Rattle.typed_trees.specs.TypedTrees.{TypedExpression, LocationNode, TypedReference, PartOf, Subscript, NoSubscript, At, TypedArguments, NoArguments as NoTyped, MoreArguments as MoreTyped, ObjectType, ScalarObject, StructureObject, Home, InConstants, InFrame, TypedObject, TypedProcedure, Constants}
+use Rattle.typed_trees.specs.Sizes.{size_of_scalar, size_of_element, FoundMember, member_named}
 use Rattle.types.specs.Checks.{Checked, ◌>>=◌, refuse, require, found}
 use Rattle.types.specs.Nodes.{as_type, Destination, Variable, Port}
 

@@ -12,9 +12,10 @@ use Rattle.names.specs.Environment.{Here, into_list, out_of_list, with_label, is
 use Rattle.names.specs.BuiltIns.{jump_of}
 use Rattle.names.specs.Events.{labels_of}
 use Rattle.types.specs.declared.fault.Cause.TheVariants.{DeclaredTwice, WrongUse, MisplacedLabel, UnknownLabel}
-use Rattle.types.specs.TypedTrees.{TypedExpression, TypedArguments, NoArguments as NoTyped, MoreArguments as MoreTyped, TypedIteration, TypedStatement, LabelStatement, AssignmentStatement as TypedAssignment, CallStatement as TypedCall, MoveStatement, ReturnStatement as TypedReturn, GotoStatement as TypedGoto, TypedStatements, MoreStatements as MoreTypedStatements, TypedList, ListOf, Constants}
+use Rattle.typed_trees.specs.TypedTrees.{TypedExpression, TypedArguments, NoArguments as NoTyped, MoreArguments as MoreTyped, TypedIteration, TypedStatement, LabelStatement, AssignmentStatement as TypedAssignment, CallStatement as TypedCall, MoveStatement, ReturnStatement as TypedReturn, GotoStatement as TypedGoto, TypedStatements, MoreStatements as MoreTypedStatements, TypedList, ListOf, Constants}
 use Rattle.types.specs.Checks.{Checked, ◌>>=◌, refuse, require, found}
-use Rattle.types.specs.Nodes.{type_of, as_type, Destination, target_of}
+use Rattle.typed_trees.specs.ExpressionTypes.{type_of}
+use Rattle.types.specs.Nodes.{as_type, Destination, target_of}
 use Rattle.types.specs.References.{Known, Given, line_of, count_of_given, bound, object_of, procedure_of, scalar_of, is_writable, destination_of}
 use Rattle.types.specs.Functions.{call_arguments}
 use Rattle.types.specs.Expressions.{expression, given_reference}

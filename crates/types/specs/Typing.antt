@@ -3,8 +3,8 @@
 use Rattle.std.specs.Prelude.{ℕ, ◌+◌, false, true, List, [], length, None, Ok}
 use Rattle.trees.specs.Trees.{StatementTree, LabelledStatement, StatementKindTree, NullStatement, AssignmentStatement, CallStatement, ReturnStatement, HaltStatement, GotoStatement, IfStatement, DoStatement, WhileStatement, IterateStatement, CaseStatement, ElseTree, NoElse, ElseStatement, StatementTrees, NoStatements, MoreStatements, DeclarationTree, DeclareTree, ProcedureTree, DeclarationTrees, NoDeclarations, MoreDeclarations, ModuleTree}
 use Rattle.names.specs.Environment.{at_the_start, into_block, out_of_block}
-use Rattle.types.specs.declared.typed.Visibility.TheVariants.{Private}
-use Rattle.types.specs.TypedTrees.{TypedStatement, NullStatement as TypedNull, HaltStatement as TypedHalt, IfStatement as TypedIf, DoStatement as TypedDo, WhileStatement as TypedWhile, IterateStatement as TypedIterate, CaseStatement as TypedCase, TypedElse, NoElse as NoTypedElse, ElseStatement as TypedElseStatement, TypedStatements, NoStatements as NoTyped, MoreStatements as MoreTyped, TypedList, TypedProcedure, TypedModule}
+use Rattle.typed_trees.specs.declared.parts.Visibility.TheVariants.{Private}
+use Rattle.typed_trees.specs.TypedTrees.{TypedStatement, NullStatement as TypedNull, HaltStatement as TypedHalt, IfStatement as TypedIf, DoStatement as TypedDo, WhileStatement as TypedWhile, IterateStatement as TypedIterate, CaseStatement as TypedCase, TypedElse, NoElse as NoTypedElse, ElseStatement as TypedElseStatement, TypedStatements, NoStatements as NoTyped, MoreStatements as MoreTyped, TypedList, TypedProcedure, TypedModule}
 use Rattle.types.specs.Checks.{Checked, ◌>>=◌}
 use Rattle.types.specs.Expressions.{arguments}
 use Rattle.types.specs.Blocks.{TheModule, Block, Progress}

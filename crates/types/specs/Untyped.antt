@@ -7,17 +7,17 @@ use Rattle.trees.specs.declared.identifier.Identifier.{Identifier}
 use Rattle.trees.specs.declared.identifier.Place.{Place}
 use Rattle.trees.specs.Trees as trees
 use Rattle.trees.specs.Trees.{ConstantTree, NumberConstant, StringConstant, ExpressionTree, ReferenceTree, ReferenceTo, MemberTree, NoMember, MemberOf, ArgumentTrees, NoArguments, MoreArguments, IterationTree, StatementTree, LabelledStatement, StatementKindTree, ElseTree, StatementTrees, DeclarationTree, DeclareTree, ProcedureTree, DeclarationTrees, NoDeclarations, MoreDeclarations, ModuleTree}
-use Rattle.types.specs.declared.typed.Measure.{Measure}
-use Rattle.types.specs.declared.typed.Measure.TheVariants.{Length, Last, Size}
-use Rattle.types.specs.declared.typed.ShiftFunction.{ShiftFunction}
-use Rattle.types.specs.declared.typed.ShiftFunction.TheVariants.{ShiftLeft, ShiftRight, RotateLeft, RotateRight}
-use Rattle.types.specs.declared.typed.UnaryFunction.{UnaryFunction}
-use Rattle.types.specs.declared.typed.UnaryFunction.TheVariants.{Low, High, Double}
-use Rattle.types.specs.TypedTrees as typed
-use Rattle.types.specs.declared.typed.NumberOrigin.TheVariants.{FromDigits, FromString, FromMeasure}
-use Rattle.types.specs.declared.typed.NumberOrigin.{NumberOrigin}
-use Rattle.types.specs.declared.typed.TypedMember.{TypedMember}
-use Rattle.types.specs.TypedTrees.{TypedExpression, TypedReference, PartOf, Subscript, NoSubscript, At, TypedTarget, StoredIn, SentTo, TypedArguments, TypedIteration, TypedStatement, LabelStatement, MoveStatement, TypedElse, TypedStatements, TypedList, ListOf, TypedObject, TypedProcedure, TypedModule}
+use Rattle.typed_trees.specs.declared.parts.Measure.{Measure}
+use Rattle.typed_trees.specs.declared.parts.Measure.TheVariants.{Length, Last, Size}
+use Rattle.typed_trees.specs.declared.parts.ShiftFunction.{ShiftFunction}
+use Rattle.typed_trees.specs.declared.parts.ShiftFunction.TheVariants.{ShiftLeft, ShiftRight, RotateLeft, RotateRight}
+use Rattle.typed_trees.specs.declared.parts.UnaryFunction.{UnaryFunction}
+use Rattle.typed_trees.specs.declared.parts.UnaryFunction.TheVariants.{Low, High, Double}
+use Rattle.typed_trees.specs.TypedTrees as typed
+use Rattle.typed_trees.specs.declared.parts.NumberOrigin.TheVariants.{FromDigits, FromString, FromMeasure}
+use Rattle.typed_trees.specs.declared.parts.NumberOrigin.{NumberOrigin}
+use Rattle.typed_trees.specs.declared.parts.TypedMember.{TypedMember}
+use Rattle.typed_trees.specs.TypedTrees.{TypedExpression, TypedReference, PartOf, Subscript, NoSubscript, At, TypedTarget, StoredIn, SentTo, TypedArguments, TypedIteration, TypedStatement, LabelStatement, MoveStatement, TypedElse, TypedStatements, TypedList, ListOf, TypedObject, TypedProcedure, TypedModule}
 use Rattle.types.specs.Constants.{number_of_characters, bytes_of_constants}
 use Rattle.types.specs.References.{members_of}
 

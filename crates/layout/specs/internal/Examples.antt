@@ -8,8 +8,8 @@ use Rattle.trees.specs.declared.declaration.Sign.TheVariants.{Plus}
 use Rattle.trees.specs.declared.declaration.Storage.TheVariants.{Initial}
 use Rattle.trees.specs.Trees.{ListLeaf, LocationOrigin, RestrictedTree, ScalarItem, ElementTree, ItemElement, HeadingTree, CallStatement as Call, DoStatement, DeclarationTree, DeclareTree, ModuleTree}
 use Rattle.names.specs.BuiltIns.{built_in_of}
-use Rattle.types.specs.declared.typed.AtAddress.TheVariants.{AtObject}
-use Rattle.types.specs.TypedTrees.{TypedModule}
+use Rattle.typed_trees.specs.declared.parts.AtAddress.TheVariants.{AtObject}
+use Rattle.typed_trees.specs.TypedTrees.{TypedModule}
 use Rattle.types.specs.Checks.{Checked}
 use Rattle.types.specs.Typing.{typing_of}
 use Rattle.types.specs.internal.Samples.{on_line, name_on, number_on, string_on, a_number, plain, arguments_of, item_with, scalar_item, data_item, alone, unlabelled, assigns, statements_of, declarations_of, heading_on, procedure_of, value_of, module_of}

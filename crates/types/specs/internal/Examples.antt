@@ -6,8 +6,8 @@ use Rattle.trees.specs.declared.expression.UnaryOperator.TheVariants.{Negate}
 use Rattle.trees.specs.Trees.{ConstantLeaf, LocationLeaf, ListLeaf, UnaryNode as Unary, BinaryNode as Binary, LabelledStatement, NullStatement as Null, AssignmentStatement as AssignmentTree, GotoStatement as Goto, WhileStatement as While, CaseStatement as Case, ModuleTree, DeclareTree}
 use Rattle.names.specs.BuiltIns.{built_in_of}
 use Rattle.types.specs.declared.fault.Cause.TheVariants.{UnknownName, DeclaredTwice, WrongUse, WrongConstant, ConstantWritten, MisplacedLabel, UnknownLabel}
-use Rattle.types.specs.declared.typed.NumberOrigin.TheVariants.{FromDigits}
-use Rattle.types.specs.TypedTrees.{NumberNode, ValueNode, LocationNode, ListNode, ConversionNode, UnaryNode, BinaryNode, InputNode, TypedReference, PartOf, NoSubscript, At, StoredIn, SentTo, TypedStatement, LabelStatement, NullStatement, AssignmentStatement, GotoStatement, NoStatements, MoreStatements, TypedList, ListOf, TypedModule}
+use Rattle.typed_trees.specs.declared.parts.NumberOrigin.TheVariants.{FromDigits}
+use Rattle.typed_trees.specs.TypedTrees.{NumberNode, ValueNode, LocationNode, ListNode, ConversionNode, UnaryNode, BinaryNode, InputNode, TypedReference, PartOf, NoSubscript, At, StoredIn, SentTo, TypedStatement, LabelStatement, NullStatement, AssignmentStatement, GotoStatement, NoStatements, MoreStatements, TypedList, ListOf, TypedModule}
 use Rattle.types.specs.Checks.{Checked, ◌>>=◌, refuse}
 use Rattle.types.specs.Typing.{typing_of}
 use Rattle.types.specs.internal.Samples.{on_line, name_on, number_on, string_on, a_number, plain, at_subscript, value_of, scalar_item, unlabelled, assigns, statements_of, module_of, doing}

@@ -3,7 +3,7 @@ use Rattle.std.specs.Prelude.{◌≡◌, List, [], ◌∷◌, None, Ok, codes, r
 use Rattle.trees.specs.declared.expression.BinaryOperator.TheVariants.{Add}
 use Rattle.trees.specs.Trees.{ConstantLeaf, LocationLeaf, ListLeaf, ParenthesizedNode, AssignmentNode, ReferenceTo, MemberOf, BinaryNode as Binary, LabelledStatement, GotoStatement as Goto, IterateStatement as Iterate, IfStatement as If, NoElse, StatementTrees, ModuleTree}
 use Rattle.names.specs.BuiltIns.{built_in_of}
-use Rattle.types.specs.TypedTrees.{TypedModule}
+use Rattle.typed_trees.specs.TypedTrees.{TypedModule}
 use Rattle.types.specs.Checks.{Checked, ◌>>=◌}
 use Rattle.types.specs.Typing.{typing_of}
 use Rattle.types.specs.Untyped.{untyped_bodies, plain_bodies}

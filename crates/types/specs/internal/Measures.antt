@@ -9,15 +9,15 @@ use Rattle.trees.specs.declared.expression.BinaryOperator.TheVariants.{Subtract,
 use Rattle.trees.specs.Trees.{ExpressionTree, ReferenceTo, MemberOf, BinaryNode as Binary, LocationOrigin, RestrictedTree, ItemTypeTree, ScalarItem, StructureItem, ElementTree, ItemElement, HeadingTree, StatementTree, CallStatement as Call, ReturnStatement as Return, IfStatement as If, NoElse, DeclarationTree, DeclareTree, ModuleTree}
 use Rattle.names.specs.BuiltIns.{built_in_of}
 use Rattle.types.specs.declared.fault.Cause.TheVariants.{WrongConstant, TooLarge}
-use Rattle.types.specs.declared.typed.Measure.TheVariants.{Size, Last}
-use Rattle.types.specs.declared.typed.AtAddress.TheVariants.{AtObject}
-use Rattle.types.specs.declared.typed.InitialValue.TheVariants.{ByteValue, WordValue, LocationValue}
-use Rattle.types.specs.declared.typed.NumberOrigin.TheVariants.{FromDigits, FromMeasure}
-use Rattle.types.specs.TypedTrees.{NumberNode, ConversionNode, At, PartOf, StoredIn, SentTo, AssignmentStatement, ScalarObject, Home, InData, InConstants, Placed, TypedObject, NoStatements, MoreStatements, ListOf, TypedModule}
-use Rattle.types.specs.Sizes.{size_of_object}
+use Rattle.typed_trees.specs.declared.parts.Measure.TheVariants.{Size, Last}
+use Rattle.typed_trees.specs.declared.parts.AtAddress.TheVariants.{AtObject}
+use Rattle.typed_trees.specs.declared.parts.InitialValue.TheVariants.{ByteValue, WordValue, LocationValue}
+use Rattle.typed_trees.specs.declared.parts.NumberOrigin.TheVariants.{FromDigits, FromMeasure}
+use Rattle.typed_trees.specs.TypedTrees.{NumberNode, ConversionNode, At, PartOf, StoredIn, SentTo, AssignmentStatement, ScalarObject, Home, InData, InConstants, Placed, TypedObject, NoStatements, MoreStatements, ListOf, TypedModule}
+use Rattle.typed_trees.specs.Sizes.{size_of_object}
 use Rattle.types.specs.Checks.{Checked, ◌>>=◌, refuse}
-use Rattle.types.specs.Charge.{charge_of}
-use Rattle.types.specs.Weight.{weight_of, code_bound}
+use Rattle.typed_trees.specs.Charge.{charge_of}
+use Rattle.typed_trees.specs.Weight.{weight_of, code_bound}
 use Rattle.types.specs.Typing.{typing_of}
 use Rattle.types.specs.internal.Samples.{on_line, name_on, number_on, string_on, a_number, plain, arguments_of, at_subscript, value_of, item_with, scalar_item, array_item, data_item, alone, unlabelled, assigns, heading_on, procedure_of, module_of}
 use Rattle.types.specs.internal.Examples.{main_of}

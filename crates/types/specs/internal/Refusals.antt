@@ -7,9 +7,9 @@ use Rattle.trees.specs.declared.expression.BinaryOperator.TheVariants.{Add, Subt
 use Rattle.trees.specs.Trees.{ExpressionTree, LocationLeaf, ReferenceTree, BinaryNode as Binary, ScalarItem, SingleSubject, ElementTree, ItemElement, HeadingTree, NullStatement as Null, ReturnStatement as Return, IfStatement as If, NoElse, DeclareTree, ModuleTree}
 use Rattle.names.specs.BuiltIns.{built_in_of}
 use Rattle.types.specs.declared.fault.Cause.TheVariants.{UnknownName, DeclaredTwice, WrongUse, MisplacedAttribute, WrongConstant, NoLocation, TooLarge}
-use Rattle.types.specs.TypedTrees.{BasedOn, InData, InFrame}
+use Rattle.typed_trees.specs.TypedTrees.{BasedOn, InData, InFrame}
 use Rattle.types.specs.Checks.{refuse}
-use Rattle.types.specs.Charge.{charge_of}
+use Rattle.typed_trees.specs.Charge.{charge_of}
 use Rattle.types.specs.Typing.{typing_of}
 use Rattle.types.specs.internal.Samples.{on_line, name_on, number_on, a_number, plain, at_subscript, value_of, item_with, scalar_item, array_item, alone, unlabelled, assigns, heading_on, procedure_of, module_of}
 use Rattle.types.specs.internal.Measures.{measured, charges, homes, a_parameter, sends}

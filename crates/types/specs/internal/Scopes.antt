@@ -4,8 +4,8 @@ use Rattle.trees.specs.declared.declaration.ScalarType.TheVariants.{Byte, Addres
 use Rattle.trees.specs.Trees.{NullStatement as Null, AssignmentStatement as AssignmentTree, WhileStatement as While, DoStatement as Do, CallStatement as Call, GotoStatement as Goto, LabelledStatement, DeclareTree, ModuleTree}
 use Rattle.names.specs.BuiltIns.{built_in_of}
 use Rattle.types.specs.declared.fault.Cause.TheVariants.{UnknownName, WrongUse, UnknownLabel}
-use Rattle.types.specs.declared.typed.NumberOrigin.TheVariants.{FromDigits}
-use Rattle.types.specs.TypedTrees.{NumberNode, ValueNode, ConversionNode, StoredIn, NoArguments, MoreArguments, LabelStatement, NullStatement, AssignmentStatement, CallStatement, DoStatement, WhileStatement, NoStatements, MoreStatements, TypedList, ListOf, TypedProcedure, TypedModule}
+use Rattle.typed_trees.specs.declared.parts.NumberOrigin.TheVariants.{FromDigits}
+use Rattle.typed_trees.specs.TypedTrees.{NumberNode, ValueNode, ConversionNode, StoredIn, NoArguments, MoreArguments, LabelStatement, NullStatement, AssignmentStatement, CallStatement, DoStatement, WhileStatement, NoStatements, MoreStatements, TypedList, ListOf, TypedProcedure, TypedModule}
 use Rattle.types.specs.Checks.{refuse}
 use Rattle.types.specs.Typing.{typing_of}
 use Rattle.types.specs.internal.Samples.{on_line, name_on, a_number, plain, arguments_of, value_of, scalar_item, unlabelled, assigns, statements_of, declarations_of, heading_on, procedure_of, module_of, doing}

@@ -1,7 +1,7 @@
 //! Typed expressions: names resolved, each with its type, each conversion written out. Objects, procedures and constant
 //! lists are named by their numbers in the tables of the module.
 
-use crate::typed::{NumberOrigin, ShiftFunction, UnaryFunction};
+use crate::parts::{NumberOrigin, ShiftFunction, UnaryFunction};
 use trees::{BinaryOperator, ScalarType, UnaryOperator};
 
 /// An expression.
@@ -111,8 +111,8 @@ pub enum TypedTarget {
 
 impl TypedExpression {
     ghost use Rattle.std.specs.Prelude.{◌≡◌};
-    ghost use Rattle.types.specs.Nodes.{type_of};
-    ghost use Rattle.types.specs.Views.{expression_view};
+    ghost use Rattle.typed_trees.specs.ExpressionTypes.{type_of};
+    ghost use Rattle.typed_trees.specs.Views.{expression_view};
 
     /// The type of its value.
     pub fn scalar(&self) -> ScalarType
@@ -140,8 +140,8 @@ impl TypedExpression {
 
 impl TypedTarget {
     ghost use Rattle.std.specs.Prelude.{◌≡◌};
-    ghost use Rattle.types.specs.Nodes.{type_of_target};
-    ghost use Rattle.types.specs.Views.{target_view};
+    ghost use Rattle.typed_trees.specs.ExpressionTypes.{type_of_target};
+    ghost use Rattle.typed_trees.specs.Views.{target_view};
 
     /// The type of the value that goes to it.
     pub fn source(&self) -> ScalarType
@@ -154,7 +154,7 @@ impl TypedTarget {
 }
 
 ghost use Rattle.std.specs.Prelude.{◌≡◌};
-ghost use Rattle.types.specs.Nodes.{type_of_result as result_type};
+ghost use Rattle.typed_trees.specs.ExpressionTypes.{type_of_result as result_type};
 
 /// The type of what an operator gives for operands of a type.
 fn type_of_result(operator: BinaryOperator, operands: ScalarType) -> ScalarType

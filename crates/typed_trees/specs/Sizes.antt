@@ -5,8 +5,8 @@ use Rattle.std.specs.List.{repeat}
 use Rattle.std.specs.Str.{bytes_eq}
 use Rattle.trees.specs.declared.declaration.ScalarType.{ScalarType}
 use Rattle.trees.specs.declared.declaration.ScalarType.TheVariants.{Byte, Address}
-use Rattle.types.specs.declared.typed.TypedMember.{TypedMember}
-use Rattle.types.specs.TypedTrees.{ObjectType, ScalarObject, StructureObject, TypedObject}
+use Rattle.typed_trees.specs.declared.parts.TypedMember.{TypedMember}
+use Rattle.typed_trees.specs.TypedTrees.{ObjectType, ScalarObject, StructureObject, TypedObject}
 
 -- a BYTE takes one byte, an ADDRESS two
 abbrev pub size_of_scalar : ScalarType → ℕ

@@ -103,7 +103,7 @@ pub enum GlobalItem {
 
 impl UnaryFunction {
     ghost use Rattle.std.specs.Prelude.{◌≡◌};
-    ghost use Rattle.types.specs.Nodes.{type_of_function};
+    ghost use Rattle.typed_trees.specs.ExpressionTypes.{type_of_function};
 
     /// The type of what it gives.
     pub fn scalar(&self) -> ScalarType

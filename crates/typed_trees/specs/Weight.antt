@@ -4,12 +4,12 @@ use Rattle.std.specs.Prelude.{ℕ, ◌+◌, ◌*◌, length, Option, Some, None,
 use Rattle.std.specs.Option.{option_map_or}
 use Rattle.trees.specs.declared.declaration.ScalarType.{ScalarType}
 use Rattle.trees.specs.declared.declaration.ScalarType.TheVariants.{Byte, Address}
-use Rattle.types.specs.declared.limits.TheConstants.{CODE_BYTES, CODE_BYTES_FOR_WEIGHT}
-use Rattle.types.specs.declared.typed.ConstantItem.TheVariants.{ConstantObject, ConstantList}
-use Rattle.types.specs.declared.typed.ConstantItem.{ConstantItem}
-use Rattle.types.specs.TypedTrees.{TypedExpression, NumberNode, ValueNode, LocationNode, ListNode, ConversionNode, AssignmentNode, UnaryNode, BinaryNode, CallNode, FunctionNode, ShiftNode, InputNode, TypedReference, PartOf, Subscript, NoSubscript, At, TypedTarget, StoredIn, SentTo, TypedArguments, NoArguments, MoreArguments, TypedIteration, TypedStatement, LabelStatement, NullStatement, AssignmentStatement, CallStatement, MoveStatement, ReturnStatement, HaltStatement, GotoStatement, IfStatement, DoStatement, WhileStatement, IterateStatement, CaseStatement, TypedElse, NoElse, ElseStatement, TypedStatements, NoStatements, MoreStatements, TypedList, ListOf, TypedProcedure, TypedModule}
-use Rattle.types.specs.Sizes.{size_of_object}
-use Rattle.types.specs.Nodes.{type_of}
+use Rattle.typed_trees.specs.declared.limits.TheConstants.{CODE_BYTES, CODE_BYTES_FOR_WEIGHT}
+use Rattle.typed_trees.specs.declared.parts.ConstantItem.TheVariants.{ConstantObject, ConstantList}
+use Rattle.typed_trees.specs.declared.parts.ConstantItem.{ConstantItem}
+use Rattle.typed_trees.specs.TypedTrees.{TypedExpression, NumberNode, ValueNode, LocationNode, ListNode, ConversionNode, AssignmentNode, UnaryNode, BinaryNode, CallNode, FunctionNode, ShiftNode, InputNode, TypedReference, PartOf, Subscript, NoSubscript, At, TypedTarget, StoredIn, SentTo, TypedArguments, NoArguments, MoreArguments, TypedIteration, TypedStatement, LabelStatement, NullStatement, AssignmentStatement, CallStatement, MoveStatement, ReturnStatement, HaltStatement, GotoStatement, IfStatement, DoStatement, WhileStatement, IterateStatement, CaseStatement, TypedElse, NoElse, ElseStatement, TypedStatements, NoStatements, MoreStatements, TypedList, ListOf, TypedProcedure, TypedModule}
+use Rattle.typed_trees.specs.Sizes.{size_of_object}
+use Rattle.typed_trees.specs.ExpressionTypes.{type_of}
 
 -- 1 where a value is converted as it is stored
 abbrev pub weight_of_storing : (from to : ScalarType) → ℕ

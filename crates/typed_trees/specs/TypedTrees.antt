@@ -5,15 +5,15 @@ use Rattle.std.specs.Prelude.{ℕ, Bool, List, Option}
 use Rattle.trees.specs.declared.declaration.ScalarType.{ScalarType}
 use Rattle.trees.specs.declared.expression.BinaryOperator.{BinaryOperator}
 use Rattle.trees.specs.declared.expression.UnaryOperator.{UnaryOperator}
-use Rattle.types.specs.declared.typed.ShiftFunction.{ShiftFunction}
-use Rattle.types.specs.declared.typed.UnaryFunction.{UnaryFunction}
-use Rattle.types.specs.declared.typed.Visibility.{Visibility}
-use Rattle.types.specs.declared.typed.AtAddress.{AtAddress}
-use Rattle.types.specs.declared.typed.ConstantItem.{ConstantItem}
-use Rattle.types.specs.declared.typed.GlobalItem.{GlobalItem}
-use Rattle.types.specs.declared.typed.InitialValue.{InitialValue}
-use Rattle.types.specs.declared.typed.NumberOrigin.{NumberOrigin}
-use Rattle.types.specs.declared.typed.TypedMember.{TypedMember}
+use Rattle.typed_trees.specs.declared.parts.ShiftFunction.{ShiftFunction}
+use Rattle.typed_trees.specs.declared.parts.UnaryFunction.{UnaryFunction}
+use Rattle.typed_trees.specs.declared.parts.Visibility.{Visibility}
+use Rattle.typed_trees.specs.declared.parts.AtAddress.{AtAddress}
+use Rattle.typed_trees.specs.declared.parts.ConstantItem.{ConstantItem}
+use Rattle.typed_trees.specs.declared.parts.GlobalItem.{GlobalItem}
+use Rattle.typed_trees.specs.declared.parts.InitialValue.{InitialValue}
+use Rattle.typed_trees.specs.declared.parts.NumberOrigin.{NumberOrigin}
+use Rattle.typed_trees.specs.declared.parts.TypedMember.{TypedMember}
 
 mutual
   pub data TypedExpression : Type 0 where

@@ -1,24 +1,24 @@
 -- The typed trees of the code as trees without where their parts lie in memory.
 use Rattle.std.specs.Prelude.{◌≡◌, Result, IfOk, List, [], ◌∷◌, map, Option, Some, None, option_map, vec_items}
-use Rattle.types.specs.declared.expression.TypedExpression.{TypedExpression as Expression, Row_of-TypedExpression, end_of-TypedExpression, more_of-TypedExpression}
-use Rattle.types.specs.declared.expression.TypedExpression.TheVariants as expressions
-use Rattle.types.specs.declared.expression.TypedReference.{TypedReference as Reference}
-use Rattle.types.specs.declared.expression.TypedSubscript.{TypedSubscript as IndexTree}
-use Rattle.types.specs.declared.expression.TypedSubscript.TheVariants as subscripts
-use Rattle.types.specs.declared.expression.TypedTarget.{TypedTarget as Target}
-use Rattle.types.specs.declared.expression.TypedTarget.TheVariants as targets
-use Rattle.types.specs.declared.module.Home.{Home as CodeHome}
-use Rattle.types.specs.declared.module.Home.TheVariants as homes
-use Rattle.types.specs.declared.module.ObjectType.{ObjectType as CodeType}
-use Rattle.types.specs.declared.module.ObjectType.TheVariants as object_types
-use Rattle.types.specs.declared.module.Typed.{Typed}
-use Rattle.types.specs.declared.module.TypedObject.{TypedObject as Object}
-use Rattle.types.specs.declared.module.TypedProcedure.{TypedProcedure as Procedure}
-use Rattle.types.specs.declared.statement.TypedIteration.{TypedIteration as Iteration}
-use Rattle.types.specs.declared.statement.TypedList.{TypedList as StatementList}
-use Rattle.types.specs.declared.statement.TypedStatement.{TypedStatement as Statement, Row_of-TypedStatement, end_of-TypedStatement, more_of-TypedStatement, Held-TypedIf-otherwise, None' as NoElse', Some' as SomeElse'}
-use Rattle.types.specs.declared.statement.TypedStatement.TheVariants as statements
-use Rattle.types.specs.TypedTrees.{TypedExpression, NumberNode, ValueNode, LocationNode, ListNode, ConversionNode, AssignmentNode, UnaryNode, BinaryNode, CallNode, FunctionNode, ShiftNode, InputNode, TypedReference, PartOf, Subscript, NoSubscript, At, TypedTarget, StoredIn, SentTo, TypedArguments, NoArguments, MoreArguments, TypedIteration, TypedStatement, LabelStatement, NullStatement, AssignmentStatement, CallStatement, MoveStatement, ReturnStatement, HaltStatement, GotoStatement, IfStatement, DoStatement, WhileStatement, IterateStatement, CaseStatement, TypedElse, NoElse, ElseStatement, TypedStatements, NoStatements, MoreStatements, TypedList, ListOf, ObjectType, ScalarObject, StructureObject, Home, InData, InConstants, Placed, BasedOn, Elsewhere, Nowhere, InFrame, TypedObject, TypedProcedure, TypedModule}
+use Rattle.typed_trees.specs.declared.expression.TypedExpression.{TypedExpression as Expression, Row_of-TypedExpression, end_of-TypedExpression, more_of-TypedExpression}
+use Rattle.typed_trees.specs.declared.expression.TypedExpression.TheVariants as expressions
+use Rattle.typed_trees.specs.declared.expression.TypedReference.{TypedReference as Reference}
+use Rattle.typed_trees.specs.declared.expression.TypedSubscript.{TypedSubscript as IndexTree}
+use Rattle.typed_trees.specs.declared.expression.TypedSubscript.TheVariants as subscripts
+use Rattle.typed_trees.specs.declared.expression.TypedTarget.{TypedTarget as Target}
+use Rattle.typed_trees.specs.declared.expression.TypedTarget.TheVariants as targets
+use Rattle.typed_trees.specs.declared.module.Home.{Home as CodeHome}
+use Rattle.typed_trees.specs.declared.module.Home.TheVariants as homes
+use Rattle.typed_trees.specs.declared.module.ObjectType.{ObjectType as CodeType}
+use Rattle.typed_trees.specs.declared.module.ObjectType.TheVariants as object_types
+use Rattle.typed_trees.specs.declared.module.Typed.{Typed}
+use Rattle.typed_trees.specs.declared.module.TypedObject.{TypedObject as Object}
+use Rattle.typed_trees.specs.declared.module.TypedProcedure.{TypedProcedure as Procedure}
+use Rattle.typed_trees.specs.declared.statement.TypedIteration.{TypedIteration as Iteration}
+use Rattle.typed_trees.specs.declared.statement.TypedList.{TypedList as StatementList}
+use Rattle.typed_trees.specs.declared.statement.TypedStatement.{TypedStatement as Statement, Row_of-TypedStatement, end_of-TypedStatement, more_of-TypedStatement, Held-TypedIf-otherwise, None' as NoElse', Some' as SomeElse'}
+use Rattle.typed_trees.specs.declared.statement.TypedStatement.TheVariants as statements
+use Rattle.typed_trees.specs.TypedTrees.{TypedExpression, NumberNode, ValueNode, LocationNode, ListNode, ConversionNode, AssignmentNode, UnaryNode, BinaryNode, CallNode, FunctionNode, ShiftNode, InputNode, TypedReference, PartOf, Subscript, NoSubscript, At, TypedTarget, StoredIn, SentTo, TypedArguments, NoArguments, MoreArguments, TypedIteration, TypedStatement, LabelStatement, NullStatement, AssignmentStatement, CallStatement, MoveStatement, ReturnStatement, HaltStatement, GotoStatement, IfStatement, DoStatement, WhileStatement, IterateStatement, CaseStatement, TypedElse, NoElse, ElseStatement, TypedStatements, NoStatements, MoreStatements, TypedList, ListOf, ObjectType, ScalarObject, StructureObject, Home, InData, InConstants, Placed, BasedOn, Elsewhere, Nowhere, InFrame, TypedObject, TypedProcedure, TypedModule}
 
 abbrev mutual
   pub expression_view : Expression → TypedExpression

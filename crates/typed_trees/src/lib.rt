@@ -1,0 +1,20 @@
+//! Typed trees of PL/M-80 modules: names resolved, each expression with its type, each conversion written out.
+#![tactic(auto)]
+
+mod expression;
+mod limits;
+mod module;
+mod parts;
+mod statement;
+
+pub use expression::{TypedExpression, TypedReference, TypedSubscript, TypedTarget};
+pub use limits::{CODE_BYTES, CODE_BYTES_FOR_WEIGHT, FRAME_LIMIT, OBJECT_LIMIT, PARAMETER_LIMIT};
+pub use module::{Home, ObjectType, Typed, TypedObject, TypedProcedure};
+pub use parts::{
+    AtAddress, ConstantItem, GlobalItem, InitialValue, Measure, NumberOrigin, ShiftFunction,
+    TypedMember, UnaryFunction, Visibility,
+};
+pub use statement::{
+    TypedAssignment, TypedCase, TypedIf, TypedIterate, TypedIteration, TypedList, TypedMove,
+    TypedStatement, TypedWhile,
+};
