@@ -1,6 +1,7 @@
 //! What names stand for at a place of a text.
 
 ghost use Rattle.std.specs.Prelude.{◌≡◌, ◌+◌, ◌||◌, true, false, [], ◌∷◌, drop, reverse, length, OnOk, IfOk};
+ghost use Rattle.std.specs.Map.{lookup};
 ghost use Rattle.std.specs.Str.{bytes_eq};
 ghost use Rattle.indexmap.specs.IndexSet.{insert_key};
 ghost use Rattle.failure.specs.declared.Failure.TheVariants as failures;
@@ -428,6 +429,13 @@ impl Scopes {
             return Some(label);
         }
         find_around(self.outer_bodies.as_slice(), name)
+    }
+
+    /// What the innermost block around the place declares a name to be.
+    pub fn declared_here(&self, name: Name) -> Option<Entity>
+        ensures { result ≡ lookup (bytes_eq name) (self.now).body.block }
+    {
+        self.body.block.get(name)
     }
 
     /// What the name after GOTO is bound to.

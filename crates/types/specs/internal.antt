@@ -1,3 +1,5 @@
+pub mod Results
+pub mod Views
 pub mod Samples
 pub mod Examples
 pub mod Measures

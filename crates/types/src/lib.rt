@@ -1,8 +1,17 @@
 //! The typing of PL/M-80 modules: names resolved, each expression with its type, each conversion written out.
 #![tactic(auto)]
 
+mod blocks;
+mod calls;
+mod checker;
 mod expression_nodes;
+mod expressions;
 mod fault;
+mod filling;
+mod items;
+mod known;
 mod statement_nodes;
+mod typing;
 
 pub use fault::{Cause, Fault};
+pub use typing::check;

@@ -1,0 +1,47 @@
+//! How far a text is typed.
+
+ghost use Rattle.std.specs.Prelude.{◌≡◌};
+
+use crate::fault::Fault;
+use crate::known::{Constants, Known};
+use failure::Failure;
+use names::Scopes;
+use std::alloc::Global;
+use typed_trees::GlobalItem;
+
+/// Goes through a module from its start: what is known at a place, the constants and the globals so far, and the bytes so
+/// far of the variables of the REENTRANT procedure that the place is in.
+#[derive(Drop)]
+pub(crate) struct Checker {
+    pub(crate) alloc: Global,
+    pub(crate) known: Known,
+    pub(crate) constants: Constants,
+    pub(crate) globals: Vec<GlobalItem>,
+    pub(crate) frame: u32,
+}
+
+impl Checker {
+    ghost use Rattle.types.specs.Typing.{at_the_beginning};
+    ghost use Rattle.types.specs.internal.Views.{progress_view};
+
+    /// A checker at the start of a module.
+    pub(crate) fn new(alloc: Global) -> Checker
+        ensures { progress_view result ≡ at_the_beginning }
+    {
+        Checker {
+            alloc,
+            known: Known {
+                alloc,
+                scopes: Scopes::new(alloc),
+                objects: Vec::new(alloc),
+                procedures: Vec::new(alloc),
+            },
+            constants: Constants {
+                lists: Vec::new(alloc),
+                items: Vec::new(alloc),
+            },
+            globals: Vec::new(alloc),
+            frame: 0,
+        }
+    }
+}
