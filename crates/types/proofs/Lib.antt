@@ -1,0 +1,4 @@
+pub mod Steps
+pub mod KnownLabels
+pub mod LabelPlaces
+pub mod JumpsLaw
