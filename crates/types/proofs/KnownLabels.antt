@@ -17,15 +17,15 @@ IsLabelAround around (Label label) = Any (IsAmongLabels label) around
 IsLabelAround around entity = Unit {0}
 
 -- the labels of the lists around a place, and the tables that they are looked up in
-abbrev pub AreAround : List LabelsOf → List Names → Type 0
-AreAround around lists = (name : List ℕ) → IfSome (known_in lists name) (IsLabelAround around)
+pub record AreAround (around : List LabelsOf) (lists : List Names) : Type 0 where
+  pub known : (name : List ℕ) → IfSome (known_in lists name) (IsLabelAround around)
 
 -- what holds of all that a table has
 abbrev pub EachIs : (Entity → Type 0) → Names → Type 0
 EachIs P names = AllByRecursion (λ (entry : List ℕ × Entity). P entry.1) names
 
 pub none_around : (around : List LabelsOf) → AreAround around []
-none_around around name = tt
+none_around around = record { known = λ name. tt }
 
 Any-later : {X : Type 0} (P : X → Type 0) (x : X) (xs : List X) → Any P xs → Any P (x ∷ xs)
 Any-later P x xs found = (suc found.0, found.1, omega arith, found.3, found.4)
@@ -43,6 +43,11 @@ around_more labels around Definition is = tt
 of_either : {A : Type 0} (P : A → Type 0) (test : Bool) (one other : A) → P one → P other → P (cond test one other)
 of_either P true one other holds others = holds
 of_either P false one other holds others = others
+
+more_found : (labels : LabelsOf) (around : List LabelsOf) (found : Option Entity)
+    → IfSome found (IsLabelAround around) → IfSome found (IsLabelAround (labels ∷ around))
+more_found labels around None is = tt
+more_found labels around (Some entity) is = around_more labels around entity is
 
 -- of a look-up in a table, and of one in tables
 looked_up : (P : Entity → Type 0) (test : List ℕ → Bool) (names : Names) → EachIs P names → IfSome (lookup test names) P
@@ -74,19 +79,17 @@ either : (P : Entity → Type 0) (first second : Option Entity)
 either P None second in_first in_second = in_second
 either P (Some entity) second in_first in_second = in_first
 
--- into a list with these labels
-pub around_entered : (number : ℕ) (labels : List Identifier) (around : List LabelsOf) (lists : List Names)
-    → AreAround around lists
-    → AreAround (record { first = number; count = length labels } ∷ around) (numbered_from number labels [] ∷ lists)
-around_entered number labels around lists are name =
-    let own : LabelsOf = record { first = number; count = length labels } in
-    either (IsLabelAround (own ∷ around)) (lookup (bytes_eq name) (numbered_from number labels [])) (known_in lists name)
-    (looked_up (IsLabelAround (own ∷ around)) (bytes_eq name) (numbered_from number labels [])
-    (numbered (IsLabelAround (own ∷ around)) number labels []
-    (λ label from to. Any-first (IsAmongLabels label) own around (from, to)) tt))
-    (more (known_in lists name) (are name))
-  where
-    more : (found : Option Entity) → IfSome found (IsLabelAround around)
-        → IfSome found (IsLabelAround (record { first = number; count = length labels } ∷ around))
-    more None is = tt
-    more (Some entity) is = around_more (record { first = number; count = length labels }) around entity is
+-- into a list with so many labels, which are numbered from one on
+pub around_entered : (number count : ℕ) (labels : List Identifier) (around : List LabelsOf) (lists : List Names)
+    → count ≡ length labels → AreAround around lists
+    → AreAround (record { first = number; count = count } ∷ around) (numbered_from number labels [] ∷ lists)
+around_entered number count labels around lists counted are =
+    let own : LabelsOf = record { first = number; count = count } in
+    let table : Names = numbered_from number labels [] in
+    let each : EachIs (IsLabelAround (own ∷ around)) table =
+        numbered (IsLabelAround (own ∷ around)) number labels []
+        (λ label from to. Any-first (IsAmongLabels label) own around (from, omega arith)) tt in
+    record { known = λ name.
+        either (IsLabelAround (own ∷ around)) (lookup (bytes_eq name) table) (known_in lists name)
+        (looked_up (IsLabelAround (own ∷ around)) (bytes_eq name) table each)
+        (more_found own around (known_in lists name) (are.known name)) }

@@ -1,4 +1,5 @@
 pub mod Steps
 pub mod KnownLabels
 pub mod LabelPlaces
-pub mod JumpsLaw
+pub mod Parts
+pub mod Declarations
