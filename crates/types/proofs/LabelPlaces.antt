@@ -4,7 +4,7 @@ use Rattle.trees.specs.declared.identifier.Identifier.{Identifier}
 use Rattle.trees.specs.Trees.{LabelledStatement, StatementTrees, NoStatements, MoreStatements}
 use Rattle.names.specs.Events.{labels_of}
 use Rattle.typed_trees.specs.TypedTrees.{TypedStatement, LabelStatement, TypedStatements, MoreStatements as MoreTyped}
-use Rattle.typed_trees.specs.Jumps.{LabelsStand}
+use Rattle.typed_trees.specs.Jumps.{LabelsOf, JumpsStayInStatements, LabelsStand, ListsStandInStatements}
 use Rattle.types.specs.Statements.{places_of, places_from, after_labels}
 
 -- a statement, which is no label before one
@@ -47,3 +47,16 @@ list_count place (MoreStatements (LabelledStatement labels kind) others) =
     ∙ (ap (λ (n : ℕ). n + length (places_from next others)) (places_count place labels)
     ∙ (ap (λ (n : ℕ). length labels + n) (list_count next others)
     ∙ sym (length-append labels (labels_of others))))
+
+-- what holds of each statement holds with labels before
+pub jumps_after_labels : (around : List LabelsOf) (label : ℕ) (labels : List Identifier) (statements : TypedStatements)
+    → JumpsStayInStatements around statements → JumpsStayInStatements around (after_labels label labels statements)
+jumps_after_labels around label [] typed stay = stay
+jumps_after_labels around label (first ∷ labels) typed stay =
+    (tt, jumps_after_labels around (label + 1) labels typed stay)
+
+pub lists_after_labels : (label : ℕ) (labels : List Identifier) (statements : TypedStatements)
+    → ListsStandInStatements statements → ListsStandInStatements (after_labels label labels statements)
+lists_after_labels label [] typed stand = stand
+lists_after_labels label (first ∷ labels) typed stand =
+    (tt, lists_after_labels (label + 1) labels typed stand)

@@ -3,3 +3,4 @@ pub mod KnownLabels
 pub mod LabelPlaces
 pub mod Parts
 pub mod Declarations
+pub mod JumpsLaw
