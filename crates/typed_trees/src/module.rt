@@ -1,7 +1,7 @@
 //! Typed modules: their tables.
 
-use crate::statement::TypedList;
 use crate::parts::{AtAddress, ConstantItem, GlobalItem, InitialValue, TypedMember, Visibility};
+use crate::statement::TypedList;
 use trees::{Name, ScalarType};
 
 /// The type of an object, or of the elements of an array.

@@ -1,16 +1,16 @@
 -- Declarations leave the labels that are known as they were, and procedures sound.
-use Rattle.std.proofs.Common.{◌≡◌, ℕ, List, [], ◌∷◌, ◌++◌, length, take, drop, refl, ap, subst, sym, ◌∙◌}
+use Rattle.std.proofs.Common.{◌≡◌, ℕ, List, [], ◌∷◌, ◌++◌, take, drop, refl, ap, subst, sym}
 use Rattle.std.specs.Prelude.{IfOk, nat_le, not, ◌||◌}
 use Rattle.std.proofs.lemmas.List.Elements.{All-append, All-cons, All-nil, All-set}
 use Rattle.trees.specs.declared.identifier.Identifier.{Identifier}
 use Rattle.trees.specs.Trees.{ItemTree, ElementTree, LiterallyElement, ItemElement, HeadingTree, DeclarationTrees}
-use Rattle.names.specs.Environment.{Here, Body, Names, into_body, out_of_body, after_body, with_object, with_procedure, with_parameter, with_label, is_declared_again, is_parameter_again, is_label_again}
+use Rattle.names.specs.Environment.{Here, Body, Names, into_body, after_body, with_object, with_procedure, with_parameter, with_label, is_declared_again, is_parameter_again, is_label_again}
 use Rattle.names.specs.Uses.{declared_by}
 use Rattle.typed_trees.specs.declared.limits.TheConstants.{OBJECT_LIMIT, FRAME_LIMIT, PARAMETER_LIMIT}
 use Rattle.typed_trees.specs.TypedTrees.{TypedList, TypedProcedure}
 use Rattle.typed_trees.specs.Jumps.{BodyIsSound}
 use Rattle.types.specs.declared.fault.Cause.TheVariants.{DeclaredTwice, MisplacedAttribute, TooLarge}
-use Rattle.types.specs.Checks.{Checked, ◌>>=◌, require}
+use Rattle.types.specs.Checks.{require}
 use Rattle.types.specs.References.{line_of}
 use Rattle.types.specs.Blocks.{Block, Progress, is_external, is_reentrant, declares_parameter}
 use Rattle.types.specs.Items.{TypedItem, declare_names, line_of_item, object_named, with_typed_object, with_objects, typed_item, size_of_item, declare_item, declare_definition, declare_element, declare_elements}

@@ -1,25 +1,23 @@
 -- In a typed module each GOTO goes to a label of a list around it, and labels stand where their places say.
-use Rattle.std.proofs.Common.{◌≡◌, ℕ, ◌+◌, List, [], ◌∷◌, length, drop, Ok, refl, ap, subst, sym}
+use Rattle.std.proofs.Common.{◌≡◌, ℕ, ◌+◌, List, [], ◌∷◌, length, drop, Ok, refl, ap, subst}
 use Rattle.std.specs.Prelude.{IfOk}
 use Rattle.std.proofs.lemmas.List.Elements.{All-nil}
 use Rattle.trees.specs.declared.identifier.Identifier.{Identifier}
 use Rattle.trees.specs.Trees.{StatementTree, LabelledStatement, StatementKindTree, NullStatement, AssignmentStatement, CallStatement, ReturnStatement, HaltStatement, GotoStatement, IfStatement, DoStatement, WhileStatement, IterateStatement, CaseStatement, ElseTree, NoElse, ElseStatement, StatementTrees, NoStatements, MoreStatements, DeclarationTree, DeclareTree, ProcedureTree, DeclarationTrees, NoDeclarations, MoreDeclarations, ModuleTree}
-use Rattle.names.specs.Environment.{Here, Body, Names, numbered_from, into_list, body_after_block, with_procedure}
+use Rattle.names.specs.Environment.{Body, Names, numbered_from, into_list, body_after_block, with_procedure}
 use Rattle.names.specs.Events.{labels_of}
-use Rattle.typed_trees.specs.TypedTrees.{TypedStatement, TypedElse, TypedStatements, TypedList, TypedProcedure, TypedModule}
-use Rattle.typed_trees.specs.Jumps.{LabelsOf, labels_of_list, JumpsStayInElse, JumpsStayInStatements, JumpsStayInList, LabelsStand, ListsStandInElse, ListsStandInStatements, ListStands, BodyIsSound, JumpsAreSound}
-use Rattle.types.specs.Checks.{Checked, ◌>>=◌}
-use Rattle.types.specs.References.{Known}
+use Rattle.typed_trees.specs.TypedTrees.{TypedStatements, TypedList, TypedModule}
+use Rattle.typed_trees.specs.Jumps.{LabelsOf, JumpsStayInElse, JumpsStayInStatements, JumpsStayInList, LabelsStand, ListsStandInElse, ListsStandInStatements, ListStands, JumpsAreSound}
+use Rattle.types.specs.Checks.{Checked}
 use Rattle.types.specs.Expressions.{arguments}
 use Rattle.types.specs.Blocks.{Block, Progress}
-use Rattle.types.specs.Items.{declare_elements}
-use Rattle.types.specs.Statements.{with_here, value, iteration, labels_before, declare_labels, without_label, places_from, after_labels, list_of}
+use Rattle.types.specs.Statements.{with_here, value, iteration, labels_before, declare_labels, without_label, places_from, list_of}
 use Rattle.types.specs.Procedures.{open_procedure, own_block, parameter_objects, check_body, close_procedure}
 use Rattle.types.specs.Typing.{inner_block, entered, left, kind, labelled, alone, else_part, cases, statements, declaration, declarations, module_block, at_the_beginning, typing_of}
 use Rattle.types.proofs.Steps.{then, then_any}
 use Rattle.types.proofs.KnownLabels.{AreAround, none_around, around_entered}
-use Rattle.types.proofs.LabelPlaces.{IsNoLabel, labels_stand, list_count, jumps_after_labels, lists_after_labels}
-use Rattle.types.proofs.Parts.{IsIn, AreSound, IsAt, IsSound, IsDone, value_is, assignment_is, call_is, return_is, goto_is, iteration_is}
+use Rattle.types.proofs.LabelPlaces.{labels_stand, list_count, jumps_after_labels, lists_after_labels}
+use Rattle.types.proofs.Parts.{IsAt, IsDone, value_is, assignment_is, call_is, return_is, goto_is, iteration_is}
 use Rattle.types.proofs.Declarations.{declare_labels_is, declare_elements_is, open_procedure_is, close_procedure_is}
 
 -- the statements of a list from one on, whose next label has this number
@@ -41,8 +39,8 @@ list_is : {around : List LabelsOf} {lists : List Names} {outer : List Body} (tre
     (typed_from : ℕ → Progress → Checked (TypedStatements × Progress)) (progress : Progress)
     → AreAround around lists → IsAt lists outer progress.known
     → ((inside : List LabelsOf) (tables : List Names) (label : ℕ) (start : Progress)
-        → AreAround inside tables → IsAt tables outer start.known
-        → IfOk (typed_from label start) (AreDone inside tables outer trees label))
+    → AreAround inside tables → IsAt tables outer start.known
+    → IfOk (typed_from label start) (AreDone inside tables outer trees label))
     → IfOk (list_of trees typed_from progress) (ListIsDone around lists outer)
 list_is {around = around} {lists = lists} trees typed_from progress are at each =
     let first : ℕ = progress.known.here.labels in

@@ -1,5 +1,5 @@
 -- Which labels are known at a place: those of the lists around it.
-use Rattle.std.proofs.Common.{◌≡◌, ℕ, suc, ◌+◌, ◌<◌, ◌≤◌, List, [], ◌∷◌, ◌++◌, length, Option, None, Some, Bool, true, false, cond, refl, ap, sym, subst, ◌∙◌, arith, length-append}
+use Rattle.std.proofs.Common.{◌≡◌, ℕ, suc, ◌+◌, ◌<◌, ◌≤◌, List, [], ◌∷◌, length, Option, None, Some, Bool, true, false, cond, refl, arith}
 use Rattle.std.specs.Prelude.{IfSome, Any}
 use Rattle.std.specs.List.{AllByRecursion}
 use Rattle.std.specs.Map.{lookup}
@@ -87,9 +87,11 @@ around_entered number count labels around lists counted are =
     let own : LabelsOf = record { first = number; count = count } in
     let table : Names = numbered_from number labels [] in
     let each : EachIs (IsLabelAround (own ∷ around)) table =
-        numbered (IsLabelAround (own ∷ around)) number labels []
-        (λ label from to. Any-first (IsAmongLabels label) own around (from, omega arith)) tt in
-    record { known = λ name.
-        either (IsLabelAround (own ∷ around)) (lookup (bytes_eq name) table) (known_in lists name)
-        (looked_up (IsLabelAround (own ∷ around)) (bytes_eq name) table each)
-        (more_found own around (known_in lists name) (are.known name)) }
+    numbered (IsLabelAround (own ∷ around)) number labels []
+    (λ label from to. Any-first (IsAmongLabels label) own around (from, omega arith)) tt in
+    record {
+      known = λ name.
+          either (IsLabelAround (own ∷ around)) (lookup (bytes_eq name) table) (known_in lists name)
+          (looked_up (IsLabelAround (own ∷ around)) (bytes_eq name) table each)
+          (more_found own around (known_in lists name) (are.known name));
+    }

@@ -30,9 +30,12 @@ labels_stand [] label place next_label next_place places statement others one tw
     stand_after label place places statement others is_none
     (subst (λ (number : ℕ). LabelsStand number (place + 1) places others) (one ∙ omega arith)
     (subst (λ (number : ℕ). LabelsStand next_label number places others) (two ∙ omega arith) stand))
-labels_stand (first ∷ labels) label place next_label next_place places statement others one two is_none stand =
-    (refl, refl, labels_stand labels (label + 1) (place + 1) next_label next_place places statement others
-    (omega arith) (omega arith) is_none stand)
+labels_stand (first ∷ labels) label place next_label next_place places statement others one two is_none stand = (
+  refl,
+  refl,
+  labels_stand labels (label + 1) (place + 1) next_label next_place places statement others
+      (omega arith) (omega arith) is_none stand,
+)
 
 -- a list has as many places as labels
 places_count : (place : ℕ) (labels : List Identifier) → length (places_of place labels) ≡ length labels

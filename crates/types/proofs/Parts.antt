@@ -1,26 +1,26 @@
 -- The parts of a module that have no statements in them: expressions, simple statements, heads of loops.
-use Rattle.std.proofs.Common.{◌≡◌, ℕ, ◌+◌, List, [], ◌∷◌, ◌++◌, length, drop, Option, None, Some, refl, ap, sym, subst, ◌∙◌, arith}
-use Rattle.std.specs.Prelude.{All, IfOk, IfSome, not, is_none, ◌==◌}
+use Rattle.std.proofs.Common.{◌≡◌, ℕ, List, Option, None, Some, sym, subst}
+use Rattle.std.specs.Prelude.{All, IfOk, IfSome, is_none, ◌==◌}
 use Rattle.std.specs.Option.{option_map_or}
 use Rattle.trees.specs.declared.declaration.ScalarType.{ScalarType}
 use Rattle.trees.specs.declared.identifier.Identifier.{Identifier}
 use Rattle.trees.specs.Trees.{ExpressionTree, ReferenceTree, IterationTree}
 use Rattle.names.specs.declared.entity.Entity.{Entity}
-use Rattle.names.specs.declared.entity.Entity.TheVariants.{Object, Procedure, Label, Definition}
+use Rattle.names.specs.declared.entity.Entity.TheVariants.{Procedure, Label}
 use Rattle.names.specs.declared.entity.Binding.{Binding}
 use Rattle.names.specs.declared.entity.Binding.TheVariants.{Declared, BuiltInName, UnknownLabel}
 use Rattle.names.specs.declared.entity.BuiltIn.TheVariants.{Move}
 use Rattle.names.specs.BuiltIns.{jump_of}
-use Rattle.names.specs.Environment.{Here, Body, Names, known_in, with_label, is_label_again}
-use Rattle.typed_trees.specs.TypedTrees.{TypedExpression, TypedArguments, NoArguments as NoTyped, MoreArguments as MoreTyped, TypedIteration, TypedStatement, LabelStatement, TypedProcedure, Constants}
+use Rattle.names.specs.Environment.{Here, Body, Names, known_in}
+use Rattle.typed_trees.specs.TypedTrees.{TypedArguments, NoArguments as NoTyped, MoreArguments as MoreTyped, TypedStatement, TypedProcedure, Constants}
 use Rattle.typed_trees.specs.Jumps.{LabelsOf, JumpsStay, ListsStand, BodyIsSound}
-use Rattle.types.specs.declared.fault.Cause.TheVariants.{DeclaredTwice, WrongUse}
-use Rattle.types.specs.Checks.{Checked, ◌>>=◌, require}
+use Rattle.types.specs.declared.fault.Cause.TheVariants.{WrongUse}
+use Rattle.types.specs.Checks.{require}
 use Rattle.types.specs.References.{Known, Given, line_of, count_of_given, bound, procedure_of}
 use Rattle.types.specs.Functions.{call_arguments}
 use Rattle.types.specs.Expressions.{expression}
 use Rattle.types.specs.Blocks.{Owner, TheModule, OfProcedure, Progress}
-use Rattle.types.specs.Statements.{with_constants, value, destinations, assignment, moved, call_bound, call, return_with, return_from, goto_bound, goto, counter_bound, step, iteration, declare_labels}
+use Rattle.types.specs.Statements.{with_constants, value, destinations, assignment, moved, call_bound, call, return_with, return_from, goto_bound, goto, counter_bound, step, iteration}
 use Rattle.types.proofs.Steps.{then, then_any}
 use Rattle.types.proofs.KnownLabels.{IsLabelAround, AreAround}
 use Rattle.types.proofs.LabelPlaces.{IsNoLabel}

@@ -1,6 +1,5 @@
 -- What holds of what checks give, step by step.
-use Rattle.std.specs.Prelude.{Result, Ok, Err, IfOk}
-use Rattle.types.specs.declared.fault.Fault.{Fault}
+use Rattle.std.specs.Prelude.{Ok, Err, IfOk}
 use Rattle.types.specs.Checks.{Checked, ◌>>=◌}
 
 -- one check, and then what is done with what it gives
