@@ -86,12 +86,12 @@ abbrev mutual
   ListStands (ListOf first places statements) =
       LabelsStand first 0 places statements × ListsStandInStatements statements
 
--- what a procedure does: no jump leaves it, and each label is where a jump to it looks
+-- what a procedure does: no jump leaves it, and in each list the labels stand where its places say
 pub record BodyIsSound (body : TypedList) : Type 0 where
   pub closed : IsClosed body
   pub stands : ListStands body
 
--- the bodies of all procedures of a module, and that of its main program
+-- the bodies of all procedures of a module, and that of its main program, are sound
 pub record JumpsAreSound (typed : TypedModule) : Type 0 where
   pub procedures : All (λ (procedure : TypedProcedure). BodyIsSound procedure.body) typed.procedures
   pub main : BodyIsSound typed.main.body

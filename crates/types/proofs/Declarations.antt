@@ -19,85 +19,7 @@ use Rattle.types.specs.Procedures.{declare_parameters, no_more_parameters, check
 use Rattle.types.proofs.Steps.{then, then_any}
 use Rattle.types.proofs.Parts.{IsIn, AreSound, IsAt}
 
--- names and labels that are declared
-pub declare_labels_is : {lists : List Names} {outer : List Body} (labels : List Identifier) (here : Here)
-    → IsIn lists outer here → IfOk (declare_labels labels here) (IsIn lists outer)
-declare_labels_is [] here is = is
-declare_labels_is (label ∷ others) here is =
-    then_any _ (require (not (is_label_again here label.name)) DeclaredTwice (line_of label)) _ (λ is_new.
-    declare_labels_is others (with_label label.name here)
-    (record { lists_are = is.lists_are; outer_are = is.outer_are }))
-
-declare_parameters_is : {lists : List Names} {outer : List Body} (parameters : List Identifier) (here : Here)
-    → IsIn lists outer here → IfOk (declare_parameters parameters here) (IsIn lists outer)
-declare_parameters_is [] here is = is
-declare_parameters_is (parameter ∷ others) here is =
-    then_any _ (require (not (is_parameter_again here parameter.name)) DeclaredTwice (line_of parameter)) _ (λ is_new.
-    declare_parameters_is others (with_parameter parameter.name here)
-    (record { lists_are = is.lists_are; outer_are = is.outer_are }))
-
-declare_names_is : {lists : List Names} {outer : List Body} (block : Block) (names : List Identifier) (here : Here)
-    → IsIn lists outer here → IfOk (declare_names block names here) (IsIn lists outer)
-declare_names_is block [] here is = is
-declare_names_is block (name ∷ others) here is =
-    then_any _ (require (not (is_declared_again here name.name)) DeclaredTwice (line_of name)) _ (λ is_new.
-    then_any _ (require (not (is_external block.owner) || declares_parameter block name.name) MisplacedAttribute
-    (line_of name)) _ (λ may_stand.
-    declare_names_is block others (with_object name.name here)
-    (record { lists_are = is.lists_are; outer_are = is.outer_are })))
-
--- objects that are declared
-with_objects_is : {lists : List Names} {outer : List Body} (block : Block) (item : TypedItem)
-    (names : List Identifier) (progress : Progress)
-    → IsAt lists outer progress.known
-    → IfOk (with_objects block item names progress) (λ after. IsAt lists outer after.known)
-with_objects_is block item [] progress at = at
-with_objects_is block item (name ∷ others) progress at =
-    let after : Progress = with_typed_object item.linkage (object_named block item name.name) progress in
-    then_any _ (require (nat_le after.frame FRAME_LIMIT) TooLarge (line_of name)) _ (λ fits.
-    with_objects_is block item others after (record { here = at.here; procedures = at.procedures }))
-
-declare_item_is : {lists : List Names} {outer : List Body} (block : Block) (item : ItemTree) (progress : Progress)
-    → IsAt lists outer progress.known
-    → IfOk (declare_item block item progress) (λ after. IsAt lists outer after.known)
-declare_item_is block item progress at =
-    then _ _ (declare_names block (declared_by item.subject) progress.known.here) _
-    (declare_names_is block (declared_by item.subject) progress.known.here at.here) (λ here is.
-    then_any _ (typed_item progress.known block item) _ (λ typed.
-    then_any _ (require (nat_le (size_of_item typed) OBJECT_LIMIT) TooLarge (line_of_item item)) _ (λ fits.
-    then _ _ (with_objects block typed (declared_by item.subject) progress) _
-    (with_objects_is block typed (declared_by item.subject) progress at) (λ declared after.
-    record { here = is; procedures = after.procedures }))))
-
-declare_definition_is : {lists : List Names} {outer : List Body} (block : Block) (name : Identifier)
-    (progress : Progress)
-    → IsAt lists outer progress.known
-    → IfOk (declare_definition block name progress) (λ after. IsAt lists outer after.known)
-declare_definition_is block name progress at =
-    then_any _ (require (not (is_declared_again progress.known.here name.name)) DeclaredTwice (line_of name)) _ (λ is_new.
-    then_any _ (require (not (is_external block.owner)) MisplacedAttribute (line_of name)) _ (λ may_stand.
-    record {
-      here = record { lists_are = at.here.lists_are; outer_are = at.here.outer_are };
-      procedures = at.procedures;
-    }))
-
-declare_element_is : {lists : List Names} {outer : List Body} (block : Block) (element : ElementTree)
-    (progress : Progress)
-    → IsAt lists outer progress.known
-    → IfOk (declare_element block element progress) (λ after. IsAt lists outer after.known)
-declare_element_is block (LiterallyElement name text) progress at = declare_definition_is block name progress at
-declare_element_is block (ItemElement item) progress at = declare_item_is block item progress at
-
-pub declare_elements_is : {lists : List Names} {outer : List Body} (block : Block) (elements : List ElementTree)
-    (progress : Progress)
-    → IsAt lists outer progress.known
-    → IfOk (declare_elements block elements progress) (λ after. IsAt lists outer after.known)
-declare_elements_is block [] progress at = at
-declare_elements_is block (element ∷ others) progress at =
-    then _ _ (declare_element block element progress) _ (declare_element_is block element progress at) (λ after at_after.
-    declare_elements_is block others after at_after)
-
--- one procedure more, which does nothing yet
+-- one procedure more; one whose body is still to come does nothing
 sound_with : (procedures : List TypedProcedure) (procedure : TypedProcedure)
     → AreSound procedures → BodyIsSound procedure.body → AreSound (procedures ++ procedure ∷ [])
 sound_with procedures procedure are is =
@@ -108,7 +30,86 @@ sound_with procedures procedure are is =
 empty_is_sound : BodyIsSound empty_list
 empty_is_sound = record { closed = tt; stands = (refl, tt) }
 
--- into a procedure, and out of it
+module _ {lists : List Names} {outer : List Body} where
+  -- names and labels that are declared
+  pub declare_labels_is : (labels : List Identifier) (here : Here)
+      → IsIn lists outer here → IfOk (declare_labels labels here) (IsIn lists outer)
+  declare_labels_is [] here is = is
+  declare_labels_is (label ∷ others) here is =
+      then_any _ (require (not (is_label_again here label.name)) DeclaredTwice (line_of label)) _ (λ is_new.
+      declare_labels_is others (with_label label.name here)
+      (record { lists_are = is.lists_are; outer_are = is.outer_are }))
+
+  declare_parameters_is : (parameters : List Identifier) (here : Here)
+      → IsIn lists outer here → IfOk (declare_parameters parameters here) (IsIn lists outer)
+  declare_parameters_is [] here is = is
+  declare_parameters_is (parameter ∷ others) here is =
+      then_any _ (require (not (is_parameter_again here parameter.name)) DeclaredTwice (line_of parameter)) _
+      (λ is_new.
+      declare_parameters_is others (with_parameter parameter.name here)
+      (record { lists_are = is.lists_are; outer_are = is.outer_are }))
+
+  declare_names_is : (block : Block) (names : List Identifier) (here : Here)
+      → IsIn lists outer here → IfOk (declare_names block names here) (IsIn lists outer)
+  declare_names_is block [] here is = is
+  declare_names_is block (name ∷ others) here is =
+      then_any _ (require (not (is_declared_again here name.name)) DeclaredTwice (line_of name)) _ (λ is_new.
+      then_any _ (require (not (is_external block.owner) || declares_parameter block name.name) MisplacedAttribute
+      (line_of name)) _ (λ may_stand.
+      declare_names_is block others (with_object name.name here)
+      (record { lists_are = is.lists_are; outer_are = is.outer_are })))
+
+  -- objects that are declared
+  with_objects_is : (block : Block) (item : TypedItem) (names : List Identifier)
+      (progress : Progress)
+      → IsAt lists outer progress.known
+      → IfOk (with_objects block item names progress) (λ after. IsAt lists outer after.known)
+  with_objects_is block item [] progress at = at
+  with_objects_is block item (name ∷ others) progress at =
+      let after : Progress = with_typed_object item.linkage (object_named block item name.name) progress in
+      then_any _ (require (nat_le after.frame FRAME_LIMIT) TooLarge (line_of name)) _ (λ fits.
+      with_objects_is block item others after (record { here = at.here; procedures = at.procedures }))
+
+  declare_item_is : (block : Block) (item : ItemTree) (progress : Progress)
+      → IsAt lists outer progress.known
+      → IfOk (declare_item block item progress) (λ after. IsAt lists outer after.known)
+  declare_item_is block item progress at =
+      then _ _ (declare_names block (declared_by item.subject) progress.known.here) _
+      (declare_names_is block (declared_by item.subject) progress.known.here at.here) (λ here is.
+      then_any _ (typed_item progress.known block item) _ (λ typed.
+      then_any _ (require (nat_le (size_of_item typed) OBJECT_LIMIT) TooLarge (line_of_item item)) _ (λ fits.
+      then _ _ (with_objects block typed (declared_by item.subject) progress) _
+      (with_objects_is block typed (declared_by item.subject) progress at) (λ declared after.
+      record { here = is; procedures = after.procedures }))))
+
+  declare_definition_is : (block : Block) (name : Identifier) (progress : Progress)
+      → IsAt lists outer progress.known
+      → IfOk (declare_definition block name progress) (λ after. IsAt lists outer after.known)
+  declare_definition_is block name progress at =
+      then_any _ (require (not (is_declared_again progress.known.here name.name)) DeclaredTwice (line_of name)) _
+      (λ is_new.
+      then_any _ (require (not (is_external block.owner)) MisplacedAttribute (line_of name)) _ (λ may_stand.
+      record {
+        here = record { lists_are = at.here.lists_are; outer_are = at.here.outer_are };
+        procedures = at.procedures;
+      }))
+
+  declare_element_is : (block : Block) (element : ElementTree) (progress : Progress)
+      → IsAt lists outer progress.known
+      → IfOk (declare_element block element progress) (λ after. IsAt lists outer after.known)
+  declare_element_is block (LiterallyElement name text) progress at = declare_definition_is block name progress at
+  declare_element_is block (ItemElement item) progress at = declare_item_is block item progress at
+
+  pub declare_elements_is : (block : Block) (elements : List ElementTree) (progress : Progress)
+      → IsAt lists outer progress.known
+      → IfOk (declare_elements block elements progress) (λ after. IsAt lists outer after.known)
+  declare_elements_is block [] progress at = at
+  declare_elements_is block (element ∷ others) progress at =
+      then _ _ (declare_element block element progress) _ (declare_element_is block element progress at)
+      (λ after at_after.
+      declare_elements_is block others after at_after)
+
+-- into a procedure
 pub open_procedure_is : {lists : List Names} {outer : List Body} (block : Block) (heading : HeadingTree)
     (declared : DeclarationTrees) (progress : Progress)
     → IsAt lists outer progress.known
@@ -134,6 +135,7 @@ open_procedure_is block heading declared progress at =
           at.procedures empty_is_sound;
     }))))))
 
+-- out of a procedure
 out_of_body_is : {outer : List Body} (body : Body) (here : Here) (bodies : List Body)
     → bodies ≡ body ∷ outer → IsIn body.lists outer (after_body bodies here)
 out_of_body_is {outer = outer} body here bodies are =

@@ -29,7 +29,8 @@ record AreDone (around : List LabelsOf) (lists : List Names) (outer : List Body)
   after : IsAt lists outer typed.1.known
 
 -- a list
-record ListIsDone (around : List LabelsOf) (lists : List Names) (outer : List Body) (typed : TypedList × Progress) : Type 0 where
+record ListIsDone (around : List LabelsOf) (lists : List Names) (outer : List Body) (typed : TypedList × Progress) :
+    Type 0 where
   jumps : JumpsStayInList around typed.0
   stands : ListStands typed.0
   after : IsAt lists outer typed.1.known

@@ -50,7 +50,8 @@ more_found labels around None is = tt
 more_found labels around (Some entity) is = around_more labels around entity is
 
 -- of a look-up in a table, and of one in tables
-looked_up : (P : Entity → Type 0) (test : List ℕ → Bool) (names : Names) → EachIs P names → IfSome (lookup test names) P
+looked_up : (P : Entity → Type 0) (test : List ℕ → Bool) (names : Names)
+    → EachIs P names → IfSome (lookup test names) P
 looked_up P test [] each = tt
 looked_up P test (entry ∷ names) each =
     of_either (λ (found : Option Entity). IfSome found P) (test entry.0) (Some entry.1) (lookup test names)

@@ -4,3 +4,4 @@ pub mod LabelPlaces
 pub mod Parts
 pub mod Declarations
 pub mod JumpsLaw
+pub mod JumpExamples

@@ -44,22 +44,9 @@ pub record IsSound (around : List LabelsOf) (statement : TypedStatement) : Type 
   pub stands : ListsStand statement
   pub is_no_label : IsNoLabel statement
 
--- parts without statements in them leave the place
-pub value_is : {lists : List Names} {outer : List Body} (tree : ExpressionTree) (progress : Progress)
-    → IsAt lists outer progress.known → IfOk (value tree progress) (λ typed. IsAt lists outer typed.1.known)
-value_is tree progress at = then_any _ (expression progress.known tree progress.constants) _ (λ typed. at)
-
--- a statement without statements in it
-abbrev pub IsDone : (around : List LabelsOf) (lists : List Names) (outer : List Body) → TypedStatement × Progress → Type 0
+-- a statement that is typed, and the place after it
+abbrev pub IsDone : List LabelsOf → List Names → List Body → TypedStatement × Progress → Type 0
 IsDone around lists outer typed = IsSound around typed.0 × IsAt lists outer typed.1.known
-
-pub assignment_is : (around : List LabelsOf) {lists : List Names} {outer : List Body} (targets : List ReferenceTree)
-    (source : ExpressionTree) (progress : Progress)
-    → IsAt lists outer progress.known → IfOk (assignment targets source progress) (IsDone around lists outer)
-assignment_is around targets source progress at =
-    then_any _ (destinations progress.known targets progress.constants) _ (λ places.
-    then _ _ (value source (with_constants places.1 progress)) _ (value_is source (with_constants places.1 progress) at)
-    (λ typed after. (record { jumps = tt; stands = tt; is_no_label = tt }, after)))
 
 moved_is : (around : List LabelsOf) (line : ℕ) (values : TypedArguments) → IfOk (moved line values) (IsSound around)
 moved_is around line (MoreTyped count (MoreTyped source (MoreTyped destination NoTyped))) =
@@ -79,55 +66,69 @@ call_bound_is around known (BuiltInName Move) name given constants =
     then _ _ (moved (line_of name) typed.0) _ (moved_is around (line_of name) typed.0) (λ moving is. is)))
 call_bound_is around known binding name given constants = tt
 
-pub call_is : (around : List LabelsOf) {lists : List Names} {outer : List Body} (name : Identifier) (given : Given)
-    (progress : Progress)
-    → IsAt lists outer progress.known → IfOk (call name given progress) (IsDone around lists outer)
-call_is around name given progress at =
-    then_any _ (bound progress.known name) _ (λ binding.
-    then _ _ (call_bound progress.known binding name given progress.constants) _
-    (call_bound_is around progress.known binding name given progress.constants) (λ typed is. (is, at)))
-
-return_with_is : (around : List LabelsOf) {lists : List Names} {outer : List Body} (line : ℕ)
-    (result : Option ScalarType) (tree : Option ExpressionTree) (progress : Progress)
-    → IsAt lists outer progress.known → IfOk (return_with line result tree progress) (IsDone around lists outer)
-return_with_is around line None None progress at = (record { jumps = tt; stands = tt; is_no_label = tt }, at)
-return_with_is around line (Some scalar) (Some tree) progress at =
-    then _ _ (value tree progress) _ (value_is tree progress at)
-    (λ typed after. (record { jumps = tt; stands = tt; is_no_label = tt }, after))
-return_with_is around line result tree progress at = tt
-
-pub return_is : (around : List LabelsOf) {lists : List Names} {outer : List Body} (line : ℕ) (owner : Owner)
-    (tree : Option ExpressionTree) (progress : Progress)
-    → IsAt lists outer progress.known → IfOk (return_from line owner tree progress) (IsDone around lists outer)
-return_is around line TheModule tree progress at = tt
-return_is around line (OfProcedure number heading) tree progress at = return_with_is around line heading.result tree progress at
-
 goto_bound_is : (around : List LabelsOf) (line : ℕ) (found : Option Entity) → IfSome found (IsLabelAround around)
     → IfOk (goto_bound line (option_map_or Declared found UnknownLabel)) (IsSound around)
 goto_bound_is around line None is = tt
 goto_bound_is around line (Some (Label label)) is = record { jumps = is; stands = tt; is_no_label = tt }
 goto_bound_is around line (Some entity) is = tt
 
-pub goto_is : {around : List LabelsOf} {lists : List Names} {outer : List Body} (label : Identifier) (progress : Progress)
-    → AreAround around lists → IsAt lists outer progress.known
-    → IfOk (goto label progress) (IsDone around lists outer)
-goto_is {around = around} label progress are at =
-    then _ _ (goto_bound (line_of label) (jump_of progress.known.here label.name)) _
-    (goto_bound_is around (line_of label) (known_in progress.known.here.body.lists label.name)
-    (subst (λ (lists : List Names). IfSome (known_in lists label.name) (IsLabelAround around)) (sym at.here.lists_are)
-    (are.known label.name)))
-    (λ typed is. (is, at))
+module _ {lists : List Names} {outer : List Body} where
+  -- These parts leave the place as it was.
+  pub value_is : (tree : ExpressionTree) (progress : Progress)
+      → IsAt lists outer progress.known → IfOk (value tree progress) (λ typed. IsAt lists outer typed.1.known)
+  value_is tree progress at = then_any _ (expression progress.known tree progress.constants) _ (λ typed. at)
 
-step_is : {lists : List Names} {outer : List Body} (tree : Option ExpressionTree) (progress : Progress)
-    → IsAt lists outer progress.known → IfOk (step tree progress) (λ typed. IsAt lists outer typed.1.known)
-step_is None progress at = at
-step_is (Some tree) progress at = then _ _ (value tree progress) _ (value_is tree progress at) (λ typed after. after)
+  pub assignment_is : (around : List LabelsOf) (targets : List ReferenceTree)
+      (source : ExpressionTree) (progress : Progress)
+      → IsAt lists outer progress.known → IfOk (assignment targets source progress) (IsDone around lists outer)
+  assignment_is around targets source progress at =
+      then_any _ (destinations progress.known targets progress.constants) _ (λ places.
+      then _ _ (value source (with_constants places.1 progress)) _ (value_is source (with_constants places.1 progress) at)
+      (λ typed after. (record { jumps = tt; stands = tt; is_no_label = tt }, after)))
 
-pub iteration_is : {lists : List Names} {outer : List Body} (tree : IterationTree) (progress : Progress)
-    → IsAt lists outer progress.known → IfOk (iteration tree progress) (λ typed. IsAt lists outer typed.1.known)
-iteration_is tree progress at =
-    then_any _ (bound progress.known tree.variable) _ (λ binding.
-    then_any _ (counter_bound progress.known binding tree.variable) _ (λ counter.
-    then _ _ (value tree.first progress) _ (value_is tree.first progress at) (λ first at_first.
-    then _ _ (value tree.last first.1) _ (value_is tree.last first.1 at_first) (λ last at_last.
-    then _ _ (step tree.step last.1) _ (step_is tree.step last.1 at_last) (λ by at_end. at_end)))))
+  pub call_is : (around : List LabelsOf) (name : Identifier) (given : Given)
+      (progress : Progress)
+      → IsAt lists outer progress.known → IfOk (call name given progress) (IsDone around lists outer)
+  call_is around name given progress at =
+      then_any _ (bound progress.known name) _ (λ binding.
+      then _ _ (call_bound progress.known binding name given progress.constants) _
+      (call_bound_is around progress.known binding name given progress.constants) (λ typed is. (is, at)))
+
+  return_with_is : (around : List LabelsOf) (line : ℕ)
+      (result : Option ScalarType) (tree : Option ExpressionTree) (progress : Progress)
+      → IsAt lists outer progress.known → IfOk (return_with line result tree progress) (IsDone around lists outer)
+  return_with_is around line None None progress at = (record { jumps = tt; stands = tt; is_no_label = tt }, at)
+  return_with_is around line (Some scalar) (Some tree) progress at =
+      then _ _ (value tree progress) _ (value_is tree progress at)
+      (λ typed after. (record { jumps = tt; stands = tt; is_no_label = tt }, after))
+  return_with_is around line result tree progress at = tt
+
+  pub return_is : (around : List LabelsOf) (line : ℕ) (owner : Owner)
+      (tree : Option ExpressionTree) (progress : Progress)
+      → IsAt lists outer progress.known → IfOk (return_from line owner tree progress) (IsDone around lists outer)
+  return_is around line TheModule tree progress at = tt
+  return_is around line (OfProcedure number heading) tree progress at = return_with_is around line heading.result tree progress at
+
+  pub goto_is : {around : List LabelsOf} (label : Identifier) (progress : Progress)
+      → AreAround around lists → IsAt lists outer progress.known
+      → IfOk (goto label progress) (IsDone around lists outer)
+  goto_is {around = around} label progress are at =
+      then _ _ (goto_bound (line_of label) (jump_of progress.known.here label.name)) _
+      (goto_bound_is around (line_of label) (known_in progress.known.here.body.lists label.name)
+      (subst (λ (lists : List Names). IfSome (known_in lists label.name) (IsLabelAround around)) (sym at.here.lists_are)
+      (are.known label.name)))
+      (λ typed is. (is, at))
+
+  step_is : (tree : Option ExpressionTree) (progress : Progress)
+      → IsAt lists outer progress.known → IfOk (step tree progress) (λ typed. IsAt lists outer typed.1.known)
+  step_is None progress at = at
+  step_is (Some tree) progress at = then _ _ (value tree progress) _ (value_is tree progress at) (λ typed after. after)
+
+  pub iteration_is : (tree : IterationTree) (progress : Progress)
+      → IsAt lists outer progress.known → IfOk (iteration tree progress) (λ typed. IsAt lists outer typed.1.known)
+  iteration_is tree progress at =
+      then_any _ (bound progress.known tree.variable) _ (λ binding.
+      then_any _ (counter_bound progress.known binding tree.variable) _ (λ counter.
+      then _ _ (value tree.first progress) _ (value_is tree.first progress at) (λ first at_first.
+      then _ _ (value tree.last first.1) _ (value_is tree.last first.1 at_first) (λ last at_last.
+      then _ _ (step tree.step last.1) _ (step_is tree.step last.1 at_last) (λ by at_end. at_end)))))
