@@ -1,6 +1,6 @@
 -- Where the labels of lists stand, and where GOTOs go.
-use Rattle.std.specs.Prelude.{◌≡◌, ℕ, ◌+◌, ◌<◌, ◌≤◌, List, [], ◌∷◌, length, Any}
-use Rattle.typed_trees.specs.TypedTrees.{TypedStatement, LabelStatement, NullStatement, AssignmentStatement, CallStatement, MoveStatement, ReturnStatement, HaltStatement, GotoStatement, IfStatement, DoStatement, WhileStatement, IterateStatement, CaseStatement, TypedElse, NoElse, ElseStatement, TypedStatements, NoStatements, MoreStatements, TypedList, ListOf}
+use Rattle.std.specs.Prelude.{◌≡◌, ℕ, ◌+◌, ◌<◌, ◌≤◌, List, [], ◌∷◌, length, All, Any}
+use Rattle.typed_trees.specs.TypedTrees.{TypedStatement, LabelStatement, NullStatement, AssignmentStatement, CallStatement, MoveStatement, ReturnStatement, HaltStatement, GotoStatement, IfStatement, DoStatement, WhileStatement, IterateStatement, CaseStatement, TypedElse, NoElse, ElseStatement, TypedStatements, NoStatements, MoreStatements, TypedList, ListOf, TypedProcedure, TypedModule}
 
 -- the labels of a list: so many numbers from the first on
 pub record LabelsOf : Type 0 where
@@ -55,3 +55,43 @@ LabelsStand label place [] (MoreStatements (LabelStatement number) others) = ⊥
 LabelsStand label place (first ∷ places) (MoreStatements (LabelStatement number) others) =
     (number ≡ label) × (first ≡ place) × LabelsStand (label + 1) (place + 1) places others
 LabelsStand label place places (MoreStatements statement others) = LabelsStand label (place + 1) places others
+
+abbrev mutual
+  -- the labels of each list in a statement stand where its places say, numbered from its first label on
+  pub ListsStand : TypedStatement → Type 0
+  ListsStand (LabelStatement label) = Unit {0}
+  ListsStand NullStatement = Unit {0}
+  ListsStand (AssignmentStatement targets value) = Unit {0}
+  ListsStand (CallStatement procedure values) = Unit {0}
+  ListsStand (MoveStatement count source destination) = Unit {0}
+  ListsStand (ReturnStatement value) = Unit {0}
+  ListsStand HaltStatement = Unit {0}
+  ListsStand (GotoStatement label) = Unit {0}
+  ListsStand (IfStatement condition body otherwise) = ListsStand body × ListsStandInElse otherwise
+  ListsStand (DoStatement body) = ListStands body
+  ListsStand (WhileStatement condition body) = ListStands body
+  ListsStand (IterateStatement head body) = ListStands body
+  ListsStand (CaseStatement choice body) = ListsStandInStatements body
+
+  pub ListsStandInElse : TypedElse → Type 0
+  ListsStandInElse NoElse = Unit {0}
+  ListsStandInElse (ElseStatement statement) = ListsStand statement
+
+  pub ListsStandInStatements : TypedStatements → Type 0
+  ListsStandInStatements NoStatements = Unit {0}
+  ListsStandInStatements (MoreStatements first others) = ListsStand first × ListsStandInStatements others
+
+  -- a list itself, and the lists in it
+  pub ListStands : TypedList → Type 0
+  ListStands (ListOf first places statements) =
+      LabelsStand first 0 places statements × ListsStandInStatements statements
+
+-- what a procedure does: no jump leaves it, and in each list the labels stand where its places say
+pub record BodyIsSound (body : TypedList) : Type 0 where
+  pub closed : IsClosed body
+  pub stands : ListStands body
+
+-- the bodies of all procedures of a module, and that of its main program, are sound
+pub record JumpsAreSound (typed : TypedModule) : Type 0 where
+  pub procedures : All (λ (procedure : TypedProcedure). BodyIsSound procedure.body) typed.procedures
+  pub main : BodyIsSound typed.main.body
