@@ -1,11 +1,11 @@
 //! What is answered to a source.
 
+ghost use Rattle.std.specs.Prelude.{◌≤◌, length};
+ghost use Rattle.words.specs.declared.limits.TheConstants.{LONGEST_SOURCE};
+
 use failure::Failure;
 use std::alloc::Global;
 use std::fmt;
-
-ghost use Rattle.std.specs.Prelude.{◌≤◌, length};
-ghost use Rattle.words.specs.declared.limits.TheConstants.{LONGEST_SOURCE};
 
 // The number and the line of a fault.
 #[derive(Clone, Copy, Drop)]

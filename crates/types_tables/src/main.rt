@@ -67,7 +67,10 @@ fn is_as_said(rt: &HostRuntime, block: &Block) -> Result<bool> {
     if answered.as_str() == block.heading.as_str() {
         return Ok(true);
     }
-    println!(rt; "line {}: said {}, answered {answered}", block.place, block.heading)?;
+    println!(rt;
+        "line {}: said {}, answered {answered}",
+        block.place, block.heading
+    )?;
     Ok(false)
 }
 
