@@ -1,0 +1,1 @@
+use Rattle.types.proofs.Kept.{Gives}
