@@ -9,7 +9,7 @@ use Rattle.std.proofs.lemmas.Bool.{eqb-true, leb-true}
 use Rattle.trees.specs.declared.declaration.ScalarType.{ScalarType}
 use Rattle.trees.specs.declared.declaration.ScalarType.TheVariants.{Byte, Address}
 use Rattle.trees.specs.declared.identifier.Identifier.{Identifier}
-use Rattle.trees.specs.Trees.{ArgumentTrees, NoArguments, MoreArguments}
+use Rattle.trees.specs.Trees.{ReferenceTree, ReferenceTo, MemberTree, NoMember, MemberOf, ArgumentTrees, NoArguments, MoreArguments}
 use Rattle.names.specs.declared.entity.Binding.{Binding}
 use Rattle.names.specs.declared.entity.Binding.TheVariants.{Declared, BuiltInName}
 use Rattle.names.specs.declared.entity.BuiltIn.{BuiltIn}
@@ -19,13 +19,14 @@ use Rattle.names.specs.declared.entity.Entity.TheVariants.{Object, Procedure}
 use Rattle.names.specs.BuiltIns.{binding_of, built_in_of, built_ins}
 use Rattle.names.specs.Environment.{Here, entity_of}
 use Rattle.typed_trees.specs.declared.parts.TypedMember.{TypedMember}
-use Rattle.typed_trees.specs.TypedTrees.{TypedExpression, Subscript, NoSubscript, At, TypedArguments, NoArguments as NoTyped, MoreArguments as MoreTyped, TypedModule, Constants}
-use Rattle.typed_trees.specs.Sizes.{FoundMember, member_named, after_member}
+use Rattle.typed_trees.specs.TypedTrees.{TypedExpression, Subscript, NoSubscript, At, TypedReference, TypedArguments, NoArguments as NoTyped, MoreArguments as MoreTyped, TypedObject, TypedModule, Constants}
+use Rattle.typed_trees.specs.Sizes.{FoundMember, member_named, after_member, size_of_scalar, size_of_element}
 use Rattle.typed_trees.specs.ExpressionTypes.{type_of}
 use Rattle.types.specs.Nodes.{converted, as_type, arguments_as}
-use Rattle.types.specs.References.{Known, Extent, AnElement, AlsoTheWhole, takes_subscripts, subscript_of, number_of_arguments, bound, line_of}
-use Rattle.types.specs.Untyped.{untyped_expression, untyped_arguments, untyped_subscript, plain_expression, plain_arguments, plain_member, plain_reference, one_argument}
-use Rattle.types.proofs.Kept.{Gives, gives_ok, gives_fault, in_turn, required, is_found, Kept, kept_at, kept_more, kept_both}
+use Rattle.types.specs.declared.fault.Cause.TheVariants.{UnknownName, WrongUse, WrongConstant, ConstantWritten, NoLocation}
+use Rattle.types.specs.References.{Known, Given, GivenMember, WithoutMember, WithMember, GivenReference, line_of, number_of_arguments, count_of_given, bound, object_of, procedure_of, Extent, AnElement, AlsoTheWhole, takes_subscripts, subscript_of, members_of, scalar_of, FoundPart, whole_part, part_with_member, part_of, scalar_part}
+use Rattle.types.specs.Untyped.{untyped_expression, untyped_arguments, untyped_subscript, plain_expression, plain_arguments, plain_member, plain_reference, one_argument, named, untyped_reference, member_name, members_of_object}
+use Rattle.types.proofs.Kept.{Gives, then_more, gives_ok, gives_fault, in_turn, required, is_found, Kept, kept_at, kept_more, kept_both}
 
 -- a conversion is taken away
 converted_back : (tables : TypedModule) (to from : ScalarType) (typed : TypedExpression)
@@ -171,3 +172,88 @@ pub bound_spelled : (here : Here) (name : List ℕ) (built_in : BuiltIn)
     → name ≡ spelled built_in
 bound_spelled here name built_in e =
     built_in_spelled name built_in (named_built_in (entity_of here name) (built_in_of name) built_in e)
+
+-- a reference as it is given, without places
+plain_given_member : GivenMember → MemberTree
+plain_given_member WithoutMember = NoMember
+plain_given_member (WithMember name given) = MemberOf (named name.name) (plain_arguments given.trees)
+
+plain_given : GivenReference → ReferenceTree
+unfolding plain_given_member
+plain_given given =
+    ReferenceTo (named given.name.name) (plain_arguments given.arguments.trees) (plain_given_member given.member)
+
+-- arguments are typed so that they are given back
+abbrev GivesArguments : Known → Given → Constants → TypedArguments × Constants → Type 0
+GivesArguments known given before found =
+    Kept known before found.1 (λ tables. untyped_arguments tables found.0 ≡ plain_arguments given.trees)
+
+abbrev GivenBack : Known → Given → Type 0
+GivenBack known given = (constants : Constants) → Gives (GivesArguments known given constants) (given.typed constants)
+
+abbrev MemberBack : Known → GivenMember → Type 0
+MemberBack known WithoutMember = Unit
+MemberBack known (WithMember name given) = GivenBack known given
+
+abbrev ReferenceBack : Known → GivenReference → Type 0
+ReferenceBack known given = GivenBack known given.arguments × MemberBack known given.member
+
+-- a name stands for an object that is known
+record StandsFor (known : Known) (name : List ℕ) (number : ℕ) (object : TypedObject) : Type 0 where
+  entity : entity_of known.here name ≡ Some (Object number)
+  entry : slice_get known.objects number ≡ Some object
+
+-- what a part of it gives back, once its own subscript is given back
+abbrev GivesPart : Known → Subscript → GivenReference → Constants → FoundPart × Constants → Type 0
+GivesPart known element given before found = Kept known before found.1 (λ tables.
+    untyped_subscript tables element ≡ plain_arguments given.arguments.trees
+    → untyped_reference tables found.0.reference ≡ plain_given given)
+
+part_with_member_back : (known : Known) (number : ℕ) (object : TypedObject) (element : Subscript) (extent : Extent)
+    (name : Identifier) (values : Given) (part : GivenMember) (constants : Constants)
+    → StandsFor known name.name number object
+    → MemberBack known part
+    → Gives (GivesPart known element (record { name = name; arguments = values; member = part }) constants)
+    (part_with_member number object.object_type element extent part constants)
+unfolding plain_given plain_given_member name_at
+part_with_member_back known number object element extent name values WithoutMember constants stands back =
+    gives_ok _ _ (kept_at known constants _ (λ tables agrees is.
+    let same = (agrees.0 name.name number object stands.entity stands.entry).0 in
+    cc))
+part_with_member_back known number object element extent name values (WithMember member given) constants stands back =
+    in_turn _ (is_found (members_of object.object_type) WrongUse (line_of member)) (λ members are.
+    in_turn _ (is_found (member_named members member.name) UnknownName (line_of member)) (λ place at.
+    in_turn _ (required (takes_subscripts extent place.member.dimension (count_of_given given)) WrongUse (line_of member)) (λ _ fits.
+    in_turn _ (back constants) (λ typed kept.
+    gives_ok _ _ (kept_more _ kept (λ tables agrees values_back is.
+    let facts = agrees.0 name.name number object stands.entity stands.entry in
+    let own = facts.0 in
+    let same : members_of_object tables number ≡ members = facts.1 ∙ ap (λ found. unwrap_or found []) are in
+    let called : member_name tables number place.position ≡ member.name =
+        ap (λ all. name_at all place.position) same ∙ member_name_back members member.name place at in
+    let index = subscript_back tables extent (size_of_scalar place.member.scalar) place.member.dimension given.trees typed.0 fits values_back in
+    cc))))))
+
+part_back : (known : Known) (number : ℕ) (object : TypedObject) (extent : Extent) (given : GivenReference) (constants : Constants)
+    → StandsFor known given.name.name number object
+    → ReferenceBack known given
+    → Gives (λ (found : FoundPart × Constants). Kept known constants found.1 (λ tables. untyped_reference tables found.0.reference ≡ plain_given given))
+    (part_of number object extent given constants)
+part_back known number object extent given constants stands back =
+    in_turn _ (required (takes_subscripts extent object.dimension (count_of_given given.arguments)) WrongUse (line_of given.name)) (λ _ fits.
+    in_turn _ (back.0 constants) (λ typed kept.
+    then_more _ (part_with_member_back known number object
+    (subscript_of (size_of_element object.object_type) object.dimension typed.0)
+    extent given.name given.arguments given.member typed.1 stands back.1) (λ found part.
+    kept_both _ kept part (λ tables agrees values_back is.
+    is (subscript_back tables extent (size_of_element object.object_type) object.dimension given.arguments.trees typed.0 fits values_back)))))
+
+scalar_part_back : (known : Known) (number : ℕ) (object : TypedObject) (given : GivenReference) (constants : Constants)
+    → StandsFor known given.name.name number object
+    → ReferenceBack known given
+    → Gives (λ (found : TypedReference × ScalarType × Constants). Kept known constants found.2 (λ tables. untyped_reference tables found.0 ≡ plain_given given))
+    (scalar_part number object given constants)
+scalar_part_back known number object given constants stands back =
+    in_turn _ (part_back known number object AnElement given constants stands back) (λ part kept.
+    in_turn _ (is_found part.0.scalar WrongUse (line_of given.name)) (λ scalar _.
+    gives_ok _ _ kept))

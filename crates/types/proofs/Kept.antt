@@ -29,6 +29,13 @@ in_turn {P = P} {Q = Q} {result = result} next is then_is =
     go (Ok a) first b e = (then_is a (first a refl)).holds b e
     go (Err fault) first b e = absurd cc
 
+-- what holds as well of all that a check gives
+pub then_more : {A : Type 0} {P : A → Type 0} (Q : A → Type 0) {result : Checked A}
+    → Gives P result
+    → ((a : A) → P a → Q a)
+    → Gives Q result
+then_more Q is more = record { holds = λ a e. more a (is.holds a e) }
+
 -- what the two simple checks give
 pub required : (test : Bool) (cause : Cause) (line : ℕ) → Gives (λ _. test ≡ true) (require test cause line)
 required true cause line = record { holds = λ _ _. refl }
