@@ -9,7 +9,7 @@ use Rattle.std.proofs.lemmas.Bool.{eqb-true, leb-true}
 use Rattle.trees.specs.declared.declaration.ScalarType.{ScalarType}
 use Rattle.trees.specs.declared.declaration.ScalarType.TheVariants.{Byte, Address}
 use Rattle.trees.specs.declared.identifier.Identifier.{Identifier}
-use Rattle.trees.specs.Trees.{ReferenceTree, ReferenceTo, MemberTree, NoMember, MemberOf, ArgumentTrees, NoArguments, MoreArguments}
+use Rattle.trees.specs.Trees.{StringTree, NumberConstant, StringConstant, ExpressionTree, ConstantLeaf, ReferenceLeaf, LocationLeaf, ListLeaf, ParenthesizedNode, AssignmentNode, UnaryNode, BinaryNode, ReferenceTree, ReferenceTo, MemberTree, NoMember, MemberOf, ArgumentTrees, NoArguments, MoreArguments}
 use Rattle.names.specs.declared.entity.Binding.{Binding}
 use Rattle.names.specs.declared.entity.Binding.TheVariants.{Declared, BuiltInName}
 use Rattle.names.specs.declared.entity.BuiltIn.{BuiltIn}
@@ -19,13 +19,18 @@ use Rattle.names.specs.declared.entity.Entity.TheVariants.{Object, Procedure}
 use Rattle.names.specs.BuiltIns.{binding_of, built_in_of, built_ins}
 use Rattle.names.specs.Environment.{Here, entity_of}
 use Rattle.typed_trees.specs.declared.parts.TypedMember.{TypedMember}
-use Rattle.typed_trees.specs.TypedTrees.{TypedExpression, Subscript, NoSubscript, At, TypedReference, TypedArguments, NoArguments as NoTyped, MoreArguments as MoreTyped, TypedObject, TypedModule, Constants}
+use Rattle.typed_trees.specs.declared.parts.ShiftFunction.{ShiftFunction}
+use Rattle.typed_trees.specs.declared.parts.UnaryFunction.{UnaryFunction}
+use Rattle.typed_trees.specs.TypedTrees.{TypedExpression, Subscript, NoSubscript, At, TypedReference, TypedArguments, NoArguments as NoTyped, MoreArguments as MoreTyped, TypedObject, TypedProcedure, TypedModule, Constants}
 use Rattle.typed_trees.specs.Sizes.{FoundMember, member_named, after_member, size_of_scalar, size_of_element}
 use Rattle.typed_trees.specs.ExpressionTypes.{type_of}
-use Rattle.types.specs.Nodes.{converted, as_type, arguments_as}
+use Rattle.types.specs.Nodes.{converted, as_type, arguments_as, type_of_shift}
 use Rattle.types.specs.declared.fault.Cause.TheVariants.{UnknownName, WrongUse, WrongConstant, ConstantWritten, NoLocation}
-use Rattle.types.specs.References.{Known, Given, GivenMember, WithoutMember, WithMember, GivenReference, line_of, number_of_arguments, count_of_given, bound, object_of, procedure_of, Extent, AnElement, AlsoTheWhole, takes_subscripts, subscript_of, members_of, scalar_of, FoundPart, whole_part, part_with_member, part_of, scalar_part}
-use Rattle.types.specs.Untyped.{untyped_expression, untyped_arguments, untyped_subscript, plain_expression, plain_arguments, plain_member, plain_reference, one_argument, named, untyped_reference, member_name, members_of_object}
+use Rattle.types.specs.References.{Known, Given, GivenMember, WithoutMember, WithMember, GivenReference, line_of, number_of_arguments, count_of_given, bound, object_of, procedure_of, Extent, AnElement, AlsoTheWhole, takes_subscripts, subscript_of, members_of, scalar_of, FoundPart, whole_part, part_with_member, part_of, scalar_part, without_member, port_of, port_of_character}
+use Rattle.types.specs.Functions.{call_arguments, call_of, function_of, unary_function, shift_of, shift_function, input_value}
+use Rattle.types.specs.internal.Tables.{Agrees, Grows, HasLists}
+use Rattle.types.specs.Constants.{number_of_characters}
+use Rattle.types.specs.Untyped.{untyped_expression, untyped_arguments, untyped_subscript, plain_expression, plain_arguments, plain_member, plain_reference, one_argument, named, nameless, number_in, number_leaf, call_tree, function_name, shift_name, measure_name, procedure_name, object_name, untyped_reference, member_name, members_of_object}
 use Rattle.types.proofs.Kept.{Gives, then_more, gives_ok, gives_fault, in_turn, required, is_found, Kept, kept_at, kept_more, kept_both}
 
 -- a conversion is taken away
@@ -257,3 +262,137 @@ scalar_part_back known number object given constants stands back =
     in_turn _ (part_back known number object AnElement given constants stands back) (λ part kept.
     in_turn _ (is_found part.0.scalar WrongUse (line_of given.name)) (λ scalar _.
     gives_ok _ _ kept))
+
+-- what a name is bound to
+is_bound : (known : Known) (name : Identifier)
+    → Gives (λ binding. binding_of known.here name.name ≡ Some binding) (bound known name)
+is_bound known name = is_found (binding_of known.here name.name) UnknownName (line_of name)
+
+abbrev Binds : Known → Identifier → Binding → Type 0
+Binds known name binding = binding_of known.here name.name ≡ Some binding
+
+-- an object that a name is bound to
+is_object : (known : Known) (name : Identifier) (number : ℕ)
+    → Binds known name (Declared (Object number))
+    → Gives (StandsFor known name.name number) (object_of known name number)
+is_object known name number e =
+    then_more _ (is_found (slice_get known.objects number) WrongUse (line_of name)) (λ object entry.
+    record { entity = bound_entity known.here name.name (Object number) e; entry = entry })
+
+-- a procedure that a name is bound to
+is_procedure : (known : Known) (name : Identifier) (number : ℕ)
+    → Binds known name (Declared (Procedure number))
+    → Gives (λ procedure. (tables : TypedModule) → Agrees tables known → procedure_name tables number ≡ name.name)
+    (procedure_of known name number)
+is_procedure known name number e =
+    then_more _ (is_found (slice_get known.procedures number) WrongUse (line_of name)) (λ procedure entry tables agrees.
+    agrees.1 name.name number procedure (bound_entity known.here name.name (Procedure number) e) entry)
+
+has_no_member : (member : GivenMember) → Gives (λ _. member ≡ WithoutMember) (without_member member)
+has_no_member WithoutMember = gives_ok _ tt refl
+has_no_member (WithMember name given) = gives_fault _ WrongUse (line_of name)
+
+-- what calls and built-in functions give back
+abbrev GivesReference : Known → GivenReference → Constants → TypedExpression × Constants → Type 0
+GivesReference known given before found =
+    Kept known before found.1 (λ tables. untyped_expression tables found.0 ≡ ReferenceLeaf (plain_given given))
+
+-- a reference with arguments alone
+plain_call : (given : GivenReference) (name : List ℕ) (values : ArgumentTrees)
+    → given.name.name ≡ name
+    → plain_arguments given.arguments.trees ≡ values
+    → given.member ≡ WithoutMember
+    → call_tree name values ≡ plain_given given
+unfolding plain_given plain_given_member
+plain_call given name values is are none =
+    ap (λ found. ReferenceTo (named found) values NoMember) (sym is)
+    ∙ ap (λ found. ReferenceTo (named given.name.name) found NoMember) (sym are)
+    ∙ ap (λ found. ReferenceTo (named given.name.name) (plain_arguments given.arguments.trees) (plain_given_member found)) (sym none)
+
+pub call_arguments_kept : (known : Known) (procedure : TypedProcedure) (line : ℕ) (given : Given) (constants : Constants)
+    → GivenBack known given
+    → Gives (GivesArguments known given constants) (call_arguments procedure line given constants)
+call_arguments_kept known procedure line given constants back =
+    in_turn _ (required (count_of_given given == length procedure.parameter_types) WrongUse line) (λ _ _.
+    in_turn _ (back constants) (λ typed kept.
+    gives_ok _ _ (kept_more _ kept (λ tables agrees is.
+    arguments_as_back tables procedure.parameter_types typed.0 ∙ is))))
+
+call_back : (known : Known) (number : ℕ) (procedure : TypedProcedure) (given : GivenReference) (constants : Constants)
+    → ((tables : TypedModule) → Agrees tables known → procedure_name tables number ≡ given.name.name)
+    → ReferenceBack known given
+    → Gives (GivesReference known given constants) (call_of number procedure given constants)
+call_back known number procedure given constants called back =
+    in_turn _ (is_found procedure.result WrongUse (line_of given.name)) (λ result _.
+    in_turn _ (call_arguments_kept known procedure (line_of given.name) given.arguments constants back.0) (λ typed kept.
+    in_turn _ (has_no_member given.member) (λ _ none.
+    gives_ok _ _ (kept_more _ kept (λ tables agrees is.
+    ap ReferenceLeaf (plain_call given _ _ (sym (called tables agrees)) (sym is) none))))))
+
+-- LOW, HIGH and DOUBLE
+function_back : (function : UnaryFunction) (line : ℕ) (typed : TypedArguments)
+    → Gives (λ node. (tables : TypedModule) → untyped_expression tables node
+    ≡ ReferenceLeaf (call_tree (function_name function) (untyped_arguments tables typed))) (function_of function line typed)
+function_back function line (MoreTyped operand NoTyped) = gives_ok _ _ (λ tables. refl)
+function_back function line NoTyped = gives_fault _ WrongUse line
+function_back function line (MoreTyped operand (MoreTyped second others)) = gives_fault _ WrongUse line
+
+unary_function_back : (known : Known) (function : UnaryFunction) (given : GivenReference) (constants : Constants)
+    → given.name.name ≡ function_name function
+    → ReferenceBack known given
+    → Gives (GivesReference known given constants) (unary_function function given constants)
+unary_function_back known function given constants called back =
+    in_turn _ (required (count_of_given given.arguments == 1) WrongUse (line_of given.name)) (λ _ _.
+    in_turn _ (back.0 constants) (λ typed kept.
+    in_turn _ (has_no_member given.member) (λ _ none.
+    in_turn _ (function_back function (line_of given.name) typed.0) (λ node made.
+    gives_ok _ _ (kept_more _ kept (λ tables agrees is.
+    made tables ∙ ap ReferenceLeaf (plain_call given _ _ called (sym is) none)))))))
+
+-- shifts and rotations
+shift_back : (function : ShiftFunction) (line : ℕ) (typed : TypedArguments)
+    → Gives (λ node. (tables : TypedModule) → untyped_expression tables node
+    ≡ ReferenceLeaf (call_tree (shift_name function) (untyped_arguments tables typed))) (shift_of function line typed)
+shift_back function line (MoreTyped value (MoreTyped count NoTyped)) = gives_ok _ _ (λ tables.
+    let one = as_type_back tables (type_of_shift function (type_of value)) value in
+    let other = as_type_back tables Byte count in
+    cc)
+shift_back function line typed = gives_fault _ WrongUse line
+
+shift_function_back : (known : Known) (function : ShiftFunction) (given : GivenReference) (constants : Constants)
+    → given.name.name ≡ shift_name function
+    → ReferenceBack known given
+    → Gives (GivesReference known given constants) (shift_function function given constants)
+shift_function_back known function given constants called back =
+    in_turn _ (required (count_of_given given.arguments == 2) WrongUse (line_of given.name)) (λ _ _.
+    in_turn _ (back.0 constants) (λ typed kept.
+    in_turn _ (has_no_member given.member) (λ _ none.
+    in_turn _ (shift_back function (line_of given.name) typed.0) (λ node made.
+    gives_ok _ _ (kept_more _ kept (λ tables agrees is.
+    made tables ∙ ap ReferenceLeaf (plain_call given _ _ called (sym is) none)))))))
+
+-- ports
+character_back : (line : ℕ) (string : StringTree)
+    → Gives (λ port. number_in (StringConstant string) ≡ port) (port_of_character line string.characters)
+character_back line string = go string.characters refl
+  where
+    go : (characters : List ℕ) → string.characters ≡ characters
+        → Gives (λ port. number_in (StringConstant string) ≡ port) (port_of_character line characters)
+    go (character ∷ []) e = gives_ok _ _ (ap (λ found. unwrap_or (number_of_characters found) 0) e)
+    go characters e = gives_fault _ WrongUse line
+
+port_back : (line : ℕ) (trees : ArgumentTrees)
+    → Gives (λ port. plain_arguments trees ≡ one_argument (number_leaf port)) (port_of line trees)
+port_back line (MoreArguments (ConstantLeaf (NumberConstant number)) NoArguments) =
+    in_turn _ (required (nat_le number.value 255) WrongConstant number.place.line) (λ _ _. gives_ok _ _ refl)
+port_back line (MoreArguments (ConstantLeaf (StringConstant string)) NoArguments) =
+    then_more _ (character_back line string) (λ port e. ap (λ found. one_argument (number_leaf found)) e)
+port_back line trees = gives_fault _ WrongUse line
+
+input_back : (known : Known) (given : GivenReference) (constants : Constants)
+    → given.name.name ≡ codes "INPUT"
+    → Gives (GivesReference known given constants) (input_value given constants)
+input_back known given constants called =
+    in_turn _ (port_back (line_of given.name) given.arguments.trees) (λ port is.
+    in_turn _ (has_no_member given.member) (λ _ none.
+    gives_ok _ _ (kept_at known constants _ (λ tables agrees. ap ReferenceLeaf (plain_call given _ _ called is none)))))
