@@ -21,17 +21,21 @@ use Rattle.names.specs.Environment.{Here, entity_of}
 use Rattle.typed_trees.specs.declared.parts.TypedMember.{TypedMember}
 use Rattle.typed_trees.specs.declared.parts.ShiftFunction.{ShiftFunction}
 use Rattle.typed_trees.specs.declared.parts.UnaryFunction.{UnaryFunction}
+use Rattle.typed_trees.specs.declared.parts.UnaryFunction.TheVariants as functions
+use Rattle.typed_trees.specs.declared.parts.ShiftFunction.TheVariants as shifts
+use Rattle.typed_trees.specs.declared.parts.Measure.TheVariants as measures
+use Rattle.typed_trees.specs.declared.parts.Measure.{Measure}
 use Rattle.typed_trees.specs.TypedTrees.{TypedExpression, Subscript, NoSubscript, At, TypedReference, TypedArguments, NoArguments as NoTyped, MoreArguments as MoreTyped, TypedObject, TypedProcedure, TypedModule, Constants}
 use Rattle.typed_trees.specs.Sizes.{FoundMember, member_named, after_member, size_of_scalar, size_of_element}
 use Rattle.typed_trees.specs.ExpressionTypes.{type_of}
-use Rattle.types.specs.Nodes.{converted, as_type, arguments_as, type_of_shift}
+use Rattle.types.specs.Nodes.{converted, as_type, arguments_as, type_of_shift, Destination, target_of}
 use Rattle.types.specs.declared.fault.Cause.TheVariants.{UnknownName, WrongUse, WrongConstant, ConstantWritten, NoLocation}
-use Rattle.types.specs.References.{Known, Given, GivenMember, WithoutMember, WithMember, GivenReference, line_of, number_of_arguments, count_of_given, bound, object_of, procedure_of, Extent, AnElement, AlsoTheWhole, takes_subscripts, subscript_of, members_of, scalar_of, FoundPart, whole_part, part_with_member, part_of, scalar_part, without_member, port_of, port_of_character}
-use Rattle.types.specs.Functions.{call_arguments, call_of, function_of, unary_function, shift_of, shift_function, input_value}
+use Rattle.types.specs.References.{Known, Given, GivenMember, WithoutMember, WithMember, GivenReference, line_of, number_of_arguments, count_of_given, bound, object_of, procedure_of, Extent, AnElement, AlsoTheWhole, takes_subscripts, subscript_of, members_of, scalar_of, FoundPart, whole_part, part_with_member, part_of, scalar_part, without_member, port_of, port_of_character, has_location, location_of_bound, location_of, is_writable, destination_of_bound, destination_of}
+use Rattle.types.specs.Functions.{call_arguments, call_of, function_of, unary_function, shift_of, shift_function, input_value, Measured, measured_member, measured_object, measure_of, measurement, number_of_variable, built_in_value, value_of_bound, value_of}
 use Rattle.types.specs.internal.Tables.{Agrees, Grows, HasLists}
 use Rattle.types.specs.Constants.{number_of_characters}
-use Rattle.types.specs.Untyped.{untyped_expression, untyped_arguments, untyped_subscript, plain_expression, plain_arguments, plain_member, plain_reference, one_argument, named, nameless, number_in, number_leaf, call_tree, function_name, shift_name, measure_name, procedure_name, object_name, untyped_reference, member_name, members_of_object}
-use Rattle.types.proofs.Kept.{Gives, then_more, gives_ok, gives_fault, in_turn, required, is_found, Kept, kept_at, kept_more, kept_both}
+use Rattle.types.specs.Untyped.{untyped_expression, untyped_arguments, untyped_subscript, plain_expression, plain_arguments, plain_member, plain_reference, one_argument, member_tree, untyped_target, named, nameless, number_in, number_leaf, call_tree, function_name, shift_name, measure_name, procedure_name, object_name, untyped_reference, member_name, members_of_object}
+use Rattle.types.proofs.Kept.{Gives, then_more, anything, gives_ok, gives_fault, in_turn, required, is_found, Kept, kept_at, kept_more, kept_both}
 
 -- a conversion is taken away
 converted_back : (tables : TypedModule) (to from : ScalarType) (typed : TypedExpression)
@@ -396,3 +400,170 @@ input_back known given constants called =
     in_turn _ (port_back (line_of given.name) given.arguments.trees) (λ port is.
     in_turn _ (has_no_member given.member) (λ _ none.
     gives_ok _ _ (kept_at known constants _ (λ tables agrees. ap ReferenceLeaf (plain_call given _ _ called is none)))))
+
+-- LENGTH, LAST and SIZE: the number of what is measured says which object or member that is
+abbrev measured_tree : TypedModule → Measured → ReferenceTree
+measured_tree tables measured =
+    ReferenceTo (named (object_name tables measured.object)) NoArguments
+    (member_tree tables measured.object measured.member NoArguments)
+
+abbrev GivesMeasured : Known → Identifier → MemberTree → Measured → Type 0
+GivesMeasured known name part measured =
+    (tables : TypedModule) → Agrees tables known
+    → measured_tree tables measured ≡ ReferenceTo (named name.name) NoArguments (plain_member part)
+
+measured_member_back : (known : Known) (name : Identifier) (number : ℕ) (object : TypedObject) (part : MemberTree)
+    → StandsFor known name.name number object
+    → Gives (GivesMeasured known name part) (measured_member number object part)
+unfolding name_at
+measured_member_back known name number object NoMember stands =
+    gives_ok _ _ (λ tables agrees.
+    let own = (agrees.0 name.name number object stands.entity stands.entry).0 in
+    cc)
+measured_member_back known name number object (MemberOf member NoArguments) stands =
+    in_turn _ (is_found (members_of object.object_type) WrongUse (line_of member)) (λ members are.
+    in_turn _ (is_found (member_named members member.name) UnknownName (line_of member)) (λ place at.
+    gives_ok _ _ (λ tables agrees.
+    let facts = agrees.0 name.name number object stands.entity stands.entry in
+    let own = facts.0 in
+    let same : members_of_object tables number ≡ members = facts.1 ∙ ap (λ found. unwrap_or found []) are in
+    let called : member_name tables number place.position ≡ member.name =
+        ap (λ all. name_at all place.position) same ∙ member_name_back members member.name place at in
+    cc)))
+measured_member_back known name number object (MemberOf member (MoreArguments first others)) stands =
+    gives_fault _ WrongUse (line_of member)
+
+measured_object_back : (known : Known) (binding : Binding) (name : Identifier) (part : MemberTree)
+    → Binds known name binding
+    → Gives (GivesMeasured known name part) (measured_object known binding name part)
+measured_object_back known (Declared (Object number)) name part bound_to =
+    in_turn _ (is_object known name number bound_to) (λ object stands.
+    measured_member_back known name number object part stands)
+measured_object_back known binding name part bound_to = gives_fault _ WrongUse (line_of name)
+
+measurement_back : (known : Known) (measure : Measure) (line : ℕ) (trees : ArgumentTrees)
+    → Gives (λ node. (tables : TypedModule) → Agrees tables known
+    → untyped_expression tables node ≡ ReferenceLeaf (call_tree (measure_name measure) (plain_arguments trees)))
+    (measurement known measure line trees)
+measurement_back known measure line (MoreArguments (ReferenceLeaf (ReferenceTo name NoArguments part)) NoArguments) =
+    in_turn _ (is_bound known name) (λ binding bound_to.
+    in_turn _ (measured_object_back known binding name part bound_to) (λ measured back.
+    in_turn _ (anything (measure_of measure measured (line_of name))) (λ value _.
+    gives_ok _ _ (λ tables agrees.
+    ap (λ tree. ReferenceLeaf (call_tree (measure_name measure) (one_argument (ReferenceLeaf tree)))) (back tables agrees)))))
+measurement_back known measure line trees = gives_fault _ WrongUse line
+
+variable_back : (known : Known) (measure : Measure) (given : GivenReference) (constants : Constants)
+    → given.name.name ≡ measure_name measure
+    → Gives (GivesReference known given constants) (number_of_variable known measure given constants)
+variable_back known measure given constants called =
+    in_turn _ (measurement_back known measure (line_of given.name) given.arguments.trees) (λ node back.
+    in_turn _ (has_no_member given.member) (λ _ none.
+    gives_ok _ _ (kept_at known constants _ (λ tables agrees.
+    back tables agrees ∙ ap ReferenceLeaf (plain_call given _ _ called refl none)))))
+
+-- the value of what a name is bound to
+built_in_back : (known : Known) (built_in : BuiltIn) (given : GivenReference) (constants : Constants)
+    → given.name.name ≡ spelled built_in
+    → ReferenceBack known given
+    → Gives (GivesReference known given constants) (built_in_value known built_in given constants)
+built_in_back known built_in_names.Input given constants called back = input_back known given constants called
+built_in_back known built_in_names.Output given constants called back =
+    gives_fault _ WrongUse (line_of given.name)
+built_in_back known built_in_names.Low given constants called back =
+    unary_function_back known functions.Low given constants called back
+built_in_back known built_in_names.High given constants called back =
+    unary_function_back known functions.High given constants called back
+built_in_back known built_in_names.Double given constants called back =
+    unary_function_back known functions.Double given constants called back
+built_in_back known built_in_names.Length given constants called back =
+    variable_back known measures.Length given constants called
+built_in_back known built_in_names.Last given constants called back =
+    variable_back known measures.Last given constants called
+built_in_back known built_in_names.Size given constants called back =
+    variable_back known measures.Size given constants called
+built_in_back known built_in_names.ShiftLeft given constants called back =
+    shift_function_back known shifts.ShiftLeft given constants called back
+built_in_back known built_in_names.ShiftRight given constants called back =
+    shift_function_back known shifts.ShiftRight given constants called back
+built_in_back known built_in_names.RotateLeft given constants called back =
+    shift_function_back known shifts.RotateLeft given constants called back
+built_in_back known built_in_names.RotateRight given constants called back =
+    shift_function_back known shifts.RotateRight given constants called back
+built_in_back known built_in_names.Move given constants called back =
+    gives_fault _ WrongUse (line_of given.name)
+
+bound_value_back : (known : Known) (binding : Binding) (given : GivenReference) (constants : Constants)
+    → Binds known given.name binding
+    → ReferenceBack known given
+    → Gives (GivesReference known given constants) (value_of_bound known binding given constants)
+bound_value_back known (Declared (Object number)) given constants bound_to back =
+    in_turn _ (is_object known given.name number bound_to) (λ object stands.
+    in_turn _ (scalar_part_back known number object given constants stands back) (λ part kept.
+    gives_ok _ _ (kept_more _ kept (λ tables agrees is. ap ReferenceLeaf is))))
+bound_value_back known (Declared (Procedure number)) given constants bound_to back =
+    in_turn _ (is_procedure known given.name number bound_to) (λ procedure called.
+    call_back known number procedure given constants called back)
+bound_value_back known (BuiltInName built_in) given constants bound_to back =
+    built_in_back known built_in given constants (bound_spelled known.here given.name.name built_in bound_to) back
+bound_value_back known binding given constants bound_to back = gives_fault _ WrongUse (line_of given.name)
+
+value_back : (known : Known) (given : GivenReference) (constants : Constants)
+    → ReferenceBack known given
+    → Gives (GivesReference known given constants) (value_of known given constants)
+value_back known given constants back =
+    in_turn _ (is_bound known given.name) (λ binding bound_to.
+    bound_value_back known binding given constants bound_to back)
+
+-- where what a name is bound to lies
+abbrev GivesLocation : Known → GivenReference → Constants → TypedExpression × Constants → Type 0
+GivesLocation known given before found =
+    Kept known before found.1 (λ tables. untyped_expression tables found.0 ≡ LocationLeaf (plain_given given))
+
+bound_location_back : (known : Known) (binding : Binding) (given : GivenReference) (constants : Constants)
+    → Binds known given.name binding
+    → ReferenceBack known given
+    → Gives (GivesLocation known given constants) (location_of_bound known binding given constants)
+bound_location_back known (Declared (Object number)) given constants bound_to back =
+    in_turn _ (is_object known given.name number bound_to) (λ object stands.
+    in_turn _ (required (has_location object.home) NoLocation (line_of given.name)) (λ _ _.
+    in_turn _ (part_back known number object AlsoTheWhole given constants stands back) (λ part kept.
+    gives_ok _ _ (kept_more _ kept (λ tables agrees is. ap LocationLeaf is)))))
+bound_location_back known (Declared (Procedure number)) given constants bound_to back =
+    gives_fault _ NoLocation (line_of given.name)
+bound_location_back known binding given constants bound_to back = gives_fault _ WrongUse (line_of given.name)
+
+location_back : (known : Known) (given : GivenReference) (constants : Constants)
+    → ReferenceBack known given
+    → Gives (GivesLocation known given constants) (location_of known given constants)
+location_back known given constants back =
+    in_turn _ (is_bound known given.name) (λ binding bound_to.
+    bound_location_back known binding given constants bound_to back)
+
+-- what a value goes to
+abbrev GivesTarget : Known → GivenReference → Constants → Destination × Constants → Type 0
+GivesTarget known given before found =
+    Kept known before found.1 (λ tables. (from : ScalarType) → untyped_target tables (target_of found.0 from) ≡ plain_given given)
+
+bound_target_back : (known : Known) (binding : Binding) (given : GivenReference) (constants : Constants)
+    → Binds known given.name binding
+    → ReferenceBack known given
+    → Gives (GivesTarget known given constants) (destination_of_bound known binding given constants)
+bound_target_back known (Declared (Object number)) given constants bound_to back =
+    in_turn _ (is_object known given.name number bound_to) (λ object stands.
+    in_turn _ (anything (is_writable object given.name)) (λ _ _.
+    in_turn _ (scalar_part_back known number object given constants stands back) (λ part kept.
+    gives_ok _ _ (kept_more _ kept (λ tables agrees is from. is)))))
+bound_target_back known (BuiltInName built_in_names.Output) given constants bound_to back =
+    in_turn _ (port_back (line_of given.name) given.arguments.trees) (λ port is.
+    in_turn _ (has_no_member given.member) (λ _ none.
+    gives_ok _ _ (kept_at known constants _ (λ tables agrees from.
+    plain_call given _ _ (bound_spelled known.here given.name.name built_in_names.Output bound_to) is none))))
+bound_target_back known binding given constants bound_to back = gives_fault _ WrongUse (line_of given.name)
+
+target_back : (known : Known) (given : GivenReference) (constants : Constants)
+    → ReferenceBack known given
+    → Gives (GivesTarget known given constants) (destination_of known given constants)
+target_back known given constants back =
+    in_turn _ (is_bound known given.name) (λ binding bound_to.
+    bound_target_back known binding given constants bound_to back)

@@ -29,6 +29,9 @@ in_turn {P = P} {Q = Q} {result = result} next is then_is =
     go (Ok a) first b e = (then_is a (first a refl)).holds b e
     go (Err fault) first b e = absurd cc
 
+pub anything : {A : Type 0} (result : Checked A) → Gives (λ a. result ≡ Ok a) result
+anything result = record { holds = λ a e. e }
+
 -- what holds as well of all that a check gives
 pub then_more : {A : Type 0} {P : A → Type 0} (Q : A → Type 0) {result : Checked A}
     → Gives P result
