@@ -1,5 +1,5 @@
 -- Taking the conversions away from a typed expression gives back the tree that it was typed from.
-use Rattle.std.proofs.Common.{◌≡◌, ◌⊎◌, inl, inr, ℕ, zero, suc, ◌≤◌, ◌<◌, ◌==◌, Bool, true, false, List, [], ◌∷◌, length, Option, Some, None, Ok, Err, nat_le, refl, sym, ap, subst, ◌∙◌, arith}
+use Rattle.std.proofs.Common.{◌≡◌, ◌⊎◌, inl, inr, ℕ, zero, suc, ◌≤◌, ◌<◌, ◌==◌, Bool, true, false, List, [], ◌∷◌, ◌++◌, length, Option, Some, None, Ok, Err, nat_le, refl, sym, ap, subst, ◌∙◌, arith}
 use Rattle.std.specs.Prelude.{unwrap_or, slice_get, codes, if◌then◌else◌}
 use Rattle.std.specs.Option.{option_or, option_map, option_map_or}
 use Rattle.std.specs.Map.{lookup}
@@ -9,7 +9,7 @@ use Rattle.std.proofs.lemmas.Bool.{eqb-true, leb-true}
 use Rattle.trees.specs.declared.declaration.ScalarType.{ScalarType}
 use Rattle.trees.specs.declared.declaration.ScalarType.TheVariants.{Byte, Address}
 use Rattle.trees.specs.declared.identifier.Identifier.{Identifier}
-use Rattle.trees.specs.Trees.{StringTree, NumberConstant, StringConstant, ExpressionTree, ConstantLeaf, ReferenceLeaf, LocationLeaf, ListLeaf, ParenthesizedNode, AssignmentNode, UnaryNode, BinaryNode, ReferenceTree, ReferenceTo, MemberTree, NoMember, MemberOf, ArgumentTrees, NoArguments, MoreArguments}
+use Rattle.trees.specs.Trees.{StringTree, ConstantTree, NumberConstant, StringConstant, ExpressionTree, ConstantLeaf, ReferenceLeaf, LocationLeaf, ListLeaf, ParenthesizedNode, AssignmentNode, UnaryNode, BinaryNode, ReferenceTree, ReferenceTo, MemberTree, NoMember, MemberOf, ArgumentTrees, NoArguments, MoreArguments}
 use Rattle.names.specs.declared.entity.Binding.{Binding}
 use Rattle.names.specs.declared.entity.Binding.TheVariants.{Declared, BuiltInName}
 use Rattle.names.specs.declared.entity.BuiltIn.{BuiltIn}
@@ -25,16 +25,17 @@ use Rattle.typed_trees.specs.declared.parts.UnaryFunction.TheVariants as functio
 use Rattle.typed_trees.specs.declared.parts.ShiftFunction.TheVariants as shifts
 use Rattle.typed_trees.specs.declared.parts.Measure.TheVariants as measures
 use Rattle.typed_trees.specs.declared.parts.Measure.{Measure}
-use Rattle.typed_trees.specs.TypedTrees.{TypedExpression, Subscript, NoSubscript, At, TypedReference, TypedArguments, NoArguments as NoTyped, MoreArguments as MoreTyped, TypedObject, TypedProcedure, TypedModule, Constants}
+use Rattle.typed_trees.specs.TypedTrees.{TypedExpression, ListNode, Subscript, NoSubscript, At, TypedReference, TypedArguments, NoArguments as NoTyped, MoreArguments as MoreTyped, TypedObject, TypedProcedure, TypedModule, Constants}
 use Rattle.typed_trees.specs.Sizes.{FoundMember, member_named, after_member, size_of_scalar, size_of_element}
 use Rattle.typed_trees.specs.ExpressionTypes.{type_of}
-use Rattle.types.specs.Nodes.{converted, as_type, arguments_as, type_of_shift, Destination, target_of}
+use Rattle.types.specs.Nodes.{converted, as_type, arguments_as, type_of_shift, type_of_operands, Destination, target_of}
 use Rattle.types.specs.declared.fault.Cause.TheVariants.{UnknownName, WrongUse, WrongConstant, ConstantWritten, NoLocation}
 use Rattle.types.specs.References.{Known, Given, GivenMember, WithoutMember, WithMember, GivenReference, line_of, number_of_arguments, count_of_given, bound, object_of, procedure_of, Extent, AnElement, AlsoTheWhole, takes_subscripts, subscript_of, members_of, scalar_of, FoundPart, whole_part, part_with_member, part_of, scalar_part, without_member, port_of, port_of_character, has_location, location_of_bound, location_of, is_writable, destination_of_bound, destination_of}
 use Rattle.types.specs.Functions.{call_arguments, call_of, function_of, unary_function, shift_of, shift_function, input_value, Measured, measured_member, measured_object, measure_of, measurement, number_of_variable, built_in_value, value_of_bound, value_of}
 use Rattle.types.specs.internal.Tables.{Agrees, Grows, HasLists}
-use Rattle.types.specs.Constants.{number_of_characters}
-use Rattle.types.specs.Untyped.{untyped_expression, untyped_arguments, untyped_subscript, plain_expression, plain_arguments, plain_member, plain_reference, one_argument, member_tree, untyped_target, named, nameless, number_in, number_leaf, call_tree, function_name, shift_name, measure_name, procedure_name, object_name, untyped_reference, member_name, members_of_object}
+use Rattle.types.specs.Constants.{number_of_characters, bytes_of_constants}
+use Rattle.types.specs.Expressions.{number_node, with_list, expression, given_reference, given_member, arguments}
+use Rattle.types.specs.Untyped.{untyped_expression, untyped_arguments, untyped_subscript, plain_expression, plain_arguments, plain_member, plain_reference, one_argument, byte_list, member_tree, untyped_target, named, nameless, number_in, number_leaf, call_tree, function_name, shift_name, measure_name, procedure_name, object_name, untyped_reference, member_name, members_of_object}
 use Rattle.types.proofs.Kept.{Gives, then_more, anything, gives_ok, gives_fault, in_turn, required, is_found, Kept, kept_at, kept_more, kept_both}
 
 -- a conversion is taken away
@@ -567,3 +568,96 @@ target_back : (known : Known) (given : GivenReference) (constants : Constants)
 target_back known given constants back =
     in_turn _ (is_bound known given.name) (λ binding bound_to.
     bound_target_back known binding given constants bound_to back)
+
+-- a reference of the text, as it is given
+plain_member_given : (known : Known) (part : MemberTree) → plain_given_member (given_member known part) ≡ plain_member part
+unfolding plain_given_member
+plain_member_given known NoMember = refl
+plain_member_given known (MemberOf name trees) = refl
+
+plain_reference_given : (known : Known) (reference : ReferenceTree)
+    → plain_given (given_reference known reference) ≡ plain_reference reference
+unfolding plain_given
+plain_reference_given known (ReferenceTo name trees part) =
+    ap (λ found. ReferenceTo (named name.name) (plain_arguments trees) found) (plain_member_given known part)
+
+-- constants and constant lists
+constant_back : (constant : ConstantTree)
+    → Gives (λ node. (tables : TypedModule) → untyped_expression tables node ≡ number_leaf (number_in constant)) (number_node constant)
+constant_back (NumberConstant number) = gives_ok _ _ (λ tables. refl)
+constant_back (StringConstant string) =
+    in_turn _ (is_found (number_of_characters string.characters) WrongConstant string.place.line) (λ number e.
+    gives_ok _ _ (λ tables. ap (λ found. number_leaf (unwrap_or found 0)) (sym e)))
+
+kept_in_front : {A : Type 0} (all more : List A) (number : ℕ) (a : A)
+    → slice_get all number ≡ Some a
+    → slice_get (all ++ more) number ≡ Some a
+kept_in_front [] more number a e = absurd cc
+kept_in_front (first ∷ others) more zero a e = e
+kept_in_front (first ∷ others) more (suc number) a e = kept_in_front others more number a e
+
+at_the_end : {A : Type 0} (all : List A) (a : A) → slice_get (all ++ a ∷ []) (length all) ≡ Some a
+at_the_end [] a = refl
+at_the_end (first ∷ others) a = at_the_end others a
+
+abbrev GivesExpression : Known → ExpressionTree → Constants → TypedExpression × Constants → Type 0
+GivesExpression known tree before found =
+    Kept known before found.1 (λ tables. untyped_expression tables found.0 ≡ plain_expression tree)
+
+list_kept : (known : Known) (list : List ConstantTree) (constants : Constants)
+    → GivesExpression known (ListLeaf list) constants (ListNode (length constants.lists), with_list list constants)
+list_kept known list constants = record {
+  grows = λ number bytes e. kept_in_front constants.lists (bytes_of_constants list ∷ []) number bytes e;
+  says = λ tables agrees has.
+      ap (λ found. byte_list (unwrap_or found []))
+      (has (length constants.lists) (bytes_of_constants list) (at_the_end constants.lists (bytes_of_constants list)));
+}
+
+mutual
+  pub expression_kept : (known : Known) (tree : ExpressionTree) (constants : Constants)
+      → Gives (GivesExpression known tree constants) (expression known tree constants)
+  expression_kept known (ConstantLeaf constant) constants =
+      in_turn _ (constant_back constant) (λ node is.
+      gives_ok _ _ (kept_at known constants _ (λ tables agrees. is tables)))
+  expression_kept known (ReferenceLeaf reference) constants =
+      then_more _ (value_back known (given_reference known reference) constants (reference_kept known reference)) (λ found kept.
+      kept_more _ kept (λ tables agrees is. is ∙ ap ReferenceLeaf (plain_reference_given known reference)))
+  expression_kept known (LocationLeaf reference) constants =
+      then_more _ (location_back known (given_reference known reference) constants (reference_kept known reference)) (λ found kept.
+      kept_more _ kept (λ tables agrees is. is ∙ ap LocationLeaf (plain_reference_given known reference)))
+  expression_kept known (ListLeaf list) constants = gives_ok _ _ (list_kept known list constants)
+  expression_kept known (ParenthesizedNode inner) constants = expression_kept known inner constants
+  expression_kept known (AssignmentNode target value) constants =
+      in_turn _ (target_back known (given_reference known target) constants (reference_kept known target)) (λ destination kept.
+      in_turn _ (expression_kept known value destination.1) (λ typed more.
+      gives_ok _ _ (kept_both _ kept more (λ tables agrees to is.
+      let there : untyped_target tables (target_of destination.0 (type_of typed.0)) ≡ plain_reference target =
+          to (type_of typed.0) ∙ plain_reference_given known target in
+      cc))))
+  expression_kept known (UnaryNode operator operand) constants =
+      in_turn _ (expression_kept known operand constants) (λ typed kept.
+      gives_ok _ _ (kept_more _ kept (λ tables agrees is. ap (UnaryNode operator) is)))
+  expression_kept known (BinaryNode operator left right) constants =
+      in_turn _ (expression_kept known left constants) (λ first kept.
+      in_turn _ (expression_kept known right first.1) (λ second more.
+      gives_ok _ _ (kept_both _ kept more (λ tables agrees one other.
+      let scalar = type_of_operands operator (type_of first.0) (type_of second.0) in
+      let one_more = as_type_back tables scalar first.0 in
+      let other_more = as_type_back tables scalar second.0 in
+      cc))))
+
+  pub reference_kept : (known : Known) (reference : ReferenceTree) → ReferenceBack known (given_reference known reference)
+  reference_kept known (ReferenceTo name trees part) = (arguments_kept known trees, member_kept known part)
+
+  member_kept : (known : Known) (part : MemberTree) → MemberBack known (given_member known part)
+  member_kept known NoMember = tt
+  member_kept known (MemberOf name trees) = arguments_kept known trees
+
+  pub arguments_kept : (known : Known) (trees : ArgumentTrees) (constants : Constants)
+      → Gives (λ (found : TypedArguments × Constants). Kept known constants found.1 (λ tables. untyped_arguments tables found.0 ≡ plain_arguments trees))
+      (arguments known trees constants)
+  arguments_kept known NoArguments constants = gives_ok _ _ (kept_at known constants _ (λ tables agrees. refl))
+  arguments_kept known (MoreArguments first others) constants =
+      in_turn _ (expression_kept known first constants) (λ typed kept.
+      in_turn _ (arguments_kept known others typed.1) (λ rest more.
+      gives_ok _ _ (kept_both _ kept more (λ tables agrees one other. cc))))
