@@ -1,6 +1,6 @@
 -- Taking the conversions away from a typed expression gives back the tree that it was typed from.
 use Rattle.std.proofs.Common.{◌≡◌, ◌⊎◌, inl, inr, ℕ, zero, suc, ◌≤◌, ◌<◌, ◌==◌, Bool, true, false, List, [], ◌∷◌, ◌++◌, length, Option, Some, None, Ok, Err, nat_le, refl, sym, ap, subst, ◌∙◌, arith}
-use Rattle.std.specs.Prelude.{unwrap_or, slice_get, codes, if◌then◌else◌}
+use Rattle.std.specs.Prelude.{unwrap_or, slice_get, codes, ◌&&◌, is_none, if◌then◌else◌}
 use Rattle.std.specs.Option.{option_or, option_map, option_map_or}
 use Rattle.std.specs.Map.{lookup}
 use Rattle.std.specs.Str.{bytes_eq}
@@ -32,6 +32,9 @@ use Rattle.types.specs.Nodes.{converted, as_type, arguments_as, type_of_shift, t
 use Rattle.types.specs.declared.fault.Cause.TheVariants.{UnknownName, WrongUse, WrongConstant, ConstantWritten, NoLocation}
 use Rattle.types.specs.References.{Known, Given, GivenMember, WithoutMember, WithMember, GivenReference, line_of, number_of_arguments, count_of_given, bound, object_of, procedure_of, Extent, AnElement, AlsoTheWhole, takes_subscripts, subscript_of, members_of, scalar_of, FoundPart, whole_part, part_with_member, part_of, scalar_part, without_member, port_of, port_of_character, has_location, location_of_bound, location_of, is_writable, destination_of_bound, destination_of}
 use Rattle.types.specs.Functions.{call_arguments, call_of, function_of, unary_function, shift_of, shift_function, input_value, Measured, measured_member, measured_object, measure_of, measurement, number_of_variable, built_in_value, value_of_bound, value_of}
+use Rattle.types.specs.Checks.{require}
+use Rattle.types.specs.Items.{is_not_based}
+use Rattle.types.specs.Statements.{Counter, counter_bound}
 use Rattle.types.specs.internal.Tables.{Agrees, Grows, HasLists}
 use Rattle.types.specs.Constants.{number_of_characters, bytes_of_constants}
 use Rattle.types.specs.Expressions.{number_node, with_list, expression, given_reference, given_member, arguments}
@@ -661,3 +664,124 @@ mutual
       in_turn _ (expression_kept known first constants) (λ typed kept.
       in_turn _ (arguments_kept known others typed.1) (λ rest more.
       gives_ok _ _ (kept_both _ kept more (λ tables agrees one other. cc))))
+
+-- expressions, arguments and targets that are typed give back their trees
+pub expression_back : (tables : TypedModule) (known : Known)
+    → Agrees tables known
+    → (tree : ExpressionTree) (constants : Constants) (typed : TypedExpression) (after : Constants)
+    → expression known tree constants ≡ Ok (typed, after)
+    → HasLists tables after
+    → untyped_expression tables typed ≡ plain_expression tree
+expression_back tables known agrees tree constants typed after e has =
+    ((expression_kept known tree constants).holds (typed, after) e).says tables agrees has
+
+pub arguments_back : (tables : TypedModule) (known : Known)
+    → Agrees tables known
+    → (trees : ArgumentTrees) (constants : Constants) (typed : TypedArguments) (after : Constants)
+    → arguments known trees constants ≡ Ok (typed, after)
+    → HasLists tables after
+    → untyped_arguments tables typed ≡ plain_arguments trees
+arguments_back tables known agrees trees constants typed after e has =
+    ((arguments_kept known trees constants).holds (typed, after) e).says tables agrees has
+
+target_kept : (known : Known) (reference : ReferenceTree) (constants : Constants)
+    → Gives (GivesTarget known (given_reference known reference) constants)
+    (destination_of known (given_reference known reference) constants)
+target_kept known reference constants =
+    target_back known (given_reference known reference) constants (reference_kept known reference)
+
+pub destination_back : (tables : TypedModule) (known : Known)
+    → Agrees tables known
+    → (reference : ReferenceTree) (constants : Constants) (destination : Destination) (after : Constants)
+    → destination_of known (given_reference known reference) constants ≡ Ok (destination, after)
+    → HasLists tables after
+    → (from : ScalarType) → untyped_target tables (target_of destination from) ≡ plain_reference reference
+destination_back tables known agrees reference constants destination after e has from =
+    ((target_kept known reference constants).holds (destination, after) e).says tables agrees has from
+    ∙ plain_reference_given known reference
+
+-- the arguments of a call of an untyped procedure
+abbrev pub given_arguments : Known → ArgumentTrees → Given
+given_arguments known trees = record { trees = trees; typed = arguments known trees }
+
+call_kept : (known : Known) (procedure : TypedProcedure) (line : ℕ) (trees : ArgumentTrees) (constants : Constants)
+    → Gives (GivesArguments known (given_arguments known trees) constants)
+    (call_arguments procedure line (given_arguments known trees) constants)
+call_kept known procedure line trees constants =
+    call_arguments_kept known procedure line (given_arguments known trees) constants (arguments_kept known trees)
+
+pub call_arguments_back : (tables : TypedModule) (known : Known)
+    → Agrees tables known
+    → (procedure : TypedProcedure) (line : ℕ) (trees : ArgumentTrees) (constants : Constants)
+    (typed : TypedArguments) (after : Constants)
+    → call_arguments procedure line (given_arguments known trees) constants ≡ Ok (typed, after)
+    → HasLists tables after
+    → untyped_arguments tables typed ≡ plain_arguments trees
+call_arguments_back tables known agrees procedure line trees constants typed after e has =
+    ((call_kept known procedure line trees constants).holds (typed, after) e).says tables agrees has
+
+-- constant lists keep their numbers
+pub expression_grows : (known : Known) (tree : ExpressionTree) (constants : Constants)
+    (typed : TypedExpression) (after : Constants)
+    → expression known tree constants ≡ Ok (typed, after)
+    → Grows constants after
+expression_grows known tree constants typed after e =
+    ((expression_kept known tree constants).holds (typed, after) e).grows
+
+pub arguments_grow : (known : Known) (trees : ArgumentTrees) (constants : Constants)
+    (typed : TypedArguments) (after : Constants)
+    → arguments known trees constants ≡ Ok (typed, after)
+    → Grows constants after
+arguments_grow known trees constants typed after e =
+    ((arguments_kept known trees constants).holds (typed, after) e).grows
+
+pub destination_grows : (known : Known) (reference : ReferenceTree) (constants : Constants)
+    (destination : Destination) (after : Constants)
+    → destination_of known (given_reference known reference) constants ≡ Ok (destination, after)
+    → Grows constants after
+destination_grows known reference constants destination after e =
+    ((target_kept known reference constants).holds (destination, after) e).grows
+
+pub call_arguments_grow : (known : Known) (procedure : TypedProcedure) (line : ℕ) (trees : ArgumentTrees)
+    (constants : Constants) (typed : TypedArguments) (after : Constants)
+    → call_arguments procedure line (given_arguments known trees) constants ≡ Ok (typed, after)
+    → Grows constants after
+call_arguments_grow known procedure line trees constants typed after e =
+    ((call_kept known procedure line trees constants).holds (typed, after) e).grows
+
+-- the variable of an iterative DO, a procedure that is called, and MOVE have the names in the text
+counter_named : (known : Known) (binding : Binding) (name : Identifier)
+    → Binds known name binding
+    → Gives (λ (counter : Counter). (tables : TypedModule) → Agrees tables known
+    → object_name tables counter.object ≡ name.name) (counter_bound known binding name)
+counter_named known (Declared (Object number)) name bound_to =
+    in_turn _ (is_object known name number bound_to) (λ object stands.
+    in_turn _ (anything (is_writable object name)) (λ _ _.
+    in_turn _ (anything (require (is_none object.dimension && is_not_based object.home) WrongUse (line_of name))) (λ _ _.
+    in_turn _ (is_found (scalar_of object.object_type) WrongUse (line_of name)) (λ scalar _.
+    gives_ok _ _ (λ tables agrees. (agrees.0 name.name number object stands.entity stands.entry).0)))))
+counter_named known binding name bound_to = gives_fault _ WrongUse (line_of name)
+
+pub counter_back : (tables : TypedModule) (known : Known)
+    → Agrees tables known
+    → (binding : Binding) (name : Identifier) (counter : Counter)
+    → bound known name ≡ Ok binding
+    → counter_bound known binding name ≡ Ok counter
+    → object_name tables counter.object ≡ name.name
+counter_back tables known agrees binding name counter bound_to e =
+    (counter_named known binding name ((is_bound known name).holds binding bound_to)).holds counter e tables agrees
+
+pub procedure_back : (tables : TypedModule) (known : Known)
+    → Agrees tables known
+    → (name : Identifier) (number : ℕ) (procedure : TypedProcedure)
+    → bound known name ≡ Ok (Declared (Procedure number))
+    → procedure_of known name number ≡ Ok procedure
+    → procedure_name tables number ≡ name.name
+procedure_back tables known agrees name number procedure bound_to e =
+    (is_procedure known name number ((is_bound known name).holds _ bound_to)).holds procedure e tables agrees
+
+pub move_back : (known : Known) (name : Identifier)
+    → bound known name ≡ Ok (BuiltInName built_in_names.Move)
+    → name.name ≡ codes "MOVE"
+move_back known name bound_to =
+    bound_spelled known.here name.name built_in_names.Move ((is_bound known name).holds _ bound_to)
