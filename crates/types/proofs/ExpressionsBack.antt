@@ -1,5 +1,5 @@
 -- Taking the conversions away from a typed expression gives back the tree that it was typed from.
-use Rattle.std.proofs.Common.{◌≡◌, ◌⊎◌, inl, inr, ℕ, zero, suc, ◌≤◌, ◌<◌, ◌==◌, Bool, true, false, List, [], ◌∷◌, ◌++◌, length, Option, Some, None, Ok, Err, nat_le, refl, sym, ap, subst, ◌∙◌, arith}
+use Rattle.std.proofs.Common.{◌≡◌, ℕ, zero, suc, ◌==◌, Bool, true, false, List, [], ◌∷◌, ◌++◌, length, Option, Some, None, Ok, nat_le, refl, sym, ap, subst, ◌∙◌, arith}
 use Rattle.std.specs.Prelude.{unwrap_or, slice_get, codes, ◌&&◌, is_none, if◌then◌else◌}
 use Rattle.std.specs.Option.{option_or, option_map, option_map_or}
 use Rattle.std.specs.Map.{lookup}
@@ -25,12 +25,12 @@ use Rattle.typed_trees.specs.declared.parts.UnaryFunction.TheVariants as functio
 use Rattle.typed_trees.specs.declared.parts.ShiftFunction.TheVariants as shifts
 use Rattle.typed_trees.specs.declared.parts.Measure.TheVariants as measures
 use Rattle.typed_trees.specs.declared.parts.Measure.{Measure}
-use Rattle.typed_trees.specs.TypedTrees.{TypedExpression, ListNode, Subscript, NoSubscript, At, TypedReference, TypedArguments, NoArguments as NoTyped, MoreArguments as MoreTyped, TypedObject, TypedProcedure, TypedModule, Constants}
+use Rattle.typed_trees.specs.TypedTrees.{TypedExpression, ListNode, Subscript, TypedReference, TypedArguments, NoArguments as NoTyped, MoreArguments as MoreTyped, TypedObject, TypedProcedure, TypedModule, Constants}
 use Rattle.typed_trees.specs.Sizes.{FoundMember, member_named, after_member, size_of_scalar, size_of_element}
 use Rattle.typed_trees.specs.ExpressionTypes.{type_of}
 use Rattle.types.specs.Nodes.{converted, as_type, arguments_as, type_of_shift, type_of_operands, Destination, target_of}
-use Rattle.types.specs.declared.fault.Cause.TheVariants.{UnknownName, WrongUse, WrongConstant, ConstantWritten, NoLocation}
-use Rattle.types.specs.References.{Known, Given, GivenMember, WithoutMember, WithMember, GivenReference, line_of, number_of_arguments, count_of_given, bound, object_of, procedure_of, Extent, AnElement, AlsoTheWhole, takes_subscripts, subscript_of, members_of, scalar_of, FoundPart, whole_part, part_with_member, part_of, scalar_part, without_member, port_of, port_of_character, has_location, location_of_bound, location_of, is_writable, destination_of_bound, destination_of}
+use Rattle.types.specs.declared.fault.Cause.TheVariants.{UnknownName, WrongUse, WrongConstant, NoLocation}
+use Rattle.types.specs.References.{Known, Given, GivenMember, WithoutMember, WithMember, GivenReference, line_of, number_of_arguments, count_of_given, bound, object_of, procedure_of, Extent, AnElement, AlsoTheWhole, takes_subscripts, subscript_of, members_of, scalar_of, FoundPart, part_with_member, part_of, scalar_part, without_member, port_of, port_of_character, has_location, location_of_bound, location_of, is_writable, destination_of_bound, destination_of}
 use Rattle.types.specs.Functions.{call_arguments, call_of, function_of, unary_function, shift_of, shift_function, input_value, Measured, measured_member, measured_object, measure_of, measurement, number_of_variable, built_in_value, value_of_bound, value_of}
 use Rattle.types.specs.Checks.{require}
 use Rattle.types.specs.Items.{is_not_based}
@@ -38,7 +38,7 @@ use Rattle.types.specs.Statements.{Counter, counter_bound}
 use Rattle.types.specs.internal.Tables.{Agrees, Grows, HasLists}
 use Rattle.types.specs.Constants.{number_of_characters, bytes_of_constants}
 use Rattle.types.specs.Expressions.{number_node, with_list, expression, given_reference, given_member, arguments}
-use Rattle.types.specs.Untyped.{untyped_expression, untyped_arguments, untyped_subscript, plain_expression, plain_arguments, plain_member, plain_reference, one_argument, byte_list, member_tree, untyped_target, named, nameless, number_in, number_leaf, call_tree, function_name, shift_name, measure_name, procedure_name, object_name, untyped_reference, member_name, members_of_object}
+use Rattle.types.specs.Untyped.{untyped_expression, untyped_arguments, untyped_subscript, plain_expression, plain_arguments, plain_member, plain_reference, one_argument, byte_list, member_tree, untyped_target, named, number_in, number_leaf, call_tree, function_name, shift_name, measure_name, procedure_name, object_name, untyped_reference, member_name, members_of_object}
 use Rattle.types.proofs.Kept.{Gives, then_more, anything, gives_ok, gives_fault, in_turn, required, is_found, Kept, kept_at, kept_more, kept_both}
 
 -- a conversion is taken away
@@ -243,7 +243,7 @@ part_with_member_back known number object element extent name values (WithMember
     let own = facts.0 in
     let same : members_of_object tables number ≡ members = facts.1 ∙ ap (λ found. unwrap_or found []) are in
     let called : member_name tables number place.position ≡ member.name =
-        ap (λ all. name_at all place.position) same ∙ member_name_back members member.name place at in
+    ap (λ all. name_at all place.position) same ∙ member_name_back members member.name place at in
     let index = subscript_back tables extent (size_of_scalar place.member.scalar) place.member.dimension given.trees typed.0 fits values_back in
     cc))))))
 
@@ -432,7 +432,7 @@ measured_member_back known name number object (MemberOf member NoArguments) stan
     let own = facts.0 in
     let same : members_of_object tables number ≡ members = facts.1 ∙ ap (λ found. unwrap_or found []) are in
     let called : member_name tables number place.position ≡ member.name =
-        ap (λ all. name_at all place.position) same ∙ member_name_back members member.name place at in
+    ap (λ all. name_at all place.position) same ∙ member_name_back members member.name place at in
     cc)))
 measured_member_back known name number object (MemberOf member (MoreArguments first others)) stands =
     gives_fault _ WrongUse (line_of member)
@@ -635,7 +635,7 @@ mutual
       in_turn _ (expression_kept known value destination.1) (λ typed more.
       gives_ok _ _ (kept_both _ kept more (λ tables agrees to is.
       let there : untyped_target tables (target_of destination.0 (type_of typed.0)) ≡ plain_reference target =
-          to (type_of typed.0) ∙ plain_reference_given known target in
+      to (type_of typed.0) ∙ plain_reference_given known target in
       cc))))
   expression_kept known (UnaryNode operator operand) constants =
       in_turn _ (expression_kept known operand constants) (λ typed kept.

@@ -1,5 +1,5 @@
 -- What holds of all that a check gives, and what is kept from one typing to the next.
-use Rattle.std.proofs.Common.{◌≡◌, Bool, true, false, Option, Some, None, Ok, Err, refl, sym, subst}
+use Rattle.std.proofs.Common.{◌≡◌, Bool, true, false, Option, Some, None, Ok, Err, refl, subst}
 use Rattle.types.specs.declared.fault.Cause.{Cause}
 use Rattle.std.specs.Prelude.{ℕ}
 use Rattle.typed_trees.specs.TypedTrees.{TypedModule, Constants}
