@@ -230,15 +230,15 @@ part_with_member_back : (known : Known) (number : ℕ) (object : TypedObject) (e
     (part_with_member number object.object_type element extent part constants)
 unfolding plain_given plain_given_member name_at
 part_with_member_back known number object element extent name values WithoutMember constants stands back =
-    gives_ok _ _ (kept_at known constants _ (λ tables agrees is.
+    gives_ok (kept_at (λ tables agrees is.
     let same = (agrees.0 name.name number object stands.entity stands.entry).0 in
     cc))
 part_with_member_back known number object element extent name values (WithMember member given) constants stands back =
-    in_turn _ (is_found (members_of object.object_type) WrongUse (line_of member)) (λ members are.
-    in_turn _ (is_found (member_named members member.name) UnknownName (line_of member)) (λ place at.
-    in_turn _ (required (takes_subscripts extent place.member.dimension (count_of_given given)) WrongUse (line_of member)) (λ _ fits.
-    in_turn _ (back constants) (λ typed kept.
-    gives_ok _ _ (kept_more _ kept (λ tables agrees values_back is.
+    in_turn (is_found (members_of object.object_type) _ _) (λ members are.
+    in_turn (is_found (member_named members member.name) _ _) (λ place at.
+    in_turn (required (takes_subscripts extent place.member.dimension (count_of_given given)) _ _) (λ _ fits.
+    in_turn (back constants) (λ typed kept.
+    gives_ok (kept_more kept (λ tables agrees values_back is.
     let facts = agrees.0 name.name number object stands.entity stands.entry in
     let own = facts.0 in
     let same : members_of_object tables number ≡ members = facts.1 ∙ ap (λ found. unwrap_or found []) are in
@@ -253,12 +253,12 @@ part_back : (known : Known) (number : ℕ) (object : TypedObject) (extent : Exte
     → Gives (λ (found : FoundPart × Constants). Kept known constants found.1 (λ tables. untyped_reference tables found.0.reference ≡ plain_given given))
     (part_of number object extent given constants)
 part_back known number object extent given constants stands back =
-    in_turn _ (required (takes_subscripts extent object.dimension (count_of_given given.arguments)) WrongUse (line_of given.name)) (λ _ fits.
-    in_turn _ (back.0 constants) (λ typed kept.
-    then_more _ (part_with_member_back known number object
+    in_turn (required (takes_subscripts extent object.dimension (count_of_given given.arguments)) _ _) (λ _ fits.
+    in_turn (back.0 constants) (λ typed kept.
+    then_more (part_with_member_back known number object
     (subscript_of (size_of_element object.object_type) object.dimension typed.0)
     extent given.name given.arguments given.member typed.1 stands back.1) (λ found part.
-    kept_both _ kept part (λ tables agrees values_back is.
+    kept_both kept part (λ tables agrees values_back is.
     is (subscript_back tables extent (size_of_element object.object_type) object.dimension given.arguments.trees typed.0 fits values_back)))))
 
 scalar_part_back : (known : Known) (number : ℕ) (object : TypedObject) (given : GivenReference) (constants : Constants)
@@ -267,9 +267,9 @@ scalar_part_back : (known : Known) (number : ℕ) (object : TypedObject) (given 
     → Gives (λ (found : TypedReference × ScalarType × Constants). Kept known constants found.2 (λ tables. untyped_reference tables found.0 ≡ plain_given given))
     (scalar_part number object given constants)
 scalar_part_back known number object given constants stands back =
-    in_turn _ (part_back known number object AnElement given constants stands back) (λ part kept.
-    in_turn _ (is_found part.0.scalar WrongUse (line_of given.name)) (λ scalar _.
-    gives_ok _ _ kept))
+    in_turn (part_back known number object AnElement given constants stands back) (λ part kept.
+    in_turn (is_found part.0.scalar _ _) (λ scalar _.
+    gives_ok kept))
 
 -- what a name is bound to
 is_bound : (known : Known) (name : Identifier)
@@ -284,7 +284,7 @@ is_object : (known : Known) (name : Identifier) (number : ℕ)
     → Binds known name (Declared (Object number))
     → Gives (StandsFor known name.name number) (object_of known name number)
 is_object known name number e =
-    then_more _ (is_found (slice_get known.objects number) WrongUse (line_of name)) (λ object entry.
+    then_more (is_found (slice_get known.objects number) _ _) (λ object entry.
     record { entity = bound_entity known.here name.name (Object number) e; entry = entry })
 
 -- a procedure that a name is bound to
@@ -293,12 +293,12 @@ is_procedure : (known : Known) (name : Identifier) (number : ℕ)
     → Gives (λ procedure. (tables : TypedModule) → Agrees tables known → procedure_name tables number ≡ name.name)
     (procedure_of known name number)
 is_procedure known name number e =
-    then_more _ (is_found (slice_get known.procedures number) WrongUse (line_of name)) (λ procedure entry tables agrees.
+    then_more (is_found (slice_get known.procedures number) _ _) (λ procedure entry tables agrees.
     agrees.1 name.name number procedure (bound_entity known.here name.name (Procedure number) e) entry)
 
 has_no_member : (member : GivenMember) → Gives (λ _. member ≡ WithoutMember) (without_member member)
-has_no_member WithoutMember = gives_ok _ tt refl
-has_no_member (WithMember name given) = gives_fault _ WrongUse (line_of name)
+has_no_member WithoutMember = gives_ok refl
+has_no_member (WithMember name given) = gives_fault
 
 -- what calls and built-in functions give back
 abbrev GivesReference : Known → GivenReference → Constants → TypedExpression × Constants → Type 0
@@ -321,9 +321,9 @@ pub call_arguments_kept : (known : Known) (procedure : TypedProcedure) (line : �
     → GivenBack known given
     → Gives (GivesArguments known given constants) (call_arguments procedure line given constants)
 call_arguments_kept known procedure line given constants back =
-    in_turn _ (required (count_of_given given == length procedure.parameter_types) WrongUse line) (λ _ _.
-    in_turn _ (back constants) (λ typed kept.
-    gives_ok _ _ (kept_more _ kept (λ tables agrees is.
+    in_turn (required (count_of_given given == length procedure.parameter_types) _ _) (λ _ _.
+    in_turn (back constants) (λ typed kept.
+    gives_ok (kept_more kept (λ tables agrees is.
     arguments_as_back tables procedure.parameter_types typed.0 ∙ is))))
 
 call_back : (known : Known) (number : ℕ) (procedure : TypedProcedure) (given : GivenReference) (constants : Constants)
@@ -331,52 +331,52 @@ call_back : (known : Known) (number : ℕ) (procedure : TypedProcedure) (given :
     → ReferenceBack known given
     → Gives (GivesReference known given constants) (call_of number procedure given constants)
 call_back known number procedure given constants called back =
-    in_turn _ (is_found procedure.result WrongUse (line_of given.name)) (λ result _.
-    in_turn _ (call_arguments_kept known procedure (line_of given.name) given.arguments constants back.0) (λ typed kept.
-    in_turn _ (has_no_member given.member) (λ _ none.
-    gives_ok _ _ (kept_more _ kept (λ tables agrees is.
+    in_turn (is_found procedure.result _ _) (λ result _.
+    in_turn (call_arguments_kept known procedure (line_of given.name) given.arguments constants back.0) (λ typed kept.
+    in_turn (has_no_member given.member) (λ _ none.
+    gives_ok (kept_more kept (λ tables agrees is.
     ap ReferenceLeaf (plain_call given _ _ (sym (called tables agrees)) (sym is) none))))))
 
 -- LOW, HIGH and DOUBLE
 function_back : (function : UnaryFunction) (line : ℕ) (typed : TypedArguments)
     → Gives (λ node. (tables : TypedModule) → untyped_expression tables node
     ≡ ReferenceLeaf (call_tree (function_name function) (untyped_arguments tables typed))) (function_of function line typed)
-function_back function line (MoreTyped operand NoTyped) = gives_ok _ _ (λ tables. refl)
-function_back function line NoTyped = gives_fault _ WrongUse line
-function_back function line (MoreTyped operand (MoreTyped second others)) = gives_fault _ WrongUse line
+function_back function line (MoreTyped operand NoTyped) = gives_ok (λ tables. refl)
+function_back function line NoTyped = gives_fault
+function_back function line (MoreTyped operand (MoreTyped second others)) = gives_fault
 
 unary_function_back : (known : Known) (function : UnaryFunction) (given : GivenReference) (constants : Constants)
     → given.name.name ≡ function_name function
     → ReferenceBack known given
     → Gives (GivesReference known given constants) (unary_function function given constants)
 unary_function_back known function given constants called back =
-    in_turn _ (required (count_of_given given.arguments == 1) WrongUse (line_of given.name)) (λ _ _.
-    in_turn _ (back.0 constants) (λ typed kept.
-    in_turn _ (has_no_member given.member) (λ _ none.
-    in_turn _ (function_back function (line_of given.name) typed.0) (λ node made.
-    gives_ok _ _ (kept_more _ kept (λ tables agrees is.
+    in_turn (required (count_of_given given.arguments == 1) _ _) (λ _ _.
+    in_turn (back.0 constants) (λ typed kept.
+    in_turn (has_no_member given.member) (λ _ none.
+    in_turn (function_back function (line_of given.name) typed.0) (λ node made.
+    gives_ok (kept_more kept (λ tables agrees is.
     made tables ∙ ap ReferenceLeaf (plain_call given _ _ called (sym is) none)))))))
 
 -- shifts and rotations
 shift_back : (function : ShiftFunction) (line : ℕ) (typed : TypedArguments)
     → Gives (λ node. (tables : TypedModule) → untyped_expression tables node
     ≡ ReferenceLeaf (call_tree (shift_name function) (untyped_arguments tables typed))) (shift_of function line typed)
-shift_back function line (MoreTyped value (MoreTyped count NoTyped)) = gives_ok _ _ (λ tables.
+shift_back function line (MoreTyped value (MoreTyped count NoTyped)) = gives_ok (λ tables.
     let one = as_type_back tables (type_of_shift function (type_of value)) value in
     let other = as_type_back tables Byte count in
     cc)
-shift_back function line typed = gives_fault _ WrongUse line
+shift_back function line typed = gives_fault
 
 shift_function_back : (known : Known) (function : ShiftFunction) (given : GivenReference) (constants : Constants)
     → given.name.name ≡ shift_name function
     → ReferenceBack known given
     → Gives (GivesReference known given constants) (shift_function function given constants)
 shift_function_back known function given constants called back =
-    in_turn _ (required (count_of_given given.arguments == 2) WrongUse (line_of given.name)) (λ _ _.
-    in_turn _ (back.0 constants) (λ typed kept.
-    in_turn _ (has_no_member given.member) (λ _ none.
-    in_turn _ (shift_back function (line_of given.name) typed.0) (λ node made.
-    gives_ok _ _ (kept_more _ kept (λ tables agrees is.
+    in_turn (required (count_of_given given.arguments == 2) _ _) (λ _ _.
+    in_turn (back.0 constants) (λ typed kept.
+    in_turn (has_no_member given.member) (λ _ none.
+    in_turn (shift_back function (line_of given.name) typed.0) (λ node made.
+    gives_ok (kept_more kept (λ tables agrees is.
     made tables ∙ ap ReferenceLeaf (plain_call given _ _ called (sym is) none)))))))
 
 -- ports
@@ -386,24 +386,24 @@ character_back line string = go string.characters refl
   where
     go : (characters : List ℕ) → string.characters ≡ characters
         → Gives (λ port. number_in (StringConstant string) ≡ port) (port_of_character line characters)
-    go (character ∷ []) e = gives_ok _ _ (ap (λ found. unwrap_or (number_of_characters found) 0) e)
-    go characters e = gives_fault _ WrongUse line
+    go (character ∷ []) e = gives_ok (ap (λ found. unwrap_or (number_of_characters found) 0) e)
+    go characters e = gives_fault
 
 port_back : (line : ℕ) (trees : ArgumentTrees)
     → Gives (λ port. plain_arguments trees ≡ one_argument (number_leaf port)) (port_of line trees)
 port_back line (MoreArguments (ConstantLeaf (NumberConstant number)) NoArguments) =
-    in_turn _ (required (nat_le number.value 255) WrongConstant number.place.line) (λ _ _. gives_ok _ _ refl)
+    in_turn (required (nat_le number.value 255) _ _) (λ _ _. gives_ok refl)
 port_back line (MoreArguments (ConstantLeaf (StringConstant string)) NoArguments) =
-    then_more _ (character_back line string) (λ port e. ap (λ found. one_argument (number_leaf found)) e)
-port_back line trees = gives_fault _ WrongUse line
+    then_more (character_back line string) (λ port e. ap (λ found. one_argument (number_leaf found)) e)
+port_back line trees = gives_fault
 
 input_back : (known : Known) (given : GivenReference) (constants : Constants)
     → given.name.name ≡ codes "INPUT"
     → Gives (GivesReference known given constants) (input_value given constants)
 input_back known given constants called =
-    in_turn _ (port_back (line_of given.name) given.arguments.trees) (λ port is.
-    in_turn _ (has_no_member given.member) (λ _ none.
-    gives_ok _ _ (kept_at known constants _ (λ tables agrees. ap ReferenceLeaf (plain_call given _ _ called is none)))))
+    in_turn (port_back (line_of given.name) given.arguments.trees) (λ port is.
+    in_turn (has_no_member given.member) (λ _ none.
+    gives_ok (kept_at (λ tables agrees. ap ReferenceLeaf (plain_call given _ _ called is none)))))
 
 -- LENGTH, LAST and SIZE: the number of what is measured says which object or member that is
 abbrev measured_tree : TypedModule → Measured → ReferenceTree
@@ -421,13 +421,13 @@ measured_member_back : (known : Known) (name : Identifier) (number : ℕ) (objec
     → Gives (GivesMeasured known name part) (measured_member number object part)
 unfolding name_at
 measured_member_back known name number object NoMember stands =
-    gives_ok _ _ (λ tables agrees.
+    gives_ok (λ tables agrees.
     let own = (agrees.0 name.name number object stands.entity stands.entry).0 in
     cc)
 measured_member_back known name number object (MemberOf member NoArguments) stands =
-    in_turn _ (is_found (members_of object.object_type) WrongUse (line_of member)) (λ members are.
-    in_turn _ (is_found (member_named members member.name) UnknownName (line_of member)) (λ place at.
-    gives_ok _ _ (λ tables agrees.
+    in_turn (is_found (members_of object.object_type) _ _) (λ members are.
+    in_turn (is_found (member_named members member.name) _ _) (λ place at.
+    gives_ok (λ tables agrees.
     let facts = agrees.0 name.name number object stands.entity stands.entry in
     let own = facts.0 in
     let same : members_of_object tables number ≡ members = facts.1 ∙ ap (λ found. unwrap_or found []) are in
@@ -435,35 +435,35 @@ measured_member_back known name number object (MemberOf member NoArguments) stan
     ap (λ all. name_at all place.position) same ∙ member_name_back members member.name place at in
     cc)))
 measured_member_back known name number object (MemberOf member (MoreArguments first others)) stands =
-    gives_fault _ WrongUse (line_of member)
+    gives_fault
 
 measured_object_back : (known : Known) (binding : Binding) (name : Identifier) (part : MemberTree)
     → Binds known name binding
     → Gives (GivesMeasured known name part) (measured_object known binding name part)
 measured_object_back known (Declared (Object number)) name part bound_to =
-    in_turn _ (is_object known name number bound_to) (λ object stands.
+    in_turn (is_object known name number bound_to) (λ object stands.
     measured_member_back known name number object part stands)
-measured_object_back known binding name part bound_to = gives_fault _ WrongUse (line_of name)
+measured_object_back known binding name part bound_to = gives_fault
 
 measurement_back : (known : Known) (measure : Measure) (line : ℕ) (trees : ArgumentTrees)
     → Gives (λ node. (tables : TypedModule) → Agrees tables known
     → untyped_expression tables node ≡ ReferenceLeaf (call_tree (measure_name measure) (plain_arguments trees)))
     (measurement known measure line trees)
 measurement_back known measure line (MoreArguments (ReferenceLeaf (ReferenceTo name NoArguments part)) NoArguments) =
-    in_turn _ (is_bound known name) (λ binding bound_to.
-    in_turn _ (measured_object_back known binding name part bound_to) (λ measured back.
-    in_turn _ (anything (measure_of measure measured (line_of name))) (λ value _.
-    gives_ok _ _ (λ tables agrees.
+    in_turn (is_bound known name) (λ binding bound_to.
+    in_turn (measured_object_back known binding name part bound_to) (λ measured back.
+    in_turn (anything (measure_of measure measured (line_of name))) (λ value _.
+    gives_ok (λ tables agrees.
     ap (λ tree. ReferenceLeaf (call_tree (measure_name measure) (one_argument (ReferenceLeaf tree)))) (back tables agrees)))))
-measurement_back known measure line trees = gives_fault _ WrongUse line
+measurement_back known measure line trees = gives_fault
 
 variable_back : (known : Known) (measure : Measure) (given : GivenReference) (constants : Constants)
     → given.name.name ≡ measure_name measure
     → Gives (GivesReference known given constants) (number_of_variable known measure given constants)
 variable_back known measure given constants called =
-    in_turn _ (measurement_back known measure (line_of given.name) given.arguments.trees) (λ node back.
-    in_turn _ (has_no_member given.member) (λ _ none.
-    gives_ok _ _ (kept_at known constants _ (λ tables agrees.
+    in_turn (measurement_back known measure (line_of given.name) given.arguments.trees) (λ node back.
+    in_turn (has_no_member given.member) (λ _ none.
+    gives_ok (kept_at (λ tables agrees.
     back tables agrees ∙ ap ReferenceLeaf (plain_call given _ _ called refl none)))))
 
 -- the value of what a name is bound to
@@ -473,7 +473,7 @@ built_in_back : (known : Known) (built_in : BuiltIn) (given : GivenReference) (c
     → Gives (GivesReference known given constants) (built_in_value known built_in given constants)
 built_in_back known built_in_names.Input given constants called back = input_back known given constants called
 built_in_back known built_in_names.Output given constants called back =
-    gives_fault _ WrongUse (line_of given.name)
+    gives_fault
 built_in_back known built_in_names.Low given constants called back =
     unary_function_back known functions.Low given constants called back
 built_in_back known built_in_names.High given constants called back =
@@ -495,28 +495,28 @@ built_in_back known built_in_names.RotateLeft given constants called back =
 built_in_back known built_in_names.RotateRight given constants called back =
     shift_function_back known shifts.RotateRight given constants called back
 built_in_back known built_in_names.Move given constants called back =
-    gives_fault _ WrongUse (line_of given.name)
+    gives_fault
 
 bound_value_back : (known : Known) (binding : Binding) (given : GivenReference) (constants : Constants)
     → Binds known given.name binding
     → ReferenceBack known given
     → Gives (GivesReference known given constants) (value_of_bound known binding given constants)
 bound_value_back known (Declared (Object number)) given constants bound_to back =
-    in_turn _ (is_object known given.name number bound_to) (λ object stands.
-    in_turn _ (scalar_part_back known number object given constants stands back) (λ part kept.
-    gives_ok _ _ (kept_more _ kept (λ tables agrees is. ap ReferenceLeaf is))))
+    in_turn (is_object known given.name number bound_to) (λ object stands.
+    in_turn (scalar_part_back known number object given constants stands back) (λ part kept.
+    gives_ok (kept_more kept (λ tables agrees is. ap ReferenceLeaf is))))
 bound_value_back known (Declared (Procedure number)) given constants bound_to back =
-    in_turn _ (is_procedure known given.name number bound_to) (λ procedure called.
+    in_turn (is_procedure known given.name number bound_to) (λ procedure called.
     call_back known number procedure given constants called back)
 bound_value_back known (BuiltInName built_in) given constants bound_to back =
     built_in_back known built_in given constants (bound_spelled known.here given.name.name built_in bound_to) back
-bound_value_back known binding given constants bound_to back = gives_fault _ WrongUse (line_of given.name)
+bound_value_back known binding given constants bound_to back = gives_fault
 
 value_back : (known : Known) (given : GivenReference) (constants : Constants)
     → ReferenceBack known given
     → Gives (GivesReference known given constants) (value_of known given constants)
 value_back known given constants back =
-    in_turn _ (is_bound known given.name) (λ binding bound_to.
+    in_turn (is_bound known given.name) (λ binding bound_to.
     bound_value_back known binding given constants bound_to back)
 
 -- where what a name is bound to lies
@@ -529,19 +529,19 @@ bound_location_back : (known : Known) (binding : Binding) (given : GivenReferenc
     → ReferenceBack known given
     → Gives (GivesLocation known given constants) (location_of_bound known binding given constants)
 bound_location_back known (Declared (Object number)) given constants bound_to back =
-    in_turn _ (is_object known given.name number bound_to) (λ object stands.
-    in_turn _ (required (has_location object.home) NoLocation (line_of given.name)) (λ _ _.
-    in_turn _ (part_back known number object AlsoTheWhole given constants stands back) (λ part kept.
-    gives_ok _ _ (kept_more _ kept (λ tables agrees is. ap LocationLeaf is)))))
+    in_turn (is_object known given.name number bound_to) (λ object stands.
+    in_turn (required (has_location object.home) _ _) (λ _ _.
+    in_turn (part_back known number object AlsoTheWhole given constants stands back) (λ part kept.
+    gives_ok (kept_more kept (λ tables agrees is. ap LocationLeaf is)))))
 bound_location_back known (Declared (Procedure number)) given constants bound_to back =
-    gives_fault _ NoLocation (line_of given.name)
-bound_location_back known binding given constants bound_to back = gives_fault _ WrongUse (line_of given.name)
+    gives_fault
+bound_location_back known binding given constants bound_to back = gives_fault
 
 location_back : (known : Known) (given : GivenReference) (constants : Constants)
     → ReferenceBack known given
     → Gives (GivesLocation known given constants) (location_of known given constants)
 location_back known given constants back =
-    in_turn _ (is_bound known given.name) (λ binding bound_to.
+    in_turn (is_bound known given.name) (λ binding bound_to.
     bound_location_back known binding given constants bound_to back)
 
 -- what a value goes to
@@ -554,22 +554,22 @@ bound_target_back : (known : Known) (binding : Binding) (given : GivenReference)
     → ReferenceBack known given
     → Gives (GivesTarget known given constants) (destination_of_bound known binding given constants)
 bound_target_back known (Declared (Object number)) given constants bound_to back =
-    in_turn _ (is_object known given.name number bound_to) (λ object stands.
-    in_turn _ (anything (is_writable object given.name)) (λ _ _.
-    in_turn _ (scalar_part_back known number object given constants stands back) (λ part kept.
-    gives_ok _ _ (kept_more _ kept (λ tables agrees is from. is)))))
+    in_turn (is_object known given.name number bound_to) (λ object stands.
+    in_turn (anything (is_writable object given.name)) (λ _ _.
+    in_turn (scalar_part_back known number object given constants stands back) (λ part kept.
+    gives_ok (kept_more kept (λ tables agrees is from. is)))))
 bound_target_back known (BuiltInName built_in_names.Output) given constants bound_to back =
-    in_turn _ (port_back (line_of given.name) given.arguments.trees) (λ port is.
-    in_turn _ (has_no_member given.member) (λ _ none.
-    gives_ok _ _ (kept_at known constants _ (λ tables agrees from.
+    in_turn (port_back (line_of given.name) given.arguments.trees) (λ port is.
+    in_turn (has_no_member given.member) (λ _ none.
+    gives_ok (kept_at (λ tables agrees from.
     plain_call given _ _ (bound_spelled known.here given.name.name built_in_names.Output bound_to) is none))))
-bound_target_back known binding given constants bound_to back = gives_fault _ WrongUse (line_of given.name)
+bound_target_back known binding given constants bound_to back = gives_fault
 
 target_back : (known : Known) (given : GivenReference) (constants : Constants)
     → ReferenceBack known given
     → Gives (GivesTarget known given constants) (destination_of known given constants)
 target_back known given constants back =
-    in_turn _ (is_bound known given.name) (λ binding bound_to.
+    in_turn (is_bound known given.name) (λ binding bound_to.
     bound_target_back known binding given constants bound_to back)
 
 -- a reference of the text, as it is given
@@ -587,10 +587,10 @@ plain_reference_given known (ReferenceTo name trees part) =
 -- constants and constant lists
 constant_back : (constant : ConstantTree)
     → Gives (λ node. (tables : TypedModule) → untyped_expression tables node ≡ number_leaf (number_in constant)) (number_node constant)
-constant_back (NumberConstant number) = gives_ok _ _ (λ tables. refl)
+constant_back (NumberConstant number) = gives_ok (λ tables. refl)
 constant_back (StringConstant string) =
-    in_turn _ (is_found (number_of_characters string.characters) WrongConstant string.place.line) (λ number e.
-    gives_ok _ _ (λ tables. ap (λ found. number_leaf (unwrap_or found 0)) (sym e)))
+    in_turn (is_found (number_of_characters string.characters) _ _) (λ number e.
+    gives_ok (λ tables. ap (λ found. number_leaf (unwrap_or found 0)) (sym e)))
 
 kept_in_front : {A : Type 0} (all more : List A) (number : ℕ) (a : A)
     → slice_get all number ≡ Some a
@@ -620,30 +620,30 @@ mutual
   pub expression_kept : (known : Known) (tree : ExpressionTree) (constants : Constants)
       → Gives (GivesExpression known tree constants) (expression known tree constants)
   expression_kept known (ConstantLeaf constant) constants =
-      in_turn _ (constant_back constant) (λ node is.
-      gives_ok _ _ (kept_at known constants _ (λ tables agrees. is tables)))
+      in_turn (constant_back constant) (λ node is.
+      gives_ok (kept_at (λ tables agrees. is tables)))
   expression_kept known (ReferenceLeaf reference) constants =
-      then_more _ (value_back known (given_reference known reference) constants (reference_kept known reference)) (λ found kept.
-      kept_more _ kept (λ tables agrees is. is ∙ ap ReferenceLeaf (plain_reference_given known reference)))
+      then_more (value_back known (given_reference known reference) constants (reference_kept known reference)) (λ found kept.
+      kept_more kept (λ tables agrees is. is ∙ ap ReferenceLeaf (plain_reference_given known reference)))
   expression_kept known (LocationLeaf reference) constants =
-      then_more _ (location_back known (given_reference known reference) constants (reference_kept known reference)) (λ found kept.
-      kept_more _ kept (λ tables agrees is. is ∙ ap LocationLeaf (plain_reference_given known reference)))
-  expression_kept known (ListLeaf list) constants = gives_ok _ _ (list_kept known list constants)
+      then_more (location_back known (given_reference known reference) constants (reference_kept known reference)) (λ found kept.
+      kept_more kept (λ tables agrees is. is ∙ ap LocationLeaf (plain_reference_given known reference)))
+  expression_kept known (ListLeaf list) constants = gives_ok (list_kept known list constants)
   expression_kept known (ParenthesizedNode inner) constants = expression_kept known inner constants
   expression_kept known (AssignmentNode target value) constants =
-      in_turn _ (target_back known (given_reference known target) constants (reference_kept known target)) (λ destination kept.
-      in_turn _ (expression_kept known value destination.1) (λ typed more.
-      gives_ok _ _ (kept_both _ kept more (λ tables agrees to is.
+      in_turn (target_back known (given_reference known target) constants (reference_kept known target)) (λ destination kept.
+      in_turn (expression_kept known value destination.1) (λ typed more.
+      gives_ok (kept_both kept more (λ tables agrees to is.
       let there : untyped_target tables (target_of destination.0 (type_of typed.0)) ≡ plain_reference target =
       to (type_of typed.0) ∙ plain_reference_given known target in
       cc))))
   expression_kept known (UnaryNode operator operand) constants =
-      in_turn _ (expression_kept known operand constants) (λ typed kept.
-      gives_ok _ _ (kept_more _ kept (λ tables agrees is. ap (UnaryNode operator) is)))
+      in_turn (expression_kept known operand constants) (λ typed kept.
+      gives_ok (kept_more kept (λ tables agrees is. ap (UnaryNode operator) is)))
   expression_kept known (BinaryNode operator left right) constants =
-      in_turn _ (expression_kept known left constants) (λ first kept.
-      in_turn _ (expression_kept known right first.1) (λ second more.
-      gives_ok _ _ (kept_both _ kept more (λ tables agrees one other.
+      in_turn (expression_kept known left constants) (λ first kept.
+      in_turn (expression_kept known right first.1) (λ second more.
+      gives_ok (kept_both kept more (λ tables agrees one other.
       let scalar = type_of_operands operator (type_of first.0) (type_of second.0) in
       let one_more = as_type_back tables scalar first.0 in
       let other_more = as_type_back tables scalar second.0 in
@@ -659,11 +659,11 @@ mutual
   pub arguments_kept : (known : Known) (trees : ArgumentTrees) (constants : Constants)
       → Gives (λ (found : TypedArguments × Constants). Kept known constants found.1 (λ tables. untyped_arguments tables found.0 ≡ plain_arguments trees))
       (arguments known trees constants)
-  arguments_kept known NoArguments constants = gives_ok _ _ (kept_at known constants _ (λ tables agrees. refl))
+  arguments_kept known NoArguments constants = gives_ok (kept_at (λ tables agrees. refl))
   arguments_kept known (MoreArguments first others) constants =
-      in_turn _ (expression_kept known first constants) (λ typed kept.
-      in_turn _ (arguments_kept known others typed.1) (λ rest more.
-      gives_ok _ _ (kept_both _ kept more (λ tables agrees one other. cc))))
+      in_turn (expression_kept known first constants) (λ typed kept.
+      in_turn (arguments_kept known others typed.1) (λ rest more.
+      gives_ok (kept_both kept more (λ tables agrees one other. cc))))
 
 -- expressions, arguments and targets that are typed give back their trees
 pub expression_back : (tables : TypedModule) (known : Known)
@@ -755,12 +755,12 @@ counter_named : (known : Known) (binding : Binding) (name : Identifier)
     → Gives (λ (counter : Counter). (tables : TypedModule) → Agrees tables known
     → object_name tables counter.object ≡ name.name) (counter_bound known binding name)
 counter_named known (Declared (Object number)) name bound_to =
-    in_turn _ (is_object known name number bound_to) (λ object stands.
-    in_turn _ (anything (is_writable object name)) (λ _ _.
-    in_turn _ (anything (require (is_none object.dimension && is_not_based object.home) WrongUse (line_of name))) (λ _ _.
-    in_turn _ (is_found (scalar_of object.object_type) WrongUse (line_of name)) (λ scalar _.
-    gives_ok _ _ (λ tables agrees. (agrees.0 name.name number object stands.entity stands.entry).0)))))
-counter_named known binding name bound_to = gives_fault _ WrongUse (line_of name)
+    in_turn (is_object known name number bound_to) (λ object stands.
+    in_turn (anything (is_writable object name)) (λ _ _.
+    in_turn (anything (require (is_none object.dimension && is_not_based object.home) WrongUse (line_of name))) (λ _ _.
+    in_turn (is_found (scalar_of object.object_type) _ _) (λ scalar _.
+    gives_ok (λ tables agrees. (agrees.0 name.name number object stands.entity stands.entry).0)))))
+counter_named known binding name bound_to = gives_fault
 
 pub counter_back : (tables : TypedModule) (known : Known)
     → Agrees tables known

@@ -1,6 +1,7 @@
 -- What holds of all that a check gives, and what is kept from one typing to the next.
 use Rattle.std.proofs.Common.{◌≡◌, Bool, true, false, Option, Some, None, Ok, Err, refl, subst}
 use Rattle.types.specs.declared.fault.Cause.{Cause}
+use Rattle.types.specs.declared.fault.Fault.{Fault}
 use Rattle.std.specs.Prelude.{ℕ}
 use Rattle.typed_trees.specs.TypedTrees.{TypedModule, Constants}
 use Rattle.types.specs.Checks.{Checked, ◌>>=◌, refuse, require, found}
@@ -11,18 +12,18 @@ use Rattle.types.specs.internal.Tables.{Agrees, Grows, HasLists}
 pub record Gives {A : Type 0} (P : A → Type 0) (result : Checked A) : Type 0 where
   pub holds : (a : A) → result ≡ Ok a → P a
 
-pub gives_ok : {A : Type 0} (P : A → Type 0) (a : A) → P a → Gives P (Ok a)
-gives_ok {A} P a is = record { holds = λ b e. let same : a ≡ b = cc in subst P same is }
+pub gives_ok : {A : Type 0} {P : A → Type 0} {a : A} → P a → Gives P (Ok a)
+gives_ok {P = P} {a = a} is = record { holds = λ b e. let same : a ≡ b = cc in subst P same is }
 
-pub gives_fault : {A : Type 0} (P : A → Type 0) (cause : Cause) (line : ℕ) → Gives P (refuse cause line)
-gives_fault P cause line = record { holds = λ a e. absurd cc }
+pub gives_fault : {A : Type 0} {P : A → Type 0} {fault : Fault} → Gives P (Err fault)
+gives_fault = record { holds = λ a e. absurd cc }
 
 -- one check after another
-pub in_turn : {A B : Type 0} {P : A → Type 0} {Q : B → Type 0} {result : Checked A} (next : A → Checked B)
+pub in_turn : {A B : Type 0} {P : A → Type 0} {Q : B → Type 0} {result : Checked A} {next : A → Checked B}
     → Gives P result
     → ((a : A) → P a → Gives Q (next a))
     → Gives Q (result >>= next)
-in_turn {P = P} {Q = Q} {result = result} next is then_is =
+in_turn {P = P} {Q = Q} {result = result} {next = next} is then_is =
     record { holds = λ b e. go result is.holds b e }
   where
     go : (r : Checked _) → ((a : _) → r ≡ Ok a → P a) → (b : _) → (r >>= next) ≡ Ok b → Q b
@@ -33,11 +34,11 @@ pub anything : {A : Type 0} (result : Checked A) → Gives (λ a. result ≡ Ok 
 anything result = record { holds = λ a e. e }
 
 -- what holds as well of all that a check gives
-pub then_more : {A : Type 0} {P : A → Type 0} (Q : A → Type 0) {result : Checked A}
+pub then_more : {A : Type 0} {P Q : A → Type 0} {result : Checked A}
     → Gives P result
     → ((a : A) → P a → Q a)
     → Gives Q result
-then_more Q is more = record { holds = λ a e. more a (is.holds a e) }
+then_more is more = record { holds = λ a e. more a (is.holds a e) }
 
 -- what the two simple checks give
 pub required : (test : Bool) (cause : Cause) (line : ℕ) → Gives (λ _. test ≡ true) (require test cause line)
@@ -46,7 +47,7 @@ required false cause line = record { holds = λ a e. absurd cc }
 
 pub is_found : {A : Type 0} (option : Option A) (cause : Cause) (line : ℕ)
     → Gives (λ a. option ≡ Some a) (found option cause line)
-is_found (Some a) cause line = gives_ok (λ b. Some a ≡ Some b) a refl
+is_found (Some a) cause line = gives_ok refl
 is_found None cause line = record { holds = λ a e. absurd cc }
 
 -- What a typing says of the tables of its module: those that agree with what is known where it stands, and
@@ -55,29 +56,29 @@ pub record Kept (known : Known) (before after : Constants) (Says : TypedModule �
   pub grows : Grows before after
   pub says : (tables : TypedModule) → Agrees tables known → HasLists tables after → Says tables
 
-pub kept_at : (known : Known) (constants : Constants) (Says : TypedModule → Type 0)
+pub kept_at : {known : Known} {constants : Constants} {Says : TypedModule → Type 0}
     → ((tables : TypedModule) → Agrees tables known → Says tables)
     → Kept known constants constants Says
-kept_at known constants Says says = record {
+kept_at says = record {
   grows = λ number bytes e. e;
   says = λ tables agrees has. says tables agrees;
 }
 
-pub kept_more : {known : Known} {before after : Constants} {P : TypedModule → Type 0} (Q : TypedModule → Type 0)
+pub kept_more : {known : Known} {before after : Constants} {P Q : TypedModule → Type 0}
     → Kept known before after P
     → ((tables : TypedModule) → Agrees tables known → P tables → Q tables)
     → Kept known before after Q
-kept_more Q kept more = record {
+kept_more kept more = record {
   grows = kept.grows;
   says = λ tables agrees has. more tables agrees (kept.says tables agrees has);
 }
 
-pub kept_both : {known : Known} {before between after : Constants} {P Q : TypedModule → Type 0} (R : TypedModule → Type 0)
+pub kept_both : {known : Known} {before between after : Constants} {P Q R : TypedModule → Type 0}
     → Kept known before between P
     → Kept known between after Q
     → ((tables : TypedModule) → Agrees tables known → P tables → Q tables → R tables)
     → Kept known before after R
-kept_both R first second both = record {
+kept_both first second both = record {
   grows = λ number bytes e. second.grows number bytes (first.grows number bytes e);
   says = λ tables agrees has.
       both tables agrees
