@@ -1,2 +1,4 @@
 pub mod Kept
+pub mod NamesBack
+pub mod ReferencesBack
 pub mod ExpressionsBack

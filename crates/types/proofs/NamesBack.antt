@@ -1,0 +1,144 @@
+-- What names in the text are bound to, as against the names in the tables.
+use Rattle.std.proofs.Common.{◌≡◌, ℕ, zero, suc, ◌==◌, Bool, true, false, List, [], ◌∷◌, ◌++◌, length, Option, Some, None, Ok, nat_le, refl, sym, ap, subst, ◌∙◌, arith}
+use Rattle.std.specs.Prelude.{unwrap_or, slice_get, codes, ◌&&◌, is_none, if◌then◌else◌}
+use Rattle.std.specs.Option.{option_or, option_map, option_map_or}
+use Rattle.std.specs.Map.{lookup}
+use Rattle.std.specs.Str.{bytes_eq}
+use Rattle.std.proofs.lemmas.Slice.Eq.{bytes_eq-Decides}
+use Rattle.std.proofs.lemmas.Bool.{eqb-true, leb-true}
+use Rattle.trees.specs.declared.declaration.ScalarType.{ScalarType}
+use Rattle.trees.specs.declared.declaration.ScalarType.TheVariants.{Byte, Address}
+use Rattle.trees.specs.declared.identifier.Identifier.{Identifier}
+use Rattle.trees.specs.Trees.{StringTree, ConstantTree, NumberConstant, StringConstant, ExpressionTree, ConstantLeaf, ReferenceLeaf, LocationLeaf, ListLeaf, ParenthesizedNode, AssignmentNode, UnaryNode, BinaryNode, ReferenceTree, ReferenceTo, MemberTree, NoMember, MemberOf, ArgumentTrees, NoArguments, MoreArguments}
+use Rattle.names.specs.declared.entity.Binding.{Binding}
+use Rattle.names.specs.declared.entity.Binding.TheVariants.{Declared, BuiltInName}
+use Rattle.names.specs.declared.entity.BuiltIn.{BuiltIn}
+use Rattle.names.specs.declared.entity.BuiltIn.TheVariants as built_in_names
+use Rattle.names.specs.declared.entity.Entity.{Entity}
+use Rattle.names.specs.declared.entity.Entity.TheVariants.{Object, Procedure}
+use Rattle.names.specs.BuiltIns.{binding_of, built_in_of, built_ins}
+use Rattle.names.specs.Environment.{Here, entity_of}
+use Rattle.typed_trees.specs.declared.parts.TypedMember.{TypedMember}
+use Rattle.typed_trees.specs.declared.parts.ShiftFunction.{ShiftFunction}
+use Rattle.typed_trees.specs.declared.parts.UnaryFunction.{UnaryFunction}
+use Rattle.typed_trees.specs.declared.parts.UnaryFunction.TheVariants as functions
+use Rattle.typed_trees.specs.declared.parts.ShiftFunction.TheVariants as shifts
+use Rattle.typed_trees.specs.declared.parts.Measure.TheVariants as measures
+use Rattle.typed_trees.specs.declared.parts.Measure.{Measure}
+use Rattle.typed_trees.specs.TypedTrees.{TypedExpression, ListNode, Subscript, TypedReference, TypedArguments, NoArguments as NoTyped, MoreArguments as MoreTyped, TypedObject, TypedProcedure, TypedModule, Constants}
+use Rattle.typed_trees.specs.Sizes.{FoundMember, member_named, after_member, size_of_scalar, size_of_element}
+use Rattle.typed_trees.specs.ExpressionTypes.{type_of}
+use Rattle.types.specs.Nodes.{converted, as_type, arguments_as, type_of_shift, type_of_operands, Destination, target_of}
+use Rattle.types.specs.declared.fault.Cause.TheVariants.{UnknownName, WrongUse, WrongConstant, NoLocation}
+use Rattle.types.specs.References.{Known, Given, GivenMember, WithoutMember, WithMember, GivenReference, line_of, number_of_arguments, count_of_given, bound, object_of, procedure_of, Extent, AnElement, AlsoTheWhole, takes_subscripts, subscript_of, members_of, scalar_of, FoundPart, part_with_member, part_of, scalar_part, without_member, port_of, port_of_character, has_location, location_of_bound, location_of, is_writable, destination_of_bound, destination_of}
+use Rattle.types.specs.Functions.{call_arguments, call_of, function_of, unary_function, shift_of, shift_function, input_value, Measured, measured_member, measured_object, measure_of, measurement, number_of_variable, built_in_value, value_of_bound, value_of}
+use Rattle.types.specs.Checks.{require}
+use Rattle.types.specs.Items.{is_not_based}
+use Rattle.types.specs.Statements.{Counter, counter_bound}
+use Rattle.types.specs.internal.Tables.{Agrees, Grows, HasLists}
+use Rattle.types.specs.Constants.{number_of_characters, bytes_of_constants}
+use Rattle.types.specs.Expressions.{number_node, with_list, expression, given_reference, given_member, arguments}
+use Rattle.types.specs.Untyped.{untyped_expression, untyped_arguments, untyped_subscript, plain_expression, plain_arguments, plain_member, plain_reference, one_argument, byte_list, member_tree, untyped_target, named, number_in, number_leaf, call_tree, function_name, shift_name, measure_name, procedure_name, object_name, untyped_reference, member_name, members_of_object}
+use Rattle.types.proofs.Kept.{Gives, then_more, anything, gives_ok, gives_fault, in_turn, required, is_found, Kept, kept_at, kept_more, kept_both}
+
+-- the names of built-in procedures
+abbrev pub spelled : BuiltIn → List ℕ
+spelled built_in_names.Input = codes "INPUT"
+spelled built_in_names.Output = codes "OUTPUT"
+spelled built_in_names.Low = codes "LOW"
+spelled built_in_names.High = codes "HIGH"
+spelled built_in_names.Double = codes "DOUBLE"
+spelled built_in_names.Length = codes "LENGTH"
+spelled built_in_names.Last = codes "LAST"
+spelled built_in_names.Size = codes "SIZE"
+spelled built_in_names.ShiftLeft = codes "SHL"
+spelled built_in_names.ShiftRight = codes "SHR"
+spelled built_in_names.RotateLeft = codes "ROL"
+spelled built_in_names.RotateRight = codes "ROR"
+spelled built_in_names.Move = codes "MOVE"
+
+abbrev AreSpelled : List (List ℕ × BuiltIn) → Type 0
+AreSpelled [] = Unit
+AreSpelled (entry ∷ others) = (entry.0 ≡ spelled entry.1) × AreSpelled others
+
+lookup_spelled : (entries : List (List ℕ × BuiltIn)) (name : List ℕ) (built_in : BuiltIn)
+    → AreSpelled entries
+    → lookup (bytes_eq name) entries ≡ Some built_in
+    → name ≡ spelled built_in
+lookup_spelled [] name built_in are e = absurd cc
+lookup_spelled (entry ∷ others) name built_in are e =
+    go (bytes_eq name entry.0) refl e (lookup_spelled others name built_in are.1)
+  where
+    go : (same : Bool)
+        → bytes_eq name entry.0 ≡ same
+        → (if same then Some entry.1 else lookup (bytes_eq name) others) ≡ Some built_in
+        → (lookup (bytes_eq name) others ≡ Some built_in → name ≡ spelled built_in)
+        → name ≡ spelled built_in
+    go true test e later =
+        let is : entry.1 ≡ built_in = cc in
+        (bytes_eq-Decides name entry.0).0 test ∙ are.0 ∙ ap spelled is
+    go false test e later = later e
+
+built_in_spelled : (name : List ℕ) (built_in : BuiltIn) → built_in_of name ≡ Some built_in → name ≡ spelled built_in
+unfolding built_in_of
+built_in_spelled name built_in e =
+    lookup_spelled built_ins name built_in
+    (refl, (refl, (refl, (refl, (refl, (refl, (refl, (refl, (refl, (refl, (refl, (refl, (refl, tt)))))))))))))
+    e
+
+-- a name is bound to a declaration, or else to a built-in procedure
+declared_entity : (found : Option Entity) (built_in : Option BuiltIn) (entity : Entity)
+    → option_or (option_map Declared found) (option_map BuiltInName built_in) ≡ Some (Declared entity)
+    → found ≡ Some entity
+declared_entity None None entity e = absurd cc
+declared_entity None (Some built_in) entity e = absurd cc
+declared_entity (Some found) built_in entity e = cc
+
+named_built_in : (found : Option Entity) (built_in : Option BuiltIn) (binding : BuiltIn)
+    → option_or (option_map Declared found) (option_map BuiltInName built_in) ≡ Some (BuiltInName binding)
+    → built_in ≡ Some binding
+named_built_in None None binding e = absurd cc
+named_built_in None (Some built_in) binding e = cc
+named_built_in (Some found) built_in binding e = absurd cc
+
+bound_entity : (here : Here) (name : List ℕ) (entity : Entity)
+    → binding_of here name ≡ Some (Declared entity)
+    → entity_of here name ≡ Some entity
+bound_entity here name entity e = declared_entity (entity_of here name) (built_in_of name) entity e
+
+pub bound_spelled : (here : Here) (name : List ℕ) (built_in : BuiltIn)
+    → binding_of here name ≡ Some (BuiltInName built_in)
+    → name ≡ spelled built_in
+bound_spelled here name built_in e =
+    built_in_spelled name built_in (named_built_in (entity_of here name) (built_in_of name) built_in e)
+
+-- what the tables say of an object that a name stands for
+pub record StandsFor (known : Known) (name : List ℕ) (number : ℕ) (object : TypedObject) : Type 0 where
+  pub in_tables : (tables : TypedModule) → Agrees tables known
+      → (object_name tables number ≡ name)
+      × (members_of_object tables number ≡ unwrap_or (members_of object.object_type) [])
+
+abbrev pub Binds : Known → Identifier → Binding → Type 0
+Binds known name binding = binding_of known.here name.name ≡ Some binding
+
+pub is_bound : (known : Known) (name : Identifier) → Gives (Binds known name) (bound known name)
+is_bound known name = is_found (binding_of known.here name.name) UnknownName (line_of name)
+
+-- an object that a name is bound to
+pub is_object : (known : Known) (name : Identifier) (number : ℕ)
+    → Binds known name (Declared (Object number))
+    → Gives (StandsFor known name.name number) (object_of known name number)
+is_object known name number e =
+    then_more (is_found (slice_get known.objects number) _ _) (λ object entry. record {
+      in_tables = λ tables agrees.
+          agrees.0 name.name number object (bound_entity known.here name.name (Object number) e) entry;
+    })
+
+-- a procedure that a name is bound to
+pub is_procedure : (known : Known) (name : Identifier) (number : ℕ)
+    → Binds known name (Declared (Procedure number))
+    → Gives (λ procedure. (tables : TypedModule) → Agrees tables known → procedure_name tables number ≡ name.name)
+    (procedure_of known name number)
+is_procedure known name number e =
+    then_more (is_found (slice_get known.procedures number) _ _) (λ procedure entry tables agrees.
+    agrees.1 name.name number procedure (bound_entity known.here name.name (Procedure number) e) entry)
