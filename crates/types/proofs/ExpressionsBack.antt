@@ -1,45 +1,27 @@
 -- Taking the conversions away from a typed expression gives back the tree that it was typed from.
-use Rattle.std.proofs.Common.{◌≡◌, ℕ, zero, suc, ◌==◌, Bool, true, false, List, [], ◌∷◌, ◌++◌, length, Option, Some, None, Ok, nat_le, refl, sym, ap, subst, ◌∙◌, arith}
-use Rattle.std.specs.Prelude.{unwrap_or, slice_get, codes, ◌&&◌, is_none, if◌then◌else◌}
-use Rattle.std.specs.Option.{option_or, option_map, option_map_or}
-use Rattle.std.specs.Map.{lookup}
-use Rattle.std.specs.Str.{bytes_eq}
-use Rattle.std.proofs.lemmas.Slice.Eq.{bytes_eq-Decides}
-use Rattle.std.proofs.lemmas.Bool.{eqb-true, leb-true}
+use Rattle.std.proofs.Common.{◌≡◌, ℕ, zero, suc, List, [], ◌∷◌, ◌++◌, length, Some, Ok, refl, sym, ap, ◌∙◌}
+use Rattle.std.specs.Prelude.{unwrap_or, slice_get, codes, ◌&&◌, is_none}
 use Rattle.trees.specs.declared.declaration.ScalarType.{ScalarType}
-use Rattle.trees.specs.declared.declaration.ScalarType.TheVariants.{Byte, Address}
 use Rattle.trees.specs.declared.identifier.Identifier.{Identifier}
-use Rattle.trees.specs.Trees.{StringTree, ConstantTree, NumberConstant, StringConstant, ExpressionTree, ConstantLeaf, ReferenceLeaf, LocationLeaf, ListLeaf, ParenthesizedNode, AssignmentNode, UnaryNode, BinaryNode, ReferenceTree, ReferenceTo, MemberTree, NoMember, MemberOf, ArgumentTrees, NoArguments, MoreArguments}
+use Rattle.trees.specs.Trees.{ConstantTree, NumberConstant, StringConstant, ExpressionTree, ConstantLeaf, ReferenceLeaf, LocationLeaf, ListLeaf, ParenthesizedNode, AssignmentNode, UnaryNode, BinaryNode, ReferenceTree, ReferenceTo, MemberTree, NoMember, MemberOf, ArgumentTrees, NoArguments, MoreArguments}
 use Rattle.names.specs.declared.entity.Binding.{Binding}
 use Rattle.names.specs.declared.entity.Binding.TheVariants.{Declared, BuiltInName}
-use Rattle.names.specs.declared.entity.BuiltIn.{BuiltIn}
 use Rattle.names.specs.declared.entity.BuiltIn.TheVariants as built_in_names
-use Rattle.names.specs.declared.entity.Entity.{Entity}
 use Rattle.names.specs.declared.entity.Entity.TheVariants.{Object, Procedure}
-use Rattle.names.specs.BuiltIns.{binding_of, built_in_of, built_ins}
-use Rattle.names.specs.Environment.{Here, entity_of}
-use Rattle.typed_trees.specs.declared.parts.TypedMember.{TypedMember}
-use Rattle.typed_trees.specs.declared.parts.ShiftFunction.{ShiftFunction}
-use Rattle.typed_trees.specs.declared.parts.UnaryFunction.{UnaryFunction}
-use Rattle.typed_trees.specs.declared.parts.UnaryFunction.TheVariants as functions
-use Rattle.typed_trees.specs.declared.parts.ShiftFunction.TheVariants as shifts
-use Rattle.typed_trees.specs.declared.parts.Measure.TheVariants as measures
-use Rattle.typed_trees.specs.declared.parts.Measure.{Measure}
-use Rattle.typed_trees.specs.TypedTrees.{TypedExpression, ListNode, Subscript, TypedReference, TypedArguments, NoArguments as NoTyped, MoreArguments as MoreTyped, TypedObject, TypedProcedure, TypedModule, Constants}
-use Rattle.typed_trees.specs.Sizes.{FoundMember, member_named, after_member, size_of_scalar, size_of_element}
+use Rattle.typed_trees.specs.TypedTrees.{TypedExpression, ListNode, TypedArguments, TypedProcedure, TypedModule, Constants}
 use Rattle.typed_trees.specs.ExpressionTypes.{type_of}
-use Rattle.types.specs.Nodes.{converted, as_type, arguments_as, type_of_shift, type_of_operands, Destination, target_of}
-use Rattle.types.specs.declared.fault.Cause.TheVariants.{UnknownName, WrongUse, WrongConstant, NoLocation}
-use Rattle.types.specs.References.{Known, Given, GivenMember, WithoutMember, WithMember, GivenReference, line_of, number_of_arguments, count_of_given, bound, object_of, procedure_of, Extent, AnElement, AlsoTheWhole, takes_subscripts, subscript_of, members_of, scalar_of, FoundPart, part_with_member, part_of, scalar_part, without_member, port_of, port_of_character, has_location, location_of_bound, location_of, is_writable, destination_of_bound, destination_of}
-use Rattle.types.specs.Functions.{call_arguments, call_of, function_of, unary_function, shift_of, shift_function, input_value, Measured, measured_member, measured_object, measure_of, measurement, number_of_variable, built_in_value, value_of_bound, value_of}
+use Rattle.types.specs.Nodes.{type_of_operands, Destination, target_of}
+use Rattle.types.specs.declared.fault.Cause.TheVariants.{WrongUse}
+use Rattle.types.specs.References.{Known, Given, line_of, bound, procedure_of, scalar_of, is_writable, destination_of}
+use Rattle.types.specs.Functions.{call_arguments}
 use Rattle.types.specs.Checks.{require}
 use Rattle.types.specs.Items.{is_not_based}
 use Rattle.types.specs.Statements.{Counter, counter_bound}
 use Rattle.types.specs.internal.Tables.{Agrees, Grows, HasLists}
 use Rattle.types.specs.Constants.{number_of_characters, bytes_of_constants}
 use Rattle.types.specs.Expressions.{number_node, with_list, expression, given_reference, given_member, arguments}
-use Rattle.types.specs.Untyped.{untyped_expression, untyped_arguments, untyped_subscript, plain_expression, plain_arguments, plain_member, plain_reference, one_argument, byte_list, member_tree, untyped_target, named, number_in, number_leaf, call_tree, function_name, shift_name, measure_name, procedure_name, object_name, untyped_reference, member_name, members_of_object}
-use Rattle.types.proofs.Kept.{Gives, then_more, anything, gives_ok, gives_fault, in_turn, required, is_found, Kept, kept_at, kept_more, kept_both}
+use Rattle.types.specs.Untyped.{untyped_expression, untyped_arguments, plain_expression, plain_arguments, plain_member, plain_reference, byte_list, untyped_target, named, number_in, number_leaf, procedure_name, object_name}
+use Rattle.types.proofs.Kept.{Gives, then_more, anything, gives_ok, gives_fault, in_turn, is_found, kept_at, kept_more, kept_both}
 use Rattle.types.proofs.ReferencesBack.{as_type_back, plain_given, plain_given_member, GivesTree, MemberBack, ReferenceBack, GivesTarget, call_arguments_kept, value_back, location_back, target_back}
 use Rattle.types.proofs.NamesBack.{bound_spelled, is_bound, Binds, is_object, is_procedure}
 
@@ -52,6 +34,14 @@ plain_reference_given : (known : Known) (reference : ReferenceTree)
     → plain_given (given_reference known reference) ≡ plain_reference reference
 plain_reference_given known (ReferenceTo name trees part) =
     ap (λ found. ReferenceTo (named name.name) (plain_arguments trees) found) (plain_member_given known part)
+
+target_given : (known : Known) (reference : ReferenceTree) (constants : Constants)
+    → ReferenceBack known (given_reference known reference)
+    → Gives (GivesTarget known (plain_reference reference) constants)
+    (destination_of known (given_reference known reference) constants)
+target_given known reference constants back =
+    then_more (target_back known (given_reference known reference) constants back) (λ found kept.
+    kept_more kept (λ tables agrees is from. is from ∙ plain_reference_given known reference))
 
 -- constants and constant lists
 constant_back : (constant : ConstantTree)
@@ -97,11 +87,10 @@ mutual
   expression_kept known (ListLeaf list) constants = gives_ok (list_kept known list constants)
   expression_kept known (ParenthesizedNode inner) constants = expression_kept known inner constants
   expression_kept known (AssignmentNode target value) constants =
-      in_turn (target_back known (given_reference known target) constants (reference_kept known target)) (λ destination kept.
+      in_turn (target_given known target constants (reference_kept known target)) (λ destination kept.
       in_turn (expression_kept known value destination.1) (λ typed more.
       gives_ok (kept_both kept more (λ tables agrees to is.
-      let there : untyped_target tables (target_of destination.0 (type_of typed.0)) ≡ plain_reference target =
-      to (type_of typed.0) ∙ plain_reference_given known target in
+      let there = to (type_of typed.0) in
       cc))))
   expression_kept known (UnaryNode operator operand) constants =
       in_turn (expression_kept known operand constants) (λ typed kept.
@@ -150,13 +139,6 @@ pub arguments_back : (tables : TypedModule) (known : Known)
 arguments_back tables known agrees trees constants typed after e has =
     ((arguments_kept known trees constants).holds (typed, after) e).says tables agrees has
 
-target_kept : (known : Known) (reference : ReferenceTree) (constants : Constants)
-    → Gives (GivesTarget known (plain_reference reference) constants)
-    (destination_of known (given_reference known reference) constants)
-target_kept known reference constants =
-    then_more (target_back known (given_reference known reference) constants (reference_kept known reference)) (λ found kept.
-    kept_more kept (λ tables agrees is from. is from ∙ plain_reference_given known reference))
-
 pub destination_back : (tables : TypedModule) (known : Known)
     → Agrees tables known
     → (reference : ReferenceTree) (constants : Constants) (destination : Destination) (after : Constants)
@@ -164,7 +146,7 @@ pub destination_back : (tables : TypedModule) (known : Known)
     → HasLists tables after
     → (from : ScalarType) → untyped_target tables (target_of destination from) ≡ plain_reference reference
 destination_back tables known agrees reference constants destination after e has from =
-    ((target_kept known reference constants).holds (destination, after) e).says tables agrees has from
+    ((target_given known reference constants (reference_kept known reference)).holds (destination, after) e).says tables agrees has from
 
 -- the arguments of a call of an untyped procedure
 abbrev pub given_arguments : Known → ArgumentTrees → Given
@@ -206,7 +188,7 @@ pub destination_grows : (known : Known) (reference : ReferenceTree) (constants :
     → destination_of known (given_reference known reference) constants ≡ Ok (destination, after)
     → Grows constants after
 destination_grows known reference constants destination after e =
-    ((target_kept known reference constants).holds (destination, after) e).grows
+    ((target_given known reference constants (reference_kept known reference)).holds (destination, after) e).grows
 
 pub call_arguments_grow : (known : Known) (procedure : TypedProcedure) (line : ℕ) (trees : ArgumentTrees)
     (constants : Constants) (typed : TypedArguments) (after : Constants)
@@ -251,4 +233,3 @@ pub move_back : (known : Known) (name : Identifier)
     → name.name ≡ codes "MOVE"
 move_back known name bound_to =
     bound_spelled known.here name.name built_in_names.Move ((is_bound known name).holds _ bound_to)
-

@@ -4,7 +4,7 @@ use Rattle.types.specs.declared.fault.Cause.{Cause}
 use Rattle.types.specs.declared.fault.Fault.{Fault}
 use Rattle.std.specs.Prelude.{ℕ}
 use Rattle.typed_trees.specs.TypedTrees.{TypedModule, Constants}
-use Rattle.types.specs.Checks.{Checked, ◌>>=◌, refuse, require, found}
+use Rattle.types.specs.Checks.{Checked, ◌>>=◌, require, found}
 use Rattle.types.specs.References.{Known}
 use Rattle.types.specs.internal.Tables.{Agrees, Grows, HasLists}
 
