@@ -45,7 +45,8 @@ target_given known reference constants back =
 
 -- constants and constant lists
 constant_back : (constant : ConstantTree)
-    → Gives (λ node. (tables : TypedModule) → untyped_expression tables node ≡ number_leaf (number_in constant)) (number_node constant)
+    → Gives (λ node. (tables : TypedModule) → untyped_expression tables node ≡ number_leaf (number_in constant))
+    (number_node constant)
 constant_back (NumberConstant number) = gives_ok (λ tables. refl)
 constant_back (StringConstant string) =
     in_turn (is_found (number_of_characters string.characters) _ _) (λ number e.
@@ -146,7 +147,8 @@ pub destination_back : (tables : TypedModule) (known : Known)
     → HasLists tables after
     → (from : ScalarType) → untyped_target tables (target_of destination from) ≡ plain_reference reference
 destination_back tables known agrees reference constants destination after e has from =
-    ((target_given known reference constants (reference_kept known reference)).holds (destination, after) e).says tables agrees has from
+    ((target_given known reference constants (reference_kept known reference)).holds (destination, after) e).says
+    tables agrees has from
 
 -- the arguments of a call of an untyped procedure
 abbrev pub given_arguments : Known → ArgumentTrees → Given

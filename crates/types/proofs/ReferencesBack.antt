@@ -65,7 +65,8 @@ no_arguments NoArguments none = refl
 no_arguments (MoreArguments first others) none = absurd (omega (arith, eqb-true _ _ none))
 
 -- a subscript in brackets, or none
-subscript_back : (tables : TypedModule) (extent : Extent) (stride : ℕ) (dimension : Option ℕ) (trees : ArgumentTrees) (typed : TypedArguments)
+subscript_back : (tables : TypedModule) (extent : Extent) (stride : ℕ) (dimension : Option ℕ)
+    (trees : ArgumentTrees) (typed : TypedArguments)
     → takes_subscripts extent dimension (number_of_arguments trees) ≡ true
     → untyped_arguments tables typed ≡ plain_arguments trees
     → untyped_subscript tables (subscript_of stride dimension typed) ≡ plain_arguments trees
@@ -171,7 +172,8 @@ part_with_member_back known number object element extent name values (WithMember
     gives_ok (kept_more kept (λ tables agrees values_back is.
     let own = (stands.in_tables tables agrees).0 in
     let called = member_called stands tables agrees members member.name place are at in
-    let index = subscript_back tables extent (size_of_scalar place.member.scalar) place.member.dimension given.trees typed.0 fits values_back in
+    let stride = size_of_scalar place.member.scalar in
+    let index = subscript_back tables extent stride place.member.dimension given.trees typed.0 fits values_back in
     cc))))))
 
 has_no_member : (member : GivenMember) → Gives (λ _. member ≡ WithoutMember) (without_member member)
