@@ -5,3 +5,7 @@ pub mod Parts
 pub mod Declarations
 pub mod JumpsLaw
 pub mod JumpExamples
+pub mod Kept
+pub mod NamesBack
+pub mod ReferencesBack
+pub mod ExpressionsBack
