@@ -1,0 +1,3 @@
+pub mod CheckLemmas
+pub mod Tables
+pub mod StatementsBack

@@ -4,3 +4,4 @@ pub mod Measures
 pub mod GivenBack
 pub mod Refusals
 pub mod Scopes
+pub mod Tables
