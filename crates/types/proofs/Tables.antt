@@ -1,5 +1,5 @@
 -- Names that stand for objects and procedures of tables, at every place of a text.
-use Rattle.std.proofs.Common.{◌≡◌, ℕ, suc, zero, ◌+◌, Bool, true, false, List, [], ◌∷◌, ◌++◌, map, length, drop, Option, None, Some, option_map, if◌then◌else◌, slice_get, refl, sym, ap, ◌∙◌, subst, arith}
+use Rattle.std.proofs.Common.{◌≡◌, ℕ, suc, zero, ◌+◌, Bool, true, false, List, [], ◌∷◌, ◌++◌, map, length, drop, Option, None, Some, option_map, if◌then◌else◌, slice_get, refl, sym, ap, ◌∙◌, subst, length-append, arith}
 use Rattle.std.specs.Map.{lookup}
 use Rattle.std.specs.Option.{option_or, option_map_or}
 use Rattle.std.specs.Str.{bytes_eq}
@@ -185,3 +185,166 @@ numbered-fit objects procedures number [] names fit = fit
 numbered-fit objects procedures number (label ∷ labels) names fit =
     numbered-fit objects procedures (number + 1) labels (names_with label.name (Label number) names)
     (names_with-fit (IsNamed objects procedures) label.name (Label number) tt names fit)
+
+-- Names fit at the start of a module, and go on to fit where a text goes into a part and out of it.
+pub at_the_start-fits : Fits [] [] at_the_start
+at_the_start-fits =
+    record { body = (tt, tt, tt); outer = tt; object_count = refl; procedure_count = refl }
+
+pub into_block-fits : {objects procedures : List (List ℕ)} {here : Here}
+    → Fits objects procedures here → Fits objects procedures (into_block here)
+into_block-fits fits = record {
+  body = (tt, (fits.body.0, fits.body.1), fits.body.2);
+  outer = fits.outer;
+  object_count = fits.object_count;
+  procedure_count = fits.procedure_count;
+}
+
+after_block-fits : (P : Entity → List ℕ → Type 0) (blocks : List Names) (body : Body)
+    → ScopesFit P blocks → BodyFits P body → BodyFits P (body_after_block blocks body)
+after_block-fits P [] body outer fit = fit
+after_block-fits P (block ∷ others) body outer fit = (outer.0, outer.1, fit.2)
+
+pub out_of_block-fits : {objects procedures : List (List ℕ)} {here : Here}
+    → Fits objects procedures here → Fits objects procedures (out_of_block here)
+out_of_block-fits {objects} {procedures} {here} fits = record {
+  body = after_block-fits (IsNamed objects procedures) here.body.outer_blocks here.body fits.body.1 fits.body;
+  outer = fits.outer;
+  object_count = fits.object_count;
+  procedure_count = fits.procedure_count;
+}
+
+pub into_body-fits : {objects procedures : List (List ℕ)} {here : Here}
+    → Fits objects procedures here → Fits objects procedures (into_body here)
+into_body-fits fits = record {
+  body = (tt, tt, tt);
+  outer = (fits.body, fits.outer);
+  object_count = fits.object_count;
+  procedure_count = fits.procedure_count;
+}
+
+after_body-fits : (objects procedures : List (List ℕ)) (bodies : List Body) (here : Here)
+    → BodiesFit (IsNamed objects procedures) bodies
+    → Fits objects procedures here
+    → Fits objects procedures (after_body bodies here)
+after_body-fits objects procedures [] here outer fits = fits
+after_body-fits objects procedures (body ∷ others) here outer fits = record {
+  body = outer.0;
+  outer = outer.1;
+  object_count = fits.object_count;
+  procedure_count = fits.procedure_count;
+}
+
+pub out_of_body-fits : {objects procedures : List (List ℕ)} {here : Here}
+    → Fits objects procedures here → Fits objects procedures (out_of_body here)
+out_of_body-fits {objects} {procedures} {here} fits =
+    after_body-fits objects procedures here.outer_bodies here fits.outer fits
+
+pub into_list-fits : {objects procedures : List (List ℕ)} {here : Here} (labels : List Identifier)
+    → Fits objects procedures here → Fits objects procedures (into_list labels here)
+into_list-fits {objects} {procedures} {here} labels fits = record {
+  body = (fits.body.0, fits.body.1, (numbered-fit objects procedures here.labels labels [] tt, fits.body.2));
+  outer = fits.outer;
+  object_count = fits.object_count;
+  procedure_count = fits.procedure_count;
+}
+
+after_list-fits : (P : Entity → List ℕ → Type 0) (lists : List Names)
+    → ScopesFit P lists → ScopesFit P (drop 1 lists)
+after_list-fits P [] fit = tt
+after_list-fits P (names ∷ others) fit = fit.1
+
+pub out_of_list-fits : {objects procedures : List (List ℕ)} {here : Here}
+    → Fits objects procedures here → Fits objects procedures (out_of_list here)
+out_of_list-fits {objects} {procedures} {here} fits = record {
+  body = (
+    fits.body.0, fits.body.1, after_list-fits (IsNamed objects procedures) here.body.lists fits.body.2,
+  );
+  outer = fits.outer;
+  object_count = fits.object_count;
+  procedure_count = fits.procedure_count;
+}
+
+-- a label, a parameter or a definition adds nothing to the tables
+pub with_label-fits : {objects procedures : List (List ℕ)} {here : Here} (name : List ℕ)
+    → Fits objects procedures here → Fits objects procedures (with_label name here)
+with_label-fits name fits = record {
+  body = fits.body;
+  outer = fits.outer;
+  object_count = fits.object_count;
+  procedure_count = fits.procedure_count;
+}
+
+pub with_parameter-fits : {objects procedures : List (List ℕ)} {here : Here} (name : List ℕ)
+    → Fits objects procedures here → Fits objects procedures (with_parameter name here)
+with_parameter-fits name fits = record {
+  body = fits.body;
+  outer = fits.outer;
+  object_count = fits.object_count;
+  procedure_count = fits.procedure_count;
+}
+
+pub with_definition-fits : {objects procedures : List (List ℕ)} {here : Here} (name : List ℕ)
+    → Fits objects procedures here → Fits objects procedures (with_definition name here)
+with_definition-fits {objects} {procedures} {here} name fits = record {
+  body = (
+    names_with-fit (IsNamed objects procedures) name Definition tt here.body.block fits.body.0,
+    fits.body.1,
+    fits.body.2,
+  );
+  outer = fits.outer;
+  object_count = fits.object_count;
+  procedure_count = fits.procedure_count;
+}
+
+count_after : (before : List (List ℕ)) (name : List ℕ) (count : ℕ)
+    → count ≡ length before → count + 1 ≡ length (before ++ name ∷ [])
+count_after before name count e =
+    ap (λ k. k + 1) e ∙ sym (length-append before (name ∷ []))
+
+number_after : (before : List (List ℕ)) (name : List ℕ) (count : ℕ)
+    → count ≡ length before → slice_get (before ++ name ∷ []) count ≡ Some name
+number_after before name count e =
+    ap (λ k. slice_get (before ++ name ∷ []) k) e ∙ at_the_end before name
+
+-- an object or a procedure is the next in its table
+pub with_object-fits : {objects procedures : List (List ℕ)} {here : Here} (name : List ℕ)
+    → Fits objects procedures here → Fits (objects ++ name ∷ []) procedures (with_object name here)
+with_object-fits {objects} {procedures} {here} name fits =
+    let P : Entity → List ℕ → Type 0 = IsNamed objects procedures in
+    let Q : Entity → List ℕ → Type 0 = IsNamed (objects ++ name ∷ []) procedures in
+    let later = named_later objects procedures (objects ++ name ∷ []) procedures
+        (keeps_append objects (name ∷ [])) (λ number x e. e) in
+    let body = body_weaker P Q later here.body fits.body in
+    record {
+      body = (
+        names_with-fit Q name (Object here.objects) (number_after objects name here.objects fits.object_count)
+            here.body.block body.0,
+        body.1,
+        body.2,
+      );
+      outer = bodies_weaker P Q later here.outer_bodies fits.outer;
+      object_count = count_after objects name here.objects fits.object_count;
+      procedure_count = fits.procedure_count;
+    }
+
+pub with_procedure-fits : {objects procedures : List (List ℕ)} {here : Here} (name : List ℕ)
+    → Fits objects procedures here → Fits objects (procedures ++ name ∷ []) (with_procedure name here)
+with_procedure-fits {objects} {procedures} {here} name fits =
+    let P : Entity → List ℕ → Type 0 = IsNamed objects procedures in
+    let Q : Entity → List ℕ → Type 0 = IsNamed objects (procedures ++ name ∷ []) in
+    let later = named_later objects procedures objects (procedures ++ name ∷ []) (λ number x e. e)
+        (keeps_append procedures (name ∷ [])) in
+    let body = body_weaker P Q later here.body fits.body in
+    record {
+      body = (
+        names_with-fit Q name (Procedure here.procedures)
+            (number_after procedures name here.procedures fits.procedure_count)
+            here.body.block body.0,
+        body.1,
+        body.2,
+      );
+      outer = bodies_weaker P Q later here.outer_bodies fits.outer;
+      object_count = fits.object_count;
+      procedure_count = count_after procedures name here.procedures fits.procedure_count;
+    }
