@@ -1,3 +1,5 @@
 pub mod CheckLemmas
 pub mod Tables
+pub mod Walked
+pub mod DeclarationsBack
 pub mod StatementsBack
