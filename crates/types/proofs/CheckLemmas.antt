@@ -33,7 +33,7 @@ gives_bind {checked = checked} {next = next} first others = record {
       (others found.0 (first.holds found.0 found.1)).holds b found.2;
 }
 
--- a check of a condition that tells nothing
+-- a check of which only matters that it gives something
 pub gives_after : {A B : Type 0} {Q : B → Type 0} (checked : Checked A) {next : A → Checked B}
     → ((a : A) → Gives Q (next a))
     → Gives Q (checked >>= next)
