@@ -5,16 +5,16 @@ use Rattle.std.proofs.Math.Seq.{set-append_seam}
 use Rattle.trees.specs.declared.declaration.ScalarType.{ScalarType}
 use Rattle.trees.specs.declared.identifier.Identifier.{Identifier}
 use Rattle.trees.specs.Trees.{ItemTree, ElementTree, LiterallyElement, ItemElement, HeadingTree, DeclarationTrees, StatementTrees}
-use Rattle.names.specs.Environment.{Here, into_body, out_of_body, is_declared_again, with_object, with_procedure, with_parameter, with_definition}
+use Rattle.names.specs.Environment.{Here, into_body, out_of_body, is_declared_again, is_parameter_again, with_object, with_procedure, with_parameter, with_definition}
 use Rattle.names.specs.Uses.{declared_by}
 use Rattle.typed_trees.specs.declared.limits.TheConstants.{OBJECT_LIMIT, FRAME_LIMIT, PARAMETER_LIMIT}
 use Rattle.typed_trees.specs.TypedTrees.{Home, InData, InConstants, Placed, BasedOn, Elsewhere, Nowhere, InFrame, TypedList, TypedObject, TypedProcedure, TypedModule, Constants}
 use Rattle.types.specs.declared.fault.Cause.TheVariants.{DeclaredTwice, MisplacedAttribute, TooLarge}
 use Rattle.types.specs.Checks.{Checked, ◌>>=◌, require}
 use Rattle.types.specs.References.{line_of}
-use Rattle.types.specs.Blocks.{Block, Progress, is_external, declares_parameter}
+use Rattle.types.specs.Blocks.{Block, Progress, is_external, is_reentrant, declares_parameter}
 use Rattle.types.specs.Items.{declare_names, TypedItem, object_named, with_constant, with_typed_object, with_objects, typed_item, size_of_item, line_of_item, declare_item, declare_definition, declare_element, declare_elements}
-use Rattle.types.specs.Procedures.{declare_parameters, parameter_types, procedure_with, empty_list, with_heading, open_procedure, close_procedure}
+use Rattle.types.specs.Procedures.{declare_parameters, no_more_parameters, check_visibility, check_reentrant, parameter_types, procedure_with, empty_list, with_heading, open_procedure, close_procedure}
 use Rattle.types.specs.Statements.{with_here}
 use Rattle.types.specs.Untyped.{plain_statements, untyped_list}
 use Rattle.types.proofs.CheckLemmas.{Gives, gives_ok, gives_nothing, gives_itself, gives_bind, gives_after, gives_more}
@@ -137,3 +137,127 @@ declare_elements-walk block (element ∷ others) progress holds =
     gives_bind (declare_element-walks block element progress holds) λ between one.
     gives_more (declare_elements-walk block others between one.holds) λ after rest.
     walked_as (walked_then one rest) (λ tables back. tt)
+
+-- the parameters of a heading
+declare_parameters-fit : (objects procedures : List (List ℕ)) (parameters : List Identifier) (here : Here)
+    → Fits objects procedures here
+    → Gives (Fits objects procedures) (declare_parameters parameters here)
+declare_parameters-fit objects procedures [] here fits = gives_ok fits
+declare_parameters-fit objects procedures (parameter ∷ others) here fits =
+    gives_after (require (not (is_parameter_again here parameter.name)) DeclaredTwice (line_of parameter)) λ once.
+    declare_parameters-fit objects procedures others (with_parameter parameter.name here)
+    (with_parameter-fits parameter.name fits)
+
+-- a procedure as its heading says
+abbrev heading_procedure : HeadingTree → DeclarationTrees → TypedProcedure
+heading_procedure heading declared =
+    procedure_with heading (parameter_types declared heading.parameters) [] 0 empty_list
+
+procedure_names-append : (procedures : List TypedProcedure) (procedure : TypedProcedure)
+    → procedure_names (procedures ++ procedure ∷ []) ≡ procedure_names procedures ++ procedure.name ∷ []
+procedure_names-append procedures procedure =
+    map-append (λ (procedure : TypedProcedure). procedure.name) procedures (procedure ∷ [])
+
+-- at its heading a procedure is added at the end of the table
+pub record Opened (heading : HeadingTree) (declared : DeclarationTrees) (before after : Progress) : Type 0 where
+  pub holds : Holds after
+  pub reaches : (tables : TypedModule) → Reaches tables after → Reaches tables before
+  pub appended : after.known.procedures ≡ before.known.procedures ++ heading_procedure heading declared ∷ []
+
+opened_with : (heading : HeadingTree) (declared : DeclarationTrees) (progress : Progress) (here : Here)
+    → Fits (object_names progress.known.objects)
+    (procedure_names progress.known.procedures ++ heading.name.name ∷ []) here
+    → Opened heading declared progress
+    (with_heading heading (parameter_types declared heading.parameters) here progress)
+opened_with heading declared progress here fits =
+    let procedure : TypedProcedure = heading_procedure heading declared in
+    let procedures : List TypedProcedure = progress.known.procedures in
+    let names : procedure_names (procedures ++ procedure ∷ []) ≡ procedure_names procedures ++ procedure.name ∷ [] =
+        procedure_names-append procedures procedure in
+    record {
+      holds = subst (λ k. Fits (object_names progress.known.objects) k here) (sym names) fits;
+      reaches = λ tables reaches. (
+        reaches.0,
+        λ number name e. reaches.1 number name
+            (subst (λ k. slice_get k number ≡ Some name) (sym names)
+            (keeps_append (procedure_names procedures) (procedure.name ∷ []) number name e)),
+        reaches.2,
+      );
+      appended = refl;
+    }
+
+pub open_procedure-opens : (block : Block) (heading : HeadingTree) (declared : DeclarationTrees)
+    (progress : Progress)
+    → Holds progress
+    → Gives (Opened heading declared progress) (open_procedure block heading declared progress)
+open_procedure-opens block heading declared progress holds =
+    gives_after (require (not (is_declared_again progress.known.here heading.name.name)) DeclaredTwice
+    (line_of heading.name)) λ once.
+    gives_after (require (not (is_reentrant block.owner || is_external block.owner)) MisplacedAttribute
+    (line_of heading.name)) λ placed.
+    gives_bind
+    (declare_parameters-fit (object_names progress.known.objects)
+    (procedure_names progress.known.procedures ++ heading.name.name ∷ []) (take PARAMETER_LIMIT heading.parameters)
+    (into_body (with_procedure heading.name.name progress.known.here))
+    (into_body-fits (with_procedure-fits heading.name.name holds))) λ here fits.
+    gives_after (no_more_parameters (drop PARAMETER_LIMIT heading.parameters)) λ few.
+    gives_after (check_visibility block heading.linkage) λ visible.
+    gives_after (check_reentrant heading.linkage heading.reentrant) λ reentrant.
+    gives_ok (opened_with heading declared progress here fits)
+
+-- at its end its entry takes the place of the one of its heading, and nothing else in the table changes
+closed_table : (before : List TypedProcedure) (first last : TypedProcedure) (added table : List TypedProcedure)
+    → table ≡ (before ++ first ∷ []) ++ added
+    → slice_set table (length before) last ≡ before ++ last ∷ added
+closed_table before first last added table is =
+    ap (λ k. slice_set k (length before) last) (is ∙ append_assoc before (first ∷ []) added)
+    ∙ set-append_seam before first added last
+
+same_names : (before : List TypedProcedure) (first last : TypedProcedure) (added table : List TypedProcedure)
+    → first.name ≡ last.name
+    → table ≡ (before ++ first ∷ []) ++ added
+    → procedure_names (slice_set table (length before) last) ≡ procedure_names table
+same_names before first last added table same is =
+    let name_of = λ (procedure : TypedProcedure). procedure.name in
+    ap procedure_names (closed_table before first last added table is)
+    ∙ map-append name_of before (last ∷ added)
+    ∙ ap (λ k. procedure_names before ++ k ∷ procedure_names added) (sym same)
+    ∙ sym (map-append name_of before (first ∷ added))
+    ∙ ap procedure_names (sym (is ∙ append_assoc before (first ∷ []) added))
+
+pub walked_procedure : (heading : HeadingTree) (declared : DeclarationTrees) (parameters : List ℕ)
+    (body : TypedList) (text : StatementTrees) (texts : List StatementTrees) (before opened within : Progress)
+    → Opened heading declared before opened
+    → Walked opened within texts (λ tables. untyped_list tables body ≡ plain_statements text)
+    → Walked before
+    (close_procedure heading declared (length before.known.procedures) parameters body within)
+    (text ∷ texts) Nothing
+walked_procedure heading declared parameters body text texts before opened within heads inside =
+    let first : TypedProcedure = heading_procedure heading declared in
+    let types : List ScalarType = parameter_types declared heading.parameters in
+    let last : TypedProcedure = procedure_with heading types parameters within.frame body in
+    let procedures : List TypedProcedure = before.known.procedures in
+    let is : within.known.procedures ≡ (procedures ++ first ∷ []) ++ inside.added =
+        inside.appended ∙ ap (λ k. k ++ inside.added) heads.appended in
+    let names : procedure_names (slice_set within.known.procedures (length procedures) last)
+        ≡ procedure_names within.known.procedures =
+        same_names procedures first last inside.added within.known.procedures refl is in
+    let reaches_inside : (tables : TypedModule)
+        → Reaches tables (close_procedure heading declared (length procedures) parameters body within)
+        → Reaches tables within =
+        λ tables reaches. (
+          reaches.0,
+          subst (λ k. Keeps k (procedure_names tables.procedures)) names reaches.1,
+          reaches.2,
+        ) in
+    record {
+      holds = subst (λ k. Fits (object_names within.known.objects) k (out_of_body within.known.here)) (sym names)
+          (out_of_body-fits inside.holds);
+      reaches = λ tables reaches. heads.reaches tables (inside.reaches tables (reaches_inside tables reaches));
+      added = last ∷ inside.added;
+      appended = closed_table procedures first last inside.added within.known.procedures is;
+      bodies = λ tables reaches.
+          ap (λ k. k ∷ bodies_back tables inside.added) (inside.back tables (reaches_inside tables reaches))
+          ∙ ap (λ k. plain_statements text ∷ k) (inside.bodies tables (reaches_inside tables reaches));
+      back = λ tables reaches. tt;
+    }
