@@ -17,8 +17,8 @@ IsNamed objects procedures (Procedure number) name = slice_get procedures number
 IsNamed objects procedures (Label number) name = Unit {0}
 IsNamed objects procedures Definition name = Unit {0}
 
--- all names of a block or a list, of several, of a body and of several bodies
-abbrev pub NamesFit : (Entity → List ℕ → Type 0) → Names → Type 0
+-- all names in a table, as of a block or a list; of several, of a body and of several bodies
+abbrev pub NamesFit : {X : Type 0} → (X → List ℕ → Type 0) → List (List ℕ × X) → Type 0
 NamesFit P [] = Unit {0}
 NamesFit P (entry ∷ others) = P entry.1 entry.0 × NamesFit P others
 
@@ -52,7 +52,7 @@ either : {X : Type 0} {Q : Type 0} (first second : Option X) (x : X)
 either (Some y) second x one other e = one e
 either None second x one other e = other e
 
-names_known : (P : Entity → List ℕ → Type 0) (names : Names) (name : List ℕ) (entity : Entity)
+pub names_known : {X : Type 0} (P : X → List ℕ → Type 0) (names : List (List ℕ × X)) (name : List ℕ) (entity : X)
     → NamesFit P names
     → lookup (bytes_eq name) names ≡ Some entity
     → P entity name
