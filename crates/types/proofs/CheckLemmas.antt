@@ -1,5 +1,5 @@
 -- What holds of all that a check gives.
-use Rattle.std.proofs.Common.{◌≡◌, Result, Ok, Err, refl, subst}
+use Rattle.std.proofs.Common.{◌≡◌, Ok, Err, refl, subst}
 use Rattle.types.specs.declared.fault.Fault.{Fault}
 use Rattle.types.specs.Checks.{Checked, ◌>>=◌}
 

@@ -1,5 +1,5 @@
 -- Declarations and headings: what they add to the tables.
-use Rattle.std.proofs.Common.{◌≡◌, ℕ, List, [], ◌∷◌, ◌++◌, map, take, drop, length, Option, None, Some, slice_get, slice_set, nat_le, not, ◌||◌, refl, sym, ap, ◌∙◌, subst, append_assoc, append-nil}
+use Rattle.std.proofs.Common.{◌≡◌, ℕ, List, [], ◌∷◌, ◌++◌, map, take, drop, length, Some, slice_get, slice_set, nat_le, not, ◌||◌, refl, sym, ap, ◌∙◌, subst, append_assoc, append-nil}
 use Rattle.std.proofs.lemmas.List.{map-append}
 use Rattle.std.proofs.Math.Seq.{set-append_seam}
 use Rattle.trees.specs.declared.declaration.ScalarType.{ScalarType}
@@ -10,14 +10,14 @@ use Rattle.names.specs.Uses.{declared_by}
 use Rattle.typed_trees.specs.declared.limits.TheConstants.{OBJECT_LIMIT, FRAME_LIMIT, PARAMETER_LIMIT}
 use Rattle.typed_trees.specs.TypedTrees.{Home, InData, InConstants, Placed, BasedOn, Elsewhere, Nowhere, InFrame, TypedList, TypedObject, TypedProcedure, TypedModule, Constants}
 use Rattle.types.specs.declared.fault.Cause.TheVariants.{DeclaredTwice, MisplacedAttribute, TooLarge}
-use Rattle.types.specs.Checks.{Checked, ◌>>=◌, require}
+use Rattle.types.specs.Checks.{require}
 use Rattle.types.specs.References.{line_of}
 use Rattle.types.specs.Blocks.{Block, Progress, is_external, is_reentrant, declares_parameter}
 use Rattle.types.specs.Items.{declare_names, TypedItem, object_named, with_constant, with_typed_object, with_objects, typed_item, size_of_item, line_of_item, declare_item, declare_definition, declare_element, declare_elements}
 use Rattle.types.specs.Procedures.{declare_parameters, no_more_parameters, check_visibility, check_reentrant, parameter_types, procedure_with, empty_list, with_heading, open_procedure, close_procedure}
 use Rattle.types.specs.Statements.{with_here}
 use Rattle.types.specs.Untyped.{plain_statements, untyped_list}
-use Rattle.types.proofs.CheckLemmas.{Gives, gives_ok, gives_nothing, gives_itself, gives_bind, gives_after, gives_more}
+use Rattle.types.proofs.CheckLemmas.{Gives, gives_ok, gives_bind, gives_after, gives_more}
 use Rattle.types.proofs.Tables.{Fits, Keeps, keeps_append, with_object-fits, with_procedure-fits, with_parameter-fits, with_definition-fits, into_body-fits, out_of_body-fits}
 use Rattle.types.proofs.Walked.{object_names, procedure_names, Holds, Reaches, bodies_back, Walked, walked_then, walked_as, walked_nothing, walked_to}
 
@@ -173,7 +173,7 @@ opened_with heading declared progress here fits =
     let procedure : TypedProcedure = heading_procedure heading declared in
     let procedures : List TypedProcedure = progress.known.procedures in
     let names : procedure_names (procedures ++ procedure ∷ []) ≡ procedure_names procedures ++ procedure.name ∷ [] =
-        procedure_names-append procedures procedure in
+    procedure_names-append procedures procedure in
     record {
       holds = subst (λ k. Fits (object_names progress.known.objects) k here) (sym names) fits;
       reaches = λ tables reaches. (
@@ -238,18 +238,18 @@ walked_procedure heading declared parameters body text texts before opened withi
     let last : TypedProcedure = procedure_with heading types parameters within.frame body in
     let procedures : List TypedProcedure = before.known.procedures in
     let is : within.known.procedures ≡ (procedures ++ first ∷ []) ++ inside.added =
-        inside.appended ∙ ap (λ k. k ++ inside.added) heads.appended in
+    inside.appended ∙ ap (λ k. k ++ inside.added) heads.appended in
     let names : procedure_names (slice_set within.known.procedures (length procedures) last)
-        ≡ procedure_names within.known.procedures =
-        same_names procedures first last inside.added within.known.procedures refl is in
+    ≡ procedure_names within.known.procedures =
+    same_names procedures first last inside.added within.known.procedures refl is in
     let reaches_inside : (tables : TypedModule)
-        → Reaches tables (close_procedure heading declared (length procedures) parameters body within)
-        → Reaches tables within =
-        λ tables reaches. (
-          reaches.0,
-          subst (λ k. Keeps k (procedure_names tables.procedures)) names reaches.1,
-          reaches.2,
-        ) in
+    → Reaches tables (close_procedure heading declared (length procedures) parameters body within)
+    → Reaches tables within =
+    λ tables reaches. (
+      reaches.0,
+      subst (λ k. Keeps k (procedure_names tables.procedures)) names reaches.1,
+      reaches.2,
+    ) in
     record {
       holds = subst (λ k. Fits (object_names within.known.objects) k (out_of_body within.known.here)) (sym names)
           (out_of_body-fits inside.holds);

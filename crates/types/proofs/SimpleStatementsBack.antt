@@ -1,9 +1,6 @@
 -- Statements without statements in them are given back, where expressions are.
-use Rattle.std.proofs.Common.{◌≡◌, ℕ, Bool, true, false, List, [], ◌∷◌, ◌++◌, map, Option, None, Some, option_map, is_none, ◌==◌, Result, Ok, Err, codes, slice_get, refl, sym, ap, ap₂, ◌∙◌, subst, arith}
+use Rattle.std.proofs.Common.{◌≡◌, ℕ, List, [], ◌∷◌, map, Option, None, Some, option_map, is_none, ◌==◌, Ok, codes, refl, sym, ap, ap₂, ◌∙◌}
 use Rattle.std.specs.Option.{option_or}
-use Rattle.std.specs.Map.{lookup}
-use Rattle.std.specs.Str.{bytes_eq}
-use Rattle.std.proofs.lemmas.Slice.Eq.{bytes_eq-Decides}
 use Rattle.trees.specs.declared.declaration.ScalarType.{ScalarType}
 use Rattle.trees.specs.declared.declaration.ScalarType.TheVariants.{Byte, Address}
 use Rattle.trees.specs.declared.identifier.Identifier.{Identifier}
@@ -11,30 +8,29 @@ use Rattle.trees.specs.declared.identifier.Place.{Place}
 use Rattle.trees.specs.Trees.{ExpressionTree, ReferenceTree, ArgumentTrees, IterationTree, StatementKindTree}
 use Rattle.trees.specs.Trees as trees
 use Rattle.names.specs.declared.entity.Binding.{Binding}
-use Rattle.names.specs.declared.entity.Binding.TheVariants.{Declared, BuiltInName, UnknownLabel}
+use Rattle.names.specs.declared.entity.Binding.TheVariants.{Declared, BuiltInName}
 use Rattle.names.specs.declared.entity.BuiltIn.{BuiltIn}
 use Rattle.names.specs.declared.entity.BuiltIn.TheVariants.{Move}
 use Rattle.names.specs.declared.entity.Entity.{Entity}
-use Rattle.names.specs.declared.entity.Entity.TheVariants.{Object, Procedure, Label, Definition}
+use Rattle.names.specs.declared.entity.Entity.TheVariants.{Procedure, Label}
 use Rattle.names.specs.Environment.{entity_of}
-use Rattle.names.specs.BuiltIns.{built_in_of, built_ins, binding_of, jump_of}
+use Rattle.names.specs.BuiltIns.{built_in_of, built_ins, jump_of}
 use Rattle.types.specs.declared.fault.Cause.{Cause}
 use Rattle.types.specs.declared.fault.Cause.TheVariants.{WrongUse}
-use Rattle.typed_trees.specs.TypedTrees as typed
-use Rattle.typed_trees.specs.TypedTrees.{TypedExpression, ConversionNode, TypedArguments, NoArguments as NoTyped, MoreArguments as MoreTyped, TypedIteration, TypedStatement, LabelStatement, TypedProcedure, TypedModule, Constants}
+use Rattle.typed_trees.specs.TypedTrees.{TypedExpression, TypedArguments, NoArguments as NoTyped, MoreArguments as MoreTyped, TypedIteration, TypedStatement, LabelStatement, TypedProcedure, TypedModule, Constants}
 use Rattle.typed_trees.specs.ExpressionTypes.{type_of}
-use Rattle.types.specs.Checks.{Checked, ◌>>=◌, require, found}
+use Rattle.types.specs.Checks.{Checked, require, found}
 use Rattle.types.specs.Nodes.{converted, as_type, Destination, target_of}
 use Rattle.types.specs.References.{Known, Given, line_of, count_of_given, bound, procedure_of, destination_of}
 use Rattle.types.specs.Functions.{call_arguments}
 use Rattle.types.specs.Expressions.{expression, arguments, given_reference}
 use Rattle.types.specs.Blocks.{Owner, TheModule, OfProcedure, Progress}
-use Rattle.types.specs.Statements.{with_constants, value, destinations, assigned, assignment, moved, call_bound, call, return_with, return_from, goto_bound, goto, Counter, counter_bound, step, iteration_with, iteration}
-use Rattle.types.specs.Untyped.{nowhere, named, nameless, plain_expression, plain_reference, plain_arguments, plain_iteration, plain_kind, object_name, procedure_name, untyped_expression, untyped_target, untyped_arguments, untyped_iteration, untyped_kind}
+use Rattle.types.specs.Statements.{with_constants, value, destinations, assignment, moved, call_bound, call, return_with, return_from, goto_bound, goto, Counter, counter_bound, step, iteration}
+use Rattle.types.specs.Untyped.{nowhere, named, nameless, plain_expression, plain_reference, plain_arguments, plain_iteration, plain_kind, object_name, untyped_expression, untyped_target, untyped_arguments, untyped_iteration, untyped_kind}
 use Rattle.types.specs.internal.Tables.{Agrees, HasLists}
 use Rattle.types.proofs.CheckLemmas.{Gives, gives_ok, gives_nothing, gives_itself, gives_bind, gives_after, gives_more}
 use Rattle.types.proofs.Tables.{Keeps, names_known}
-use Rattle.types.proofs.Walked.{Holds, Reaches, agrees, Walked, walked_constants, walked_nothing, walked_then, walked_as}
+use Rattle.types.proofs.Walked.{Holds, agrees, Walked, walked_constants, walked_nothing, walked_then, walked_as}
 
 -- what is given to a statement's typing of the expressions in it
 abbrev pub given_arguments : Known → ArgumentTrees → Given
@@ -140,9 +136,41 @@ move_name : (name : List ℕ) → built_in_of name ≡ Some Move → name ≡ co
 unfolding built_in_of
 move_name name e =
     names_known IsMoveName built_ins name Move (
-      λ e. absurd cc, (λ e. absurd cc, (λ e. absurd cc, (λ e. absurd cc, (λ e. absurd cc, (λ e. absurd cc,
-      (λ e. absurd cc, (λ e. absurd cc, (λ e. absurd cc, (λ e. absurd cc, (λ e. absurd cc, (λ e. absurd cc,
-      (λ e. refl, tt))))))))))))
+      λ e. absurd cc,
+      (
+        λ e. absurd cc,
+        (
+          λ e. absurd cc,
+          (
+            λ e. absurd cc,
+            (
+              λ e. absurd cc,
+              (
+                λ e. absurd cc,
+                (
+                  λ e. absurd cc,
+                  (
+                    λ e. absurd cc,
+                    (
+                      λ e. absurd cc,
+                      (
+                        λ e. absurd cc,
+                        (
+                          λ e. absurd cc,
+                          (
+                            λ e. absurd cc,
+                            (λ e. refl, tt),
+                          ),
+                        ),
+                      ),
+                    ),
+                  ),
+                ),
+              ),
+            ),
+          ),
+        ),
+      ),
     ) e refl
 
 bound_move : (known : Known) (name : Identifier)
@@ -190,12 +218,12 @@ module _ (laws : ExpressionLaws) where
       gives_bind (destinations-back known others found.1) λ rest h.
       gives_ok (
         (λ number bytes is.
-        h.0 number bytes (laws.destination_grows known first constants found.0 found.1 e number bytes is)),
+            h.0 number bytes (laws.destination_grows known first constants found.0 found.1 e number bytes is)),
         (λ tables agree lists from.
-        ap₂ (λ (head : ReferenceTree) (tail : List ReferenceTree). head ∷ tail)
-        (laws.destination_back tables known agree first constants found.0 found.1 e
-        (λ number bytes is. lists number bytes (h.0 number bytes is)) from)
-        (h.1 tables agree lists from)),
+            ap₂ (λ (head : ReferenceTree) (tail : List ReferenceTree). head ∷ tail)
+            (laws.destination_back tables known agree first constants found.0 found.1 e
+            (λ number bytes is. lists number bytes (h.0 number bytes is)) from)
+            (h.1 tables agree lists from)),
       )
 
   pub assignment-walks : (targets : List ReferenceTree) (source : ExpressionTree) (progress : Progress)

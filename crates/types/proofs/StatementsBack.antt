@@ -1,7 +1,6 @@
 -- Statements, declarations and modules are given back by taking the conversions away from their typing, where
 -- expressions are.
-use Rattle.std.proofs.Common.{◌≡◌, ℕ, ◌+◌, not, List, [], ◌∷◌, ◌++◌, map, length, Result, Ok, Err, refl, sym, ap, ap₂, ◌∙◌, subst, append-nil}
-use Rattle.std.proofs.lemmas.List.{map-append}
+use Rattle.std.proofs.Common.{◌≡◌, ℕ, ◌+◌, not, List, [], ◌∷◌, ◌++◌, length, Ok, refl, ap, ap₂, ◌∙◌, append-nil}
 use Rattle.trees.specs.declared.identifier.Identifier.{Identifier}
 use Rattle.trees.specs.Trees as trees
 use Rattle.trees.specs.Trees.{StatementTree, LabelledStatement, StatementKindTree, ElseTree, StatementTrees, DeclarationTree, DeclareTree, ProcedureTree, DeclarationTrees, NoDeclarations, MoreDeclarations, ModuleTree}
@@ -10,18 +9,18 @@ use Rattle.names.specs.Events.{labels_of}
 use Rattle.types.specs.declared.fault.Cause.TheVariants.{DeclaredTwice}
 use Rattle.typed_trees.specs.TypedTrees as typed
 use Rattle.typed_trees.specs.TypedTrees.{TypedStatement, LabelStatement, TypedElse, TypedStatements, NoStatements as NoTyped, MoreStatements as MoreTyped, TypedList, TypedProcedure, TypedModule}
-use Rattle.types.specs.Checks.{Checked, ◌>>=◌, require}
+use Rattle.types.specs.Checks.{Checked, require}
 use Rattle.types.specs.References.{line_of}
 use Rattle.types.specs.Blocks.{Block, Progress}
-use Rattle.types.specs.Statements.{with_here, labels_before, declare_labels, without_label, after_labels, list_of}
+use Rattle.types.specs.Statements.{with_here, labels_before, declare_labels, after_labels, list_of}
 use Rattle.types.specs.Procedures.{own_block, parameter_objects, check_body}
 use Rattle.types.specs.Typing.{inner_block, entered, kind, labelled, alone, else_part, cases, statements, declaration, declarations, module_block, at_the_beginning, module_with, typing_of}
-use Rattle.types.specs.Untyped.{nowhere, nameless, without_names, plain_statement, plain_kind, plain_else, plain_statements, bodies_in_statement, bodies_in_kind, bodies_in_else, bodies_in_statements, bodies_in_declaration, bodies_in, plain_bodies, untyped_kind, untyped_else, untyped_statements, untyped_list, untyped_bodies, GivesBack}
-use Rattle.types.proofs.CheckLemmas.{Gives, gives_ok, gives_nothing, gives_itself, gives_bind, gives_after, gives_more}
+use Rattle.types.specs.Untyped.{nowhere, nameless, without_names, plain_statement, plain_else, plain_statements, bodies_in_statement, bodies_in_kind, bodies_in_else, bodies_in_statements, bodies_in_declaration, bodies_in, untyped_kind, untyped_else, untyped_statements, untyped_list, GivesBack}
+use Rattle.types.proofs.CheckLemmas.{Gives, gives_ok, gives_nothing, gives_bind, gives_after, gives_more}
 use Rattle.types.proofs.Tables.{Fits, at_the_start-fits, into_block-fits, out_of_block-fits, into_list-fits, out_of_list-fits, with_label-fits}
-use Rattle.types.proofs.Walked.{object_names, procedure_names, Holds, Reaches, bodies_back, Walked, walked_nothing, walked_then, walked_as, walked_from, walked_to}
+use Rattle.types.proofs.Walked.{Holds, Reaches, bodies_back, Walked, walked_nothing, walked_then, walked_as, walked_from, walked_to}
 use Rattle.types.proofs.DeclarationsBack.{Nothing, declare_elements-walk, open_procedure-opens, walked_procedure}
-use Rattle.types.proofs.SimpleStatementsBack.{ExpressionLaws, IsNoLabel, KindBack, KindWalks, value-walks, assignment-walks, call-walks, return_from-walks, goto-walks, iteration-walks}
+use Rattle.types.proofs.SimpleStatementsBack.{ExpressionLaws, IsNoLabel, KindWalks, value-walks, assignment-walks, call-walks, return_from-walks, goto-walks, iteration-walks}
 
 -- what is given back of a statement with its labels, of one without, and of others
 abbrev StatementBack : StatementTree → TypedStatement → TypedModule → Type 0
@@ -235,7 +234,7 @@ module _ (laws : ExpressionLaws) where
   bodies-back tree body progress walked =
       let tables : TypedModule = module_with tree.name.name body progress in
       let reaches : Reaches tables progress =
-          ((λ number x e. e), (λ number x e. e), (λ number x e. e)) in
+      ((λ number x e. e), (λ number x e. e), (λ number x e. e)) in
       ap₂ (λ (first : StatementTrees) (others : List StatementTrees). first ∷ others) (walked.back tables reaches)
       (ap (bodies_back tables) walked.appended ∙ walked.bodies tables reaches)
 

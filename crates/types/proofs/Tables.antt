@@ -1,14 +1,13 @@
 -- Names that stand for objects and procedures of tables, at every place of a text.
-use Rattle.std.proofs.Common.{◌≡◌, ℕ, suc, zero, ◌+◌, Bool, true, false, List, [], ◌∷◌, ◌++◌, map, length, drop, Option, None, Some, option_map, if◌then◌else◌, slice_get, refl, sym, ap, ◌∙◌, subst, length-append, arith}
+use Rattle.std.proofs.Common.{◌≡◌, ℕ, suc, zero, ◌+◌, Bool, true, false, List, [], ◌∷◌, ◌++◌, length, drop, Option, None, Some, if◌then◌else◌, slice_get, refl, sym, ap, ◌∙◌, subst, length-append, arith}
 use Rattle.std.specs.Map.{lookup}
-use Rattle.std.specs.Option.{option_or, option_map_or}
+use Rattle.std.specs.Option.{option_or}
 use Rattle.std.specs.Str.{bytes_eq}
-use Rattle.std.proofs.lemmas.Option.{slice_get-map}
 use Rattle.std.proofs.lemmas.Slice.Eq.{bytes_eq-Decides}
 use Rattle.trees.specs.declared.identifier.Identifier.{Identifier}
 use Rattle.names.specs.declared.entity.Entity.{Entity}
 use Rattle.names.specs.declared.entity.Entity.TheVariants.{Object, Procedure, Label, Definition}
-use Rattle.names.specs.Environment.{Names, Body, Here, known_in, declared_in, declared_around, label_of, entity_of, empty_body, body_with_name, at_the_start, into_block, out_of_block, body_after_block, into_body, out_of_body, after_body, into_list, out_of_list, numbered_from, with_name, with_object, with_procedure, with_definition, with_parameter, with_label}
+use Rattle.names.specs.Environment.{Names, Body, Here, known_in, declared_in, declared_around, label_of, entity_of, empty_body, body_with_name, at_the_start, into_block, out_of_block, body_after_block, into_body, out_of_body, after_body, into_list, out_of_list, numbered_from, with_object, with_procedure, with_definition, with_parameter, with_label}
 
 -- whether what an entity is has a name in tables of names
 abbrev pub IsNamed : (objects procedures : List (List ℕ)) → Entity → List ℕ → Type 0
@@ -258,7 +257,9 @@ pub out_of_list-fits : {objects procedures : List (List ℕ)} {here : Here}
     → Fits objects procedures here → Fits objects procedures (out_of_list here)
 out_of_list-fits {objects} {procedures} {here} fits = record {
   body = (
-    fits.body.0, fits.body.1, after_list-fits (IsNamed objects procedures) here.body.lists fits.body.2,
+    fits.body.0,
+    fits.body.1,
+    after_list-fits (IsNamed objects procedures) here.body.lists fits.body.2,
   );
   outer = fits.outer;
   object_count = fits.object_count;
@@ -314,7 +315,7 @@ with_object-fits {objects} {procedures} {here} name fits =
     let P : Entity → List ℕ → Type 0 = IsNamed objects procedures in
     let Q : Entity → List ℕ → Type 0 = IsNamed (objects ++ name ∷ []) procedures in
     let later = named_later objects procedures (objects ++ name ∷ []) procedures
-        (keeps_append objects (name ∷ [])) (λ number x e. e) in
+    (keeps_append objects (name ∷ [])) (λ number x e. e) in
     let body = body_weaker P Q later here.body fits.body in
     record {
       body = (
@@ -334,7 +335,7 @@ with_procedure-fits {objects} {procedures} {here} name fits =
     let P : Entity → List ℕ → Type 0 = IsNamed objects procedures in
     let Q : Entity → List ℕ → Type 0 = IsNamed objects (procedures ++ name ∷ []) in
     let later = named_later objects procedures objects (procedures ++ name ∷ []) (λ number x e. e)
-        (keeps_append procedures (name ∷ [])) in
+    (keeps_append procedures (name ∷ [])) in
     let body = body_weaker P Q later here.body fits.body in
     record {
       body = (

@@ -1,5 +1,5 @@
 -- What typing a part of a text does to the tables, and that the part is given back from the tables at the end.
-use Rattle.std.proofs.Common.{◌≡◌, ℕ, List, [], ◌∷◌, ◌++◌, map, Option, None, Some, option_map, slice_get, refl, sym, ap, ◌∙◌, subst}
+use Rattle.std.proofs.Common.{◌≡◌, ℕ, List, [], ◌++◌, map, Option, None, Some, option_map, slice_get, refl, sym, ap, ◌∙◌}
 use Rattle.std.specs.Option.{option_map_or, unwrap_or}
 use Rattle.std.proofs.lemmas.Option.{slice_get-map}
 use Rattle.std.proofs.lemmas.List.{map-append}
@@ -8,7 +8,7 @@ use Rattle.trees.specs.Trees.{StatementTrees}
 use Rattle.names.specs.declared.entity.Entity.TheVariants.{Object, Procedure}
 use Rattle.names.specs.Environment.{Here}
 use Rattle.typed_trees.specs.TypedTrees.{TypedObject, TypedProcedure, TypedModule, Constants}
-use Rattle.types.specs.References.{Known, members_of}
+use Rattle.types.specs.References.{members_of}
 use Rattle.types.specs.Blocks.{Progress}
 use Rattle.types.specs.Statements.{with_here, with_constants}
 use Rattle.types.specs.Untyped.{plain_statements, untyped_list}
@@ -43,11 +43,10 @@ agrees_on_objects : (tables : TypedModule) (progress : Progress) → Holds progr
 agrees_on_objects tables progress holds reaches name number object is found =
     let name_of = λ (object : TypedObject). object.name in
     let its_name : slice_get (object_names progress.known.objects) number ≡ Some name =
-        entity_named _ _ progress.known.here holds name (Object number) is in
+    entity_named _ _ progress.known.here holds name (Object number) is in
     let same : option_map name_of (slice_get progress.known.objects number) ≡ Some name =
-        sym (slice_get-map name_of progress.known.objects number) ∙ its_name in
-    let at_last = reaches.0 number object found in
-    (
+    sym (slice_get-map name_of progress.known.objects number) ∙ its_name in
+    let at_last = reaches.0 number object found in (
       mapped_or name_of (slice_get tables.objects number) name []
           (ap (option_map name_of) at_last ∙ sym (ap (option_map name_of) found) ∙ same),
       ap (λ k. option_map_or (λ (found : TypedObject). unwrap_or (members_of found.object_type) []) k []) at_last,
@@ -58,7 +57,7 @@ agrees_on_procedures : (tables : TypedModule) (progress : Progress) → Holds pr
 agrees_on_procedures tables progress holds reaches name number procedure is found =
     let name_of = λ (procedure : TypedProcedure). procedure.name in
     let its_name : slice_get (procedure_names progress.known.procedures) number ≡ Some name =
-        entity_named _ _ progress.known.here holds name (Procedure number) is in
+    entity_named _ _ progress.known.here holds name (Procedure number) is in
     mapped_or name_of (slice_get tables.procedures number) name []
     (sym (slice_get-map name_of tables.procedures number) ∙ reaches.1 number name its_name)
 
