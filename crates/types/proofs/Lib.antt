@@ -1,6 +1,11 @@
+pub mod Kept
+pub mod NamesBack
+pub mod ReferencesBack
+pub mod ExpressionsBack
 pub mod CheckLemmas
 pub mod Tables
 pub mod Walked
 pub mod DeclarationsBack
 pub mod SimpleStatementsBack
 pub mod StatementsBack
+pub mod ModulesBack
