@@ -17,7 +17,7 @@ use Rattle.types.specs.Items.{declare_names, TypedItem, object_named, with_const
 use Rattle.types.specs.Procedures.{declare_parameters, no_more_parameters, check_visibility, check_reentrant, parameter_types, procedure_with, empty_list, with_heading, open_procedure, close_procedure}
 use Rattle.types.specs.Statements.{with_here}
 use Rattle.types.specs.Untyped.{plain_statements, untyped_list}
-use Rattle.types.proofs.CheckLemmas.{Gives, gives_ok, gives_bind, gives_after, gives_more}
+use Rattle.types.proofs.Kept.{Gives, gives_ok, in_turn, gives_after, then_more}
 use Rattle.types.proofs.Tables.{Fits, Keeps, keeps_append, with_object-fits, with_procedure-fits, with_parameter-fits, with_definition-fits, into_body-fits, out_of_body-fits}
 use Rattle.types.proofs.Walked.{object_names, procedure_names, Holds, Reaches, bodies_back, Walked, walked_then, walked_as, walked_nothing, walked_to}
 
@@ -69,7 +69,7 @@ with_objects-adds block item (name ∷ others) progress =
     let objects : List TypedObject = progress.known.objects in
     gives_after (require (nat_le (with_typed_object item.linkage object progress).frame FRAME_LIMIT) TooLarge
     (line_of name)) λ small.
-    gives_more (with_objects-adds block item others (with_typed_object item.linkage object progress)) λ after rest.
+    then_more (with_objects-adds block item others (with_typed_object item.linkage object progress)) λ after rest.
     record {
       named = rest.named
           ∙ ap (λ k. k ++ names_of others)
@@ -107,12 +107,12 @@ walked_objects names before after here added fits = record {
 declare_item-walks : (block : Block) (item : ItemTree) (progress : Progress) → Holds progress
     → Gives (λ after. Walked progress after [] Nothing) (declare_item block item progress)
 declare_item-walks block item progress holds =
-    gives_bind
+    in_turn
     (declare_names-fit (object_names progress.known.objects) (procedure_names progress.known.procedures) block
     (declared_by item.subject) progress.known.here holds) λ here fits.
     gives_after (typed_item progress.known block item) λ typed.
     gives_after (require (nat_le (size_of_item typed) OBJECT_LIMIT) TooLarge (line_of_item item)) λ small.
-    gives_bind (with_objects-adds block typed (declared_by item.subject) progress) λ after added.
+    in_turn (with_objects-adds block typed (declared_by item.subject) progress) λ after added.
     gives_ok (walked_objects (declared_by item.subject) progress after here added fits)
 
 declare_definition-walks : (block : Block) (name : Identifier) (progress : Progress) → Holds progress
@@ -134,8 +134,8 @@ pub declare_elements-walk : (block : Block) (elements : List ElementTree) (progr
     → Gives (λ after. Walked progress after [] Nothing) (declare_elements block elements progress)
 declare_elements-walk block [] progress holds = gives_ok (walked_nothing progress holds (λ tables reaches. tt))
 declare_elements-walk block (element ∷ others) progress holds =
-    gives_bind (declare_element-walks block element progress holds) λ between one.
-    gives_more (declare_elements-walk block others between one.holds) λ after rest.
+    in_turn (declare_element-walks block element progress holds) λ between one.
+    then_more (declare_elements-walk block others between one.holds) λ after rest.
     walked_as (walked_then one rest) (λ tables back. tt)
 
 -- the parameters of a heading
@@ -195,7 +195,7 @@ open_procedure-opens block heading declared progress holds =
     (line_of heading.name)) λ once.
     gives_after (require (not (is_reentrant block.owner || is_external block.owner)) MisplacedAttribute
     (line_of heading.name)) λ placed.
-    gives_bind
+    in_turn
     (declare_parameters-fit (object_names progress.known.objects)
     (procedure_names progress.known.procedures ++ heading.name.name ∷ []) (take PARAMETER_LIMIT heading.parameters)
     (into_body (with_procedure heading.name.name progress.known.here))

@@ -1,11 +1,9 @@
 pub mod Kept
+pub mod Tables
 pub mod NamesBack
 pub mod ReferencesBack
 pub mod ExpressionsBack
-pub mod CheckLemmas
-pub mod Tables
 pub mod Walked
 pub mod DeclarationsBack
 pub mod SimpleStatementsBack
 pub mod StatementsBack
-pub mod ModulesBack

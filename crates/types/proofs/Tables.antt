@@ -1,5 +1,5 @@
 -- Names that stand for objects and procedures of tables, at every place of a text.
-use Rattle.std.proofs.Common.{◌≡◌, ℕ, suc, zero, ◌+◌, Bool, true, false, List, [], ◌∷◌, ◌++◌, length, drop, Option, None, Some, if◌then◌else◌, slice_get, refl, sym, ap, ◌∙◌, subst, length-append, arith}
+use Rattle.std.proofs.Common.{◌≡◌, ℕ, suc, zero, ◌+◌, Bool, true, false, List, [], ◌∷◌, ◌++◌, length, drop, Option, None, Some, if◌then◌else◌, slice_get, refl, sym, ap, ◌∙◌, subst, length-append}
 use Rattle.std.specs.Map.{lookup}
 use Rattle.std.specs.Option.{option_or}
 use Rattle.std.specs.Str.{bytes_eq}
@@ -40,7 +40,7 @@ pub record Fits (objects procedures : List (List ℕ)) (here : Here) : Type 0 wh
   pub procedure_count : here.procedures ≡ length procedures
 
 same_name : (name key : List ℕ) → bytes_eq name key ≡ true → key ≡ name
-same_name name key same = grind (arith, bytes_eq-Decides name key)
+same_name name key same = sym ((bytes_eq-Decides name key).0 same)
 
 -- the first of two that there is
 either : {X : Type 0} {Q : Type 0} (first second : Option X) (x : X)

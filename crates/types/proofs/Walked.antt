@@ -13,6 +13,7 @@ use Rattle.types.specs.Blocks.{Progress}
 use Rattle.types.specs.Statements.{with_here, with_constants}
 use Rattle.types.specs.Untyped.{plain_statements, untyped_list}
 use Rattle.types.specs.internal.Tables.{AgreesOnObjects, AgreesOnProcedures, Agrees, HasLists}
+use Rattle.types.proofs.Kept.{Kept}
 use Rattle.types.proofs.Tables.{Fits, Keeps, entity_named}
 
 abbrev pub object_names : List TypedObject → List (List ℕ)
@@ -81,19 +82,18 @@ pub record Walked (before after : Progress) (texts : List StatementTrees) (Back 
   pub back : (tables : TypedModule) → Reaches tables after → Back tables
 
 -- nothing but constants is new
-pub walked_constants : (progress : Progress) (constants : Constants) {Back : TypedModule → Type 0}
+pub walked_kept : (progress : Progress) {constants : Constants} {Back : TypedModule → Type 0}
     → Holds progress
-    → Keeps progress.constants.lists constants.lists
-    → ((tables : TypedModule) → Reaches tables (with_constants constants progress) → Back tables)
+    → Kept progress.known progress.constants constants Back
     → Walked progress (with_constants constants progress) [] Back
-walked_constants progress constants holds keeps back = record {
+walked_kept progress {constants} holds kept = record {
   holds = holds;
   reaches = λ tables reaches.
-      (reaches.0, reaches.1, λ number bytes e. reaches.2 number bytes (keeps number bytes e));
+      (reaches.0, reaches.1, λ number bytes e. reaches.2 number bytes (kept.grows number bytes e));
   added = [];
   appended = sym (append-nil progress.known.procedures);
   bodies = λ tables reaches. refl;
-  back = back;
+  back = λ tables reaches. kept.says tables (agrees tables (with_constants constants progress) holds reaches) reaches.2;
 }
 
 pub walked_nothing : (progress : Progress) {Back : TypedModule → Type 0}
