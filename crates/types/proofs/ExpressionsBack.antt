@@ -44,7 +44,8 @@ target_given known reference constants back =
 
 -- constants and constant lists
 constant_back : (constant : ConstantTree)
-    → Gives (λ node. (tables : TypedModule) → untyped_expression tables node ≡ number_leaf (number_in constant)) (number_node constant)
+    → Gives (λ node. (tables : TypedModule) → untyped_expression tables node ≡ number_leaf (number_in constant))
+    (number_node constant)
 constant_back (NumberConstant number) = gives_ok (λ tables. refl)
 constant_back (StringConstant string) =
     in_turn (is_found (number_of_characters string.characters) _ _) (λ number e.

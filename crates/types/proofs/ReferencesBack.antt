@@ -8,7 +8,7 @@ use Rattle.std.proofs.lemmas.Bool.{eqb-true, leb-true}
 use Rattle.trees.specs.declared.declaration.ScalarType.{ScalarType}
 use Rattle.trees.specs.declared.declaration.ScalarType.TheVariants.{Byte, Address}
 use Rattle.trees.specs.declared.identifier.Identifier.{Identifier}
-use Rattle.trees.specs.Trees.{StringTree, NumberConstant, StringConstant, ConstantLeaf, ReferenceLeaf, LocationLeaf, ReferenceTree, ReferenceTo, MemberTree, NoMember, MemberOf, ArgumentTrees, NoArguments, MoreArguments}
+use Rattle.trees.specs.Trees.{ExpressionTree, NumberConstant, StringConstant, ConstantLeaf, ReferenceLeaf, LocationLeaf, ReferenceTree, ReferenceTo, MemberTree, NoMember, MemberOf, ArgumentTrees, NoArguments, MoreArguments}
 use Rattle.names.specs.declared.entity.Binding.{Binding}
 use Rattle.names.specs.declared.entity.Binding.TheVariants.{Declared, BuiltInName}
 use Rattle.names.specs.declared.entity.BuiltIn.{BuiltIn}
@@ -29,7 +29,8 @@ use Rattle.types.specs.References.{Known, Given, GivenMember, WithoutMember, Wit
 use Rattle.types.specs.Functions.{call_arguments, call_of, function_of, unary_function, shift_of, shift_function, input_value, Measured, measured_member, measured_object, measure_of, measurement, number_of_variable, built_in_value, value_of_bound, value_of}
 use Rattle.types.specs.internal.Tables.{Agrees}
 use Rattle.types.specs.Constants.{number_of_characters}
-use Rattle.types.specs.Untyped.{untyped_expression, untyped_arguments, untyped_subscript, plain_arguments, plain_member, one_argument, member_tree, untyped_target, named, number_in, number_leaf, call_tree, function_name, shift_name, measure_name, procedure_name, object_name, untyped_reference, member_name}
+use Rattle.types.specs.Untyped.{untyped_expression, untyped_arguments, untyped_subscript, plain_arguments, plain_member, one_argument, member_tree, untyped_target, named, number_leaf, call_tree, function_name, shift_name, measure_name, procedure_name, object_name, untyped_reference, member_name}
+use Rattle.types.specs.Checks.{Checked}
 use Rattle.types.proofs.Kept.{Gives, then_more, anything, gives_ok, gives_fault, in_turn, required, is_found, Kept, kept_at, kept_more, kept_both}
 use Rattle.types.proofs.NamesBack.{spelled, bound_spelled, StandsFor, is_bound, Binds, is_object, is_procedure}
 
@@ -64,7 +65,8 @@ no_arguments NoArguments none = refl
 no_arguments (MoreArguments first others) none = absurd (omega (arith, eqb-true _ _ none))
 
 -- a subscript in brackets, or none
-subscript_back : (tables : TypedModule) (extent : Extent) (stride : ℕ) (dimension : Option ℕ) (trees : ArgumentTrees) (typed : TypedArguments)
+subscript_back : (tables : TypedModule) (extent : Extent) (stride : ℕ) (dimension : Option ℕ)
+    (trees : ArgumentTrees) (typed : TypedArguments)
     → takes_subscripts extent dimension (number_of_arguments trees) ≡ true
     → untyped_arguments tables typed ≡ plain_arguments trees
     → untyped_subscript tables (subscript_of stride dimension typed) ≡ plain_arguments trees
@@ -170,49 +172,15 @@ part_with_member_back known number object element extent name values (WithMember
     gives_ok (kept_more kept (λ tables agrees values_back is.
     let own = (stands.in_tables tables agrees).0 in
     let called = member_called stands tables agrees members member.name place are at in
-    let index = subscript_back tables extent (size_of_scalar place.member.scalar) place.member.dimension given.trees typed.0 fits values_back in
+    let stride = size_of_scalar place.member.scalar in
+    let index = subscript_back tables extent stride place.member.dimension given.trees typed.0 fits values_back in
     cc))))))
-
-part_back : (known : Known) (number : ℕ) (object : TypedObject) (extent : Extent) (given : GivenReference) (constants : Constants)
-    → StandsFor known given.name.name number object
-    → ReferenceBack known given
-    → Gives (GivesTree known (λ tables (part : FoundPart). untyped_reference tables part.reference) (plain_given given) constants)
-    (part_of number object extent given constants)
-part_back known number object extent given constants stands back =
-    in_turn (required (takes_subscripts extent object.dimension (count_of_given given.arguments)) _ _) (λ _ fits.
-    in_turn (back.0 constants) (λ typed kept.
-    then_more (part_with_member_back known number object
-    (subscript_of (size_of_element object.object_type) object.dimension typed.0)
-    extent given.name given.arguments given.member typed.1 stands back.1) (λ found part.
-    kept_both kept part (λ tables agrees values_back is.
-    is (subscript_back tables extent (size_of_element object.object_type) object.dimension given.arguments.trees typed.0 fits values_back)))))
-
-scalar_part_back : (known : Known) (number : ℕ) (object : TypedObject) (given : GivenReference) (constants : Constants)
-    → StandsFor known given.name.name number object
-    → ReferenceBack known given
-    → Gives (λ (found : TypedReference × ScalarType × Constants).
-    GivesTree known untyped_reference (plain_given given) constants (found.0, found.2))
-    (scalar_part number object given constants)
-scalar_part_back known number object given constants stands back =
-    in_turn (part_back known number object AnElement given constants stands back) (λ part kept.
-    in_turn (is_found part.0.scalar _ _) (λ scalar _.
-    gives_ok kept))
 
 has_no_member : (member : GivenMember) → Gives (λ _. member ≡ WithoutMember) (without_member member)
 has_no_member WithoutMember = gives_ok refl
 has_no_member (WithMember name given) = gives_fault
 
--- a reference with arguments alone
-plain_call : (given : GivenReference) (name : List ℕ) (values : ArgumentTrees)
-    → given.name.name ≡ name
-    → plain_arguments given.arguments.trees ≡ values
-    → given.member ≡ WithoutMember
-    → call_tree name values ≡ plain_given given
-plain_call given name values is are none =
-    ap (λ found. ReferenceTo (named found) values NoMember) (sym is)
-    ∙ ap (λ found. ReferenceTo (named given.name.name) found NoMember) (sym are)
-    ∙ ap (λ found. ReferenceTo (named given.name.name) (plain_arguments given.arguments.trees) (plain_given_member found)) (sym none)
-
+-- arguments of the parameters' types
 pub call_arguments_kept : (known : Known) (procedure : TypedProcedure) (line : ℕ) (given : Given) (constants : Constants)
     → GivenBack known given
     → Gives (GivesTree known untyped_arguments (plain_arguments given.trees) constants)
@@ -223,103 +191,50 @@ call_arguments_kept known procedure line given constants back =
     gives_ok (kept_more kept (λ tables agrees is.
     arguments_as_back tables procedure.parameter_types typed.0 ∙ is))))
 
-call_back : (known : Known) (number : ℕ) (procedure : TypedProcedure) (given : GivenReference) (constants : Constants)
-    → ((tables : TypedModule) → Agrees tables known → procedure_name tables number ≡ given.name.name)
-    → ReferenceBack known given
-    → Gives (GivesTree known untyped_expression (ReferenceLeaf (plain_given given)) constants)
-    (call_of number procedure given constants)
-call_back known number procedure given constants called back =
-    in_turn (is_found procedure.result _ _) (λ result _.
-    in_turn (call_arguments_kept known procedure (line_of given.name) given.arguments constants back.0) (λ typed kept.
-    in_turn (has_no_member given.member) (λ _ none.
-    gives_ok (kept_more kept (λ tables agrees is.
-    ap ReferenceLeaf (plain_call given _ _ (sym (called tables agrees)) (sym is) none))))))
+-- what a built-in function of its arguments gives back
+abbrev GivesFunction : List ℕ → TypedArguments → Checked TypedExpression → Type 0
+GivesFunction name values =
+    Gives (λ node. (tables : TypedModule)
+    → untyped_expression tables node ≡ ReferenceLeaf (call_tree name (untyped_arguments tables values)))
 
--- LOW, HIGH and DOUBLE
-function_back : (function : UnaryFunction) (line : ℕ) (typed : TypedArguments)
-    → Gives (λ node. (tables : TypedModule) → untyped_expression tables node
-    ≡ ReferenceLeaf (call_tree (function_name function) (untyped_arguments tables typed))) (function_of function line typed)
+function_back : (function : UnaryFunction) (line : ℕ) (values : TypedArguments)
+    → GivesFunction (function_name function) values (function_of function line values)
 function_back function line (MoreTyped operand NoTyped) = gives_ok (λ tables. refl)
-function_back function line NoTyped = gives_fault
-function_back function line (MoreTyped operand (MoreTyped second others)) = gives_fault
+function_back function line values = gives_fault
 
-unary_function_back : (known : Known) (function : UnaryFunction) (given : GivenReference) (constants : Constants)
-    → given.name.name ≡ function_name function
-    → ReferenceBack known given
-    → Gives (GivesTree known untyped_expression (ReferenceLeaf (plain_given given)) constants)
-    (unary_function function given constants)
-unary_function_back known function given constants called back =
-    in_turn (required (count_of_given given.arguments == 1) _ _) (λ _ _.
-    in_turn (back.0 constants) (λ typed kept.
-    in_turn (has_no_member given.member) (λ _ none.
-    in_turn (function_back function (line_of given.name) typed.0) (λ node made.
-    gives_ok (kept_more kept (λ tables agrees is.
-    made tables ∙ ap ReferenceLeaf (plain_call given _ _ called (sym is) none)))))))
-
--- shifts and rotations
-shift_back : (function : ShiftFunction) (line : ℕ) (typed : TypedArguments)
-    → Gives (λ node. (tables : TypedModule) → untyped_expression tables node
-    ≡ ReferenceLeaf (call_tree (shift_name function) (untyped_arguments tables typed))) (shift_of function line typed)
+shift_back : (function : ShiftFunction) (line : ℕ) (values : TypedArguments)
+    → GivesFunction (shift_name function) values (shift_of function line values)
 shift_back function line (MoreTyped value (MoreTyped count NoTyped)) = gives_ok (λ tables.
     let one = as_type_back tables (type_of_shift function (type_of value)) value in
     let other = as_type_back tables Byte count in
     cc)
-shift_back function line typed = gives_fault
-
-shift_function_back : (known : Known) (function : ShiftFunction) (given : GivenReference) (constants : Constants)
-    → given.name.name ≡ shift_name function
-    → ReferenceBack known given
-    → Gives (GivesTree known untyped_expression (ReferenceLeaf (plain_given given)) constants)
-    (shift_function function given constants)
-shift_function_back known function given constants called back =
-    in_turn (required (count_of_given given.arguments == 2) _ _) (λ _ _.
-    in_turn (back.0 constants) (λ typed kept.
-    in_turn (has_no_member given.member) (λ _ none.
-    in_turn (shift_back function (line_of given.name) typed.0) (λ node made.
-    gives_ok (kept_more kept (λ tables agrees is.
-    made tables ∙ ap ReferenceLeaf (plain_call given _ _ called (sym is) none)))))))
+shift_back function line values = gives_fault
 
 -- ports
-character_back : (line : ℕ) (string : StringTree)
-    → Gives (λ port. number_in (StringConstant string) ≡ port) (port_of_character line string.characters)
-character_back line string = go string.characters refl
-  where
-    go : (characters : List ℕ) → string.characters ≡ characters
-        → Gives (λ port. number_in (StringConstant string) ≡ port) (port_of_character line characters)
-    go (character ∷ []) e = gives_ok (ap (λ found. unwrap_or (number_of_characters found) 0) e)
-    go characters e = gives_fault
+character_back : (line : ℕ) (characters : List ℕ)
+    → Gives (λ port. unwrap_or (number_of_characters characters) 0 ≡ port) (port_of_character line characters)
+character_back line (character ∷ []) = gives_ok refl
+character_back line characters = gives_fault
 
 port_back : (line : ℕ) (trees : ArgumentTrees)
     → Gives (λ port. plain_arguments trees ≡ one_argument (number_leaf port)) (port_of line trees)
 port_back line (MoreArguments (ConstantLeaf (NumberConstant number)) NoArguments) =
     in_turn (required (nat_le number.value 255) _ _) (λ _ _. gives_ok refl)
 port_back line (MoreArguments (ConstantLeaf (StringConstant string)) NoArguments) =
-    then_more (character_back line string) (λ port e. ap (λ found. one_argument (number_leaf found)) e)
+    then_more (character_back line string.characters) (λ port e. ap (λ found. one_argument (number_leaf found)) e)
 port_back line trees = gives_fault
 
-input_back : (known : Known) (given : GivenReference) (constants : Constants)
-    → given.name.name ≡ codes "INPUT"
-    → Gives (GivesTree known untyped_expression (ReferenceLeaf (plain_given given)) constants)
-    (input_value given constants)
-input_back known given constants called =
-    in_turn (port_back (line_of given.name) given.arguments.trees) (λ port is.
-    in_turn (has_no_member given.member) (λ _ none.
-    gives_ok (kept_at (λ tables agrees. ap ReferenceLeaf (plain_call given _ _ called is none)))))
-
 -- LENGTH, LAST and SIZE: the number of what is measured says which object or member that is
-abbrev measured_tree : TypedModule → Measured → ReferenceTree
-measured_tree tables measured =
-    ReferenceTo (named (object_name tables measured.object)) NoArguments
+abbrev GivesMeasured : Known → Identifier → MemberTree → Checked Measured → Type 0
+GivesMeasured known name part =
+    Gives (λ measured. (tables : TypedModule) → Agrees tables known
+    → ReferenceTo (named (object_name tables measured.object)) NoArguments
     (member_tree tables measured.object measured.member NoArguments)
-
-abbrev GivesMeasured : Known → Identifier → MemberTree → Measured → Type 0
-GivesMeasured known name part measured =
-    (tables : TypedModule) → Agrees tables known
-    → measured_tree tables measured ≡ ReferenceTo (named name.name) NoArguments (plain_member part)
+    ≡ ReferenceTo (named name.name) NoArguments (plain_member part))
 
 measured_member_back : (known : Known) (name : Identifier) (number : ℕ) (object : TypedObject) (part : MemberTree)
     → StandsFor known name.name number object
-    → Gives (GivesMeasured known name part) (measured_member number object part)
+    → GivesMeasured known name part (measured_member number object part)
 measured_member_back known name number object NoMember stands =
     gives_ok (λ tables agrees.
     let own = (stands.in_tables tables agrees).0 in
@@ -331,12 +246,11 @@ measured_member_back known name number object (MemberOf member NoArguments) stan
     let own = (stands.in_tables tables agrees).0 in
     let called = member_called stands tables agrees members member.name place are at in
     cc)))
-measured_member_back known name number object (MemberOf member (MoreArguments first others)) stands =
-    gives_fault
+measured_member_back known name number object part stands = gives_fault
 
 measured_object_back : (known : Known) (binding : Binding) (name : Identifier) (part : MemberTree)
     → Binds known name binding
-    → Gives (GivesMeasured known name part) (measured_object known binding name part)
+    → GivesMeasured known name part (measured_object known binding name part)
 measured_object_back known (Declared (Object number)) name part bound_to =
     in_turn (is_object known name number bound_to) (λ object stands.
     measured_member_back known name number object part stands)
@@ -351,97 +265,9 @@ measurement_back known measure line (MoreArguments (ReferenceLeaf (ReferenceTo n
     in_turn (measured_object_back known binding name part bound_to) (λ measured back.
     in_turn (anything (measure_of measure measured (line_of name))) (λ value _.
     gives_ok (λ tables agrees.
-    ap (λ tree. ReferenceLeaf (call_tree (measure_name measure) (one_argument (ReferenceLeaf tree)))) (back tables agrees)))))
+    ap (λ tree. ReferenceLeaf (call_tree (measure_name measure) (one_argument (ReferenceLeaf tree))))
+    (back tables agrees)))))
 measurement_back known measure line trees = gives_fault
-
-variable_back : (known : Known) (measure : Measure) (given : GivenReference) (constants : Constants)
-    → given.name.name ≡ measure_name measure
-    → Gives (GivesTree known untyped_expression (ReferenceLeaf (plain_given given)) constants)
-    (number_of_variable known measure given constants)
-variable_back known measure given constants called =
-    in_turn (measurement_back known measure (line_of given.name) given.arguments.trees) (λ node back.
-    in_turn (has_no_member given.member) (λ _ none.
-    gives_ok (kept_at (λ tables agrees.
-    back tables agrees ∙ ap ReferenceLeaf (plain_call given _ _ called refl none)))))
-
--- the value of what a name is bound to
-built_in_back : (known : Known) (built_in : BuiltIn) (given : GivenReference) (constants : Constants)
-    → given.name.name ≡ spelled built_in
-    → ReferenceBack known given
-    → Gives (GivesTree known untyped_expression (ReferenceLeaf (plain_given given)) constants)
-    (built_in_value known built_in given constants)
-built_in_back known built_in_names.Input given constants called back = input_back known given constants called
-built_in_back known built_in_names.Output given constants called back =
-    gives_fault
-built_in_back known built_in_names.Low given constants called back =
-    unary_function_back known functions.Low given constants called back
-built_in_back known built_in_names.High given constants called back =
-    unary_function_back known functions.High given constants called back
-built_in_back known built_in_names.Double given constants called back =
-    unary_function_back known functions.Double given constants called back
-built_in_back known built_in_names.Length given constants called back =
-    variable_back known measures.Length given constants called
-built_in_back known built_in_names.Last given constants called back =
-    variable_back known measures.Last given constants called
-built_in_back known built_in_names.Size given constants called back =
-    variable_back known measures.Size given constants called
-built_in_back known built_in_names.ShiftLeft given constants called back =
-    shift_function_back known shifts.ShiftLeft given constants called back
-built_in_back known built_in_names.ShiftRight given constants called back =
-    shift_function_back known shifts.ShiftRight given constants called back
-built_in_back known built_in_names.RotateLeft given constants called back =
-    shift_function_back known shifts.RotateLeft given constants called back
-built_in_back known built_in_names.RotateRight given constants called back =
-    shift_function_back known shifts.RotateRight given constants called back
-built_in_back known built_in_names.Move given constants called back =
-    gives_fault
-
-bound_value_back : (known : Known) (binding : Binding) (given : GivenReference) (constants : Constants)
-    → Binds known given.name binding
-    → ReferenceBack known given
-    → Gives (GivesTree known untyped_expression (ReferenceLeaf (plain_given given)) constants)
-    (value_of_bound known binding given constants)
-bound_value_back known (Declared (Object number)) given constants bound_to back =
-    in_turn (is_object known given.name number bound_to) (λ object stands.
-    in_turn (scalar_part_back known number object given constants stands back) (λ part kept.
-    gives_ok (kept_more kept (λ tables agrees is. ap ReferenceLeaf is))))
-bound_value_back known (Declared (Procedure number)) given constants bound_to back =
-    in_turn (is_procedure known given.name number bound_to) (λ procedure called.
-    call_back known number procedure given constants called back)
-bound_value_back known (BuiltInName built_in) given constants bound_to back =
-    built_in_back known built_in given constants (bound_spelled known.here given.name.name built_in bound_to) back
-bound_value_back known binding given constants bound_to back = gives_fault
-
-pub value_back : (known : Known) (given : GivenReference) (constants : Constants)
-    → ReferenceBack known given
-    → Gives (GivesTree known untyped_expression (ReferenceLeaf (plain_given given)) constants)
-    (value_of known given constants)
-value_back known given constants back =
-    in_turn (is_bound known given.name) (λ binding bound_to.
-    bound_value_back known binding given constants bound_to back)
-
--- where what a name is bound to lies
-bound_location_back : (known : Known) (binding : Binding) (given : GivenReference) (constants : Constants)
-    → Binds known given.name binding
-    → ReferenceBack known given
-    → Gives (GivesTree known untyped_expression (LocationLeaf (plain_given given)) constants)
-    (location_of_bound known binding given constants)
-bound_location_back known (Declared (Object number)) given constants bound_to back =
-    in_turn (is_object known given.name number bound_to) (λ object stands.
-    in_turn (required (has_location object.home) _ _) (λ _ _.
-    in_turn (part_back known number object AlsoTheWhole given constants stands back) (λ part kept.
-    gives_ok (kept_more kept (λ tables agrees is. ap LocationLeaf is)))))
-bound_location_back known (Declared (Procedure number)) given constants bound_to back =
-    gives_fault
-bound_location_back known binding given constants bound_to back = gives_fault
-
-pub location_back : (known : Known) (given : GivenReference) (constants : Constants)
-    → ReferenceBack known given
-    → Gives (GivesTree known untyped_expression (LocationLeaf (plain_given given)) constants)
-    (location_of known given constants)
-location_back known given constants back =
-    in_turn (is_bound known given.name) (λ binding bound_to.
-    bound_location_back known binding given constants bound_to back)
 
 -- what a value goes to
 abbrev pub GivesTarget : Known → ReferenceTree → Constants → Destination × Constants → Type 0
@@ -449,25 +275,158 @@ GivesTarget known tree before found =
     Kept known before found.1 (λ tables.
     (from : ScalarType) → untyped_target tables (target_of found.0 from) ≡ tree)
 
-bound_target_back : (known : Known) (binding : Binding) (given : GivenReference) (constants : Constants)
-    → Binds known given.name binding
-    → ReferenceBack known given
-    → Gives (GivesTarget known (plain_given given) constants) (destination_of_bound known binding given constants)
-bound_target_back known (Declared (Object number)) given constants bound_to back =
-    in_turn (is_object known given.name number bound_to) (λ object stands.
-    in_turn (anything (is_writable object given.name)) (λ _ _.
-    in_turn (scalar_part_back known number object given constants stands back) (λ part kept.
-    gives_ok (kept_more kept (λ tables agrees is from. is)))))
-bound_target_back known (BuiltInName built_in_names.Output) given constants bound_to back =
-    in_turn (port_back (line_of given.name) given.arguments.trees) (λ port is.
-    in_turn (has_no_member given.member) (λ _ none.
-    gives_ok (kept_at (λ tables agrees from.
-    plain_call given _ _ (bound_spelled known.here given.name.name built_in_names.Output bound_to) is none))))
-bound_target_back known binding given constants bound_to back = gives_fault
+-- A reference whose arguments give back their trees.
+module _ (known : Known) (given : GivenReference) (constants : Constants) (back : ReferenceBack known given) where
+  abbrev ReadsAs : ExpressionTree → Checked (TypedExpression × Constants) → Type 0
+  ReadsAs tree = Gives (GivesTree known untyped_expression tree constants)
 
-pub target_back : (known : Known) (given : GivenReference) (constants : Constants)
-    → ReferenceBack known given
-    → Gives (GivesTarget known (plain_given given) constants) (destination_of known given constants)
-target_back known given constants back =
-    in_turn (is_bound known given.name) (λ binding bound_to.
-    bound_target_back known binding given constants bound_to back)
+  abbrev GivesValue : Checked (TypedExpression × Constants) → Type 0
+  GivesValue = ReadsAs (ReferenceLeaf (plain_given given))
+
+  part_back : (number : ℕ) (object : TypedObject) (extent : Extent)
+      → StandsFor known given.name.name number object
+      → Gives (λ (found : FoundPart × Constants).
+      GivesTree known untyped_reference (plain_given given) constants (found.0.reference, found.1))
+      (part_of number object extent given constants)
+  part_back number object extent stands =
+      let stride = size_of_element object.object_type in
+      in_turn (required (takes_subscripts extent object.dimension (count_of_given given.arguments)) _ _) (λ _ fits.
+      in_turn (back.0 constants) (λ typed kept.
+      then_more (part_with_member_back known number object (subscript_of stride object.dimension typed.0)
+      extent given.name given.arguments given.member typed.1 stands back.1) (λ found part.
+      kept_both kept part (λ tables agrees are is.
+      is (subscript_back tables extent stride object.dimension given.arguments.trees typed.0 fits are)))))
+
+  scalar_part_back : (number : ℕ) (object : TypedObject)
+      → StandsFor known given.name.name number object
+      → Gives (λ (found : TypedReference × ScalarType × Constants).
+      GivesTree known untyped_reference (plain_given given) constants (found.0, found.2))
+      (scalar_part number object given constants)
+  scalar_part_back number object stands =
+      in_turn (part_back number object AnElement stands) (λ part kept.
+      in_turn (is_found part.0.scalar _ _) (λ scalar _.
+      gives_ok kept))
+
+  -- a reference with arguments alone
+  plain_call : (name : List ℕ) (values : ArgumentTrees)
+      → given.name.name ≡ name
+      → plain_arguments given.arguments.trees ≡ values
+      → given.member ≡ WithoutMember
+      → call_tree name values ≡ plain_given given
+  plain_call name values is are none =
+      let part : plain_given_member given.member ≡ NoMember = ap plain_given_member none in
+      cc
+
+  call_back : (number : ℕ) (procedure : TypedProcedure)
+      → ((tables : TypedModule) → Agrees tables known → procedure_name tables number ≡ given.name.name)
+      → GivesValue (call_of number procedure given constants)
+  call_back number procedure called =
+      in_turn (is_found procedure.result _ _) (λ result _.
+      in_turn (call_arguments_kept known procedure (line_of given.name) given.arguments constants back.0) (λ typed kept.
+      in_turn (has_no_member given.member) (λ _ none.
+      gives_ok (kept_more kept (λ tables agrees is.
+      ap ReferenceLeaf (plain_call _ _ (sym (called tables agrees)) (sym is) none))))))
+
+  unary_function_back : (function : UnaryFunction)
+      → given.name.name ≡ function_name function
+      → GivesValue (unary_function function given constants)
+  unary_function_back function called =
+      in_turn (required (count_of_given given.arguments == 1) _ _) (λ _ _.
+      in_turn (back.0 constants) (λ typed kept.
+      in_turn (has_no_member given.member) (λ _ none.
+      in_turn (function_back function (line_of given.name) typed.0) (λ node made.
+      gives_ok (kept_more kept (λ tables agrees is.
+      made tables ∙ ap ReferenceLeaf (plain_call _ _ called (sym is) none)))))))
+
+  shift_function_back : (function : ShiftFunction)
+      → given.name.name ≡ shift_name function
+      → GivesValue (shift_function function given constants)
+  shift_function_back function called =
+      in_turn (required (count_of_given given.arguments == 2) _ _) (λ _ _.
+      in_turn (back.0 constants) (λ typed kept.
+      in_turn (has_no_member given.member) (λ _ none.
+      in_turn (shift_back function (line_of given.name) typed.0) (λ node made.
+      gives_ok (kept_more kept (λ tables agrees is.
+      made tables ∙ ap ReferenceLeaf (plain_call _ _ called (sym is) none)))))))
+
+  input_back : given.name.name ≡ codes "INPUT" → GivesValue (input_value given constants)
+  input_back called =
+      in_turn (port_back (line_of given.name) given.arguments.trees) (λ port is.
+      in_turn (has_no_member given.member) (λ _ none.
+      gives_ok (kept_at (λ tables agrees. ap ReferenceLeaf (plain_call _ _ called is none)))))
+
+  variable_back : (measure : Measure)
+      → given.name.name ≡ measure_name measure
+      → GivesValue (number_of_variable known measure given constants)
+  variable_back measure called =
+      in_turn (measurement_back known measure (line_of given.name) given.arguments.trees) (λ node is.
+      in_turn (has_no_member given.member) (λ _ none.
+      gives_ok (kept_at (λ tables agrees.
+      is tables agrees ∙ ap ReferenceLeaf (plain_call _ _ called refl none)))))
+
+  -- the value of what the name is bound to
+  built_in_back : (built_in : BuiltIn)
+      → given.name.name ≡ spelled built_in
+      → GivesValue (built_in_value known built_in given constants)
+  built_in_back built_in_names.Input called = input_back called
+  built_in_back built_in_names.Low called = unary_function_back functions.Low called
+  built_in_back built_in_names.High called = unary_function_back functions.High called
+  built_in_back built_in_names.Double called = unary_function_back functions.Double called
+  built_in_back built_in_names.Length called = variable_back measures.Length called
+  built_in_back built_in_names.Last called = variable_back measures.Last called
+  built_in_back built_in_names.Size called = variable_back measures.Size called
+  built_in_back built_in_names.ShiftLeft called = shift_function_back shifts.ShiftLeft called
+  built_in_back built_in_names.ShiftRight called = shift_function_back shifts.ShiftRight called
+  built_in_back built_in_names.RotateLeft called = shift_function_back shifts.RotateLeft called
+  built_in_back built_in_names.RotateRight called = shift_function_back shifts.RotateRight called
+  built_in_back built_in called = gives_fault
+
+  bound_value_back : (binding : Binding)
+      → Binds known given.name binding
+      → GivesValue (value_of_bound known binding given constants)
+  bound_value_back (Declared (Object number)) bound_to =
+      in_turn (is_object known given.name number bound_to) (λ object stands.
+      in_turn (scalar_part_back number object stands) (λ part kept.
+      gives_ok (kept_more kept (λ tables agrees is. ap ReferenceLeaf is))))
+  bound_value_back (Declared (Procedure number)) bound_to =
+      in_turn (is_procedure known given.name number bound_to) (λ procedure called.
+      call_back number procedure called)
+  bound_value_back (BuiltInName built_in) bound_to =
+      built_in_back built_in (bound_spelled known.here given.name.name built_in bound_to)
+  bound_value_back binding bound_to = gives_fault
+
+  pub value_back : GivesValue (value_of known given constants)
+  value_back = in_turn (is_bound known given.name) bound_value_back
+
+  -- where what the name is bound to lies
+  bound_location_back : (binding : Binding)
+      → Binds known given.name binding
+      → ReadsAs (LocationLeaf (plain_given given)) (location_of_bound known binding given constants)
+  bound_location_back (Declared (Object number)) bound_to =
+      in_turn (is_object known given.name number bound_to) (λ object stands.
+      in_turn (required (has_location object.home) _ _) (λ _ _.
+      in_turn (part_back number object AlsoTheWhole stands) (λ part kept.
+      gives_ok (kept_more kept (λ tables agrees is. ap LocationLeaf is)))))
+  bound_location_back binding bound_to = gives_fault
+
+  pub location_back : ReadsAs (LocationLeaf (plain_given given)) (location_of known given constants)
+  location_back = in_turn (is_bound known given.name) bound_location_back
+
+  -- the target that the name is bound to
+  bound_target_back : (binding : Binding)
+      → Binds known given.name binding
+      → Gives (GivesTarget known (plain_given given) constants) (destination_of_bound known binding given constants)
+  bound_target_back (Declared (Object number)) bound_to =
+      in_turn (is_object known given.name number bound_to) (λ object stands.
+      in_turn (anything (is_writable object given.name)) (λ _ _.
+      in_turn (scalar_part_back number object stands) (λ part kept.
+      gives_ok (kept_more kept (λ tables agrees is from. is)))))
+  bound_target_back (BuiltInName built_in_names.Output) bound_to =
+      in_turn (port_back (line_of given.name) given.arguments.trees) (λ port is.
+      in_turn (has_no_member given.member) (λ _ none.
+      gives_ok (kept_at (λ tables agrees from.
+      plain_call _ _ (bound_spelled known.here given.name.name built_in_names.Output bound_to) is none))))
+  bound_target_back binding bound_to = gives_fault
+
+  pub target_back : Gives (GivesTarget known (plain_given given) constants) (destination_of known given constants)
+  target_back = in_turn (is_bound known given.name) bound_target_back

@@ -133,19 +133,22 @@ named_later objects procedures objects' procedures' more others (Label number) n
 named_later objects procedures objects' procedures' more others Definition name e = tt
 
 -- where one property of entities implies another
-names_weaker : (P Q : Entity → List ℕ → Type 0) → ((entity : Entity) (name : List ℕ) → P entity name → Q entity name)
+abbrev Implies : (P Q : Entity → List ℕ → Type 0) → Type 0
+Implies P Q = (entity : Entity) (name : List ℕ) → P entity name → Q entity name
+
+names_weaker : (P Q : Entity → List ℕ → Type 0) → Implies P Q
     → (names : Names) → NamesFit P names → NamesFit Q names
 names_weaker P Q weaker [] fit = tt
 names_weaker P Q weaker (entry ∷ others) fit =
     (weaker entry.1 entry.0 fit.0, names_weaker P Q weaker others fit.1)
 
-scopes_weaker : (P Q : Entity → List ℕ → Type 0) → ((entity : Entity) (name : List ℕ) → P entity name → Q entity name)
+scopes_weaker : (P Q : Entity → List ℕ → Type 0) → Implies P Q
     → (scopes : List Names) → ScopesFit P scopes → ScopesFit Q scopes
 scopes_weaker P Q weaker [] fit = tt
 scopes_weaker P Q weaker (names ∷ others) fit =
     (names_weaker P Q weaker names fit.0, scopes_weaker P Q weaker others fit.1)
 
-body_weaker : (P Q : Entity → List ℕ → Type 0) → ((entity : Entity) (name : List ℕ) → P entity name → Q entity name)
+body_weaker : (P Q : Entity → List ℕ → Type 0) → Implies P Q
     → (body : Body) → BodyFits P body → BodyFits Q body
 body_weaker P Q weaker body fit = (
   names_weaker P Q weaker body.block fit.0,
@@ -153,7 +156,7 @@ body_weaker P Q weaker body fit = (
   scopes_weaker P Q weaker body.lists fit.2,
 )
 
-bodies_weaker : (P Q : Entity → List ℕ → Type 0) → ((entity : Entity) (name : List ℕ) → P entity name → Q entity name)
+bodies_weaker : (P Q : Entity → List ℕ → Type 0) → Implies P Q
     → (bodies : List Body) → BodiesFit P bodies → BodiesFit Q bodies
 bodies_weaker P Q weaker [] fit = tt
 bodies_weaker P Q weaker (body ∷ others) fit =
