@@ -1,29 +1,28 @@
 -- Taking the conversions away from a typed expression gives back the tree that it was typed from.
-use Rattle.std.proofs.Common.{◌≡◌, ℕ, zero, suc, List, [], ◌∷◌, ◌++◌, length, Some, Ok, refl, sym, ap, ◌∙◌}
-use Rattle.std.specs.Prelude.{unwrap_or, slice_get, codes, ◌&&◌, is_none}
-use Rattle.trees.specs.declared.declaration.ScalarType.{ScalarType}
+use Rattle.std.proofs.Common.{◌≡◌, ℕ, List, [], ◌∷◌, length, refl, sym, ap, ◌∙◌}
+use Rattle.std.specs.Prelude.{unwrap_or, ◌&&◌, is_none}
 use Rattle.trees.specs.declared.identifier.Identifier.{Identifier}
 use Rattle.trees.specs.Trees.{ConstantTree, NumberConstant, StringConstant, ExpressionTree, ConstantLeaf, ReferenceLeaf, LocationLeaf, ListLeaf, ParenthesizedNode, AssignmentNode, UnaryNode, BinaryNode, ReferenceTree, ReferenceTo, MemberTree, NoMember, MemberOf, ArgumentTrees, NoArguments, MoreArguments}
 use Rattle.names.specs.declared.entity.Binding.{Binding}
-use Rattle.names.specs.declared.entity.Binding.TheVariants.{Declared, BuiltInName}
-use Rattle.names.specs.declared.entity.BuiltIn.TheVariants as built_in_names
-use Rattle.names.specs.declared.entity.Entity.TheVariants.{Object, Procedure}
-use Rattle.typed_trees.specs.TypedTrees.{TypedExpression, ListNode, TypedArguments, TypedProcedure, TypedModule, Constants}
+use Rattle.names.specs.declared.entity.Binding.TheVariants.{Declared}
+use Rattle.names.specs.declared.entity.Entity.TheVariants.{Object}
+use Rattle.typed_trees.specs.TypedTrees.{ListNode, TypedProcedure, TypedModule, Constants}
 use Rattle.typed_trees.specs.ExpressionTypes.{type_of}
-use Rattle.types.specs.Nodes.{type_of_operands, Destination, target_of}
+use Rattle.types.specs.Nodes.{type_of_operands}
 use Rattle.types.specs.declared.fault.Cause.TheVariants.{WrongUse}
-use Rattle.types.specs.References.{Known, Given, line_of, bound, procedure_of, scalar_of, is_writable, destination_of}
+use Rattle.types.specs.References.{Known, Given, line_of, scalar_of, is_writable, destination_of}
 use Rattle.types.specs.Functions.{call_arguments}
 use Rattle.types.specs.Checks.{require}
 use Rattle.types.specs.Items.{is_not_based}
 use Rattle.types.specs.Statements.{Counter, counter_bound}
-use Rattle.types.specs.internal.Tables.{Agrees, Grows, HasLists}
+use Rattle.types.specs.internal.Tables.{Agrees}
 use Rattle.types.specs.Constants.{number_of_characters, bytes_of_constants}
 use Rattle.types.specs.Expressions.{number_node, with_list, expression, given_reference, given_member, arguments}
-use Rattle.types.specs.Untyped.{untyped_expression, untyped_arguments, plain_expression, plain_arguments, plain_member, plain_reference, byte_list, untyped_target, named, number_in, number_leaf, procedure_name, object_name}
+use Rattle.types.specs.Untyped.{untyped_expression, untyped_arguments, plain_expression, plain_arguments, plain_member, plain_reference, byte_list, named, number_in, number_leaf, object_name}
 use Rattle.types.proofs.Kept.{Gives, then_more, anything, gives_ok, gives_fault, in_turn, is_found, kept_at, kept_more, kept_both}
 use Rattle.types.proofs.ReferencesBack.{as_type_back, plain_given, plain_given_member, GivesTree, MemberBack, ReferenceBack, GivesTarget, call_arguments_kept, value_back, location_back, target_back}
-use Rattle.types.proofs.NamesBack.{bound_spelled, is_bound, Binds, is_object, is_procedure}
+use Rattle.types.proofs.Tables.{keeps_append, at_the_end}
+use Rattle.types.proofs.NamesBack.{Binds, is_object}
 
 -- a reference of the text, as it is given
 plain_member_given : (known : Known) (part : MemberTree) → plain_given_member (given_member known part) ≡ plain_member part
@@ -52,22 +51,11 @@ constant_back (StringConstant string) =
     in_turn (is_found (number_of_characters string.characters) _ _) (λ number e.
     gives_ok (λ tables. ap (λ found. number_leaf (unwrap_or found 0)) (sym e)))
 
-kept_in_front : {A : Type 0} (all more : List A) (number : ℕ) (a : A)
-    → slice_get all number ≡ Some a
-    → slice_get (all ++ more) number ≡ Some a
-kept_in_front [] more number a e = absurd cc
-kept_in_front (first ∷ others) more zero a e = e
-kept_in_front (first ∷ others) more (suc number) a e = kept_in_front others more number a e
-
-at_the_end : {A : Type 0} (all : List A) (a : A) → slice_get (all ++ a ∷ []) (length all) ≡ Some a
-at_the_end [] a = refl
-at_the_end (first ∷ others) a = at_the_end others a
-
 list_kept : (known : Known) (list : List ConstantTree) (constants : Constants)
     → GivesTree known untyped_expression (plain_expression (ListLeaf list)) constants
     (ListNode (length constants.lists), with_list list constants)
 list_kept known list constants = record {
-  grows = λ number bytes e. kept_in_front constants.lists (bytes_of_constants list ∷ []) number bytes e;
+  grows = λ number bytes e. keeps_append constants.lists (bytes_of_constants list ∷ []) number bytes e;
   says = λ tables agrees has.
       ap (λ found. byte_list (unwrap_or found []))
       (has (length constants.lists) (bytes_of_constants list) (at_the_end constants.lists (bytes_of_constants list)));
@@ -121,86 +109,24 @@ mutual
       in_turn (arguments_kept known others typed.1) (λ rest more.
       gives_ok (kept_both kept more (λ tables agrees one other. cc))))
 
--- expressions, arguments and targets that are typed give back their trees
-pub expression_back : (tables : TypedModule) (known : Known)
-    → Agrees tables known
-    → (tree : ExpressionTree) (constants : Constants) (typed : TypedExpression) (after : Constants)
-    → expression known tree constants ≡ Ok (typed, after)
-    → HasLists tables after
-    → untyped_expression tables typed ≡ plain_expression tree
-expression_back tables known agrees tree constants typed after e has =
-    ((expression_kept known tree constants).holds (typed, after) e).says tables agrees has
+-- what a value goes to
+pub target_kept : (known : Known) (reference : ReferenceTree) (constants : Constants)
+    → Gives (GivesTarget known (plain_reference reference) constants)
+    (destination_of known (given_reference known reference) constants)
+target_kept known reference constants = target_given known reference constants (reference_kept known reference)
 
-pub arguments_back : (tables : TypedModule) (known : Known)
-    → Agrees tables known
-    → (trees : ArgumentTrees) (constants : Constants) (typed : TypedArguments) (after : Constants)
-    → arguments known trees constants ≡ Ok (typed, after)
-    → HasLists tables after
-    → untyped_arguments tables typed ≡ plain_arguments trees
-arguments_back tables known agrees trees constants typed after e has =
-    ((arguments_kept known trees constants).holds (typed, after) e).says tables agrees has
-
-pub destination_back : (tables : TypedModule) (known : Known)
-    → Agrees tables known
-    → (reference : ReferenceTree) (constants : Constants) (destination : Destination) (after : Constants)
-    → destination_of known (given_reference known reference) constants ≡ Ok (destination, after)
-    → HasLists tables after
-    → (from : ScalarType) → untyped_target tables (target_of destination from) ≡ plain_reference reference
-destination_back tables known agrees reference constants destination after e has from =
-    ((target_given known reference constants (reference_kept known reference)).holds (destination, after) e).says
-    tables agrees has from
-
--- the arguments of a call of an untyped procedure
+-- the arguments of a call
 abbrev pub given_arguments : Known → ArgumentTrees → Given
 given_arguments known trees = record { trees = trees; typed = arguments known trees }
 
-call_kept : (known : Known) (procedure : TypedProcedure) (line : ℕ) (trees : ArgumentTrees) (constants : Constants)
+pub call_kept : (known : Known) (procedure : TypedProcedure) (line : ℕ) (trees : ArgumentTrees) (constants : Constants)
     → Gives (GivesTree known untyped_arguments (plain_arguments trees) constants)
     (call_arguments procedure line (given_arguments known trees) constants)
 call_kept known procedure line trees constants =
     call_arguments_kept known procedure line (given_arguments known trees) constants (arguments_kept known trees)
 
-pub call_arguments_back : (tables : TypedModule) (known : Known)
-    → Agrees tables known
-    → (procedure : TypedProcedure) (line : ℕ) (trees : ArgumentTrees) (constants : Constants)
-    (typed : TypedArguments) (after : Constants)
-    → call_arguments procedure line (given_arguments known trees) constants ≡ Ok (typed, after)
-    → HasLists tables after
-    → untyped_arguments tables typed ≡ plain_arguments trees
-call_arguments_back tables known agrees procedure line trees constants typed after e has =
-    ((call_kept known procedure line trees constants).holds (typed, after) e).says tables agrees has
-
--- constant lists keep their numbers
-pub expression_grows : (known : Known) (tree : ExpressionTree) (constants : Constants)
-    (typed : TypedExpression) (after : Constants)
-    → expression known tree constants ≡ Ok (typed, after)
-    → Grows constants after
-expression_grows known tree constants typed after e =
-    ((expression_kept known tree constants).holds (typed, after) e).grows
-
-pub arguments_grow : (known : Known) (trees : ArgumentTrees) (constants : Constants)
-    (typed : TypedArguments) (after : Constants)
-    → arguments known trees constants ≡ Ok (typed, after)
-    → Grows constants after
-arguments_grow known trees constants typed after e =
-    ((arguments_kept known trees constants).holds (typed, after) e).grows
-
-pub destination_grows : (known : Known) (reference : ReferenceTree) (constants : Constants)
-    (destination : Destination) (after : Constants)
-    → destination_of known (given_reference known reference) constants ≡ Ok (destination, after)
-    → Grows constants after
-destination_grows known reference constants destination after e =
-    ((target_given known reference constants (reference_kept known reference)).holds (destination, after) e).grows
-
-pub call_arguments_grow : (known : Known) (procedure : TypedProcedure) (line : ℕ) (trees : ArgumentTrees)
-    (constants : Constants) (typed : TypedArguments) (after : Constants)
-    → call_arguments procedure line (given_arguments known trees) constants ≡ Ok (typed, after)
-    → Grows constants after
-call_arguments_grow known procedure line trees constants typed after e =
-    ((call_kept known procedure line trees constants).holds (typed, after) e).grows
-
--- the variable of an iterative DO, a procedure that is called, and MOVE have the names in the text
-counter_named : (known : Known) (binding : Binding) (name : Identifier)
+-- the variable of an iterative DO
+pub counter_named : (known : Known) (binding : Binding) (name : Identifier)
     → Binds known name binding
     → Gives (λ (counter : Counter). (tables : TypedModule) → Agrees tables known
     → object_name tables counter.object ≡ name.name) (counter_bound known binding name)
@@ -211,27 +137,3 @@ counter_named known (Declared (Object number)) name bound_to =
     in_turn (is_found (scalar_of object.object_type) _ _) (λ scalar _.
     gives_ok (λ tables agrees. (stands.in_tables tables agrees).0)))))
 counter_named known binding name bound_to = gives_fault
-
-pub counter_back : (tables : TypedModule) (known : Known)
-    → Agrees tables known
-    → (binding : Binding) (name : Identifier) (counter : Counter)
-    → bound known name ≡ Ok binding
-    → counter_bound known binding name ≡ Ok counter
-    → object_name tables counter.object ≡ name.name
-counter_back tables known agrees binding name counter bound_to e =
-    (counter_named known binding name ((is_bound known name).holds binding bound_to)).holds counter e tables agrees
-
-pub procedure_back : (tables : TypedModule) (known : Known)
-    → Agrees tables known
-    → (name : Identifier) (number : ℕ) (procedure : TypedProcedure)
-    → bound known name ≡ Ok (Declared (Procedure number))
-    → procedure_of known name number ≡ Ok procedure
-    → procedure_name tables number ≡ name.name
-procedure_back tables known agrees name number procedure bound_to e =
-    (is_procedure known name number ((is_bound known name).holds _ bound_to)).holds procedure e tables agrees
-
-pub move_back : (known : Known) (name : Identifier)
-    → bound known name ≡ Ok (BuiltInName built_in_names.Move)
-    → name.name ≡ codes "MOVE"
-move_back known name bound_to =
-    bound_spelled known.here name.name built_in_names.Move ((is_bound known name).holds _ bound_to)

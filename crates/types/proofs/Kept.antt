@@ -33,6 +33,12 @@ in_turn {P = P} {Q = Q} {result = result} {next = next} is then_is =
 pub anything : {A : Type 0} (result : Checked A) → Gives (λ a. result ≡ Ok a) result
 anything result = record { holds = λ a e. e }
 
+-- a check of which only matters that it gives something
+pub gives_after : {A B : Type 0} {Q : B → Type 0} (result : Checked A) {next : A → Checked B}
+    → ((a : A) → Gives Q (next a))
+    → Gives Q (result >>= next)
+gives_after result then_is = in_turn (anything result) (λ a e. then_is a)
+
 -- what holds as well of all that a check gives
 pub then_more : {A : Type 0} {P Q : A → Type 0} {result : Checked A}
     → Gives P result

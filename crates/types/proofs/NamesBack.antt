@@ -1,10 +1,7 @@
 -- What names in the text are bound to, as against the names in the tables.
-use Rattle.std.proofs.Common.{◌≡◌, ℕ, Bool, true, false, List, [], ◌∷◌, Option, Some, None, refl, ap, ◌∙◌}
-use Rattle.std.specs.Prelude.{unwrap_or, slice_get, codes, if◌then◌else◌}
+use Rattle.std.proofs.Common.{◌≡◌, ℕ, List, [], Option, Some, None, refl}
+use Rattle.std.specs.Prelude.{unwrap_or, slice_get, codes}
 use Rattle.std.specs.Option.{option_or, option_map}
-use Rattle.std.specs.Map.{lookup}
-use Rattle.std.specs.Str.{bytes_eq}
-use Rattle.std.proofs.lemmas.Slice.Eq.{bytes_eq-Decides}
 use Rattle.trees.specs.declared.identifier.Identifier.{Identifier}
 use Rattle.names.specs.declared.entity.Binding.{Binding}
 use Rattle.names.specs.declared.entity.Binding.TheVariants.{Declared, BuiltInName}
@@ -20,6 +17,7 @@ use Rattle.types.specs.References.{Known, line_of, bound, object_of, procedure_o
 use Rattle.types.specs.internal.Tables.{Agrees}
 use Rattle.types.specs.Untyped.{procedure_name, object_name, members_of_object}
 use Rattle.types.proofs.Kept.{Gives, then_more, is_found}
+use Rattle.types.proofs.Tables.{names_known}
 
 -- the names of built-in procedures
 abbrev pub spelled : BuiltIn → List ℕ
@@ -37,32 +35,10 @@ spelled built_in_names.RotateLeft = codes "ROL"
 spelled built_in_names.RotateRight = codes "ROR"
 spelled built_in_names.Move = codes "MOVE"
 
-abbrev AreSpelled : List (List ℕ × BuiltIn) → Type 0
-AreSpelled [] = Unit
-AreSpelled (entry ∷ others) = (entry.0 ≡ spelled entry.1) × AreSpelled others
-
-lookup_spelled : (entries : List (List ℕ × BuiltIn)) (name : List ℕ) (built_in : BuiltIn)
-    → AreSpelled entries
-    → lookup (bytes_eq name) entries ≡ Some built_in
-    → name ≡ spelled built_in
-lookup_spelled [] name built_in are e = absurd cc
-lookup_spelled (entry ∷ others) name built_in are e =
-    go (bytes_eq name entry.0) refl e (lookup_spelled others name built_in are.1)
-  where
-    go : (same : Bool)
-        → bytes_eq name entry.0 ≡ same
-        → (if same then Some entry.1 else lookup (bytes_eq name) others) ≡ Some built_in
-        → (lookup (bytes_eq name) others ≡ Some built_in → name ≡ spelled built_in)
-        → name ≡ spelled built_in
-    go true test e later =
-        let is : entry.1 ≡ built_in = cc in
-        (bytes_eq-Decides name entry.0).0 test ∙ are.0 ∙ ap spelled is
-    go false test e later = later e
-
 built_in_spelled : (name : List ℕ) (built_in : BuiltIn) → built_in_of name ≡ Some built_in → name ≡ spelled built_in
 unfolding built_in_of
 built_in_spelled name built_in e =
-    lookup_spelled built_ins name built_in
+    names_known (λ it key. key ≡ spelled it) built_ins name built_in
     (refl, (refl, (refl, (refl, (refl, (refl, (refl, (refl, (refl, (refl, (refl, (refl, (refl, tt)))))))))))))
     e
 
