@@ -6,8 +6,9 @@ use Rattle.words.specs.Spelling.{Lexeme, IsFirstFault}
 use Rattle.literally.specs.declared.fault.Fault as expansion_fault
 use Rattle.literally.specs.Expansion.{IsFault}
 use Rattle.syntax.specs.declared.fault.Fault as syntax_fault
-use Rattle.syntax.specs.Faults.{IsOfDepth, IsOfEndName}
-use Rattle.trees.specs.Derivation.{Derives, DerivesButForDepth, DerivesButForEndName}
+use Rattle.syntax.specs.Faults.{IsOfDepth, IsOfEndName, IsWrongWith}
+use Rattle.trees.specs.Derivation.{Derives, DerivesModule, DerivesButForDepth, DerivesButForEndName}
+use Rattle.trees.specs.Symbols.{symbols_of}
 use Rattle.trees.specs.Trees.{ModuleTree}
 use Rattle.frontend.specs.declared.read.ReadFault.{ReadFault}
 use Rattle.frontend.specs.declared.read.ReadFault.TheVariants.{TooLong, Words, Expansion, Syntax, NotServed, Port}
@@ -26,9 +27,11 @@ pub record HasExpansionFault (text : List ℕ) (fault : expansion_fault.Fault) :
   pub spelling : IsSpellingOf text words
   pub wrong : IsFault words fault
 
--- Words derive no module. Where they would but for the depth, or but for a name after END, the fault says so.
+-- Words derive no module. Where they would but for the depth, or but for a name after END, the fault says so, and where
+-- the grammar has a tree of them the fault says what is wrong with it.
 pub record IsSyntaxFault (words : List Lexeme) (fault : syntax_fault.Fault) : Type 0 where
   pub wrong : (tree : ModuleTree) → Derives words tree → ⊥
+  pub of_tree : (tree : ModuleTree) → DerivesModule (symbols_of words) tree → IsWrongWith fault tree
   pub depth : DerivesButForDepth words → IsOfDepth fault
   pub end_name : DerivesButForEndName words → IsOfEndName fault
 

@@ -1,6 +1,6 @@
 //! Programs whose names are resolved and whose types are known, and where they lie.
 
-ghost use Rattle.std.specs.Prelude.{◌≡◌, ◌↔◌, [], codes, IfOk, IsErr};
+ghost use Rattle.std.specs.Prelude.{◌≡◌, ◌≢◌, ◌↔◌, [], codes, IfOk, IsErr};
 
 use mem80::Range;
 use std::marker::Model;
@@ -94,6 +94,7 @@ impl JoinFault {
 /// Joins the one module, given by the statements of its outer level. Takes no memory.
 pub fn join(main: Statements) -> Result<Joined, JoinFault>
     ensures ok { IfOk result (λ joined. joined.main ≡ main) }
+    ensures main { IfOk result (λ joined. joined.main ≢ []) }
     ensures refused { IsErr result ↔ (main ≡ []) }
 {
     if main.as_slice().is_empty() {

@@ -1,5 +1,5 @@
 -- Sources: the program that they are, why they are refused, and in which order their faults are looked for.
-use Rattle.std.specs.Prelude.{◌≡◌, ℕ, Bool, true, false, ◌<◌, ◌≤◌, ◌⊎◌, List, [], ◌∷◌, map, length, slice_index_or, if◌then◌else◌}
+use Rattle.std.specs.Prelude.{◌≡◌, ◌≢◌, ℕ, Bool, true, false, ◌<◌, ◌≤◌, ◌⊎◌, List, [], ◌∷◌, map, length, slice_index_or, if◌then◌else◌}
 use Rattle.source_meaning.specs.declared.program.Joined.{Joined}
 use Rattle.source_meaning.specs.declared.program.Statement.{Statement}
 use Rattle.frontend.specs.declared.read.ReadFault.TheVariants as read_faults
@@ -23,11 +23,12 @@ texts_of sources = map (λ (source : declared_source.Source). source.text.now) s
 abbrev pub text_of : List (List ℕ) → ℕ → List ℕ
 text_of texts file = slice_index_or texts file []
 
--- the texts are the one source of a program, whose statements are those of its module
+-- the texts are the one source of a program, whose statements, of which there are some, are those of its module
 pub record IsProgramOf (texts : List (List ℕ)) (program : Joined) : Type 0 where
   pub text : List ℕ
   pub one : texts ≡ text ∷ []
   pub source : IsSourceOf text program.main
+  pub main : program.main ≢ []
 
 -- a text is the source of statements whose code is too long
 pub record HasLongCode (text : List ℕ) (plan : Plan) : Type 0 where
@@ -50,7 +51,7 @@ abbrev pub HasCause : ToolFault → List (List ℕ) → Plan → Type 0
 HasCause TooManySources texts plan = MOST_SOURCES < length texts
 HasCause (Source file fault) texts plan = (file < length texts) × HasReadCause fault (text_of texts file)
 HasCause (CodeTooLong file) texts plan = (file < length texts) × HasLongCode (text_of texts file) plan
-HasCause (NotServed file line) texts plan = 1 < length texts
+HasCause (NotServed file line) texts plan = (file < length texts) × (1 < length texts)
 HasCause (Join fault) texts plan = HasNoMain texts
 HasCause (Placement fault) texts plan = HasNoPlace fault texts plan
 

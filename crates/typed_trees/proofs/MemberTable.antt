@@ -35,7 +35,7 @@ has_name (entry ∷ others) name = by (eq-value.it name entry.0) (bytes_eq entry
     by false false e is = is
 
 -- a new name goes last
-pub inserted : (entries : List (List ℕ × Entry)) (name : List ℕ) (entry : Entry) → is_some (lookup (eq-value.it name) entries) ≡ false → insert_entry eq-value.it entries name entry ≡ entries ++ (name, entry) ∷ []
+inserted : (entries : List (List ℕ × Entry)) (name : List ℕ) (entry : Entry) → is_some (lookup (eq-value.it name) entries) ≡ false → insert_entry eq-value.it entries name entry ≡ entries ++ (name, entry) ∷ []
 inserted [] name entry absent = refl
 inserted (first ∷ others) name entry absent = by (eq-value.it name first.0) absent (inserted others name entry)
   where
@@ -45,11 +45,11 @@ inserted (first ∷ others) name entry absent = by (eq-value.it name first.0) ab
     by true absent rest = absurd (true≢false absent)
     by false absent rest = ap (λ more. first ∷ more) (rest absent)
 
-pub members_pushed : (entries : List (List ℕ × Entry)) (entry : List ℕ × Entry) → members_of (entries ++ entry ∷ []) ≡ members_of entries ++ member_of entry ∷ []
+members_pushed : (entries : List (List ℕ × Entry)) (entry : List ℕ × Entry) → members_of (entries ++ entry ∷ []) ≡ members_of entries ++ member_of entry ∷ []
 members_pushed [] entry = refl
 members_pushed (first ∷ others) entry = ap (λ more. member_of first ∷ more) (members_pushed others entry)
 
-pub laid_out_pushed : (at : ℕ) (entries : List (List ℕ × Entry)) (entry : List ℕ × Entry) → IsLaidOut at entries
+laid_out_pushed : (at : ℕ) (entries : List (List ℕ × Entry)) (entry : List ℕ × Entry) → IsLaidOut at entries
     → entry.1.offset ≡ min (at + sum_by size_of_member (members_of entries)) 4294967295 → IsLaidOut at (entries ++ entry ∷ [])
 laid_out_pushed at [] entry laid is = (is ∙ ap (λ place. min place 4294967295) (omega arith), tt)
 laid_out_pushed at (first ∷ others) entry laid is = (
@@ -61,31 +61,33 @@ laid_out_pushed at (first ∷ others) entry laid is = (
 size_pushed : (entries : List (List ℕ × Entry)) (entry : List ℕ × Entry) → sum_by size_of_member (members_of (entries ++ entry ∷ [])) ≡ sum_by size_of_member (members_of entries) + size_of_member (member_of entry)
 size_pushed entries entry = ap (sum_by size_of_member) (members_pushed entries entry) ∙ sum_by_push size_of_member (members_of entries) (member_of entry)
 
-pub size_grows : (entries : List (List ℕ × Entry)) (entry : List ℕ × Entry) (size : ℕ) → size ≡ min (sum_by size_of_member (members_of entries)) 4294967295
+size_grows : (entries : List (List ℕ × Entry)) (entry : List ℕ × Entry) (size : ℕ) → size ≡ min (sum_by size_of_member (members_of entries)) 4294967295
     → min (size + size_of_member (member_of entry)) 4294967295 ≡ min (sum_by size_of_member (members_of (entries ++ entry ∷ []))) 4294967295
 size_grows entries entry size is =
     ap (λ now. min (now + size_of_member (member_of entry)) 4294967295) is
     ∙ capped_sum (sum_by size_of_member (members_of entries)) (size_of_member (member_of entry))
     ∙ ap (λ all. min all 4294967295) (sym (size_pushed entries entry))
 
--- what is left after a new member
-pub record IsPushed (before now : List (List ℕ × Entry)) (member : TypedMember) (size : ℕ) : Type 0 where
-  pub laid_out : IsLaidOut 0 now
-  pub whole : size ≡ min (sum_by size_of_member (members_of now)) 4294967295
-  pub members : members_of now ≡ members_of before ++ member ∷ []
-
-abbrev pub entry_of : TypedMember → ℕ → Entry
+abbrev entry_of : TypedMember → ℕ → Entry
 entry_of member offset = record { dimension = member.dimension; scalar = member.scalar; offset = offset }
 
-pub pushed : (before now : List (List ℕ × Entry)) (member : TypedMember) (size grown : ℕ)
-    → IsLaidOut 0 before → size ≡ min (sum_by size_of_member (members_of before)) 4294967295
-    → is_some (lookup (eq-value.it member.name) before) ≡ false → now ≡ insert_entry eq-value.it before member.name (entry_of member size)
-    → grown ≡ min (size + size_of_member member) 4294967295 → IsPushed before now member grown
-pushed before now member size grown laid whole absent is sum = rw (is ∙ inserted before member.name (entry_of member size) absent, sum) (record {
-  laid_out = laid_out_pushed 0 before (member.name, entry_of member size) laid (whole ∙ ap (λ place. min place 4294967295) (omega arith));
-  whole = size_grows before (member.name, entry_of member size) size whole;
-  members = members_pushed before (member.name, entry_of member size);
-})
+-- the table after a new member
+module _ (before now : List (List ℕ × Entry)) (member : TypedMember) (size : ℕ)
+    (is : now ≡ insert_entry eq-value.it before member.name (entry_of member size)) (absent : is_some (lookup (eq-value.it member.name) before) ≡ false) where
+  now_is : now ≡ before ++ (member.name, entry_of member size) ∷ []
+  now_is = is ∙ inserted before member.name (entry_of member size) absent
+
+  pub pushed_members : members_of now ≡ members_of before ++ member ∷ []
+  pushed_members = rw now_is (members_pushed before (member.name, entry_of member size))
+
+  pub pushed_laid_out : IsLaidOut 0 before → size ≡ min (sum_by size_of_member (members_of before)) 4294967295 → IsLaidOut 0 now
+  pushed_laid_out laid whole =
+      rw now_is (laid_out_pushed 0 before (member.name, entry_of member size) laid (whole ∙ ap (λ place. min place 4294967295) (omega arith)))
+
+  pub pushed_whole : (one grown : ℕ) → size ≡ min (sum_by size_of_member (members_of before)) 4294967295
+      → one ≡ size_of_member member → grown ≡ min (size + one) 4294967295 → grown ≡ min (sum_by size_of_member (members_of now)) 4294967295
+  pushed_whole one grown whole its sum =
+      sum ∙ ap (λ more. min (size + more) 4294967295) its ∙ rw now_is (size_grows before (member.name, entry_of member size) size whole)
 
 -- the member at a place
 pub member_at : (entries : List (List ℕ × Entry)) (place : ℕ) → slice_get (members_of entries) place ≡ option_map member_of (slice_get entries place)

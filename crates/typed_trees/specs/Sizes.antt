@@ -47,7 +47,7 @@ member_named (member ∷ others) name =
     if bytes_eq member.name name then Some (record { position = 0; offset = 0; member = member })
     else option_map (after_member member) (member_named others name)
 
--- what the code tells of it: where it begins further on than a number of 32 bits tells, the greatest of those
+-- the same, but for an offset past the greatest number of 32 bits, which becomes that number
 abbrev pub capped : FoundMember → FoundMember
 capped place = record place { offset = min place.offset 4294967295 }
 

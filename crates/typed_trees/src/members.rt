@@ -2,7 +2,7 @@
 
 ghost use Rattle.std.specs.Prelude.{◌≡◌, [], ◌∷◌, ◌++◌, IfOk, if◌then◌else◌, length, min, not, slice_get, sum_by};
 ghost use Rattle.std.specs.Option.{option_map};
-ghost use Rattle.typed_trees.specs.Sizes.{capped, has_member, member_named, size_of_member, size_of_scalar};
+ghost use Rattle.typed_trees.specs.Sizes.{capped, has_member, member_named, size_of_member};
 
 use crate::parts::TypedMember;
 use indexmap::IndexMap;
@@ -62,6 +62,7 @@ impl Members {
     }
 
     /// Adds a member after the others. `false`: there is one of that name already, and nothing changes.
+    #[tactic(auto, using(crate::proofs::MemberTable::has_name, crate::proofs::MemberTable::pushed_laid_out, crate::proofs::MemberTable::pushed_members, crate::proofs::MemberTable::pushed_whole))]
     pub fn push(&mut self, member: TypedMember) -> Result<bool, AllocError>
         ensures added { IfOk result (λ added. added ≡ not (has_member self.old member.name)) }
         ensures members { IfOk result (λ added.
@@ -131,31 +132,5 @@ fn member_at(name: &Name, entry: &Entry) -> TypedMember
         name: *name,
         dimension: entry.dimension,
         scalar: entry.scalar,
-    }
-}
-
-// How many bytes a scalar takes.
-pub(crate) fn scalar_size(scalar: ScalarType) -> u32
-    ensures { result ≡ size_of_scalar scalar }
-{
-    match scalar {
-        ScalarType::Byte => 1,
-        ScalarType::Address => 2,
-    }
-}
-
-impl TypedMember {
-    ghost use Rattle.std.specs.Prelude.{◌≡◌};
-    ghost use Rattle.typed_trees.specs.Sizes.{size_of_member};
-
-    /// How many bytes it takes, at most 131,070.
-    pub fn size(&self) -> u32
-        ensures { result ≡ size_of_member self.now }
-    {
-        let count = match self.dimension {
-            Some(count) => count as u32,
-            None => 1,
-        };
-        count * scalar_size(self.scalar)
     }
 }

@@ -1,7 +1,7 @@
 //! Typed modules: their tables.
 
-use crate::members::{Members, scalar_size};
-use crate::parts::{AtAddress, ConstantItem, GlobalItem, InitialValue, Visibility};
+use crate::members::Members;
+use crate::parts::{AtAddress, ConstantItem, GlobalItem, InitialValue, Visibility, scalar_size};
 use crate::statement::TypedList;
 use std::rc::Rc;
 use trees::{Name, ScalarType};
@@ -115,6 +115,6 @@ impl TypedObject {
             Some(count) => count as u32,
             None => 1,
         };
-        count.saturating_mul(self.object_type.element_size())
+        count.saturating_mul(self.element_size())
     }
 }

@@ -115,3 +115,32 @@ impl UnaryFunction {
         }
     }
 }
+
+impl TypedMember {
+    ghost use Rattle.std.specs.Prelude.{◌≡◌};
+    ghost use Rattle.typed_trees.specs.Sizes.{size_of_member};
+
+    /// How many bytes it takes, at most 131,070.
+    pub fn size(&self) -> u32
+        ensures { result ≡ size_of_member self.now }
+    {
+        let count = match self.dimension {
+            Some(count) => count as u32,
+            None => 1,
+        };
+        count * scalar_size(self.scalar)
+    }
+}
+
+ghost use Rattle.std.specs.Prelude.{◌≡◌};
+ghost use Rattle.typed_trees.specs.Sizes.{size_of_scalar};
+
+/// How many bytes a scalar takes.
+pub(crate) fn scalar_size(scalar: ScalarType) -> u32
+    ensures { result ≡ size_of_scalar scalar }
+{
+    match scalar {
+        ScalarType::Byte => 1,
+        ScalarType::Address => 2,
+    }
+}

@@ -5,3 +5,12 @@ pub mod Parts
 pub mod Declarations
 pub mod JumpsLaw
 pub mod JumpExamples
+pub mod Kept
+pub mod Tables
+pub mod NamesBack
+pub mod ReferencesBack
+pub mod ExpressionsBack
+pub mod Walked
+pub mod DeclarationsBack
+pub mod SimpleStatementsBack
+pub mod StatementsBack

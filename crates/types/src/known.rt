@@ -76,7 +76,8 @@ impl Known {
         name: Identifier,
         number: u32,
     ) -> Result<&TypedObject, Failure<Fault>>
-        ensures { Answers (λ found. object_view found.now) result (object_of (known_view self.now) name number) }
+        ensures { Answers (λ found. object_view found.now) result
+            (object_of (known_view self.now) name number) }
     {
         match self.objects.get(number as usize) {
             Some(object) => Ok(object),
@@ -90,7 +91,8 @@ impl Known {
         name: Identifier,
         number: u32,
     ) -> Result<&TypedProcedure, Failure<Fault>>
-        ensures { Answers (λ found. procedure_view found.now) result (procedure_of (known_view self.now) name number) }
+        ensures { Answers (λ found. procedure_view found.now) result
+            (procedure_of (known_view self.now) name number) }
     {
         match self.procedures.get(number as usize) {
             Some(procedure) => Ok(procedure),

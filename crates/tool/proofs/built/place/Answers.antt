@@ -9,5 +9,6 @@ invariant_of-result c =
       lawful = record { code_fits = omega arith; stack_fits = omega arith; apart = λ meets. let met : c.overlap.result ≡ true = c.overlap.ensures.meets.1 meets in cc };
       code_as_planned = refl;
       stack_as_planned = refl;
+      code_fits = omega (arith, ap length c.from_vec.ensures.same, c.requires.fits);
       code_as_placed = ap (λ n. record { start = c.args.plan.code; len = n }) (c.len.ensures ∙ c.args.code.ok.0 ∙ ap length (sym c.from_vec.ensures.same));
     }
