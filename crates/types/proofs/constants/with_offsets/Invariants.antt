@@ -6,5 +6,5 @@ use Rattle.types.proofs.constants.with_offsets.Given as goal
 -- what is left decides
 abbrev pub invariant-loop-offset : goal.invariant-loop-offset
 invariant-loop-offset l =
-    sum_with_offsets l.sum-2 (map offset_tree (drop l.offset-index l.offsets))
-    ≡ sum_with_offsets l.sum (map offset_tree l.offsets)
+    sum_with_offsets l.sum (map offset_tree (drop l.offset-index l.offsets))
+    ≡ sum_with_offsets l.initial.sum (map offset_tree l.offsets)
