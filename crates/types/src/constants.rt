@@ -11,7 +11,7 @@ use failure::Failure;
 use trees::{Constant, Offset, Sign};
 
 /// The number that a string of one or two characters stands for, the first character high.
-fn number_of_characters(characters: &[u8]) -> Option<u16>
+pub(crate) fn number_of_characters(characters: &[u8]) -> Option<u16>
     ensures { result ≡ characters_number characters.now }
 {
     match characters {

@@ -1,17 +1,24 @@
 //! Restricted expressions: where AT puts objects, and what INITIAL and DATA fill them with.
 
-ghost use Rattle.std.specs.Prelude.{map};
-ghost use Rattle.trees.specs.Views.{restricted_tree};
-ghost use Rattle.typed_trees.specs.Views.{type_view};
-ghost use Rattle.types.specs.Filling.{at_address, contents};
-ghost use Rattle.types.specs.internal.Results.{Answers};
+ghost use Rattle.std.specs.Prelude.{◌≡◌, IfSome, map};
+ghost use Rattle.trees.specs.Views.{offset_tree, origin_tree, restricted_tree, string_tree};
+ghost use Rattle.typed_trees.specs.Views.{home_view, type_view};
+ghost use Rattle.names.specs.declared.entity.Binding.TheVariants.{Declared};
+ghost use Rattle.names.specs.declared.entity.Entity.TheVariants.{Object};
+ghost use Rattle.types.specs.Filling.{at_address, contents, contents_as_listed, enough_elements as elements_enough, fill as fill_from, fill_characters as characters_filled, fill_scalar as scalar_filled, fill_string as string_filled, fill_value as value_filled, line_of_origin as origin_line, restricted_value, scalars_at_most as most_scalars, static_bound, static_object, with_address as home_address};
+ghost use Rattle.types.specs.internal.Fillings.{filled_view, left_of, onto, reach_view, value_view};
+ghost use Rattle.types.specs.internal.Results.{Answers, Leaves};
 ghost use Rattle.types.specs.internal.Views.{contents_view, extents_view, known_view};
 
-use crate::fault::Fault;
-use crate::known::Known;
+use crate::constants::{line_of_constant, number_of_characters, number_of_constant, with_offsets};
+use crate::fault::{Cause, Fault};
+use crate::known::{Known, refuse, require};
+use crate::scalars::{Scalars, scalars_in_element};
 use failure::Failure;
-use trees::Restricted;
-use typed_trees::{AtAddress, InitialValue, ObjectType};
+use names::{Binding, Entity};
+use std::alloc::Global;
+use trees::{Constant, Identifier, Offset, Origin, Restricted, ScalarType, StringLiteral};
+use typed_trees::{AtAddress, Home, InitialValue, ObjectType};
 
 /// How many elements an object is declared with: it is no array, there are so many, or as many as its list needs.
 #[derive(Clone, Copy)]
@@ -28,13 +35,157 @@ pub(crate) struct Contents {
     pub(crate) values: Vec<InitialValue>,
 }
 
+/// Whether the objects of other modules may be located.
+#[derive(Clone, Copy)]
+enum Reach {
+    ThisModule,
+    OtherModulesToo,
+}
+
+/// The value of a restricted expression: a number, or a distance from where an object begins.
+#[derive(Clone, Copy)]
+enum RestrictedValue {
+    Number(u16),
+    FromObject { object: u32, offset: u16 },
+}
+
+/// The values that fill the first scalars of an object, and the scalars after those.
+#[derive(Drop)]
+struct Filling {
+    scalars: Scalars,
+    values: Vec<InitialValue>,
+}
+
+// The number of an object whose address is known before the program runs.
+fn with_address(
+    reach: Reach,
+    home: &Home,
+    number: u32,
+    line: u32,
+) -> Result<u32, Failure<Fault>>
+    ensures { Answers (λ number. number) result
+        (home_address (reach_view reach) (home_view home.now) number line) }
+{
+    match (home, reach) {
+        (Home::Frame(_), _) => Err(refuse(Cause::NoLocation, line)),
+        (Home::Data(_) | Home::Constant(_) | Home::At(_), _)
+        | (Home::External, Reach::OtherModulesToo) => Ok(number),
+        _ => Err(refuse(Cause::WrongConstant, line)),
+    }
+}
+
+// The line of what a restricted expression begins with.
+fn line_of_origin(origin: &Origin) -> u32
+    ensures { result ≡ origin_line (origin_tree origin.now) }
+{
+    match origin {
+        Origin::Constant(constant) => line_of_constant(constant),
+        Origin::Location(name) => name.place.line,
+    }
+}
+
+// How many scalars a value takes at most.
+fn scalars_at_most(origin: &Origin) -> usize
+    ensures { result ≡ most_scalars (origin_tree origin.now) }
+{
+    match origin {
+        Origin::Constant(Constant::String(string)) => string.characters.len().max(1),
+        _ => 1,
+    }
+}
+
+// So many elements that their scalars are enough for a list, if the number is no greater than numbers can be.
+fn enough_elements(values: &[Restricted]) -> Option<usize>
+    ensures { IfSome result (λ count. count ≡ elements_enough (map restricted_tree values.now)) }
+{
+    let mut count = 0_usize;
+    for value in values {
+        count = count.checked_add(scalars_at_most(&value.origin))?;
+    }
+    Some(count)
+}
+
 impl Known {
+    // The number of an object, whose address is known before the program runs.
+    fn object_with_address(
+        &self,
+        reach: Reach,
+        number: u32,
+        name: Identifier,
+    ) -> Result<u32, Failure<Fault>>
+        ensures { Answers (λ number. number) result
+            (static_bound (reach_view reach) (known_view self.now) (Declared (Object number)) name) }
+    {
+        let line = name.place.line;
+        let object = self.object(name, number)?;
+        with_address(reach, &object.home, number, line)
+    }
+
+    // The number of an object that a name is bound to, whose address is known before the program runs.
+    fn static_bound(
+        &self,
+        reach: Reach,
+        binding: Binding,
+        name: Identifier,
+    ) -> Result<u32, Failure<Fault>>
+        ensures { Answers (λ number. number) result
+            (static_bound (reach_view reach) (known_view self.now) binding name) }
+    {
+        match binding {
+            Binding::Declared(Entity::Object(number)) => self.object_with_address(reach, number, name),
+            Binding::Declared(Entity::Procedure(_)) => {
+                Err(refuse(Cause::NoLocation, name.place.line))
+            }
+            _ => Err(refuse(Cause::WrongUse, name.place.line)),
+        }
+    }
+
+    // The number of an object that a name stands for, whose address is known before the program runs.
+    fn static_object(&self, reach: Reach, name: Identifier) -> Result<u32, Failure<Fault>>
+        ensures { Answers (λ number. number) result
+            (static_object (reach_view reach) (known_view self.now) name) }
+    {
+        self.static_bound(reach, self.bound(name)?, name)
+    }
+
+    // The value of a restricted expression.
+    fn restricted_value(
+        &self,
+        reach: Reach,
+        origin: &Origin,
+        offsets: &[Offset],
+    ) -> Result<RestrictedValue, Failure<Fault>>
+        ensures { Answers value_view result (restricted_value (reach_view reach) (known_view self.now)
+            (origin_tree origin.now) (map offset_tree offsets.now)) }
+    {
+        match origin {
+            Origin::Constant(constant) => {
+                let number = number_of_constant(constant)?;
+                Ok(RestrictedValue::Number(with_offsets(number, offsets)?))
+            }
+            Origin::Location(name) => {
+                let object = self.static_object(reach, *name)?;
+                let offset = with_offsets(0, offsets)?;
+                Ok(RestrictedValue::FromObject { object, offset })
+            }
+        }
+    }
+
     /// Where AT puts an object.
     pub(crate) fn at_address(&self, restricted: &Restricted) -> Result<AtAddress, Failure<Fault>>
         ensures { Answers (λ address. address) result
             (at_address (known_view self.now) (restricted_tree restricted.now)) }
     {
-        Err(Failure::Memory)
+        match self.restricted_value(
+            Reach::ThisModule,
+            &restricted.origin,
+            restricted.offsets.as_slice(),
+        )? {
+            RestrictedValue::Number(number) => Ok(AtAddress::AtNumber(number)),
+            RestrictedValue::FromObject { object, offset } => {
+                Ok(AtAddress::AtObject { object, offset })
+            }
+        }
     }
 
     /// The dimension of an object, and its values, which fill its scalars from the first on. The line is that of the
@@ -50,5 +201,46 @@ impl Known {
             (type_view object_type.now) (extents_view extents) (map restricted_tree values.now)) }
     {
         Err(Failure::Memory)
+    }
+}
+
+impl Filling {
+    // Nothing yet of so many elements.
+    fn new(alloc: Global, object_type: &ObjectType, elements: usize) -> Filling
+        ensures { filled_view (type_view object_type.now) result
+            ≡ record { values = []; left = scalars_of_elements elements (type_view object_type.now) } }
+    {
+        Filling {
+            scalars: Scalars::new(object_type, elements),
+            values: Vec::new(alloc),
+        }
+    }
+
+    // Fills a scalar with a value.
+    fn fill_scalar(
+        &mut self,
+        object_type: &ObjectType,
+        line: u32,
+        value: RestrictedValue,
+    ) -> Result<(), Failure<Fault>>
+        ensures { Leaves result (filled_view (type_view object_type.now) self.new)
+            (onto self.old.values.items
+            (scalar_filled line (left_of (type_view object_type.now) self.old.scalars) (value_view value))) }
+    {
+        let filled = match (self.scalars.next(object_type), value) {
+            (Some(ScalarType::Byte), RestrictedValue::Number(number)) => {
+                require(number <= 255, Cause::WrongConstant, line)?;
+                InitialValue::ByteValue(number as u8)
+            }
+            (Some(ScalarType::Address), RestrictedValue::Number(number)) => {
+                InitialValue::WordValue(number)
+            }
+            (Some(ScalarType::Address), RestrictedValue::FromObject { object, offset }) => {
+                InitialValue::LocationValue { object, offset }
+            }
+            _ => return Err(refuse(Cause::WrongConstant, line)),
+        };
+        self.values.push(filled)?;
+        Ok(())
     }
 }
