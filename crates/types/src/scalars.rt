@@ -3,7 +3,7 @@
 ghost use Rattle.std.specs.Prelude.{◌≡◌, ◌<◌, IfSome, IsTrue, [], ◌∷◌, ◌++◌, flat_map, drop, length, slice_get, true, false};
 ghost use Rattle.typed_trees.specs.Sizes.{scalars_of_element, scalars_of_elements};
 ghost use Rattle.typed_trees.specs.Views.{type_view};
-ghost use Rattle.types.specs.internal.Fillings.{Takes, first_of, left_of, run_of_member, runs_of, scalars_of_run};
+ghost use Rattle.types.specs.internal.Fillings.{Takes, first_of, left_of, run_of_member, runs_from, runs_of};
 
 use trees::ScalarType;
 use typed_trees::{ObjectType, TypedMember};
@@ -94,11 +94,10 @@ impl Scalars {
         ensures left { left_of (type_view object_type.now) self.new
             ≡ left_of (type_view object_type.now) self.old }
         ensures found { result ≡ true → 0 < self.new.run.count }
-        ensures ended { result ≡ false → left_of (type_view object_type.now) self.new
-            ≡ scalars_of_elements self.new.elements (type_view object_type.now) }
+        ensures none { result ≡ false → runs_from (type_view object_type.now) self.old.position ≡ [] }
+        ensures kept { result ≡ false → self.new ≡ self.old }
     {
-        let end = number_of_runs(object_type);
-        for position in self.position..end {
+        for position in self.position..number_of_runs(object_type) {
             if let Some(run) = run_at(object_type, position) {
                 if run.count > 0 {
                     self.run = run;
@@ -107,7 +106,6 @@ impl Scalars {
                 }
             }
         }
-        self.position = end;
         false
     }
 

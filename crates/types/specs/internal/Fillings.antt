@@ -35,10 +35,14 @@ abbrev pub runs_of : ObjectType → List Run
 runs_of (ScalarObject scalar) = record { scalar = scalar; count = 1 } ∷ []
 runs_of (StructureObject members) = map run_of_member members
 
+-- the scalars of the runs from a position on
+abbrev pub runs_from : ObjectType → ℕ → List ScalarType
+runs_from object_type position = flat_map scalars_of_run (drop position (runs_of object_type))
+
 -- the scalars that are left: of a run, of the runs after it in its element, and of the elements after that
 unfoldable pub left_of : ObjectType → Scalars → List ScalarType
 left_of object_type scalars =
-    scalars_of_run scalars.run ++ (flat_map scalars_of_run (drop scalars.position (runs_of object_type))
+    scalars_of_run scalars.run ++ (runs_from object_type scalars.position
     ++ scalars_of_elements scalars.elements object_type)
 
 -- one scalar was taken from these, or there was none
