@@ -63,6 +63,33 @@ left_ended t s none past =
     let elements = scalars_of_elements s.elements t in
     run_none s.run.count s.run.scalar (runs_from t s.position ++ elements) none ∙ ap (λ all. all ++ elements) past
 
+pub left_none : (t : ObjectType) (s : Scalars) → s.run.count ≡ 0 → runs_from t s.position ≡ [] → s.elements ≡ 0 → left_of t s ≡ []
+left_none t s none past last = left_ended t s none past ∙ ap (λ elements. scalars_of_elements elements t) last
+
+repeat_one : {A : Type 0} (n : ℕ) (items : List A) → 0 < n → repeat n items ≡ items ++ repeat (n - 1) items
+repeat_one n items some =
+    let is : n ≡ suc (n - 1) = omega arith in
+    ap (λ count. repeat count items) is
+
+repeat_empty : {A : Type 0} (n : ℕ) (items : List A) → items ≡ [] → repeat n items ≡ []
+repeat_empty zero items is = refl
+repeat_empty (suc n) items is = ap (λ first. first ++ repeat n items) is ∙ repeat_empty n items is
+
+-- the next element
+pub left_next : (t : ObjectType) (s : Scalars) → s.run.count ≡ 0 → runs_from t s.position ≡ [] → 0 < s.elements
+    → left_of t (record { run = s.run; position = 0; elements = s.elements - 1 }) ≡ left_of t s
+unfolding left_of
+left_next t s none past some =
+    let rest = scalars_of_elements (s.elements - 1) t in
+    run_none s.run.count s.run.scalar (runs_from t 0 ++ rest) none
+    ∙ ap (λ first. first ++ rest) (element_runs t)
+    ∙ sym (left_ended t s none past ∙ repeat_one s.elements (scalars_of_element t) some)
+
+-- elements without scalars
+pub left_empty : (t : ObjectType) (s : Scalars) → s.run.count ≡ 0 → runs_from t s.position ≡ [] → runs_from t 0 ≡ [] → left_of t s ≡ []
+left_empty t s none past empty =
+    left_ended t s none past ∙ repeat_empty s.elements (scalars_of_element t) (sym (element_runs t) ∙ empty)
+
 -- the next scalar of a run
 pub left_taken : (t : ObjectType) (s : Scalars) (n : ℕ) → s.run.count ≡ n + 1 → left_of t s ≡ s.run.scalar ∷ left_of t (record s { run = record s.run { count = n } })
 unfolding left_of

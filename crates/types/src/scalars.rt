@@ -109,25 +109,45 @@ impl Scalars {
         false
     }
 
+    // Goes on to the next run that has scalars. `false`: none has.
+    #[tactic(auto, using(crate::proofs::LeftScalars::left_none, crate::proofs::LeftScalars::left_next, crate::proofs::LeftScalars::left_empty))]
+    fn has_more(&mut self, object_type: &ObjectType) -> bool
+        ensures left { left_of (type_view object_type.now) self.new
+            ≡ left_of (type_view object_type.now) self.old }
+        ensures found { result ≡ true → 0 < self.new.run.count }
+        ensures none { result ≡ false → left_of (type_view object_type.now) self.old ≡ [] }
+    {
+        if self.run.count > 0 {
+            return true;
+        }
+        if self.goes_on(object_type) {
+            return true;
+        }
+        if self.elements == 0 {
+            return false;
+        }
+        self.elements -= 1;
+        self.position = 0;
+        if self.goes_on(object_type) {
+            return true;
+        }
+        // Elements have no scalars.
+        self.elements = 0;
+        false
+    }
+
     /// Takes the first scalar.
+    #[tactic(auto, using(crate::proofs::LeftScalars::left_taken))]
     pub(crate) fn next(&mut self, object_type: &ObjectType) -> Option<ScalarType>
         ensures { Takes (left_of (type_view object_type.now) self.old) result
             (left_of (type_view object_type.now) self.new) }
     {
-        if self.run.count == 0 && !self.goes_on(object_type) {
-            if self.elements == 0 {
-                return None;
-            }
-            self.elements -= 1;
-            self.position = 0;
-            if !self.goes_on(object_type) {
-                // No element has scalars.
-                self.elements = 0;
-                return None;
-            }
+        if self.has_more(object_type) {
+            self.run.count -= 1;
+            Some(self.run.scalar)
+        } else {
+            None
         }
-        self.run.count -= 1;
-        Some(self.run.scalar)
     }
 
     /// The first scalar.
