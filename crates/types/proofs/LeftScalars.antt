@@ -71,7 +71,7 @@ repeat_one n items some =
     let is : n ≡ suc (n - 1) = omega arith in
     ap (λ count. repeat count items) is
 
-repeat_empty : {A : Type 0} (n : ℕ) (items : List A) → items ≡ [] → repeat n items ≡ []
+pub repeat_empty : {A : Type 0} (n : ℕ) (items : List A) → items ≡ [] → repeat n items ≡ []
 repeat_empty zero items is = refl
 repeat_empty (suc n) items is = ap (λ first. first ++ repeat n items) is ∙ repeat_empty n items is
 

@@ -1,18 +1,19 @@
 //! Restricted expressions: where AT puts objects, and what INITIAL and DATA fill them with.
 
-ghost use Rattle.std.specs.Prelude.{◌≡◌, IfSome, map};
+ghost use Rattle.std.specs.Prelude.{◌≡◌, ◌<◌, IfSome, [], ◌∷◌, map, vec_items};
 ghost use Rattle.trees.specs.Views.{offset_tree, origin_tree, restricted_tree, string_tree};
+ghost use Rattle.typed_trees.specs.Sizes.{scalars_of_elements};
 ghost use Rattle.typed_trees.specs.Views.{home_view, type_view};
 ghost use Rattle.names.specs.declared.entity.Binding.TheVariants.{Declared};
 ghost use Rattle.names.specs.declared.entity.Entity.TheVariants.{Object};
-ghost use Rattle.types.specs.Filling.{at_address, contents, contents_as_listed, enough_elements as elements_enough, fill as fill_from, fill_characters as characters_filled, fill_scalar as scalar_filled, fill_string as string_filled, fill_value as value_filled, line_of_origin as origin_line, restricted_value, scalars_at_most as most_scalars, static_bound, static_object, with_address as home_address};
-ghost use Rattle.types.specs.internal.Fillings.{filled_view, left_of, onto, reach_view, value_view};
+ghost use Rattle.types.specs.Filling.{AsListed, at_address, contents, enough_elements as elements_enough, fill_characters as characters_filled, fill_scalar as scalar_filled, fill_string as string_filled, fill_value as value_filled, line_of_origin as origin_line, restricted_value, scalars_at_most as most_scalars, static_bound, static_object, with_address as home_address};
+ghost use Rattle.types.specs.internal.Fillings.{elements_listed, filled_view, left_of, onto, reach_view, value_view, values_filled};
 ghost use Rattle.types.specs.internal.Results.{Answers, Leaves};
 ghost use Rattle.types.specs.internal.Views.{contents_view, extents_view, known_view};
 
 use crate::constants::{line_of_constant, number_of_characters, number_of_constant, with_offsets};
 use crate::fault::{Cause, Fault};
-use crate::known::{Known, refuse, require};
+use crate::known::{Known, refuse};
 use crate::scalars::{Scalars, scalars_in_element};
 use failure::Failure;
 use names::{Binding, Entity};
@@ -105,6 +106,20 @@ fn enough_elements(values: &[Restricted]) -> Option<usize>
     Some(count)
 }
 
+// The least number of elements of so many scalars each that holds so many scalars, of which there is one at least.
+fn elements_for(line: u32, used: usize, each: usize) -> Result<u32, Failure<Fault>>
+    requires { 0 < used → 0 < each }
+    ensures { Answers (λ elements. elements) result (elements_listed line used each) }
+{
+    if used == 0 {
+        return Err(refuse(Cause::WrongConstant, line));
+    }
+    match u32::try_from((used - 1) / each + 1) {
+        Ok(elements) => Ok(elements),
+        Err(_) => Err(Failure::Memory),
+    }
+}
+
 impl Known {
     // The number of an object, whose address is known before the program runs.
     fn object_with_address(
@@ -188,6 +203,68 @@ impl Known {
         }
     }
 
+    // Fills scalars with a value of a list.
+    fn fill_value(
+        &self,
+        object_type: &ObjectType,
+        restricted: &Restricted,
+        filling: &mut Filling,
+    ) -> Result<(), Failure<Fault>>
+        ensures { Leaves result (filled_view (type_view object_type.now) filling.new)
+            (onto filling.old.values.items (value_filled (known_view self.now)
+            (left_of (type_view object_type.now) filling.old.scalars)
+            (restricted_tree restricted.now).origin (restricted_tree restricted.now).offsets)) }
+    {
+        match &restricted.origin {
+            Origin::Constant(Constant::String(string)) if restricted.offsets.is_empty() => {
+                filling.fill_string(object_type, string)
+            }
+            origin => {
+                let offsets = restricted.offsets.as_slice();
+                let value = self.restricted_value(Reach::OtherModulesToo, origin, offsets)?;
+                filling.fill_scalar(object_type, line_of_origin(origin), value)
+            }
+        }
+    }
+
+    // The values that fill the scalars of so many elements from the first on.
+    fn fill(
+        &self,
+        object_type: &ObjectType,
+        values: &[Restricted],
+        elements: usize,
+    ) -> Result<Vec<InitialValue>, Failure<Fault>>
+        ensures { Answers vec_items result (values_filled (known_view self.now) (map restricted_tree values.now)
+            (scalars_of_elements elements (type_view object_type.now))) }
+    {
+        let mut filling = Filling::new(self.alloc, object_type, elements);
+        for value in values {
+            self.fill_value(object_type, value, &mut filling)?;
+        }
+        Ok(filling.values)
+    }
+
+    // The dimension of an array that is as long as its list, and its values.
+    fn contents_as_listed(
+        &self,
+        line: u32,
+        object_type: &ObjectType,
+        values: &[Restricted],
+    ) -> Result<Contents, Failure<Fault>>
+        ensures { Answers contents_view result (contents (known_view self.now) line
+            (type_view object_type.now) AsListed (map restricted_tree values.now)) }
+    {
+        let (Some(elements), Some(each)) = (enough_elements(values), scalars_in_element(object_type)) else {
+            return Err(Failure::Memory);
+        };
+        let values = self.fill(object_type, values, elements)?;
+        let dimension = elements_for(line, values.len(), each)?;
+        Ok(Contents {
+            dimension: Some(dimension),
+            values,
+        })
+    }
+
     /// The dimension of an object, and its values, which fill its scalars from the first on. The line is that of the
     /// item.
     pub(crate) fn contents(
@@ -200,7 +277,17 @@ impl Known {
         ensures { Answers contents_view result (contents (known_view self.now) line
             (type_view object_type.now) (extents_view extents) (map restricted_tree values.now)) }
     {
-        Err(Failure::Memory)
+        match extents {
+            Extents::NoArray => Ok(Contents {
+                dimension: None,
+                values: self.fill(object_type, values, 1)?,
+            }),
+            Extents::Elements(count) => Ok(Contents {
+                dimension: Some(u32::from(count)),
+                values: self.fill(object_type, values, usize::from(count))?,
+            }),
+            Extents::AsListed => self.contents_as_listed(line, object_type, values),
+        }
     }
 }
 
@@ -229,8 +316,10 @@ impl Filling {
     {
         let filled = match (self.scalars.next(object_type), value) {
             (Some(ScalarType::Byte), RestrictedValue::Number(number)) => {
-                require(number <= 255, Cause::WrongConstant, line)?;
-                InitialValue::ByteValue(number as u8)
+                match u8::try_from(number) {
+                    Ok(byte) => InitialValue::ByteValue(byte),
+                    Err(_) => return Err(refuse(Cause::WrongConstant, line)),
+                }
             }
             (Some(ScalarType::Address), RestrictedValue::Number(number)) => {
                 InitialValue::WordValue(number)
@@ -242,5 +331,65 @@ impl Filling {
         };
         self.values.push(filled)?;
         Ok(())
+    }
+
+    // Fills a BYTE with a character.
+    fn fill_character(
+        &mut self,
+        object_type: &ObjectType,
+        line: u32,
+        character: u8,
+    ) -> Result<(), Failure<Fault>>
+        ensures { Leaves result (filled_view (type_view object_type.now) self.new)
+            (onto self.old.values.items (characters_filled line (character ∷ [])
+            (left_of (type_view object_type.now) self.old.scalars))) }
+    {
+        match self.scalars.next(object_type) {
+            Some(ScalarType::Byte) => {
+                self.values.push(InitialValue::ByteValue(character))?;
+                Ok(())
+            }
+            _ => Err(refuse(Cause::WrongConstant, line)),
+        }
+    }
+
+    // Fills a BYTE with each character.
+    fn fill_characters(
+        &mut self,
+        object_type: &ObjectType,
+        line: u32,
+        characters: &[u8],
+    ) -> Result<(), Failure<Fault>>
+        ensures { Leaves result (filled_view (type_view object_type.now) self.new)
+            (onto self.old.values.items (characters_filled line characters.now
+            (left_of (type_view object_type.now) self.old.scalars))) }
+    {
+        for character in characters {
+            self.fill_character(object_type, line, *character)?;
+        }
+        Ok(())
+    }
+
+    // Fills scalars with a string that stands alone.
+    fn fill_string(
+        &mut self,
+        object_type: &ObjectType,
+        string: &StringLiteral,
+    ) -> Result<(), Failure<Fault>>
+        ensures { Leaves result (filled_view (type_view object_type.now) self.new)
+            (onto self.old.values.items (string_filled (string_tree string.now)
+            (left_of (type_view object_type.now) self.old.scalars))) }
+    {
+        let line = string.place.line;
+        let characters = string.characters.as_slice();
+        match self.scalars.first(object_type) {
+            Some(ScalarType::Address) => match number_of_characters(characters) {
+                Some(number) => {
+                    self.fill_scalar(object_type, line, RestrictedValue::Number(number))
+                }
+                None => Err(refuse(Cause::WrongConstant, line)),
+            },
+            _ => self.fill_characters(object_type, line, characters),
+        }
     }
 }

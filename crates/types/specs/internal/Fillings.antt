@@ -1,5 +1,5 @@
 -- How far the code has come with the scalars of an object, and what it has filled them with.
-use Rattle.std.specs.Prelude.{ℕ, List, [], ◌∷◌, ◌++◌, map, replicate, drop, flat_map, Option, Some, None, Ok, ◌≡◌}
+use Rattle.std.specs.Prelude.{ℕ, List, [], ◌∷◌, ◌++◌, map, replicate, drop, flat_map, Option, Some, None, Ok, ◌≡◌, nat_lt}
 use Rattle.trees.specs.declared.declaration.ScalarType.{ScalarType}
 use Rattle.typed_trees.specs.declared.parts.InitialValue.{InitialValue}
 use Rattle.typed_trees.specs.declared.parts.TypedMember.{TypedMember}
@@ -12,8 +12,11 @@ use Rattle.types.specs.declared.filling.RestrictedValue.{RestrictedValue as Code
 use Rattle.types.specs.declared.filling.RestrictedValue.TheVariants as code_values
 use Rattle.types.specs.declared.scalars.Run.{Run}
 use Rattle.types.specs.declared.scalars.Scalars.{Scalars}
-use Rattle.types.specs.Checks.{Checked, ◌>>=◌}
-use Rattle.types.specs.Filling.{Reach, ThisModule, OtherModulesToo, RestrictedValue, ANumber, FromObject, Filled}
+use Rattle.types.specs.declared.fault.Cause.TheVariants.{WrongConstant}
+use Rattle.types.specs.References.{Known}
+use Rattle.trees.specs.Trees.{RestrictedTree}
+use Rattle.types.specs.Checks.{Checked, ◌>>=◌, require}
+use Rattle.types.specs.Filling.{Reach, ThisModule, OtherModulesToo, RestrictedValue, ANumber, FromObject, Filled, fill, elements_for}
 
 abbrev pub reach_view : CodeReach → Reach
 reach_view reaches.ThisModule = ThisModule
@@ -65,3 +68,12 @@ filled_view object_type filling = record {
 abbrev pub onto : List InitialValue → Checked Filled → Checked Filled
 onto before checked =
     checked >>= (λ (filled : Filled). Ok (record filled { values = before ++ filled.values }))
+
+-- the values alone that fill scalars
+abbrev pub values_filled : Known → List RestrictedTree → List ScalarType → Checked (List InitialValue)
+values_filled known values scalars = fill known values scalars >>= (λ (filled : Filled). Ok filled.values)
+
+-- the dimension of an array that is as long as its list
+abbrev pub elements_listed : (line : ℕ) → (used each : ℕ) → Checked ℕ
+elements_listed line used each =
+    require (nat_lt 0 used) WrongConstant line >>= (λ holds. Ok (elements_for used each))
