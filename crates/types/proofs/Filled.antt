@@ -1,5 +1,5 @@
 -- Scalars filled by one value after another.
-use Rattle.std.proofs.Common.{◌≡◌, ℕ, ◌+◌, ◌-◌, ◌*◌, ◌/◌, ◌<◌, ◌≤◌, List, [], ◌∷◌, ◌++◌, length, Ok, Err, Option, Some, None, refl, ap, sym, ◌∙◌, append_assoc, arith, length-append, map, nat_le, nat_lt, subst, true, tests, rules}
+use Rattle.std.proofs.Common.{◌≡◌, ℕ, ◌+◌, ◌-◌, ◌/◌, ◌<◌, ◌≤◌, List, [], ◌∷◌, ◌++◌, length, Ok, Err, Option, Some, refl, ap, sym, ◌∙◌, append_assoc, arith, length-append, map, nat_le, nat_lt, subst, true, tests, rules}
 use Rattle.std.specs.List.{repeat}
 use Rattle.std.proofs.Math.Nat.{add-div_right}
 use Rattle.std.proofs.lemmas.List.{append-nil}

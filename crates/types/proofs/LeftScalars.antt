@@ -1,5 +1,5 @@
 -- The scalars that are left of an object.
-use Rattle.std.proofs.Common.{◌≡◌, ℕ, suc, zero, ◌+◌, ◌-◌, ◌<◌, ◌≤◌, List, [], ◌∷◌, ◌++◌, length, drop, take, replicate, get_or, Option, Some, None, refl, ap, sym, subst, ◌∙◌, add-one, arith, length-append, append_assoc}
+use Rattle.std.proofs.Common.{◌≡◌, ℕ, suc, zero, ◌+◌, ◌-◌, ◌<◌, ◌≤◌, List, [], ◌∷◌, ◌++◌, length, drop, replicate, Some, None, refl, ap, sym, ◌∙◌, add-one, arith, length-append, append_assoc}
 use Rattle.std.specs.List.{slice_get, flat_map, repeat}
 use Rattle.std.proofs.Math.ListN.{drop_of_length-le}
 use Rattle.std.proofs.lemmas.List.{drop_more, length-replicate}
@@ -7,7 +7,7 @@ use Rattle.std.proofs.lemmas.List.Folds.{flat_map-map}
 use Rattle.std.proofs.lemmas.Option.{get_or_from_slice_get, slice_get_within, slice_get-get_or}
 use Rattle.trees.specs.declared.declaration.ScalarType.TheVariants.{Byte}
 use Rattle.typed_trees.specs.TypedTrees.{ObjectType, ScalarObject, StructureObject}
-use Rattle.typed_trees.specs.Sizes.{scalars_of_element, scalars_of_elements, scalars_of_member}
+use Rattle.typed_trees.specs.Sizes.{scalars_of_element, scalars_of_elements}
 use Rattle.types.specs.declared.scalars.Run.{Run}
 use Rattle.types.specs.declared.scalars.Scalars.{Scalars}
 use Rattle.types.specs.internal.Fillings.{runs_of, run_of_member, scalars_of_run, runs_from, left_of}

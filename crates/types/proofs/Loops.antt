@@ -5,7 +5,7 @@ use Rattle.std.proofs.Math.Seq.{drop-cons}
 use Rattle.failure.specs.declared.Failure.{Failure}
 use Rattle.types.specs.declared.fault.Fault.{Fault}
 use Rattle.types.specs.Checks.{Checked, ◌>>=◌}
-use Rattle.types.specs.internal.Results.{fault_in, FailsBy, Answers, Leaves}
+use Rattle.types.specs.internal.Results.{fault_in, FailsBy, Answers}
 
 -- checks in turn
 pub then_then : {A B C : Type 0} (first : Checked A) (second : A → Checked B) (third : B → Checked C) → first >>= (λ a. second a >>= third) ≡ (first >>= second) >>= third
@@ -19,9 +19,6 @@ fails_then {A = A} (Some fault) first next fails = ap (λ (checked : Checked A).
 -- how a call ends that hands on the failure of another
 pub answers_failure : {X Y : Type 0} (view : X → Y) (result : Result X (Failure Fault)) (failure : Failure Fault) (checked : Checked Y) → result ≡ Err failure → FailsBy (fault_in failure) checked → Answers view result checked
 answers_failure view result failure checked is fails = rw is fails
-
-pub leaves_failure : {X S : Type 0} (result : Result X (Failure Fault)) (failure : Failure Fault) (after : S) (checked : Checked S) → result ≡ Err failure → FailsBy (fault_in failure) checked → Leaves result after checked
-leaves_failure result failure after checked is fails = rw is fails
 
 drop_item : {A B : Type 0} (view : List A → B) (items : List A) (i : ℕ) (item : A) → i < length items → item ≡ get_or items i item → view (drop i items) ≡ view (item ∷ drop (i + 1) items)
 drop_item view items i item within is =

@@ -58,12 +58,7 @@ struct Filling {
 }
 
 // The number of an object whose address is known before the program runs.
-fn with_address(
-    reach: Reach,
-    home: &Home,
-    number: u32,
-    line: u32,
-) -> Result<u32, Failure<Fault>>
+fn with_address(reach: Reach, home: &Home, number: u32, line: u32) -> Result<u32, Failure<Fault>>
     ensures { Answers (λ number. number) result
         (home_address (reach_view reach) (home_view home.now) number line) }
 {
@@ -147,7 +142,9 @@ impl Known {
             (static_bound (reach_view reach) (known_view self.now) binding name) }
     {
         match binding {
-            Binding::Declared(Entity::Object(number)) => self.object_with_address(reach, number, name),
+            Binding::Declared(Entity::Object(number)) => self.object_with_address(
+                reach, number, name,
+            ),
             Binding::Declared(Entity::Procedure(_)) => {
                 Err(refuse(Cause::NoLocation, name.place.line))
             }
@@ -254,7 +251,10 @@ impl Known {
         ensures { Answers contents_view result (contents (known_view self.now) line
             (type_view object_type.now) AsListed (map restricted_tree values.now)) }
     {
-        let (Some(elements), Some(each)) = (enough_elements(values), scalars_in_element(object_type)) else {
+        let (Some(elements), Some(each)) = (
+            enough_elements(values),
+            scalars_in_element(object_type),
+        ) else {
             return Err(Failure::Memory);
         };
         let values = self.fill(object_type, values, elements)?;

@@ -1,8 +1,5 @@
-use Rattle.std.proofs.Common.{◌≡◌, drop, [], map}
-use Rattle.trees.specs.Views.{restricted_tree}
-use Rattle.typed_trees.specs.Sizes.{scalars_of_elements}
+use Rattle.std.proofs.Common.{◌≡◌, drop}
 use Rattle.typed_trees.specs.Views.{type_view}
-use Rattle.types.specs.Filling.{fill as fill_from}
 use Rattle.types.specs.internal.Fillings.{filled_view}
 use Rattle.types.specs.internal.Views.{known_view}
 use Rattle.types.proofs.Filled.{onto_values}

@@ -1,8 +1,6 @@
-use Rattle.std.proofs.Common.{◌≡◌, ◌≤◌, ap, sym, ◌∙◌, rules, arith, refl, Some, None}
-use Rattle.std.specs.List.{slice_get}
+use Rattle.std.proofs.Common.{◌∙◌, rules, arith}
 use Rattle.typed_trees.specs.Views.{type_view}
 use Rattle.types.proofs.LeftScalars.{left_found, run_absent, run_empty}
-use Rattle.types.specs.internal.Fillings.{left_of, runs_of}
 use Rattle.types.proofs.scalars.Scalars.goes_on.Goals as goal
 use Rattle.types.proofs.scalars.Scalars.goes_on.Goals.{in-Some+else-run-gt0, in_default}
 
@@ -14,7 +12,7 @@ pub loop-position-preserved : goal.loop-position-preserved
 loop-position-preserved c =
     record {
       left = elim c.match-run_at.branch [
-        in-Some+else-run-gt0 w ↦
+        | in-Some+else-run-gt0 w ↦
             run_empty (type_view c.args.object_type.now) c.loop-position.position w.in-Some.run' (cc) w.if-run-gt0.false ∙ c.loop-position.invariant.left
         | in_default w ↦
             run_absent (type_view c.args.object_type.now) c.loop-position.position (omega arith) (cc) ∙ c.loop-position.invariant.left
