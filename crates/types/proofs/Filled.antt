@@ -2,7 +2,6 @@
 use Rattle.std.proofs.Common.{◌≡◌, ℕ, ◌+◌, ◌-◌, ◌/◌, ◌<◌, ◌≤◌, List, [], ◌∷◌, ◌++◌, length, Ok, Err, Option, Some, refl, ap, sym, ◌∙◌, append_assoc, arith, length-append, map, nat_le, nat_lt, subst, true, tests, rules}
 use Rattle.std.specs.List.{repeat}
 use Rattle.std.proofs.Math.Nat.{add-div_right}
-use Rattle.std.proofs.lemmas.List.{append-nil}
 use Rattle.trees.specs.declared.declaration.ScalarType.{ScalarType}
 use Rattle.trees.specs.declared.declaration.ScalarType.TheVariants.{Byte, Address}
 use Rattle.trees.specs.declared.declaration.Restricted.{Restricted}
@@ -24,7 +23,7 @@ use Rattle.types.proofs.LeftScalars.{repeat_empty}
 use Rattle.types.proofs.Loops.{fails_then, then_then}
 
 -- values and then more of them
-abbrev pub joined : Filled → Filled → Filled
+abbrev joined : Filled → Filled → Filled
 joined first rest = record { values = first.values ++ rest.values; left = rest.left }
 
 onto_joined : (before : List InitialValue) (first : Filled) (rest : Checked Filled) → onto before (rest >>= (λ (more : Filled). Ok (joined first more))) ≡ onto (before ++ first.values) rest
@@ -36,9 +35,6 @@ onto_then : (before : List InitialValue) (first : Checked Filled) (rest : List S
     ≡ onto before first >>= (λ (state : Filled). onto state.values (rest state.left))
 onto_then before (Ok first) rest = onto_joined before first (rest first.left)
 onto_then before (Err fault) rest = refl
-
-pub onto_nothing : (state : Filled) → onto state.values (Ok (record { values = []; left = state.left })) ≡ Ok state
-onto_nothing state = ap (λ all. Ok (record { values = all; left = state.left })) (append-nil state.values)
 
 -- the values of a list one after another
 abbrev pub onto_value : Known → Restricted → Filled → Checked Filled

@@ -101,7 +101,7 @@ fn enough_elements(values: &[Restricted]) -> Option<usize>
     Some(count)
 }
 
-// The least number of elements of so many scalars each that holds so many scalars, of which there is one at least.
+// The least number of elements of so many scalars each that holds so many scalars. There is one scalar at least.
 fn elements_for(line: u32, used: usize, each: usize) -> Result<u32, Failure<Fault>>
     requires { 0 < used → 0 < each }
     ensures { Answers (λ elements. elements) result (elements_listed line used each) }
