@@ -14,3 +14,6 @@ pub mod Walked
 pub mod DeclarationsBack
 pub mod SimpleStatementsBack
 pub mod StatementsBack
+pub mod Loops
+pub mod LeftScalars
+pub mod Filled

@@ -1,4 +1,5 @@
 pub mod Results
+pub mod Fillings
 pub mod Views
 pub mod Samples
 pub mod Examples

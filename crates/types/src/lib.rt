@@ -4,12 +4,14 @@
 mod blocks;
 mod calls;
 mod checker;
+mod constants;
 mod expression_nodes;
 mod expressions;
 mod fault;
 mod filling;
 mod items;
 mod known;
+mod scalars;
 mod statement_nodes;
 mod typing;
 
