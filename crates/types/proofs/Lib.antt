@@ -1,1 +1,2 @@
 pub mod Subscripts
+pub mod GivenParts

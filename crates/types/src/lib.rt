@@ -11,6 +11,7 @@ mod fault;
 mod filling;
 mod items;
 mod known;
+mod members;
 mod references;
 mod statement_nodes;
 mod typing;

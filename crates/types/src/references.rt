@@ -8,12 +8,13 @@ ghost use Rattle.types.specs.References.{Extent as ExtentOf, FoundPart as PartFo
 ghost use Rattle.types.specs.References.{takes_subscripts as do_take, subscript_of as subscript_for, whole_part as whole};
 ghost use Rattle.types.specs.References.{has_location as located, is_constant as constant, is_writable, port_of, port_of_character as character_port};
 ghost use Rattle.types.specs.References.{scalar_of as scalar_in, without_member};
-ghost use Rattle.types.specs.internal.Given.{extent_view, given_selector, only_tree, part_view};
+ghost use Rattle.types.specs.internal.Given.{extent_view, given_selector, member_part, only_tree, part_view, place_view};
 ghost use Rattle.types.specs.internal.Results.{Answers};
 
 use crate::expression_nodes::as_type;
 use crate::fault::{Cause, Fault};
 use crate::known::{Known, refuse, require};
+use crate::members::MemberPlace;
 use failure::Failure;
 use std::alloc::{AllocError, Global};
 use trees::{Constant, Expression, Identifier, ScalarType, Selector};
@@ -31,6 +32,13 @@ pub(crate) enum Extent {
 pub(crate) struct FoundPart {
     pub(crate) reference: TypedReference,
     pub(crate) scalar: Option<ScalarType>,
+}
+
+/// A scalar, with its type.
+#[derive(Drop)]
+pub(crate) struct FoundScalar {
+    pub(crate) reference: TypedReference,
+    pub(crate) scalar: ScalarType,
 }
 
 /// Whether so many subscripts go with a dimension.
@@ -101,6 +109,34 @@ pub(crate) fn whole_part(
         },
         scalar: scalar_of(object_type),
     }
+}
+
+/// A member of an object, or of an element of it.
+pub(crate) fn part_of_member(
+    alloc: Global,
+    object: u32,
+    subscript: TypedSubscript,
+    place: MemberPlace,
+    indices: Vec<TypedExpression>,
+) -> Result<FoundPart, AllocError>
+    ensures { IfOk result (λ made. part_view made ≡ member_part object (subscript_view subscript)
+        (place_view place) (arguments_view indices.items)) }
+{
+    let stride = match place.member.scalar {
+        ScalarType::Byte => 1,
+        ScalarType::Address => 2,
+    };
+    let member_subscript = subscript_of(alloc, stride, place.member.dimension, indices)?;
+    Ok(FoundPart {
+        reference: TypedReference {
+            object,
+            subscript,
+            member: Some(place.position),
+            offset: place.offset,
+            member_subscript,
+        },
+        scalar: Some(place.member.scalar),
+    })
 }
 
 /// Whether an object lies at an address of its own.

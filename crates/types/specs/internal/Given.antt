@@ -1,5 +1,5 @@
 -- References and their parts as the code has them.
-use Rattle.std.specs.Prelude.{List, Option, None, Some}
+use Rattle.std.specs.Prelude.{◌≡◌, ℕ, List, Option, None, Some, Result, Ok, Err}
 use Rattle.std.specs.Global.{Box}
 use Rattle.trees.specs.declared.expression.Expression.{Expression}
 use Rattle.trees.specs.declared.expression.Reference.{Reference, out-Reference}
@@ -8,10 +8,21 @@ use Rattle.trees.specs.Trees.{ExpressionTree, ArgumentTrees, NoArguments, MoreAr
 use Rattle.trees.specs.Views.{argument_trees}
 use Rattle.typed_trees.specs.Views.{reference_view}
 use Rattle.types.specs.declared.known.Known.{Known as CodeKnown}
+use Rattle.failure.specs.declared.Failure.{Failure}
+use Rattle.trees.specs.declared.identifier.Identifier.{Identifier}
+use Rattle.trees.specs.declared.declaration.ScalarType.{ScalarType}
+use Rattle.typed_trees.specs.Sizes.{FoundMember, member_named, size_of_scalar}
+use Rattle.typed_trees.specs.TypedTrees.{TypedReference, PartOf, Subscript, TypedArguments, ObjectType, Constants}
+use Rattle.types.specs.declared.fault.Cause.TheVariants.{UnknownName, WrongUse}
+use Rattle.types.specs.declared.fault.Fault.{Fault}
+use Rattle.types.specs.declared.members.MemberPlace.{MemberPlace}
+use Rattle.types.specs.declared.references.FoundScalar.{FoundScalar}
+use Rattle.types.specs.Checks.{Checked, ◌>>=◌, found}
+use Rattle.types.specs.internal.Results.{FailsBy, fault_in}
 use Rattle.types.specs.declared.references.Extent.{Extent as CodeExtent}
 use Rattle.types.specs.declared.references.Extent.TheVariants as extents
 use Rattle.types.specs.declared.references.FoundPart.{FoundPart as CodePart}
-use Rattle.types.specs.References.{Given, GivenMember, WithoutMember, WithMember, GivenReference, Extent, AnElement, AlsoTheWhole, FoundPart}
+use Rattle.types.specs.References.{Given, GivenMember, WithoutMember, WithMember, GivenReference, Extent, AnElement, AlsoTheWhole, FoundPart, line_of, members_of, subscript_of}
 use Rattle.types.specs.Expressions.{arguments}
 use Rattle.types.specs.internal.Views.{known_view}
 
@@ -46,4 +57,27 @@ given known reference = record {
   name = (out-Reference reference).name;
   arguments = given_arguments known (out-Reference reference).arguments.items;
   member = given_selector known (out-Reference reference).member;
+}
+
+-- the member of a name
+abbrev pub member_place : ObjectType → Identifier → Checked FoundMember
+member_place object_type name = do
+  members ← found (members_of object_type) WrongUse (line_of name)
+  found (member_named members name.name) UnknownName (line_of name)
+
+abbrev pub place_view : MemberPlace → FoundMember
+place_view place = record { position = place.position; offset = place.offset; member = place.member }
+
+-- what was returned, with the constants after it, is the scalar that a check gives
+abbrev pub GivesScalar : Result FoundScalar (Failure Fault) → (after : Constants)
+    → Checked (TypedReference × ScalarType × Constants) → Type 0
+GivesScalar (Ok part) after checked = checked ≡ Ok (reference_view part.reference, part.scalar, after)
+GivesScalar (Err failure) after checked = FailsBy (fault_in failure) checked
+
+-- a member of an object, or of an element of it
+abbrev pub member_part : (object : ℕ) → Subscript → FoundMember → TypedArguments → FoundPart
+member_part object subscript place indices = record {
+  reference = PartOf object subscript (Some place.position) place.offset
+      (subscript_of (size_of_scalar place.member.scalar) place.member.dimension indices);
+  scalar = Some place.member.scalar;
 }
