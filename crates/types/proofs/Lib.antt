@@ -1,2 +1,3 @@
 pub mod Subscripts
 pub mod GivenParts
+pub mod ArgumentLoops

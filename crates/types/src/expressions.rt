@@ -1,13 +1,13 @@
 //! The typing of expressions.
 
 ghost use Rattle.std.specs.Prelude.{map};
-ghost use Rattle.trees.specs.Trees.{AssignmentNode, ListLeaf};
+ghost use Rattle.trees.specs.Trees.{ListLeaf};
 ghost use Rattle.trees.specs.Views.{argument_trees, constant_tree, expression_tree, reference_tree};
 ghost use Rattle.typed_trees.specs.Views.{arguments_view, expression_view, object_view, subscript_view, type_view};
 ghost use Rattle.types.specs.Expressions.{arguments, expression, given_reference, number_node};
 ghost use Rattle.types.specs.References.{destination_of, location_of, part_of, part_with_member, scalar_part};
 ghost use Rattle.types.specs.Functions.{value_of};
-ghost use Rattle.types.specs.internal.Given.{GivesScalar, extent_view, given, given_selector, part_view};
+ghost use Rattle.types.specs.internal.Given.{GivesScalar, extent_view, given, part_view};
 ghost use Rattle.types.specs.internal.Results.{Answers, Gives};
 ghost use Rattle.types.specs.internal.Views.{constants_view, destination_view, known_view};
 
@@ -18,12 +18,12 @@ use crate::fault::{Cause, Fault};
 use crate::known::{Constants, Destination, Known, refuse, require};
 use crate::members::{element_size, member_place};
 use crate::references::{
-    Extent, FoundPart, FoundScalar, has_location, part_of_member, port_of, require_writable, subscript_of,
-    takes_subscripts, whole_part,
+    Extent, FoundPart, FoundScalar, has_location, part_of_member, port_of, require_writable,
+    subscript_of, takes_subscripts, whole_part,
 };
 use failure::Failure;
 use names::{Binding, BuiltIn, Entity};
-use trees::{Constant, Expression, Reference, Selector};
+use trees::{Constant, Expression, Reference};
 use typed_trees::{
     ConstantItem, NumberOrigin, ObjectType, TypedExpression, TypedObject, TypedSubscript,
 };
@@ -76,7 +76,12 @@ impl Known {
             Expression::Location(reference) => self.location_of(reference, constants),
             Expression::List(list) => self.list_node(list.as_slice(), constants),
             Expression::Parenthesized(inner) => self.expression(inner, constants),
-            Expression::Assignment { target, value } => self.assignment(target, value, constants),
+            Expression::Assignment { target, value } => {
+                let destination = self.destination(target, constants)?;
+                let value = self.expression(value, constants)?;
+                let target = target_of(destination, &value);
+                Ok(expression_nodes::assignment(self.alloc, target, value)?)
+            }
             Expression::Unary(operator, operand) => {
                 let operand = self.expression(operand, constants)?;
                 Ok(expression_nodes::unary(self.alloc, *operator, operand)?)
@@ -87,24 +92,6 @@ impl Known {
                 Ok(expression_nodes::binary(self.alloc, *operator, left, right)?)
             }
         }
-    }
-
-    /// `(target := value)`. The target is typed before its value.
-    #[cycle(expression)]
-    fn assignment(
-        &self,
-        target: &Reference,
-        value: &Expression,
-        constants: &mut Constants,
-    ) -> Result<TypedExpression, Failure<Fault>>
-        ensures { Gives expression_view result (constants_view constants.new)
-            (expression (known_view self.now) (AssignmentNode (reference_tree target.now) (expression_tree value.now))
-            (constants_view constants.old)) }
-    {
-        let destination = self.destination(target, constants)?;
-        let value = self.expression(value, constants)?;
-        let target = target_of(destination, &value);
-        Ok(expression_nodes::assignment(self.alloc, target, value)?)
     }
 
     /// Arguments or subscripts, from left to right.
@@ -130,24 +117,28 @@ impl Known {
     #[tactic(auto, using(crate::proofs::GivenParts::count_of_arguments))]
     fn part_with_member(
         &self,
+        reference: &Reference,
         object: u32,
         object_type: &ObjectType,
         subscript: TypedSubscript,
         extent: Extent,
-        member: &Option<Box<Selector>>,
         constants: &mut Constants,
     ) -> Result<FoundPart, Failure<Fault>>
         ensures { Gives part_view result (constants_view constants.new)
             (part_with_member object (type_view object_type.now) (subscript_view subscript) (extent_view extent)
-            (given_selector self.now member.now) (constants_view constants.old)) }
+            (given self.now reference.now).member (constants_view constants.old)) }
     {
-        let Some(selector) = member else {
+        let Some(selector) = &reference.member else {
             return Ok(whole_part(object, subscript, object_type));
         };
         let line = selector.name.place.line;
         let place = member_place(object_type, selector.name)?;
         let count = selector.arguments.len();
-        require(takes_subscripts(extent, place.member.dimension, count), Cause::WrongUse, line)?;
+        require(
+            takes_subscripts(extent, place.member.dimension, count),
+            Cause::WrongUse,
+            line,
+        )?;
         let indices = self.arguments(selector.arguments.as_slice(), constants)?;
         Ok(part_of_member(self.alloc, object, subscript, place, indices)?)
     }
@@ -157,10 +148,10 @@ impl Known {
     #[tactic(auto, using(crate::proofs::GivenParts::count_of_arguments))]
     fn part_of(
         &self,
+        reference: &Reference,
         number: u32,
         object: &TypedObject,
         extent: Extent,
-        reference: &Reference,
         constants: &mut Constants,
     ) -> Result<FoundPart, Failure<Fault>>
         ensures { Gives part_view result (constants_view constants.new)
@@ -169,28 +160,42 @@ impl Known {
     {
         let line = reference.name.place.line;
         let count = reference.arguments.len();
-        require(takes_subscripts(extent, object.dimension, count), Cause::WrongUse, line)?;
+        require(
+            takes_subscripts(extent, object.dimension, count),
+            Cause::WrongUse,
+            line,
+        )?;
         let indices = self.arguments(reference.arguments.as_slice(), constants)?;
         let stride = element_size(object)?;
         let subscript = subscript_of(self.alloc, stride, object.dimension, indices)?;
-        self.part_with_member(number, &object.object_type, subscript, extent, &reference.member, constants)
+        self.part_with_member(
+            reference,
+            number,
+            &object.object_type,
+            subscript,
+            extent,
+            constants,
+        )
     }
 
     /// A reference to a scalar: an array without a subscript and a structure are none.
     #[cycle(expression)]
     fn scalar_part(
         &self,
+        reference: &Reference,
         number: u32,
         object: &TypedObject,
-        reference: &Reference,
         constants: &mut Constants,
     ) -> Result<FoundScalar, Failure<Fault>>
         ensures { GivesScalar result (constants_view constants.new)
             (scalar_part number (object_view object.now) (given self.now reference.now)
             (constants_view constants.old)) }
     {
-        let part = self.part_of(number, object, Extent::AnElement, reference, constants)?;
-        let FoundPart { reference: found, scalar } = part;
+        let part = self.part_of(reference, number, object, Extent::AnElement, constants)?;
+        let FoundPart {
+            reference: found,
+            scalar,
+        } = part;
         match scalar {
             Some(scalar) => Ok(FoundScalar {
                 reference: found,
@@ -215,7 +220,13 @@ impl Known {
             Binding::Declared(Entity::Object(number)) => {
                 let object = self.object(reference.name, number)?;
                 require(has_location(&object.home), Cause::NoLocation, line)?;
-                let part = self.part_of(number, object, Extent::AlsoTheWhole, reference, constants)?;
+                let part = self.part_of(
+                    reference,
+                    number,
+                    object,
+                    Extent::AlsoTheWhole,
+                    constants,
+                )?;
                 Ok(expression_nodes::location(self.alloc, part.reference)?)
             }
             Binding::Declared(Entity::Procedure(_)) => Err(refuse(Cause::NoLocation, line)),
@@ -240,8 +251,9 @@ impl Known {
             Binding::Declared(Entity::Object(number)) => {
                 let object = self.object(target.name, number)?;
                 require_writable(object, target.name)?;
-                let FoundScalar { reference, scalar } =
-                    self.scalar_part(number, object, target, constants)?;
+                let FoundScalar { reference, scalar } = self.scalar_part(
+                    target, number, object, constants,
+                )?;
                 Ok(Destination::Variable { scalar, reference })
             }
             Binding::BuiltInName(BuiltIn::Output) => {
@@ -266,7 +278,7 @@ impl Known {
         match self.bound(reference.name)? {
             Binding::Declared(Entity::Object(number)) => {
                 let object = self.object(reference.name, number)?;
-                let found = self.scalar_part(number, object, reference, constants)?;
+                let found = self.scalar_part(reference, number, object, constants)?;
                 Ok(expression_nodes::value(self.alloc, found.scalar, found.reference)?)
             }
             _ => Err(Failure::Memory),
