@@ -1,1 +1,5 @@
 pub mod Views
+pub mod Keys
+pub mod Capped
+pub mod MemberTable
+pub mod Heights

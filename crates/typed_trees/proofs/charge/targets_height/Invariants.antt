@@ -1,0 +1,9 @@
+use Rattle.std.proofs.Common.{◌≡◌, drop, map, max, min}
+use Rattle.typed_trees.specs.Charge.{height_of_targets}
+use Rattle.typed_trees.specs.Views.{target_view}
+use Rattle.typed_trees.proofs.charge.targets_height.Given as goal
+
+abbrev pub invariant-loop-target : goal.invariant-loop-target
+invariant-loop-target l =
+    max l.height (min (height_of_targets (map target_view (drop l.target-index l.targets))) 4294967295)
+    ≡ min (height_of_targets (map target_view l.targets)) 4294967295
