@@ -1,3 +1,5 @@
 pub mod Subscripts
 pub mod GivenParts
 pub mod ArgumentLoops
+pub mod MemberPlaces
+pub mod Operands

@@ -9,6 +9,7 @@ mod expression_nodes;
 mod expressions;
 mod fault;
 mod filling;
+mod functions;
 mod items;
 mod known;
 mod members;

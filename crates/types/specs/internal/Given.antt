@@ -1,20 +1,22 @@
 -- References and their parts as the code has them.
-use Rattle.std.specs.Prelude.{◌≡◌, ℕ, List, Option, None, Some, Result, Ok, Err}
+use Rattle.std.specs.Prelude.{◌≡◌, ℕ, Bool, true, false, List, Option, None, Some, Result, Ok, Err}
 use Rattle.std.specs.Global.{Box}
 use Rattle.trees.specs.declared.expression.Expression.{Expression}
 use Rattle.trees.specs.declared.expression.Reference.{Reference, out-Reference}
 use Rattle.trees.specs.declared.expression.Selector.{Selector}
-use Rattle.trees.specs.Trees.{ExpressionTree, ArgumentTrees, NoArguments, MoreArguments}
+use Rattle.trees.specs.Trees.{ExpressionTree, ReferenceLeaf, ReferenceTo, MemberTree, NoMember, MemberOf, ArgumentTrees, NoArguments, MoreArguments}
 use Rattle.trees.specs.Views.{argument_trees}
 use Rattle.typed_trees.specs.Views.{reference_view}
 use Rattle.types.specs.declared.known.Known.{Known as CodeKnown}
 use Rattle.failure.specs.declared.Failure.{Failure}
 use Rattle.trees.specs.declared.identifier.Identifier.{Identifier}
 use Rattle.trees.specs.declared.declaration.ScalarType.{ScalarType}
-use Rattle.typed_trees.specs.Sizes.{FoundMember, member_named, size_of_scalar}
+use Rattle.typed_trees.specs.declared.members.FoundMember.{FoundMember}
+use Rattle.typed_trees.specs.Sizes.{member_named, size_of_scalar}
 use Rattle.typed_trees.specs.TypedTrees.{TypedReference, PartOf, Subscript, TypedArguments, ObjectType, Constants}
 use Rattle.types.specs.declared.fault.Cause.TheVariants.{UnknownName, WrongUse}
 use Rattle.types.specs.declared.fault.Fault.{Fault}
+use Rattle.types.specs.declared.functions.Measured.{Measured as CodeMeasured}
 use Rattle.types.specs.declared.members.MemberPlace.{MemberPlace}
 use Rattle.types.specs.declared.references.FoundScalar.{FoundScalar}
 use Rattle.types.specs.Checks.{Checked, ◌>>=◌, found}
@@ -24,6 +26,7 @@ use Rattle.types.specs.declared.references.Extent.TheVariants as extents
 use Rattle.types.specs.declared.references.FoundPart.{FoundPart as CodePart}
 use Rattle.types.specs.References.{Given, GivenMember, WithoutMember, WithMember, GivenReference, Extent, AnElement, AlsoTheWhole, FoundPart, line_of, members_of, subscript_of}
 use Rattle.types.specs.Expressions.{arguments}
+use Rattle.types.specs.Functions.{Measured}
 use Rattle.types.specs.internal.Views.{known_view}
 
 abbrev pub extent_view : CodeExtent → Extent
@@ -80,4 +83,26 @@ member_part object subscript place indices = record {
   reference = PartOf object subscript (Some place.position) place.offset
       (subscript_of (size_of_scalar place.member.scalar) place.member.dimension indices);
   scalar = Some place.member.scalar;
+}
+
+-- a member with its arguments, if one is named
+abbrev pub selector_tree : Option (Box Selector) → MemberTree
+selector_tree None = NoMember
+selector_tree (Some member) = MemberOf member.value.name (argument_trees member.value.arguments.items)
+
+-- a variable without subscripts that stands alone, or a member of one
+abbrev pub plain_tree : Reference → ArgumentTrees
+plain_tree reference = MoreArguments (ReferenceLeaf (ReferenceTo (out-Reference reference).name NoArguments
+    (selector_tree (out-Reference reference).member))) NoArguments
+
+abbrev pub is_plain : ArgumentTrees → Bool
+is_plain (MoreArguments (ReferenceLeaf (ReferenceTo name NoArguments member)) NoArguments) = true
+is_plain trees = false
+
+abbrev pub measured_view : CodeMeasured → Measured
+measured_view measured = record {
+  object = measured.object;
+  member = measured.member;
+  dimension = measured.dimension;
+  size = measured.size;
 }
