@@ -1,5 +1,6 @@
 -- Arguments that are typed one after another.
-use Rattle.std.proofs.Common.{◌≡◌, ℕ, suc, ◌+◌, ◌<◌, ◌≤◌, List, [], ◌∷◌, ◌++◌, length, drop, get_or, Ok, Err, refl, ap, sym, ◌∙◌, add-one}
+use Rattle.std.proofs.Common.{◌≡◌, ℕ, suc, ◌+◌, ◌<◌, ◌≤◌, List, [], ◌∷◌, ◌++◌, length, drop, get_or, slice_get, zero, Ok, Err, refl, ap, sym, ◌∙◌, add-one, arith}
+use Rattle.std.proofs.lemmas.List.{length-append}
 use Rattle.std.proofs.Math.ListN.{drop_of_length-le}
 use Rattle.std.proofs.Math.Seq.{drop-cons}
 use Rattle.trees.specs.declared.expression.Expression.{Expression}
@@ -11,13 +12,16 @@ use Rattle.typed_trees.specs.Views.{arguments_view, expression_view}
 use Rattle.types.specs.Checks.{Checked, ◌>>=◌}
 use Rattle.types.specs.References.{Known}
 use Rattle.types.specs.Expressions.{arguments, expression}
+use Rattle.types.specs.Nodes.{arguments_as}
 use Rattle.types.specs.internal.Fronts.{in_front}
+use Rattle.types.specs.internal.Given.{as_given}
+use Rattle.trees.specs.declared.declaration.ScalarType.{ScalarType}
 
 pub in_front_end : (made : List Typed) → in_front made NoArguments ≡ arguments_view made
 in_front_end [] = refl
 in_front_end (first ∷ rest) = ap (More (expression_view first)) (in_front_end rest)
 
-in_front_more : (made : List Typed) (next : Typed) (others : TypedArguments) → in_front (made ++ next ∷ []) others ≡ in_front made (More (expression_view next) others)
+pub in_front_more : (made : List Typed) (next : Typed) (others : TypedArguments) → in_front (made ++ next ∷ []) others ≡ in_front made (More (expression_view next) others)
 in_front_more [] next others = refl
 in_front_more (first ∷ rest) next others = ap (More (expression_view first)) (in_front_more rest next others)
 
@@ -73,3 +77,35 @@ pub ended : (known : Known) (trees : List Expression) (i : ℕ) (made : List Typ
     → total ≡ Ok (arguments_view made, now)
 ended known trees i made now total past left =
     left ∙ ap (λ rest. after_made known rest made now) (drop_of_length-le trees past) ∙ ap (λ all. Ok (all, now)) (in_front_end made)
+
+-- converting the next of several values
+converted_next : (scalars : List ScalarType) (n : ℕ) (value : TypedExpression) (others : TypedArguments)
+    → arguments_as (drop n scalars) (More value others) ≡ More (as_given (slice_get scalars n) value) (arguments_as (drop (suc n) scalars) others)
+converted_next [] zero value others = refl
+converted_next [] (suc n) value others = refl
+converted_next (scalar ∷ scalars) zero value others = refl
+converted_next (scalar ∷ scalars) (suc n) value others = converted_next scalars n value others
+
+-- once no value is left
+converted_all : (scalars : List ScalarType) → arguments_as scalars NoArguments ≡ NoArguments
+converted_all [] = refl
+converted_all (scalar ∷ scalars) = refl
+
+-- one more of several values is converted
+pub converts_on : (scalars : List ScalarType) (made : List Typed) (value next : Typed) (all others : List Typed) (n : ℕ) (total : TypedArguments)
+    → all ≡ value ∷ others → n ≡ length made → expression_view next ≡ as_given (slice_get scalars n) (expression_view value)
+    → in_front made (arguments_as (drop (length made) scalars) (arguments_view all)) ≡ total
+    → in_front (made ++ next ∷ []) (arguments_as (drop (length (made ++ next ∷ [])) scalars) (arguments_view others)) ≡ total
+converts_on scalars made value next all others n total is count given left =
+    in_front_more made next (arguments_as (drop (length (made ++ next ∷ [])) scalars) (arguments_view others))
+    ∙ ap (λ m. in_front made (More (expression_view next) (arguments_as (drop m scalars) (arguments_view others)))) (length-append made (next ∷ []))
+    ∙ ap (λ first. in_front made (More first (arguments_as (drop (length made + 1) scalars) (arguments_view others)))) (given ∙ ap (λ m. as_given (slice_get scalars m) (expression_view value)) count)
+    ∙ ap (in_front made) (sym (converted_next scalars (length made) (expression_view value) (arguments_view others) ∙ ap (λ m. More (as_given (slice_get scalars (length made)) (expression_view value)) (arguments_as (drop m scalars) (arguments_view others))) (sym (add-one (length made)))))
+    ∙ ap (λ items. in_front made (arguments_as (drop (length made) scalars) (arguments_view items))) (sym is)
+    ∙ left
+
+pub converts_no_more : (scalars : List ScalarType) (made all : List Typed) (n : ℕ) (total : TypedArguments) → n ≡ length all → n ≡ 0
+    → in_front made (arguments_as (drop (length made) scalars) (arguments_view all)) ≡ total → arguments_view made ≡ total
+converts_no_more scalars made [] n total same none left =
+    sym (in_front_end made) ∙ ap (in_front made) (sym (converted_all (drop (length made) scalars))) ∙ left
+converts_no_more scalars made (first ∷ others) n total same none left = absurd (omega arith)

@@ -281,7 +281,12 @@ impl Known {
                 let found = self.scalar_part(reference, number, object, constants)?;
                 Ok(expression_nodes::value(self.alloc, found.scalar, found.reference)?)
             }
-            _ => Err(Failure::Memory),
+            Binding::Declared(Entity::Procedure(number)) => {
+                let procedure = self.procedure(reference.name, number)?;
+                self.call_of(reference, number, procedure, constants)
+            }
+            Binding::BuiltInName(built_in) => self.built_in_value(reference, built_in, constants),
+            _ => Err(refuse(Cause::WrongUse, reference.name.place.line)),
         }
     }
 }

@@ -13,7 +13,7 @@ use Rattle.trees.specs.declared.identifier.Identifier.{Identifier}
 use Rattle.trees.specs.declared.declaration.ScalarType.{ScalarType}
 use Rattle.typed_trees.specs.declared.members.FoundMember.{FoundMember}
 use Rattle.typed_trees.specs.Sizes.{member_named, size_of_scalar}
-use Rattle.typed_trees.specs.TypedTrees.{TypedReference, PartOf, Subscript, TypedArguments, ObjectType, Constants}
+use Rattle.typed_trees.specs.TypedTrees.{TypedExpression, TypedReference, PartOf, Subscript, TypedArguments, ObjectType, Constants}
 use Rattle.types.specs.declared.fault.Cause.TheVariants.{UnknownName, WrongUse}
 use Rattle.types.specs.declared.fault.Fault.{Fault}
 use Rattle.types.specs.declared.functions.Measured.{Measured as CodeMeasured}
@@ -25,6 +25,7 @@ use Rattle.types.specs.declared.references.Extent.{Extent as CodeExtent}
 use Rattle.types.specs.declared.references.Extent.TheVariants as extents
 use Rattle.types.specs.declared.references.FoundPart.{FoundPart as CodePart}
 use Rattle.types.specs.References.{Given, GivenMember, WithoutMember, WithMember, GivenReference, Extent, AnElement, AlsoTheWhole, FoundPart, line_of, members_of, subscript_of}
+use Rattle.types.specs.Nodes.{as_type}
 use Rattle.types.specs.Expressions.{arguments}
 use Rattle.types.specs.Functions.{Measured}
 use Rattle.types.specs.internal.Views.{known_view}
@@ -106,3 +107,8 @@ measured_view measured = record {
   dimension = measured.dimension;
   size = measured.size;
 }
+
+-- a value as one of a type, if one is given
+abbrev pub as_given : Option ScalarType → TypedExpression → TypedExpression
+as_given (Some scalar) value = as_type scalar value
+as_given None value = value
