@@ -4,7 +4,6 @@ use Rattle.std.proofs.lemmas.List.{length-append}
 use Rattle.std.proofs.Math.ListN.{drop_of_length-le}
 use Rattle.std.proofs.Math.Seq.{drop-cons}
 use Rattle.trees.specs.declared.expression.Expression.{Expression}
-use Rattle.trees.specs.Trees.{ArgumentTrees, MoreArguments}
 use Rattle.trees.specs.Views.{argument_trees, expression_tree}
 use Rattle.typed_trees.specs.declared.expression.TypedExpression.{TypedExpression as Typed}
 use Rattle.typed_trees.specs.TypedTrees.{TypedExpression, TypedArguments, NoArguments, MoreArguments as More, Constants}

@@ -1,5 +1,5 @@
 -- References and arguments as the code has them.
-use Rattle.std.proofs.Common.{◌≡◌, ℕ, suc, List, [], ◌∷◌, length, false, refl, ap, sym, ◌∙◌, arith, None, Some}
+use Rattle.std.proofs.Common.{◌≡◌, suc, List, [], ◌∷◌, length, false, refl, ap, ◌∙◌, arith}
 use Rattle.trees.specs.declared.expression.Expression.{Expression}
 use Rattle.trees.specs.declared.expression.Reference.{Reference, Reference', out-Reference, None', Some', the_lemmas}
 use Rattle.trees.specs.declared.identifier.Identifier.{Identifier}
@@ -34,8 +34,8 @@ no_arguments (first ∷ others) empty = absurd (omega arith)
 
 plain_with : (name : Identifier) (arguments : List Expression) (member : MemberTree) → (length arguments ≡ 0 → ⊥)
     → is_plain (MoreArguments (ReferenceLeaf (ReferenceTo name (argument_trees arguments) member)) NoArguments) ≡ false
-plain_with name [] member other = absurd (other refl)
-plain_with name (first ∷ others) member other = refl
+plain_with name [] part other = absurd (other refl)
+plain_with name (first ∷ others) part other = refl
 
 -- a reference without subscripts, and with some
 pub plain_is : (reference : Reference) → length (out-Reference reference).arguments.items ≡ 0

@@ -1,5 +1,5 @@
 -- The operands of built-in functions.
-use Rattle.std.proofs.Common.{◌≡◌, ℕ, List, [], ◌∷◌, ◌++◌, length, Bool, true, false, refl, ap, sym, ◌∙◌, arith}
+use Rattle.std.proofs.Common.{◌≡◌, ℕ, List, [], ◌∷◌, ◌++◌, length, false, refl, ap, sym, ◌∙◌, arith}
 use Rattle.std.proofs.lemmas.List.{length-append}
 use Rattle.trees.specs.Trees.{ConstantLeaf, ReferenceLeaf, LocationLeaf, ListLeaf, ParenthesizedNode, AssignmentNode, UnaryNode, BinaryNode, ReferenceTo, ArgumentTrees, NoArguments, MoreArguments}
 use Rattle.trees.specs.declared.expression.Expression.{Expression}
@@ -52,9 +52,9 @@ member_with_arguments number object name (first ∷ others) other = refl
 -- what is no variable without subscripts is not measured
 pub no_measurement : (known : Known) (measure : Measure) (line : ℕ) (trees : ArgumentTrees) → is_plain trees ≡ false → measurement known measure line trees ≡ refuse WrongUse line
 no_measurement known measure line NoArguments other = refl
-no_measurement known measure line (MoreArguments (ReferenceLeaf (ReferenceTo name NoArguments member)) NoArguments) other = absurd (cc)
-no_measurement known measure line (MoreArguments (ReferenceLeaf (ReferenceTo name NoArguments member)) (MoreArguments second others)) other = refl
-no_measurement known measure line (MoreArguments (ReferenceLeaf (ReferenceTo name (MoreArguments first rest) member)) others) other = refl
+no_measurement known measure line (MoreArguments (ReferenceLeaf (ReferenceTo name NoArguments part)) NoArguments) other = absurd (cc)
+no_measurement known measure line (MoreArguments (ReferenceLeaf (ReferenceTo name NoArguments part)) (MoreArguments second others)) other = refl
+no_measurement known measure line (MoreArguments (ReferenceLeaf (ReferenceTo name (MoreArguments first rest) part)) others) other = refl
 no_measurement known measure line (MoreArguments (ConstantLeaf constant) others) other = refl
 no_measurement known measure line (MoreArguments (LocationLeaf reference) others) other = refl
 no_measurement known measure line (MoreArguments (ListLeaf list) others) other = refl

@@ -97,7 +97,7 @@ plain_tree reference = MoreArguments (ReferenceLeaf (ReferenceTo (out-Reference 
     (selector_tree (out-Reference reference).member))) NoArguments
 
 abbrev pub is_plain : ArgumentTrees → Bool
-is_plain (MoreArguments (ReferenceLeaf (ReferenceTo name NoArguments member)) NoArguments) = true
+is_plain (MoreArguments (ReferenceLeaf (ReferenceTo name NoArguments part)) NoArguments) = true
 is_plain trees = false
 
 abbrev pub measured_view : CodeMeasured → Measured
