@@ -228,9 +228,10 @@ pub(crate) fn input(port: u8) -> TypedExpression
     TypedExpression::Input(port)
 }
 
-/// Where a value goes, as what that value's type is known.
+/// Where a value goes, once its type is known.
 pub(crate) fn target_of(destination: Destination, value: &TypedExpression) -> TypedTarget
-    ensures view { target_view result ≡ target_for (destination_view destination) (type_of (expression_view value.now)) }
+    ensures view { target_view result
+        ≡ target_for (destination_view destination) (type_of (expression_view value.now)) }
 {
     let from = value.scalar();
     match destination {

@@ -48,7 +48,8 @@ impl Known {
         constants: &mut Constants,
     ) -> Result<TypedExpression, Failure<Fault>>
         ensures { Gives expression_view result (constants_view constants.new)
-            (expression (known_view self.now) (ListLeaf (map constant_tree list.now)) (constants_view constants.old)) }
+            (expression (known_view self.now) (ListLeaf (map constant_tree list.now))
+            (constants_view constants.old)) }
     {
         let Ok(number) = u32::try_from(constants.lists.len()) else {
             return Err(Failure::Memory);
@@ -243,8 +244,8 @@ impl Known {
         constants: &mut Constants,
     ) -> Result<Destination, Failure<Fault>>
         ensures { Gives destination_view result (constants_view constants.new)
-            (destination_of (known_view self.now) (given_reference (known_view self.now) (reference_tree target.now))
-            (constants_view constants.old)) }
+            (destination_of (known_view self.now)
+            (given_reference (known_view self.now) (reference_tree target.now)) (constants_view constants.old)) }
     {
         let line = target.name.place.line;
         match self.bound(target.name)? {

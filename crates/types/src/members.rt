@@ -1,7 +1,7 @@
 //! The members of structures, and the sizes of objects. Objects have at most 65535 bytes, so that each number here fits;
 //! one that did not would be answered with out of memory.
 
-ghost use Rattle.std.specs.Prelude.{◌≡◌, Ok};
+ghost use Rattle.std.specs.Prelude.{Ok};
 ghost use Rattle.typed_trees.specs.Sizes.{size_of_element, size_of_object};
 ghost use Rattle.typed_trees.specs.Views.{object_view, type_view};
 ghost use Rattle.types.specs.internal.Given.{member_place as place_of, place_view};

@@ -3,8 +3,7 @@
 ghost use Rattle.std.specs.Prelude.{◌≡◌, None, IfOk, IfSome, IfNone};
 ghost use Rattle.trees.specs.Trees.{MoreArguments, NoArguments};
 ghost use Rattle.trees.specs.Views.{argument_trees, expression_tree};
-ghost use Rattle.typed_trees.specs.Views.{arguments_view, home_view, object_view, reference_view, subscript_view, type_view};
-ghost use Rattle.types.specs.References.{Extent as ExtentOf, FoundPart as PartFound};
+ghost use Rattle.typed_trees.specs.Views.{arguments_view, home_view, object_view, subscript_view, type_view};
 ghost use Rattle.types.specs.References.{takes_subscripts as do_take, subscript_of as subscript_for, whole_part as whole};
 ghost use Rattle.types.specs.References.{has_location as located, is_constant as constant, is_writable, port_of, port_of_character as character_port};
 ghost use Rattle.types.specs.References.{scalar_of as scalar_in, without_member};
