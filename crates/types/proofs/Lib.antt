@@ -17,3 +17,8 @@ pub mod StatementsBack
 pub mod Loops
 pub mod LeftScalars
 pub mod Filled
+pub mod Subscripts
+pub mod GivenParts
+pub mod ArgumentLoops
+pub mod MemberPlaces
+pub mod Operands

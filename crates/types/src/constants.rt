@@ -1,13 +1,15 @@
 //! Constants and the numbers that they stand for.
 
-ghost use Rattle.std.specs.Prelude.{◌≡◌, map};
+ghost use Rattle.std.specs.Prelude.{◌≡◌, ◌++◌, map, IfOk};
 ghost use Rattle.trees.specs.Views.{constant_tree, offset_tree};
 ghost use Rattle.types.specs.Constants.{line_of_constant as line_in_constant, moved_by as sum_moved_by, number_of_characters as characters_number, number_of_constant as constant_number, with_offsets as sum_with_offsets};
+ghost use Rattle.types.specs.Constants.{bytes_of_constant, bytes_of_constants as list_bytes, bytes_of_number};
 ghost use Rattle.types.specs.internal.Results.{Answers};
 
 use crate::fault::{Cause, Fault};
 use crate::known::refuse;
 use failure::Failure;
+use std::alloc::{AllocError, Global};
 use trees::{Constant, Offset, Sign};
 
 /// The number that a string of one or two characters stands for, the first character high.
@@ -64,4 +66,42 @@ pub(crate) fn line_of_constant(constant: &Constant) -> u32
         Constant::Number(number) => number.place.line,
         Constant::String(string) => string.place.line,
     }
+}
+
+// Adds the bytes of a number to others: one up to 255, else two, the low one first.
+fn push_number(bytes: &mut Vec<u8>, number: u16) -> Result<(), AllocError>
+    ensures { IfOk result (λ _. bytes.new.items ≡ bytes.old.items ++ bytes_of_number number) }
+{
+    if number <= 255 {
+        bytes.push(number as u8)?;
+    } else {
+        bytes.push((number % 256) as u8)?;
+        bytes.push((number / 256) as u8)?;
+    }
+    Ok(())
+}
+
+// Adds the bytes of a constant to others.
+fn push_constant(bytes: &mut Vec<u8>, constant: &Constant) -> Result<(), AllocError>
+    ensures { IfOk result (λ _. bytes.new.items ≡ bytes.old.items
+        ++ bytes_of_constant (constant_tree constant.now)) }
+{
+    match constant {
+        Constant::Number(number) => push_number(bytes, number.value),
+        Constant::String(string) => {
+            bytes.extend_from_slice(string.characters.as_slice())?;
+            Ok(())
+        }
+    }
+}
+
+/// The bytes of the constants of a list.
+pub(crate) fn bytes_of_constants(alloc: Global, list: &[Constant]) -> Result<Vec<u8>, AllocError>
+    ensures { IfOk result (λ made. made.items ≡ list_bytes (map constant_tree list.now)) }
+{
+    let mut bytes = Vec::new(alloc);
+    for constant in list {
+        push_constant(&mut bytes, constant)?;
+    }
+    Ok(bytes)
 }
