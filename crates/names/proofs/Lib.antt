@@ -1,4 +1,3 @@
-pub mod Keys
 pub mod Walks
 pub mod Loops
 pub mod Numbering

@@ -1,5 +1,4 @@
 pub mod Views
-pub mod Keys
 pub mod Capped
 pub mod MemberTable
 pub mod Heights

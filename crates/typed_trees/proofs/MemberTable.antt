@@ -10,7 +10,7 @@ use Rattle.std.proofs.lemmas.Option.{slice_get-map}
 use Rattle.std.proofs.Math.Decide.{dec_lt}
 use Rattle.indexmap.specs.IndexMap.{insert_entry}
 use Rattle.trees.specs.contracts.name.NamePartialEq.TheImpl.{eq-value}
-use Rattle.typed_trees.proofs.Keys.{names_equal}
+use Rattle.trees.proofs.Keys.{names_equal}
 use Rattle.typed_trees.proofs.Capped.{capped_sum}
 use Rattle.typed_trees.specs.declared.members.Entry.{Entry}
 use Rattle.typed_trees.specs.declared.members.FoundMember.{FoundMember}

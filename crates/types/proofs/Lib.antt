@@ -14,3 +14,11 @@ pub mod Walked
 pub mod DeclarationsBack
 pub mod SimpleStatementsBack
 pub mod StatementsBack
+pub mod Loops
+pub mod LeftScalars
+pub mod Filled
+pub mod Subscripts
+pub mod GivenParts
+pub mod ArgumentLoops
+pub mod MemberPlaces
+pub mod Operands

@@ -22,7 +22,8 @@ use Rattle.typed_trees.specs.declared.parts.ShiftFunction.TheVariants as shifts
 use Rattle.typed_trees.specs.declared.parts.Measure.TheVariants as measures
 use Rattle.typed_trees.specs.declared.parts.Measure.{Measure}
 use Rattle.typed_trees.specs.TypedTrees.{TypedExpression, Subscript, TypedReference, TypedArguments, NoArguments as NoTyped, MoreArguments as MoreTyped, TypedObject, TypedProcedure, TypedModule, Constants}
-use Rattle.typed_trees.specs.Sizes.{FoundMember, member_named, after_member, size_of_scalar, size_of_element}
+use Rattle.typed_trees.specs.declared.members.FoundMember.{FoundMember}
+use Rattle.typed_trees.specs.Sizes.{member_named, after_member, size_of_scalar, size_of_element}
 use Rattle.typed_trees.specs.ExpressionTypes.{type_of}
 use Rattle.types.specs.Nodes.{converted, as_type, arguments_as, type_of_shift, Destination, target_of}
 use Rattle.types.specs.References.{Known, Given, GivenMember, WithoutMember, WithMember, GivenReference, line_of, number_of_arguments, count_of_given, Extent, AnElement, AlsoTheWhole, takes_subscripts, subscript_of, members_of, FoundPart, part_with_member, part_of, scalar_part, without_member, port_of, port_of_character, has_location, location_of_bound, location_of, is_writable, destination_of_bound, destination_of}

@@ -1,5 +1,8 @@
 pub mod Results
+pub mod Fillings
 pub mod Views
+pub mod Given
+pub mod Fronts
 pub mod Samples
 pub mod Examples
 pub mod Measures

@@ -6,8 +6,12 @@ ghost use Rattle.typed_trees.specs.TypedTrees.{FunctionNode, InputNode};
 ghost use Rattle.types.specs.Nodes.{as_type as converted_to, unary_node, binary_node, shift_node};
 ghost use Rattle.typed_trees.specs.Views.{Makes, expression_view, reference_view, target_view, arguments_view};
 ghost use Rattle.types.specs.Constants.{type_of_number as number_type};
+ghost use Rattle.typed_trees.specs.ExpressionTypes.{type_of};
+ghost use Rattle.types.specs.Nodes.{target_of as target_for};
+ghost use Rattle.types.specs.internal.Views.{destination_view};
 ghost use Rattle.types.specs.Nodes.{common_type as common, type_of_operands as operand_type, type_of_shift as shift_type};
 
+use crate::known::Destination;
 use std::alloc::{AllocError, Global};
 use trees::{BinaryOperator, ScalarType, UnaryOperator};
 use typed_trees::{
@@ -222,4 +226,20 @@ pub(crate) fn input(port: u8) -> TypedExpression
     ensures view { expression_view result ≡ InputNode port }
 {
     TypedExpression::Input(port)
+}
+
+/// Where a value goes, once its type is known.
+pub(crate) fn target_of(destination: Destination, value: &TypedExpression) -> TypedTarget
+    ensures view { target_view result
+        ≡ target_for (destination_view destination) (type_of (expression_view value.now)) }
+{
+    let from = value.scalar();
+    match destination {
+        Destination::Variable { scalar, reference } => TypedTarget::Stored {
+            from,
+            to: scalar,
+            reference,
+        },
+        Destination::Port(port) => TypedTarget::Sent { from, port },
+    }
 }

@@ -4,12 +4,17 @@
 mod blocks;
 mod calls;
 mod checker;
+mod constants;
 mod expression_nodes;
 mod expressions;
 mod fault;
 mod filling;
+mod functions;
 mod items;
 mod known;
+mod members;
+mod references;
+mod scalars;
 mod statement_nodes;
 mod typing;
 
