@@ -6,3 +6,4 @@ pub mod Measures
 pub mod GivenBack
 pub mod Refusals
 pub mod Scopes
+pub mod Walking

@@ -11,6 +11,7 @@ mod filling;
 mod items;
 mod known;
 mod statement_nodes;
+mod statements;
 mod typing;
 
 pub use fault::{Cause, Fault};

@@ -1,0 +1,62 @@
+-- Parts of the definitions of statements and procedures, by the functions that go through them.
+use Rattle.std.specs.Prelude.{ℕ, ◌&&◌, List, ◌++◌, map, is_none, Ok}
+use Rattle.trees.specs.declared.declaration.ScalarType.{ScalarType}
+use Rattle.trees.specs.declared.identifier.Identifier.{Identifier}
+use Rattle.trees.specs.Trees.{ArgumentTrees}
+use Rattle.names.specs.declared.entity.Binding.{Binding}
+use Rattle.names.specs.declared.entity.Binding.TheVariants.{Declared, BuiltInName}
+use Rattle.names.specs.declared.entity.BuiltIn.TheVariants.{Move}
+use Rattle.names.specs.declared.entity.Entity.TheVariants.{Procedure}
+use Rattle.typed_trees.specs.TypedTrees.{TypedTarget, TypedStatement, TypedObject}
+use Rattle.types.specs.declared.fault.Cause.TheVariants.{WrongUse}
+use Rattle.types.specs.declared.statements.Counter.{Counter as CodeCounter}
+use Rattle.types.specs.Checks.{Checked, ◌>>=◌, require, found}
+use Rattle.types.specs.Nodes.{Destination, target_of}
+use Rattle.types.specs.References.{Given, line_of, scalar_of, is_writable}
+use Rattle.types.specs.Expressions.{arguments}
+use Rattle.types.specs.Items.{is_not_based}
+use Rattle.types.specs.Blocks.{Progress}
+use Rattle.types.specs.Statements.{with_constants, call, call_bound, Counter}
+
+-- what is given, with what was made in front of it
+abbrev pub in_front : {Q : Type 0} → (Q → Q) → Checked Q → Checked Q
+in_front front given = given >>= (λ rest. Ok (front rest))
+
+-- destinations after others
+abbrev pub after_destinations : {S : Type 0} → List Destination → List Destination × S → List Destination × S
+after_destinations made rest = (made ++ rest.0, rest.1)
+
+-- arguments as they stand in the text
+abbrev pub given : Progress → ArgumentTrees → Given
+given progress trees = record { trees = trees; typed = arguments progress.known trees }
+
+abbrev pub call_statement : Identifier → ArgumentTrees → Progress → Checked (TypedStatement × Progress)
+call_statement name trees progress = call name (given progress trees) progress
+
+-- CALL of what a name is bound to
+abbrev pub call_of_bound :
+    Binding → Identifier → ArgumentTrees → Progress → Checked (TypedStatement × Progress)
+call_of_bound binding name trees progress = do
+  typed ← call_bound progress.known binding name (given progress trees) progress.constants
+  Ok (typed.0, with_constants typed.1 progress)
+
+abbrev pub call_of_procedure :
+    ℕ → Identifier → ArgumentTrees → Progress → Checked (TypedStatement × Progress)
+call_of_procedure number = call_of_bound (Declared (Procedure number))
+
+abbrev pub call_of_move : Identifier → ArgumentTrees → Progress → Checked (TypedStatement × Progress)
+call_of_move = call_of_bound (BuiltInName Move)
+
+-- the targets of an assignment of a value of a type
+abbrev pub targets_for : List Destination → ScalarType → List TypedTarget
+targets_for places from = map (λ (place : Destination). target_of place from) places
+
+-- the type of the variable of an iterative DO
+abbrev pub counter_type : TypedObject → Identifier → Checked ScalarType
+counter_type object name = do
+  _ ← is_writable object name
+  _ ← require (is_none object.dimension && is_not_based object.home) WrongUse (line_of name)
+  found (scalar_of object.object_type) WrongUse (line_of name)
+
+abbrev pub counter_view : CodeCounter → Counter
+counter_view counter = record { object = counter.object; scalar = counter.scalar }
