@@ -1,2 +1,3 @@
 pub mod Loops
 pub mod Arguments
+pub mod Listings

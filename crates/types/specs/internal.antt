@@ -7,3 +7,4 @@ pub mod GivenBack
 pub mod Refusals
 pub mod Scopes
 pub mod Walking
+pub mod Lists

@@ -10,6 +10,7 @@ mod fault;
 mod filling;
 mod items;
 mod known;
+mod lists;
 mod statement_nodes;
 mod statements;
 mod typing;

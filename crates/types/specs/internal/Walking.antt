@@ -1,5 +1,7 @@
 -- Parts of the definitions of statements and procedures, by the functions that go through them.
-use Rattle.std.specs.Prelude.{ℕ, ◌&&◌, List, ◌++◌, map, is_none, Ok}
+use Rattle.std.specs.Prelude.{ℕ, not, ◌&&◌, List, ◌++◌, map, Option, Some, None, is_none, Ok}
+use Rattle.failure.specs.declared.Failure.{Failure}
+use Rattle.failure.specs.declared.Failure.TheVariants as failures
 use Rattle.trees.specs.declared.declaration.ScalarType.{ScalarType}
 use Rattle.trees.specs.declared.identifier.Identifier.{Identifier}
 use Rattle.trees.specs.Trees.{ArgumentTrees}
@@ -7,8 +9,12 @@ use Rattle.names.specs.declared.entity.Binding.{Binding}
 use Rattle.names.specs.declared.entity.Binding.TheVariants.{Declared, BuiltInName}
 use Rattle.names.specs.declared.entity.BuiltIn.TheVariants.{Move}
 use Rattle.names.specs.declared.entity.Entity.TheVariants.{Procedure}
+use Rattle.names.specs.declared.fault.Fault.{Fault as NameFault}
+use Rattle.names.specs.declared.fault.Fault.TheVariants as name_faults
+use Rattle.names.specs.Environment.{Here, with_label, with_parameter, is_label_again, is_parameter_again}
 use Rattle.typed_trees.specs.TypedTrees.{TypedTarget, TypedStatement, TypedObject}
-use Rattle.types.specs.declared.fault.Cause.TheVariants.{WrongUse}
+use Rattle.types.specs.declared.fault.Cause.TheVariants.{UnknownName, DeclaredTwice, WrongUse}
+use Rattle.types.specs.declared.fault.Fault.{Fault}
 use Rattle.types.specs.declared.statements.Counter.{Counter as CodeCounter}
 use Rattle.types.specs.Checks.{Checked, ◌>>=◌, require, found}
 use Rattle.types.specs.Nodes.{Destination, target_of}
@@ -60,3 +66,20 @@ counter_type object name = do
 
 abbrev pub counter_view : CodeCounter → Counter
 counter_view counter = record { object = counter.object; scalar = counter.scalar }
+
+-- the fault of a declaration of a name
+abbrev pub twice_in : Failure NameFault → Option Fault
+twice_in (failures.Fault (name_faults.Unknown line)) = Some (record { cause = UnknownName; line = line })
+twice_in (failures.Fault (name_faults.DeclaredTwice line)) = Some (record { cause = DeclaredTwice; line = line })
+twice_in failures.Memory = None
+
+-- one label of a body, one parameter of a heading
+abbrev pub label_declared : Identifier → Here → Checked Here
+label_declared label here = do
+  _ ← require (not (is_label_again here label.name)) DeclaredTwice (line_of label)
+  Ok (with_label label.name here)
+
+abbrev pub parameter_declared : Identifier → Here → Checked Here
+parameter_declared parameter here = do
+  _ ← require (not (is_parameter_again here parameter.name)) DeclaredTwice (line_of parameter)
+  Ok (with_parameter parameter.name here)
