@@ -1,3 +1,4 @@
 pub mod Loops
 pub mod Arguments
 pub mod Listings
+pub mod Walks

@@ -8,7 +8,7 @@ use Rattle.types.specs.Checks.{Checked, ◌>>=◌}
 use Rattle.types.specs.internal.Results.{FailsBy, Answers, Gives, Leaves, fault_in}
 use Rattle.types.specs.internal.Walking.{in_front}
 
-drop_item : {A B : Type 0} (view : List A → B) (items : List A) (i : ℕ) (item : A) → i < length items → item ≡ get_or items i item → view (drop i items) ≡ view (item ∷ drop (i + 1) items)
+pub drop_item : {A B : Type 0} (view : List A → B) (items : List A) (i : ℕ) (item : A) → i < length items → item ≡ get_or items i item → view (drop i items) ≡ view (item ∷ drop (i + 1) items)
 drop_item view items i item within is =
     ap view (drop-cons items i item within)
     ∙ ap (λ first. view (first ∷ drop (suc i) items)) (sym is)

@@ -11,6 +11,7 @@ mod filling;
 mod items;
 mod known;
 mod lists;
+mod procedures;
 mod statement_nodes;
 mod statements;
 mod typing;

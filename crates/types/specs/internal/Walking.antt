@@ -1,28 +1,35 @@
 -- Parts of the definitions of statements and procedures, by the functions that go through them.
-use Rattle.std.specs.Prelude.{ℕ, not, ◌&&◌, List, ◌++◌, map, Option, Some, None, is_none, Ok}
+use Rattle.std.specs.Prelude.{ℕ, true, not, ◌&&◌, List, ◌++◌, map, Option, Some, None, is_none, Ok}
 use Rattle.failure.specs.declared.Failure.{Failure}
 use Rattle.failure.specs.declared.Failure.TheVariants as failures
 use Rattle.trees.specs.declared.declaration.ScalarType.{ScalarType}
 use Rattle.trees.specs.declared.identifier.Identifier.{Identifier}
-use Rattle.trees.specs.Trees.{ArgumentTrees}
+use Rattle.trees.specs.declared.statement.Procedure.{Procedure, out-Procedure}
+use Rattle.trees.specs.Trees.{ArgumentTrees, HeadingTree, StatementTree, StatementTrees, DeclarationTrees}
+use Rattle.trees.specs.Views.{heading_tree, block_declarations, block_statements}
 use Rattle.names.specs.declared.entity.Binding.{Binding}
 use Rattle.names.specs.declared.entity.Binding.TheVariants.{Declared, BuiltInName}
 use Rattle.names.specs.declared.entity.BuiltIn.TheVariants.{Move}
-use Rattle.names.specs.declared.entity.Entity.TheVariants.{Procedure}
+use Rattle.names.specs.declared.entity.Entity.TheVariants as entities
 use Rattle.names.specs.declared.fault.Fault.{Fault as NameFault}
 use Rattle.names.specs.declared.fault.Fault.TheVariants as name_faults
-use Rattle.names.specs.Environment.{Here, with_label, with_parameter, is_label_again, is_parameter_again}
-use Rattle.typed_trees.specs.TypedTrees.{TypedTarget, TypedStatement, TypedObject}
+use Rattle.names.specs.Environment.{Here, into_list, out_of_list, with_label, with_parameter, is_label_again, is_parameter_again}
+use Rattle.names.specs.Events.{labels_of}
+use Rattle.typed_trees.specs.TypedTrees.{TypedTarget, TypedStatement, TypedList, TypedObject}
+use Rattle.typed_trees.specs.Views.{list_view}
 use Rattle.types.specs.declared.fault.Cause.TheVariants.{UnknownName, DeclaredTwice, WrongUse}
 use Rattle.types.specs.declared.fault.Fault.{Fault}
 use Rattle.types.specs.declared.statements.Counter.{Counter as CodeCounter}
+use Rattle.types.specs.declared.typing.Inside.{Inside}
 use Rattle.types.specs.Checks.{Checked, ◌>>=◌, require, found}
 use Rattle.types.specs.Nodes.{Destination, target_of}
 use Rattle.types.specs.References.{Given, line_of, scalar_of, is_writable}
 use Rattle.types.specs.Expressions.{arguments}
 use Rattle.types.specs.Items.{is_not_based}
-use Rattle.types.specs.Blocks.{Progress}
-use Rattle.types.specs.Statements.{with_constants, call, call_bound, Counter}
+use Rattle.types.specs.Blocks.{OfProcedure, Block, Progress}
+use Rattle.types.specs.Statements.{with_here, with_constants, call, call_bound, Counter, labels_before, declare_labels, list_of}
+use Rattle.types.specs.Procedures.{parameter_objects, check_body, close_procedure}
+use Rattle.types.specs.Typing.{labelled, statements, declarations}
 
 -- what is given, with what was made in front of it
 abbrev pub in_front : {Q : Type 0} → (Q → Q) → Checked Q → Checked Q
@@ -48,7 +55,7 @@ call_of_bound binding name trees progress = do
 
 abbrev pub call_of_procedure :
     ℕ → Identifier → ArgumentTrees → Progress → Checked (TypedStatement × Progress)
-call_of_procedure number = call_of_bound (Declared (Procedure number))
+call_of_procedure number = call_of_bound (Declared (entities.Procedure number))
 
 abbrev pub call_of_move : Identifier → ArgumentTrees → Progress → Checked (TypedStatement × Progress)
 call_of_move = call_of_bound (BuiltInName Move)
@@ -83,3 +90,45 @@ abbrev pub parameter_declared : Identifier → Here → Checked Here
 parameter_declared parameter here = do
   _ ← require (not (is_parameter_again here parameter.name)) DeclaredTwice (line_of parameter)
   Ok (with_parameter parameter.name here)
+
+-- into a list of statements, and out of it
+abbrev pub listing : StatementTrees → Progress → Progress
+listing trees progress = with_here (into_list (labels_of trees) progress.known.here) progress
+
+abbrev pub list_left : Progress → Progress
+list_left progress = with_here (out_of_list progress.known.here) progress
+
+-- a statement of a list, its labels among the names of its body
+abbrev pub statement_with_labels : Block → StatementTree → Progress → Checked (TypedStatement × Progress)
+statement_with_labels block tree progress = do
+  here ← declare_labels (labels_before tree) progress.known.here
+  labelled block tree (with_here here progress)
+
+-- the end of a procedure: always given
+abbrev pub procedure_closed :
+    HeadingTree → DeclarationTrees → (number : ℕ) → (parameters : List ℕ) → TypedList → Progress
+    → Checked Progress
+procedure_closed heading declared number parameters body progress =
+    Ok (close_procedure heading declared number parameters body progress)
+
+-- what stands in a procedure of a number: the objects of its parameters, and what it does
+abbrev pub inside_of :
+    Block → HeadingTree → DeclarationTrees → StatementTrees → Progress
+    → Checked ((List ℕ × TypedList) × Progress)
+inside_of block heading declared body progress = do
+  within ← declarations block declared progress
+  parameters ← parameter_objects within.known.here heading.parameters
+  _ ← check_body heading body
+  typed ← list_of body (λ label. statements block body label) within
+  Ok ((parameters, typed.0), typed.1)
+
+abbrev pub procedure_inside : ℕ → Procedure → Progress → Checked ((List ℕ × TypedList) × Progress)
+procedure_inside number procedure =
+    inside_of
+    (record { owner = OfProcedure number (heading_tree (out-Procedure procedure).heading); is_own = true })
+    (heading_tree (out-Procedure procedure).heading)
+    (block_declarations (out-Procedure procedure).body)
+    (block_statements (out-Procedure procedure).body)
+
+abbrev pub inside_view : Inside → List ℕ × TypedList
+inside_view inside = (inside.parameters.items, list_view inside.body)
