@@ -2,3 +2,6 @@ pub mod Loops
 pub mod Arguments
 pub mod Listings
 pub mod Walks
+pub mod Lines
+pub mod Modules
+pub mod Headings

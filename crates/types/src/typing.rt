@@ -2,14 +2,14 @@
 
 ghost use Rattle.std.specs.Prelude.{◌≡◌, Ok, Err, IfOk, OnOk};
 ghost use Rattle.failure.specs.Failure.{IfFault};
-ghost use Rattle.trees.specs.Views.{declaration_tree, declaration_trees, else_tree, kind_tree, module_tree, statement_tree, statement_trees};
+ghost use Rattle.trees.specs.Views.{block_declarations, block_statements, declaration_tree, declaration_trees, else_tree, kind_tree, module_tree, statement_tree, statement_trees};
 ghost use Rattle.names.specs.internal.Parts.{case_tree, do_tree, if_tree, iterate_tree, procedure_parts, while_tree};
-ghost use Rattle.typed_trees.specs.Views.{else_view, list_view, module_view, statement_view, statements_view};
+ghost use Rattle.typed_trees.specs.Views.{else_view, list_view, module_view, procedure_view, statement_view, statements_view};
 ghost use Rattle.types.specs.Statements.{list_of, places_from};
-ghost use Rattle.types.specs.Typing.{alone, cases, declaration, declarations, else_part, entered, kind, left, statements, typing_of};
-ghost use Rattle.types.specs.internal.Results.{Gives, Leaves};
+ghost use Rattle.types.specs.Typing.{alone, cases, declaration, declarations, else_part, entered, kind, left, main_procedure, module_with, statements, typing_of};
+ghost use Rattle.types.specs.internal.Results.{Answers, Gives, Leaves};
 ghost use Rattle.types.specs.internal.Views.{block_view, progress_view};
-ghost use Rattle.types.specs.internal.Walking.{inside_view, list_left, listing, procedure_inside, statement_with_labels};
+ghost use Rattle.types.specs.internal.Walking.{inside_view, list_left, listing, module_body, procedure_inside, statement_with_labels};
 
 use crate::blocks::{Block, Owner};
 use crate::checker::Checker;
@@ -20,10 +20,10 @@ use crate::statement_nodes;
 use failure::Failure;
 use std::alloc::Global;
 use trees::{
-    Block as BlockTree, Declaration, DoCase, DoWhile, IfThen, IterativeDo, Module, Place,
+    Block as BlockTree, Declaration, DoCase, DoWhile, IfThen, IterativeDo, Module, Name, Place,
     Procedure, Statement, StatementKind,
 };
-use typed_trees::{Typed, TypedList, TypedStatement};
+use typed_trees::{Typed, TypedList, TypedProcedure, TypedStatement, Visibility};
 
 // The objects of a procedure's parameters, and what it does.
 #[derive(Drop)]
@@ -360,11 +360,78 @@ impl Checker {
             is_own: true,
         };
         self.declarations(own, procedure.body.declarations.as_slice())?;
-        let parameters = parameter_objects(&self.known.scopes, heading.parameters.as_slice())?;
+        let parameters = parameter_objects(
+            self.alloc,
+            &self.known.scopes,
+            heading.parameters.as_slice(),
+        )?;
         check_body(heading, procedure.body.statements.as_slice())?;
         let body = self.list(own, procedure.body.statements.as_slice())?;
         Ok(Inside { parameters, body })
     }
+}
+
+// The statements at the outer level, as a procedure.
+fn main_procedure(alloc: Global, name: Name, body: TypedList) -> TypedProcedure
+    ensures { procedure_view result ≡ main_procedure name (list_view body) }
+{
+    TypedProcedure {
+        name,
+        visibility: Visibility::Private,
+        result: None,
+        is_reentrant: false,
+        parameter_types: Vec::new(alloc),
+        parameters: Vec::new(alloc),
+        frame_bytes: 0,
+        body,
+    }
+}
+
+impl Checker {
+    // What a module declares and does.
+    fn module(&mut self, body: &BlockTree) -> Result<TypedList, Failure<Fault>>
+        ensures { Gives list_view result (progress_view self.new)
+            (module_body (block_declarations body.now) (block_statements body.now)
+            (progress_view self.old)) }
+    {
+        let block = Block {
+            owner: Owner::Module,
+            is_own: true,
+        };
+        self.declarations(block, body.declarations.as_slice())?;
+        self.list(block, body.statements.as_slice())
+    }
+
+    // The module that is typed at its end.
+    fn into_typed(self, name: Name, body: TypedList) -> Typed
+        ensures { module_view result ≡ module_with name (list_view body) (progress_view self) }
+    {
+        let Checker {
+            alloc,
+            known,
+            constants,
+            globals,
+            ..
+        } = self;
+        Typed {
+            name,
+            objects: known.objects,
+            procedures: known.procedures,
+            lists: constants.lists,
+            constants: constants.items,
+            globals,
+            main: main_procedure(alloc, name, body),
+        }
+    }
+}
+
+// A module as it is typed.
+fn typed(alloc: Global, parsed: &Module) -> Result<Typed, Failure<Fault>>
+    ensures { Answers module_view result (typing_of (module_tree parsed.now)) }
+{
+    let mut checker = Checker::new(alloc);
+    let body = checker.module(&parsed.body)?;
+    Ok(checker.into_typed(parsed.name.name, body))
 }
 
 /// Types a module: resolves its names, gives each expression its type and writes each conversion out. Refuses a module
@@ -373,5 +440,5 @@ pub fn check(alloc: Global, parsed: Module) -> Result<Typed, Failure<Fault>>
     ensures ok { IfOk result (λ typed. typing_of (module_tree parsed) ≡ Ok (module_view typed)) }
     ensures fault { IfFault result (λ fault. typing_of (module_tree parsed) ≡ Err fault) }
 {
-    Err(Failure::Memory)
+    typed(alloc, &parsed)
 }

@@ -1,5 +1,5 @@
 -- Parts of the definitions of statements and procedures, by the functions that go through them.
-use Rattle.std.specs.Prelude.{ℕ, true, not, ◌&&◌, List, ◌++◌, map, Option, Some, None, is_none, Ok}
+use Rattle.std.specs.Prelude.{ℕ, Bool, true, ◌||◌, take, drop, not, ◌&&◌, List, ◌++◌, map, Option, Some, None, is_none, Ok}
 use Rattle.failure.specs.declared.Failure.{Failure}
 use Rattle.failure.specs.declared.Failure.TheVariants as failures
 use Rattle.trees.specs.declared.declaration.ScalarType.{ScalarType}
@@ -13,11 +13,12 @@ use Rattle.names.specs.declared.entity.BuiltIn.TheVariants.{Move}
 use Rattle.names.specs.declared.entity.Entity.TheVariants as entities
 use Rattle.names.specs.declared.fault.Fault.{Fault as NameFault}
 use Rattle.names.specs.declared.fault.Fault.TheVariants as name_faults
-use Rattle.names.specs.Environment.{Here, into_list, out_of_list, with_label, with_parameter, is_label_again, is_parameter_again}
+use Rattle.names.specs.Environment.{Here, is_among, into_body, with_procedure, is_declared_again, into_list, out_of_list, with_label, with_parameter, is_label_again, is_parameter_again}
 use Rattle.names.specs.Events.{labels_of}
+use Rattle.typed_trees.specs.declared.limits.TheConstants.{PARAMETER_LIMIT}
 use Rattle.typed_trees.specs.TypedTrees.{TypedTarget, TypedStatement, TypedList, TypedObject}
 use Rattle.typed_trees.specs.Views.{list_view}
-use Rattle.types.specs.declared.fault.Cause.TheVariants.{UnknownName, DeclaredTwice, WrongUse}
+use Rattle.types.specs.declared.fault.Cause.TheVariants.{UnknownName, DeclaredTwice, WrongUse, MisplacedAttribute}
 use Rattle.types.specs.declared.fault.Fault.{Fault}
 use Rattle.types.specs.declared.statements.Counter.{Counter as CodeCounter}
 use Rattle.types.specs.declared.typing.Inside.{Inside}
@@ -26,10 +27,10 @@ use Rattle.types.specs.Nodes.{Destination, target_of}
 use Rattle.types.specs.References.{Given, line_of, scalar_of, is_writable}
 use Rattle.types.specs.Expressions.{arguments}
 use Rattle.types.specs.Items.{is_not_based}
-use Rattle.types.specs.Blocks.{OfProcedure, Block, Progress}
+use Rattle.types.specs.Blocks.{OfProcedure, Block, Progress, is_reentrant, is_external}
 use Rattle.types.specs.Statements.{with_here, with_constants, call, call_bound, Counter, labels_before, declare_labels, list_of}
-use Rattle.types.specs.Procedures.{parameter_objects, check_body, close_procedure}
-use Rattle.types.specs.Typing.{labelled, statements, declarations}
+use Rattle.types.specs.Procedures.{declare_parameters, no_more_parameters, check_visibility, check_reentrant, parameter_objects, check_body, close_procedure}
+use Rattle.types.specs.Typing.{labelled, statements, declarations, module_block}
 
 -- what is given, with what was made in front of it
 abbrev pub in_front : {Q : Type 0} → (Q → Q) → Checked Q → Checked Q
@@ -132,3 +133,32 @@ procedure_inside number procedure =
 
 abbrev pub inside_view : Inside → List ℕ × TypedList
 inside_view inside = (inside.parameters.items, list_view inside.body)
+
+-- what a module declares and does
+abbrev pub module_body : DeclarationTrees → StatementTrees → Progress → Checked (TypedList × Progress)
+module_body declared body progress = do
+  within ← declarations module_block declared progress
+  list_of body (λ label. statements module_block body label) within
+
+-- whether a name is one of some
+abbrev pub names_among : List Identifier → List ℕ → Bool
+names_among declared name = is_among (map (λ (one : Identifier). one.name) declared) name
+
+-- the name of a procedure
+abbrev pub procedure_declared : Identifier → Here → Checked Here
+procedure_declared name here = do
+  _ ← require (not (is_declared_again here name.name)) DeclaredTwice (line_of name)
+  Ok (with_procedure name.name here)
+
+-- a heading, up to what names stand for where the body of its procedure begins
+abbrev pub heading_opened : Block → HeadingTree → Here → Checked Here
+heading_opened block heading before = do
+  _ ← require (not (is_declared_again before heading.name.name)) DeclaredTwice (line_of heading.name)
+  _ ← require (not (is_reentrant block.owner || is_external block.owner)) MisplacedAttribute
+      (line_of heading.name)
+  here ← declare_parameters (take PARAMETER_LIMIT heading.parameters)
+      (into_body (with_procedure heading.name.name before))
+  _ ← no_more_parameters (drop PARAMETER_LIMIT heading.parameters)
+  _ ← check_visibility block heading.linkage
+  _ ← check_reentrant heading.linkage heading.reentrant
+  Ok here
