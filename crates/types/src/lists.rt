@@ -4,7 +4,7 @@ ghost use Rattle.std.specs.Prelude.{◌≡◌, ◌+◌, ◌++◌, Ok, OnOk, IfOk
 ghost use Rattle.failure.specs.Failure.{IfFault};
 ghost use Rattle.types.specs.Statements.{declare_labels, places_of, without_label};
 ghost use Rattle.types.specs.internal.Results.{Answers, Leaves, fault_in};
-ghost use Rattle.types.specs.internal.Walking.{label_declared, twice_in};
+ghost use Rattle.types.specs.internal.Walking.{label_declared, name_fault_in};
 ghost use Rattle.types.specs.internal.Lists.{listed_view, with_label, with_labels, with_statement};
 
 use crate::fault::{Cause, Fault};
@@ -15,8 +15,8 @@ use trees::Identifier;
 use typed_trees::TypedStatement;
 
 /// The failure of a declaration of a name, as one of the typing.
-pub(crate) fn declared_twice(failure: Failure<names::Fault>) -> Failure<Fault>
-    ensures { fault_in result ≡ twice_in failure }
+pub(crate) fn name_failure(failure: Failure<names::Fault>) -> Failure<Fault>
+    ensures { fault_in result ≡ name_fault_in failure }
 {
     match failure {
         Failure::Fault(names::Fault::Unknown { line }) => refuse(Cause::UnknownName, line),
@@ -31,7 +31,7 @@ fn declare_label(scopes: &mut Scopes, label: Identifier) -> Result<(), Failure<F
 {
     match scopes.declare_label(label) {
         Ok(()) => Ok(()),
-        Err(failure) => Err(declared_twice(failure)),
+        Err(failure) => Err(name_failure(failure)),
     }
 }
 
@@ -59,8 +59,8 @@ pub(crate) fn without_label(labels: &[Identifier]) -> Result<(), Failure<Fault>>
 }
 
 /// The number of the next label.
-pub(crate) fn next_label(_scopes: &Scopes) -> Result<u32, Failure<Fault>>
-    ensures ok { IfOk result (λ next. next ≡ (_scopes.now).labels) }
+pub(crate) fn next_label(scopes: &Scopes) -> Result<u32, Failure<Fault>>
+    ensures ok { IfOk result (λ next. next ≡ (scopes.now).labels) }
     ensures err { IfFault result (λ _. ⊥) }
 {
     Err(Failure::Memory)

@@ -18,7 +18,7 @@ use crate::blocks::{Block, Owner};
 use crate::checker::Checker;
 use crate::fault::{Cause, Fault};
 use crate::known::{refuse, require};
-use crate::lists::declared_twice;
+use crate::lists::name_failure;
 use failure::Failure;
 use names::{Entity, Scopes};
 use std::alloc::{AllocError, Global};
@@ -241,7 +241,7 @@ fn declare_procedure(scopes: &mut Scopes, name: Identifier) -> Result<(), Failur
 {
     match scopes.declare_procedure(name) {
         Ok(()) => Ok(()),
-        Err(failure) => Err(declared_twice(failure)),
+        Err(failure) => Err(name_failure(failure)),
     }
 }
 
@@ -251,7 +251,7 @@ fn declare_parameter(scopes: &mut Scopes, name: Identifier) -> Result<(), Failur
 {
     match scopes.declare_parameter(name) {
         Ok(()) => Ok(()),
-        Err(failure) => Err(declared_twice(failure)),
+        Err(failure) => Err(name_failure(failure)),
     }
 }
 
@@ -272,7 +272,7 @@ fn open_body(scopes: &mut Scopes) -> Result<(), Failure<Fault>>
 {
     match scopes.open_body() {
         Ok(()) => Ok(()),
-        Err(failure) => Err(declared_twice(failure)),
+        Err(failure) => Err(name_failure(failure)),
     }
 }
 

@@ -14,7 +14,7 @@ ghost use Rattle.types.specs.internal.Walking.{inside_view, list_left, listing, 
 use crate::blocks::{Block, Owner};
 use crate::checker::Checker;
 use crate::fault::Fault;
-use crate::lists::{Listed, declare_labels, declared_twice, next_label, without_label};
+use crate::lists::{Listed, declare_labels, name_failure, next_label, without_label};
 use crate::procedures::{check_body, next_procedure, parameter_objects};
 use crate::statement_nodes;
 use failure::Failure;
@@ -40,7 +40,7 @@ impl Checker {
     {
         match self.known.scopes.open_block() {
             Ok(()) => Ok(()),
-            Err(failure) => Err(declared_twice(failure)),
+            Err(failure) => Err(name_failure(failure)),
         }
     }
 
@@ -59,7 +59,7 @@ impl Checker {
     {
         match self.known.scopes.open_list(trees) {
             Ok(()) => Ok(()),
-            Err(failure) => Err(declared_twice(failure)),
+            Err(failure) => Err(name_failure(failure)),
         }
     }
 
