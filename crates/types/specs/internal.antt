@@ -10,3 +10,5 @@ pub mod GivenBack
 pub mod Refusals
 pub mod Scopes
 pub mod Tables
+pub mod Walking
+pub mod Lists
