@@ -1,5 +1,5 @@
 -- Sums over what is left of a list, as loops over lists of trees need them.
-use Rattle.std.proofs.Common.{◌≡◌, ℕ, suc, ◌+◌, ◌<◌, ◌≤◌, List, [], ◌∷◌, length, drop, get_or, map, min, ap, sym, subst, ◌∙◌, add-one, refl, arith, Global}
+use Rattle.std.proofs.Common.{◌≡◌, ℕ, suc, ◌+◌, ◌<◌, ◌≤◌, List, ◌∷◌, length, drop, get_or, map, min, ap, sym, ◌∙◌, add-one, arith, Global}
 use Rattle.std.specs.Prelude.{sum_by, ◌&&◌, Vec, vec_items}
 use Rattle.std.specs.List.{list_all}
 use Rattle.std.proofs.Math.ListN.{drop_of_length-le}

@@ -1,8 +1,9 @@
 -- Tables of offsets, and that they tell the offsets of the storage.
-use Rattle.std.proofs.Common.{◌≡◌, ℕ, zero, suc, ◌+◌, ◌<◌, ◌≤◌, List, [], ◌∷◌, length, drop, get_or, map, Option, Some, None, Bool, true, false, cond, eqb, ap, sym, subst, refl, ◌∙◌, one-add, arith}
-use Rattle.std.specs.Prelude.{sum_by, take, take_while, not, slice_get, slice_set, replicate}
+use Rattle.std.proofs.Common.{◌≡◌, ℕ, zero, suc, ◌+◌, ◌<◌, ◌≤◌, List, [], ◌∷◌, length, get_or, Option, Some, None, Bool, true, false, cond, eqb, ap, sym, subst, refl, ◌∙◌, one-add, arith}
+use Rattle.std.specs.Prelude.{sum_by, take, take_while, not, slice_set, replicate}
 use Rattle.std.specs.List.{prefix_len}
 use Rattle.std.proofs.Math.Dec.{eqb-zero-suc, eqb-suc-zero, eqb-suc-suc}
+use Rattle.std.proofs.lemmas.List.{length-replicate}
 use Rattle.std.proofs.lemmas.List.Sums.{sum_by-cons}
 use Rattle.typed_trees.specs.declared.parts.ConstantItem.TheVariants.{ConstantObject, ConstantList}
 use Rattle.typed_trees.specs.declared.parts.ConstantItem.{ConstantItem}
@@ -41,7 +42,7 @@ put_first_kept (found ∷ others) (suc number) offset known d within is =
     ap (λ rest. found ∷ rest) (put_first_kept others number offset known d (omega arith) is)
 
 -- what a table tells of a number after another was put in
-pub offset_after :
+offset_after :
     (table : List (Option ℕ)) (number offset wanted otherwise : ℕ)
     → wanted < length table
     → offset_in (put_first table number offset) wanted otherwise
@@ -57,14 +58,14 @@ offset_after (found ∷ others) (suc number) offset (suc wanted) otherwise withi
     offset_after others number offset wanted otherwise (omega arith)
     ∙ ap (λ is. offset_in others wanted (cond is offset otherwise)) (sym (eqb-suc-suc number wanted))
 
-pub length-put_first :
+length-put_first :
     (table : List (Option ℕ)) (number offset : ℕ) → length (put_first table number offset) ≡ length table
 length-put_first [] number offset = refl
 length-put_first (found ∷ others) zero offset = refl
 length-put_first (found ∷ others) (suc number) offset = ap suc (length-put_first others number offset)
 
 -- the bytes before the first item that is wanted
-pub bytes_before : (size : ConstantItem → ℕ) (wanted : ConstantItem → Bool) → List ConstantItem → ℕ
+bytes_before : (size : ConstantItem → ℕ) (wanted : ConstantItem → Bool) → List ConstantItem → ℕ
 bytes_before size wanted items = sum_by size (take_while (λ (item : ConstantItem). not (wanted item)) items)
 
 before_by :
@@ -101,7 +102,7 @@ all_more size so_far item others =
     add_both a b c = omega arith
 
 -- once all constants are met, a table tells what stands before each number
-pub told_object :
+told_object :
     (typed : TypedModule) (so_far : ℕ) (items : List ConstantItem) (tables : OffsetTables) (number : ℕ)
     → number < length tables.objects
     → offset_in (put_all typed so_far items tables).objects number (so_far + sum_by (size_of_constant typed) items)
@@ -127,7 +128,7 @@ told_object typed so_far (ConstantList list ∷ others) tables number within =
     ∙ ap (offset_in tables.objects number)
     (sym (before_more (size_of_constant typed) (is_object number) so_far (ConstantList list) others))
 
-pub told_list :
+told_list :
     (typed : TypedModule) (so_far : ℕ) (items : List ConstantItem) (tables : OffsetTables) (number : ℕ)
     → number < length tables.lists
     → offset_in (put_all typed so_far items tables).lists number (so_far + sum_by (size_of_constant typed) items)
@@ -154,8 +155,57 @@ told_list typed so_far (ConstantObject object ∷ others) tables number within =
     (sym (before_more (size_of_constant typed) (is_list number) so_far (ConstantObject object) others))
 
 -- tables in which no offset is known
-pub offset_unknown :
+offset_unknown :
     (count number otherwise : ℕ) → offset_in (replicate count None) number otherwise ≡ otherwise
 offset_unknown zero number otherwise = refl
 offset_unknown (suc count) zero otherwise = refl
 offset_unknown (suc count) (suc number) otherwise = offset_unknown count number otherwise
+
+-- the tables of a module once all of its constants are met
+abbrev pub unknown_offsets : TypedModule → OffsetTables
+unknown_offsets typed = record {
+  objects = replicate (length typed.objects) None;
+  lists = replicate (length typed.constants.lists) None;
+}
+
+abbrev pub offsets_of_module : TypedModule → OffsetTables
+offsets_of_module typed = put_all typed 0 typed.constants.items (unknown_offsets typed)
+
+within_replicate :
+    (count number : ℕ) (unknown : Option ℕ)
+    → number < count
+    → number < length (replicate count unknown)
+within_replicate count number unknown within =
+    subst (λ n. number < n) (sym (length-replicate count unknown)) within
+
+from_zero : (n : ℕ) → n ≡ 0 + n
+from_zero n = omega arith
+
+-- they tell what stands before each object and each list
+pub object_offset :
+    (typed : TypedModule) (number : ℕ)
+    → number < length typed.objects
+    → offset_in (offsets_of_module typed).objects number (constant_bytes typed)
+    ≡ constants_before typed (is_object number)
+unfolding bytes_before
+object_offset typed number within =
+    ap (offset_in (offsets_of_module typed).objects number) (from_zero (constant_bytes typed))
+    ∙ told_object typed 0 typed.constants.items (unknown_offsets typed) number
+    (within_replicate (length typed.objects) number None within)
+    ∙ offset_unknown (length typed.objects) number
+    (0 + bytes_before (size_of_constant typed) (is_object number) typed.constants.items)
+    ∙ sym (from_zero (constants_before typed (is_object number)))
+
+pub list_offset :
+    (typed : TypedModule) (number : ℕ)
+    → number < length typed.constants.lists
+    → offset_in (offsets_of_module typed).lists number (constant_bytes typed)
+    ≡ constants_before typed (is_list number)
+unfolding bytes_before
+list_offset typed number within =
+    ap (offset_in (offsets_of_module typed).lists number) (from_zero (constant_bytes typed))
+    ∙ told_list typed 0 typed.constants.items (unknown_offsets typed) number
+    (within_replicate (length typed.constants.lists) number None within)
+    ∙ offset_unknown (length typed.constants.lists) number
+    (0 + bytes_before (size_of_constant typed) (is_list number) typed.constants.items)
+    ∙ sym (from_zero (constants_before typed (is_list number)))

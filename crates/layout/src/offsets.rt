@@ -35,8 +35,8 @@ impl Offsets {
     // No offset is known.
     fn new(alloc: Global, objects: usize, lists: usize) -> Result<Offsets, Failure<Fault>>
         ensures ok { IfOk result (λ offsets. offsets ≡ record {
-            objects = replicate objects None;
-            lists = replicate lists None;
+          objects = replicate objects None;
+          lists = replicate lists None;
         }) }
         ensures err { IfFault result (λ _. ⊥) }
     {

@@ -21,11 +21,11 @@ pub(crate) fn size_in_data(object: &TypedObject) -> u32
 
 /// The bytes of the data segment (4,294,967,295 where it has more).
 #[tactic(auto, using(crate::proofs::Sums::data_more, crate::proofs::Sums::data_end))]
-pub(crate) fn data_size(objects: &[TypedObject]) -> u32
-    ensures { result ≡ min (data_bytes (map object_view objects.now)) 4294967295 }
+pub(crate) fn data_size(typed: &Typed) -> u32
+    ensures { result ≡ min (data_bytes (module_view typed.now).objects) 4294967295 }
 {
     let mut total: u32 = 0;
-    for object in objects {
+    for object in &typed.objects {
         total = total.saturating_add(size_in_data(object));
     }
     total

@@ -41,20 +41,20 @@ fn slot_at(object: &TypedObject, in_data: u32, in_constants: u32) -> Option<Slot
 #[tactic(auto, using(crate::proofs::Sums::objects_first))]
 fn object_slots(
     alloc: Global,
-    objects: &[TypedObject],
+    typed: &Typed,
     offsets: &Offsets,
     constant_size: u32,
 ) -> Result<Vec<Option<Slot>>, Failure<Fault>>
-    requires data { data_bytes (map object_view objects.now) ≤ SEGMENT_LIMIT }
-    requires constants { IsTrue (list_all fits_as_object (map object_view objects.now)) }
+    requires data { data_bytes (module_view typed.now).objects ≤ SEGMENT_LIMIT }
+    requires constants { IsTrue (list_all fits_as_object (module_view typed.now).objects) }
     ensures ok { IfOk result (λ slots.
-        slots.items ≡ slots_from (offsets.now).objects constant_size 0 0 (map object_view objects.now)) }
+        slots.items ≡ slots_from (offsets.now).objects constant_size 0 0 (module_view typed.now).objects) }
     ensures err { IfFault result (λ _. ⊥) }
 {
-    let mut slots = Vec::with_capacity(alloc, objects.len())?;
+    let mut slots = Vec::with_capacity(alloc, typed.objects.len())?;
     let mut number: usize = 0;
     let mut in_data: u32 = 0;
-    for object in objects {
+    for object in &typed.objects {
         slots.push(slot_at(object, in_data, offsets.object(number, constant_size)))?;
         in_data += size_in_data(object);
         number += 1;
@@ -66,18 +66,18 @@ fn object_slots(
 #[tactic(auto, using(crate::proofs::Sums::lists_first))]
 fn list_slots(
     alloc: Global,
-    lists: &[Vec<u8>],
+    typed: &Typed,
     offsets: &Offsets,
     constant_size: u32,
 ) -> Result<Vec<Slot>, Failure<Fault>>
-    requires { IsTrue (list_all fits_as_list (map vec_items lists.now)) }
+    requires { IsTrue (list_all fits_as_list (module_view typed.now).constants.lists) }
     ensures ok { IfOk result (λ slots.
-        slots.items ≡ list_slots_from (offsets.now).lists constant_size 0 (map vec_items lists.now)) }
+        slots.items ≡ list_slots_from (offsets.now).lists constant_size 0 (module_view typed.now).constants.lists) }
     ensures err { IfFault result (λ _. ⊥) }
 {
-    let mut slots = Vec::with_capacity(alloc, lists.len())?;
+    let mut slots = Vec::with_capacity(alloc, typed.lists.len())?;
     let mut number: usize = 0;
-    for bytes in lists {
+    for bytes in &typed.lists {
         slots.push(Slot {
             segment: Segment::Code,
             offset: offsets.list(number, constant_size),
@@ -90,11 +90,12 @@ fn list_slots(
 
 /// Where the objects and the constant lists of a module lie in its segments. Refuses a module whose data segment or whose
 /// constants have over 65535 bytes.
+#[tactic(auto, using(crate::proofs::Slots::data_too_large, crate::proofs::Slots::constants_too_large))]
 pub fn layout(alloc: Global, typed: &Typed) -> Result<Layout, Failure<Fault>>
     ensures ok { IfOk result (λ found. storage_of (module_view typed.now) ≡ Ok (layout_view found)) }
     ensures fault { IfFault result (λ fault. storage_of (module_view typed.now) ≡ Err fault) }
 {
-    let data_size = data_size(typed.objects.as_slice());
+    let data_size = data_size(typed);
     if data_size > SEGMENT_LIMIT {
         return Err(Failure::Fault(Fault::DataTooLarge));
     }
@@ -103,8 +104,8 @@ pub fn layout(alloc: Global, typed: &Typed) -> Result<Layout, Failure<Fault>>
     }
     let constant_size = constant_size(typed);
     let offsets = offsets_of(alloc, typed)?;
-    let objects = object_slots(alloc, typed.objects.as_slice(), &offsets, constant_size)?;
-    let lists = list_slots(alloc, typed.lists.as_slice(), &offsets, constant_size)?;
+    let objects = object_slots(alloc, typed, &offsets, constant_size)?;
+    let lists = list_slots(alloc, typed, &offsets, constant_size)?;
     Ok(Layout {
         objects,
         lists,

@@ -13,8 +13,9 @@ use Rattle.typed_trees.specs.declared.parts.AtAddress.TheVariants.{AtObject}
 use Rattle.typed_trees.specs.TypedTrees.{TypedProcedure, TypedModule}
 use Rattle.types.specs.Checks.{Checked}
 use Rattle.types.specs.Typing.{typing_of}
-use Rattle.types.specs.internal.Samples.{on_line, name_on, number_on, string_on, a_number, plain, arguments_of, item_with, scalar_item, data_item, alone, unlabelled, assigns, statements_of, declarations_of, heading_on, procedure_of, value_of, module_of}
+use Rattle.types.specs.internal.Samples.{on_line, name_on, number_on, string_on, a_number, plain, arguments_of, item_with, scalar_item, data_item, array_item, alone, unlabelled, assigns, statements_of, declarations_of, heading_on, procedure_of, value_of, module_of}
 use Rattle.types.specs.internal.Measures.{structures, sends}
+use Rattle.layout.specs.declared.fault.Fault.TheVariants.{DataTooLarge}
 use Rattle.layout.specs.declared.slot.Segment.TheVariants.{Code, Data}
 use Rattle.layout.specs.Storage.{Storage, storage_of}
 use Rattle.layout.specs.Joined.{NoPublic, PublicTwice, DeclarationsDiffer, NotOneMain, join_refusal, InProgram, procedure_meant}
@@ -82,6 +83,32 @@ pub constants_storage :
     }) ∷ []
 unfolding typing_of built_in_of storage_of
 constants_storage = refl
+
+-- DECLARE A(65534) BYTE, B BYTE; and with one more: data segments of 65535 and of 65536 bytes
+abbrev pub data_module : (last : ScalarType) → List ModuleTree
+data_module last = module_of
+    (DeclareTree (
+    array_item 2 (codes "A") 65534 (ScalarItem Byte)
+    ∷ scalar_item 2 (codes "B") last
+    ∷ []) ∷ []) [] ∷ []
+
+pub data_of_a_segment :
+    storages (typed (data_module Byte))
+    ≡ Some (record {
+      objects =
+          Some (record { segment = Data; offset = 0; size = 65534 })
+          ∷ Some (record { segment = Data; offset = 65534; size = 1 })
+          ∷ [];
+      lists = [];
+      data_size = 65535;
+      constant_size = 0;
+    }) ∷ []
+unfolding typing_of built_in_of storage_of
+data_of_a_segment = refl
+
+pub data_too_large : map storage_of (typed (data_module Address)) ≡ Err DataTooLarge ∷ []
+unfolding typing_of built_in_of storage_of
+data_too_large = refl
 
 -- SHOW: PROCEDURE(X) EXTERNAL; DECLARE X BYTE; END SHOW; CALL SHOW(7);
 abbrev pub show_heading : Linkage → HeadingTree

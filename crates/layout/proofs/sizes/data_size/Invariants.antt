@@ -6,5 +6,5 @@ use Rattle.layout.proofs.sizes.data_size.Given as goal
 abbrev pub invariant-loop-object : goal.invariant-loop-object
 invariant-loop-object l =
     (l.total ≤ 4294967295)
-    × (min (l.total + data_bytes (map object_view (drop l.object-index l.objects))) 4294967295
-    ≡ min (data_bytes (map object_view l.objects)) 4294967295)
+    × (min (l.total + data_bytes (map object_view (drop l.object-index l.typed.objects.items))) 4294967295
+    ≡ min (data_bytes (map object_view l.typed.objects.items)) 4294967295)
