@@ -87,8 +87,8 @@ fits_as_object object = nat_le (bytes_in_constants object.home object) SEGMENT_L
 abbrev pub fits_as_list : List ℕ → Bool
 fits_as_list bytes = nat_le (length bytes) SEGMENT_LIMIT
 
--- Whether the constants fit into a segment: all together, and each object with DATA and each list alone, which
--- says no more where these stand among the constants.
+-- Whether the constants fit into a segment: all together, and each object with DATA and each list alone. The
+-- second says no more where all of these stand among the constants.
 abbrev pub constants_fit : TypedModule → Bool
 constants_fit typed =
     nat_le (constant_bytes typed) SEGMENT_LIMIT && list_all fits_as_object typed.objects

@@ -106,11 +106,12 @@ fn lists_fit(lists: &[Vec<u8>]) -> bool
     true
 }
 
-/// Whether the constants of a module fit into a segment.
-pub(crate) fn constants_fit(typed: &Typed) -> bool
+/// Whether the constants of a module, which have so many bytes, fit into a segment.
+pub(crate) fn constants_fit(typed: &Typed, constant_size: u32) -> bool
+    requires size { constant_size ≡ min (constant_bytes (module_view typed.now)) 4294967295 }
     ensures { result ≡ constants_fit (module_view typed.now) }
 {
-    constant_size(typed) <= SEGMENT_LIMIT
+    constant_size <= SEGMENT_LIMIT
         && objects_fit(typed.objects.as_slice())
         && lists_fit(typed.lists.as_slice())
 }

@@ -99,10 +99,10 @@ pub fn layout(alloc: Global, typed: &Typed) -> Result<Layout, Failure<Fault>>
     if data_size > SEGMENT_LIMIT {
         return Err(Failure::Fault(Fault::DataTooLarge));
     }
-    if !constants_fit(typed) {
+    let constant_size = constant_size(typed);
+    if !constants_fit(typed, constant_size) {
         return Err(Failure::Fault(Fault::ConstantsTooLarge));
     }
-    let constant_size = constant_size(typed);
     let offsets = offsets_of(alloc, typed)?;
     let objects = object_slots(alloc, typed, &offsets, constant_size)?;
     let lists = list_slots(alloc, typed, &offsets, constant_size)?;
