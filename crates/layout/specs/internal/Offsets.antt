@@ -1,7 +1,8 @@
 -- Storage as one pass over the constants and one over the objects find it.
-use Rattle.std.specs.Prelude.{ℕ, zero, suc, ◌+◌, List, [], ◌∷◌, length, Option, Some, None, slice_get}
+use Rattle.std.specs.Prelude.{◌≡◌, ℕ, zero, suc, ◌+◌, ◌<◌, List, [], ◌∷◌, length, Contains, Option, Some, None, slice_get}
 use Rattle.typed_trees.specs.declared.parts.ConstantItem.TheVariants.{ConstantObject, ConstantList}
 use Rattle.typed_trees.specs.declared.parts.ConstantItem.{ConstantItem}
+use Rattle.typed_trees.specs.declared.parts.InitialValue.{InitialValue}
 use Rattle.typed_trees.specs.TypedTrees.{Home, InData, InConstants, TypedObject, TypedModule}
 use Rattle.typed_trees.specs.Sizes.{size_of_object}
 use Rattle.typed_trees.specs.Weight.{size_of_constant}
@@ -65,3 +66,15 @@ list_slots_from offsets otherwise number [] = []
 list_slots_from offsets otherwise number (bytes ∷ others) =
     record { segment = Code; offset = offset_in offsets number otherwise; size = length bytes }
     ∷ list_slots_from offsets otherwise (number + 1) others
+
+-- each object with DATA and each list of a module stands among its constants
+pub record HasItsConstants (typed : TypedModule) : Type 0 where
+  pub objects :
+      (number : ℕ) (object : TypedObject) (values : List InitialValue)
+      → slice_get typed.objects number ≡ Some object
+      → object.home ≡ InConstants values
+      → Contains typed.constants.items (ConstantObject number)
+  pub lists :
+      (number : ℕ)
+      → number < length typed.constants.lists
+      → Contains typed.constants.items (ConstantList number)
