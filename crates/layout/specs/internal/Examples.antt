@@ -136,8 +136,8 @@ procedures_called modules = map (λ (numbered : ℕ × TypedModule). called modu
     called : List TypedModule → (number_of_module : ℕ) → TypedModule → List (Option InProgram)
     called modules number_of_module typed = map
         (λ (numbered : ℕ × TypedProcedure).
-        procedure_meant modules (record { number_of_module = number_of_module; number = numbered.0 }) numbered.1
-        (numbered.1).visibility)
+        procedure_meant modules (record { number_of_module = number_of_module; number = numbered.0 })
+        numbered.1 (numbered.1).visibility)
         (enumerate_from 0 typed.procedures)
 
 pub joined : join_refusal (typed (caller ∷ shower Byte ∷ [])) ≡ None

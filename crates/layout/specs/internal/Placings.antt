@@ -31,7 +31,8 @@ unfolding typing_of built_in_of placement_by
 filled_by_plan = refl
 
 pub filled_slots :
-    map (λ (typed : TypedModule). map (option_map (address_of_slot filled_bases)) (storage_with typed).objects)
+    map
+    (λ (typed : TypedModule). map (option_map (address_of_slot filled_bases)) (storage_with typed).objects)
     (typed (filled_module ∷ []))
     ≡ (Some 2 ∷ Some 3 ∷ Some 6 ∷ []) ∷ []
 unfolding typing_of built_in_of
@@ -65,8 +66,8 @@ pub structures_by_plan :
 unfolding typing_of built_in_of placement_by
 structures_by_plan = refl
 
--- DECLARE K BYTE DATA (1), W ADDRESS; W = .('');: with K at 65535 the list, which has no byte, has the address
--- 0
+-- DECLARE K BYTE DATA (1), W ADDRESS; W = .('');: with K at 65535 the list, which has no byte, has the
+-- address 0
 abbrev pub empty_list_module : ModuleTree
 empty_list_module = module_of
     (DeclareTree (
