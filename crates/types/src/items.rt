@@ -1,16 +1,368 @@
 //! What DECLARE declares.
 
-ghost use Rattle.std.specs.Prelude.{map};
-ghost use Rattle.trees.specs.Views.{element_tree};
-ghost use Rattle.types.specs.Items.{declare_elements};
-ghost use Rattle.types.specs.internal.Results.{Leaves};
-ghost use Rattle.types.specs.internal.Views.{block_view, progress_view};
+ghost use Rattle.std.specs.Prelude.{◌≡◌, map, is_some};
+ghost use Rattle.std.specs.Option.{option_map};
+ghost use Rattle.trees.specs.Views.{element_tree, item_tree, item_type_tree, at_tree, subject_tree, value_list_tree};
+ghost use Rattle.std.specs.List.{list_any};
+ghost use Rattle.std.specs.Str.{bytes_eq};
+ghost use Rattle.trees.specs.declared.identifier.Identifier.{Identifier as TheIdentifier};
+ghost use Rattle.names.specs.Environment.{is_among as name_among};
+ghost use Rattle.types.specs.Blocks.{declares_parameter as parameter_in, is_external_linkage, line_of_linkage as linkage_line};
+ghost use Rattle.typed_trees.specs.Views.{home_view, object_view, type_view};
+ghost use Rattle.types.specs.Items as items;
+ghost use Rattle.types.specs.internal.Results.{Answers, Leaves};
+ghost use Rattle.types.specs.internal.Views.{block_view, contents_view, extents_view, owner_view, known_view, progress_view, typed_item_view};
 
-use crate::blocks::Block;
+use crate::blocks::{Block, Owner};
 use crate::checker::Checker;
-use crate::fault::Fault;
+use crate::fault::{Cause, Fault};
+use crate::filling::{Contents, Extents};
+use crate::known::{Known, refuse, require};
 use failure::Failure;
-use trees::Element;
+use names::{Binding, Entity};
+use trees::{
+    Dimension, Element, Identifier, Item, ItemType, Linkage, Name, Place, ScalarType, Storage,
+    Subject, ValueList,
+};
+use typed_trees::{AtAddress, Home, InitialValue, ObjectType, TypedObject};
+
+/// An item, all but its names.
+#[derive(Drop)]
+pub(crate) struct TypedItem {
+    dimension: Option<u32>,
+    object_type: ObjectType,
+    home: Home,
+    linkage: Option<Linkage>,
+}
+
+impl Known {
+    // What an item is based on. Parameters are not BASED.
+    fn typed_base(&self, block: Block<'_>, subject: &Subject) -> Result<Option<u32>, Failure<Fault>>
+        ensures { Answers (λ base. base) result (items.typed_base (known_view self.now) (block_view block.entry)
+            (subject_tree subject.now) (items.base_of (subject_tree subject.now))) }
+    {
+        let Subject::Single {
+            name: _,
+            base: Some(name),
+        } = subject
+        else {
+            return Ok(None);
+        };
+        require(
+            !names_parameter(block, subject),
+            Cause::MisplacedAttribute,
+            name.place.line,
+        )?;
+        let number = object_bound(self.bound(*name)?, name.place.line)?;
+        let object = self.object(*name, number)?;
+        require(is_base(object), Cause::WrongUse, name.place.line)?;
+        Ok(Some(number))
+    }
+
+    // Where AT puts an item.
+    fn typed_at(&self, block: Block<'_>, item: &Item) -> Result<Option<AtAddress>, Failure<Fault>>
+        ensures { Answers (λ at. at) result (items.typed_at (known_view self.now) (block_view block.entry)
+            (item_tree item.now) (item_tree item.now).at) }
+    {
+        match &item.at {
+            Some(at) => {
+                require(
+                    is_plain(block, item),
+                    Cause::MisplacedAttribute,
+                    at.place.line,
+                )?;
+                Ok(Some(self.at_address(&at.address)?))
+            }
+            None => Ok(None),
+        }
+    }
+
+    // What an item is filled with. INITIAL and DATA do not go with AT.
+    fn typed_contents(
+        &self,
+        block: Block<'_>,
+        item: &Item,
+        object_type: &ObjectType,
+        extents: Extents,
+    ) -> Result<Contents, Failure<Fault>>
+        ensures { Answers contents_view result (items.typed_contents (known_view self.now) (block_view block.entry)
+            (item_tree item.now) (type_view object_type.now) (extents_view extents) (item_tree item.now).value_list) }
+    {
+        let line = line_of_item(item);
+        match &item.value_list {
+            Some(list) => {
+                let goes = is_plain(block, item) && item.at.is_none();
+                require(
+                    goes,
+                    Cause::MisplacedAttribute,
+                    place_of_storage(list.storage).line,
+                )?;
+                self.contents(line, object_type, extents, list.values.as_slice())
+            }
+            None => self.contents(line, object_type, extents, &[]),
+        }
+    }
+
+    // An item as it is for each of its names.
+    fn typed_item(&self, block: Block<'_>, item: &Item) -> Result<TypedItem, Failure<Fault>>
+        ensures { Answers typed_item_view result
+            (items.typed_item (known_view self.now) (block_view block.entry) (item_tree item.now)) }
+    {
+        let base = self.typed_base(block, &item.subject)?;
+        let extents = extents_of(block, item)?;
+        let object_type = self.typed_type(block, item)?;
+        check_linkage(block, item)?;
+        let at = self.typed_at(block, item)?;
+        let filled = self.typed_contents(block, item, &object_type, extents)?;
+        let home = home_of(block.owner, item, base, at, filled.values);
+        Ok(TypedItem {
+            dimension: filled.dimension,
+            object_type,
+            home,
+            linkage: item.linkage,
+        })
+    }
+
+    // The type of an item.
+    fn typed_type(&self, block: Block<'_>, item: &Item) -> Result<ObjectType, Failure<Fault>>
+        ensures { Answers type_view result (items.typed_type (block_view block.entry) (item_tree item.now)
+            (item_tree item.now).item_type) }
+    {
+        match &item.item_type {
+            ItemType::Scalar(scalar) => Ok(ObjectType::Scalar(*scalar)),
+            ItemType::Structure(_) => {
+                let is_parameter = names_parameter(block, &item.subject);
+                require(!is_parameter, Cause::WrongUse, line_of_item(item))?;
+                Err(Failure::Memory)
+            }
+        }
+    }
+}
+
+// Whether a name that a block declares is one of the parameters of its procedure.
+fn declares_parameter(block: Block<'_>, name: Identifier) -> bool
+    ensures { result ≡ parameter_in (block_view block.entry) name.name }
+{
+    match block.owner {
+        Owner::Procedure { heading, .. } => {
+            block.is_own && is_among(heading.parameters.as_slice(), name)
+        }
+        Owner::Module => false,
+    }
+}
+
+// Whether two names are the same.
+#[tactic(auto, using(names::proofs::Keys::names_equal))]
+fn same_name(left: Name, right: Name) -> bool
+    ensures { result ≡ bytes_eq left right }
+{
+    left == right
+}
+
+// Whether a name is one of these.
+#[tactic(auto, using(crate::proofs::ItemLemmas::any_of_map))]
+fn is_among(names: &[Identifier], name: Identifier) -> bool
+    ensures { result ≡ name_among (map (λ (one : TheIdentifier). one.name) names.now) name.name }
+{
+    any_named(names, name.name)
+}
+
+// Whether one of these has a name.
+fn any_named(names: &[Identifier], name: Name) -> bool
+    ensures { result ≡ list_any (λ (one : TheIdentifier). bytes_eq name one.name) names.now }
+{
+    names.iter().any(|one| same_name(name, one.name))
+}
+
+// Whether an item declares a parameter.
+fn names_parameter(block: Block<'_>, subject: &Subject) -> bool
+    ensures { result ≡ items.names_parameter (block_view block.entry) (subject_tree subject.now) }
+{
+    match subject {
+        Subject::Single { name, .. } => declares_parameter(block, *name),
+        Subject::Group(names) => any_parameter(block, names.as_slice()),
+    }
+}
+
+// Whether one of these names is a parameter.
+fn any_parameter(block: Block<'_>, names: &[Identifier]) -> bool
+    ensures { result ≡ list_any
+        (λ (name : TheIdentifier).
+        parameter_in (block_view block.entry) name.name) names.now }
+{
+    names.iter().any(|name| declares_parameter(block, *name))
+}
+
+// The line of the first name of an item.
+fn line_of_item(item: &Item) -> u32
+    ensures { result ≡ items.line_of_item (item_tree item.now) }
+{
+    match &item.subject {
+        Subject::Single { name, .. } => name.place.line,
+        Subject::Group(names) => match names.as_slice() {
+            [first, ..] => first.place.line,
+            [] => 0,
+        },
+    }
+}
+
+// Whether an object may be a base: a scalar ADDRESS that is not BASED itself.
+fn is_base(object: &TypedObject) -> bool
+    ensures { result ≡ items.is_base (object_view object.now) }
+{
+    let is_address = matches!(&object.object_type, ObjectType::Scalar(ScalarType::Address));
+    object.dimension.is_none() && is_address && !matches!(&object.home, Home::Based(_))
+}
+
+// The object that a name is bound to.
+fn object_bound(binding: Binding, line: u32) -> Result<u32, Failure<Fault>>
+    ensures { Answers (λ number. number) result (items.object_bound binding line) }
+{
+    match binding {
+        Binding::Declared(Entity::Object(number)) => Ok(number),
+        _ => Err(refuse(Cause::WrongUse, line)),
+    }
+}
+
+// How many elements an item is declared with. A dimension is 1 or more. Parameters are scalars. `(*)` goes with one
+// name, and with INITIAL or DATA.
+fn extents_of(block: Block<'_>, item: &Item) -> Result<Extents, Failure<Fault>>
+    ensures { Answers extents_view result
+        (items.extents_of (block_view block.entry) (item_tree item.now) (item_tree item.now).dimension) }
+{
+    let is_scalar = !names_parameter(block, &item.subject);
+    match item.dimension {
+        None => Ok(Extents::NoArray),
+        Some(Dimension::Count(number)) => {
+            require(1 <= number.value, Cause::WrongConstant, number.place.line)?;
+            require(is_scalar, Cause::WrongUse, number.place.line)?;
+            Ok(Extents::Elements(number.value))
+        }
+        Some(Dimension::Implied) => {
+            let line = line_of_item(item);
+            require(is_scalar, Cause::WrongUse, line)?;
+            require(!is_group(&item.subject), Cause::MisplacedAttribute, line)?;
+            require(item.value_list.is_some(), Cause::WrongConstant, line)?;
+            Ok(Extents::AsListed)
+        }
+    }
+}
+
+// Whether an item declares several names in parentheses.
+fn is_group(subject: &Subject) -> bool
+    ensures { result ≡ items.is_group (subject_tree subject.now) }
+{
+    matches!(subject, Subject::Group(_))
+}
+
+// Whether an item is BASED.
+fn is_based(subject: &Subject) -> bool
+    ensures { result ≡ is_some (items.base_of (subject_tree subject.now)) }
+{
+    matches!(subject, Subject::Single { base: Some(_), .. })
+}
+
+// PUBLIC and EXTERNAL stand at the level of the module, and not with BASED.
+fn check_linkage(block: Block<'_>, item: &Item) -> Result<(), Failure<Fault>>
+    ensures { Answers (λ _. tt) result
+        (items.check_linkage (block_view block.entry) (item_tree item.now) (item_tree item.now).linkage) }
+{
+    match item.linkage {
+        Some(linkage) => {
+            let goes = block.is_module_level() && !is_based(&item.subject);
+            require(goes, Cause::MisplacedAttribute, line_of_linkage(linkage))
+        }
+        None => Ok(()),
+    }
+}
+
+// The line of PUBLIC or EXTERNAL.
+fn line_of_linkage(linkage: Linkage) -> u32
+    ensures { result ≡ linkage_line linkage }
+{
+    match linkage {
+        Linkage::Public(place) | Linkage::External(place) => place.line,
+    }
+}
+
+// Whether an item may have a place or values of its own: one name, not BASED, not EXTERNAL, no parameter, and no
+// variable of a REENTRANT procedure.
+fn is_plain(block: Block<'_>, item: &Item) -> bool
+    ensures { result ≡ items.is_plain (block_view block.entry) (item_tree item.now) }
+{
+    !is_group(&item.subject)
+        && !is_based(&item.subject)
+        && !is_external(item.linkage)
+        && !names_parameter(block, &item.subject)
+        && !block.owner.is_reentrant()
+}
+
+// Whether a linkage is EXTERNAL.
+fn is_external(linkage: Option<Linkage>) -> bool
+    ensures { result ≡ is_external_linkage linkage }
+{
+    matches!(linkage, Some(Linkage::External(_)))
+}
+
+// Where INITIAL or DATA stands.
+fn place_of_storage(storage: Storage) -> Place
+    ensures { result ≡ items.place_of_storage storage }
+{
+    match storage {
+        Storage::Initial(place) | Storage::Data(place) => place,
+    }
+}
+
+// Whether the values of an item are DATA's.
+fn is_data(values: &Option<ValueList>) -> bool
+    ensures { result ≡ items.is_data (option_map value_list_tree values.now) }
+{
+    match values {
+        Some(list) => matches!(list.storage, Storage::Data(_)),
+        None => false,
+    }
+}
+
+// Where the variables and parameters of an owner live that say nothing else.
+fn home_in(owner: Owner<'_>, values: Vec<InitialValue>) -> Home
+    ensures { home_view result ≡ items.home_in (owner_view owner.entry) values.items }
+{
+    match owner {
+        Owner::Module => Home::Data(values),
+        Owner::Procedure { number, heading } => {
+            if is_external(heading.linkage) {
+                Home::Absent
+            } else if heading.reentrant.is_some() {
+                Home::Frame(number)
+            } else {
+                Home::Data(values)
+            }
+        }
+    }
+}
+
+// Where an item lives: by BASED, by EXTERNAL, by AT, by DATA, or by what declares it.
+fn home_of(
+    owner: Owner<'_>,
+    item: &Item,
+    base: Option<u32>,
+    at: Option<AtAddress>,
+    values: Vec<InitialValue>,
+) -> Home
+    ensures { home_view result ≡ items.home_of (owner_view owner.entry) (item_tree item.now) base at values.items }
+{
+    if let Some(number) = base {
+        return Home::Based(number);
+    }
+    if is_external(item.linkage) {
+        return Home::External;
+    }
+    match at {
+        Some(address) => Home::At(address),
+        None if is_data(&item.value_list) => Home::Constant(values),
+        None => home_in(owner, values),
+    }
+}
 
 impl Checker {
     /// Declares the elements of a DECLARE.
@@ -20,7 +372,7 @@ impl Checker {
         elements: &[Element],
     ) -> Result<(), Failure<Fault>>
         ensures { Leaves result (progress_view self.new)
-            (declare_elements (block_view block.entry) (map element_tree elements.now) (progress_view self.old)) }
+            (items.declare_elements (block_view block.entry) (map element_tree elements.now) (progress_view self.old)) }
     {
         Err(Failure::Memory)
     }
