@@ -1,1 +1,4 @@
 pub mod Views
+pub mod Keys
+pub mod Capped
+pub mod MemberTable

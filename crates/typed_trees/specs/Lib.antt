@@ -5,3 +5,4 @@ pub mod Charge
 pub mod Weight
 pub mod Jumps
 pub mod Views
+pub mod internal

@@ -1,10 +1,11 @@
 -- How many bytes objects take, and which scalars they hold (PL/M-80 Programming Manual, "Arrays and
 -- structures").
-use Rattle.std.specs.Prelude.{ℕ, suc, ◌+◌, ◌*◌, List, [], ◌∷◌, replicate, Option, Some, None, option_map, unwrap_or, flat_map, sum_by, if◌then◌else◌}
-use Rattle.std.specs.List.{repeat}
+use Rattle.std.specs.Prelude.{ℕ, suc, ◌+◌, ◌*◌, min, Bool, List, [], ◌∷◌, replicate, Option, Some, None, option_map, unwrap_or, flat_map, sum_by, if◌then◌else◌}
+use Rattle.std.specs.List.{list_any, repeat}
 use Rattle.std.specs.Str.{bytes_eq}
 use Rattle.trees.specs.declared.declaration.ScalarType.{ScalarType}
 use Rattle.trees.specs.declared.declaration.ScalarType.TheVariants.{Byte, Address}
+use Rattle.typed_trees.specs.declared.members.FoundMember.{FoundMember}
 use Rattle.typed_trees.specs.declared.parts.TypedMember.{TypedMember}
 use Rattle.typed_trees.specs.TypedTrees.{ObjectType, ScalarObject, StructureObject, TypedObject}
 
@@ -28,11 +29,9 @@ size_of_element (StructureObject members) = sum_by size_of_member members
 abbrev pub size_of_object : TypedObject → ℕ
 size_of_object object = count_of object.dimension * size_of_element object.object_type
 
--- a member that a structure has: its position, and where it begins in an element, after the members before it
-pub record FoundMember : Type 0 where
-  pub position : ℕ
-  pub offset : ℕ
-  pub member : TypedMember
+-- whether a structure has a member of a name
+abbrev pub has_member : List TypedMember → List ℕ → Bool
+has_member members name = list_any (λ (member : TypedMember). bytes_eq member.name name) members
 
 -- the member that is found among those after one, seen from that one
 abbrev pub after_member : TypedMember → FoundMember → FoundMember
@@ -47,6 +46,10 @@ member_named [] name = None
 member_named (member ∷ others) name =
     if bytes_eq member.name name then Some (record { position = 0; offset = 0; member = member })
     else option_map (after_member member) (member_named others name)
+
+-- what the code tells of it: where it begins further on than a number of 32 bits tells, the greatest of those
+abbrev pub capped : FoundMember → FoundMember
+capped place = record place { offset = min place.offset 4294967295 }
 
 -- the scalars of a member, of an element, and of so many elements, in the order of their addresses
 abbrev pub scalars_of_member : TypedMember → List ScalarType

@@ -135,7 +135,7 @@ else_view (Some statement) = ElseStatement (statement_view statement)
 
 abbrev pub type_view : CodeType → ObjectType
 type_view (object_types.Scalar scalar) = ScalarObject scalar
-type_view (object_types.Structure members) = StructureObject members.items
+type_view (object_types.Structure members) = StructureObject members.value
 
 abbrev pub home_view : CodeHome → Home
 home_view (homes.Data values) = InData values.items

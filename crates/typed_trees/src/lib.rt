@@ -3,12 +3,14 @@
 
 mod expression;
 mod limits;
+mod members;
 mod module;
 mod parts;
 mod statement;
 
 pub use expression::{TypedExpression, TypedReference, TypedSubscript, TypedTarget};
 pub use limits::{CODE_BYTES, CODE_BYTES_FOR_WEIGHT, FRAME_LIMIT, OBJECT_LIMIT, PARAMETER_LIMIT};
+pub use members::{FoundMember, Members};
 pub use module::{Home, ObjectType, Typed, TypedObject, TypedProcedure};
 pub use parts::{
     AtAddress, ConstantItem, GlobalItem, InitialValue, Measure, NumberOrigin, ShiftFunction,

@@ -1,14 +1,17 @@
 //! Typed modules: their tables.
 
+use crate::members::{Members, scalar_size};
+use crate::parts::{AtAddress, ConstantItem, GlobalItem, InitialValue, Visibility};
 use crate::statement::TypedList;
-use crate::parts::{AtAddress, ConstantItem, GlobalItem, InitialValue, TypedMember, Visibility};
+use std::rc::Rc;
 use trees::{Name, ScalarType};
 
 /// The type of an object, or of the elements of an array.
 #[derive(Debug, Drop)]
 pub enum ObjectType {
     Scalar(ScalarType),
-    Structure(Vec<TypedMember>),
+    /// The members of a structure, which the names of an item share.
+    Structure(Rc<Members>),
 }
 
 /// Where an object lives.
@@ -73,4 +76,45 @@ pub struct Typed {
     pub globals: Vec<GlobalItem>,
     /// The statements at the outer level.
     pub main: TypedProcedure,
+}
+
+impl ObjectType {
+    ghost use Rattle.std.specs.Prelude.{◌≡◌, min};
+    ghost use Rattle.typed_trees.specs.Sizes.{size_of_element};
+    ghost use Rattle.typed_trees.specs.Views.{type_view};
+
+    /// How many bytes an element takes (4,294,967,295 where it takes more).
+    pub fn element_size(&self) -> u32
+        ensures { result ≡ min (size_of_element (type_view self.now)) 4294967295 }
+    {
+        match self {
+            ObjectType::Scalar(scalar) => scalar_size(*scalar),
+            ObjectType::Structure(members) => members.size(),
+        }
+    }
+}
+
+impl TypedObject {
+    ghost use Rattle.std.specs.Prelude.{◌≡◌, min};
+    ghost use Rattle.typed_trees.specs.Sizes.{size_of_element, size_of_object};
+    ghost use Rattle.typed_trees.specs.Views.{object_view};
+
+    /// How many bytes an element takes (4,294,967,295 where it takes more).
+    pub fn element_size(&self) -> u32
+        ensures { result ≡ min (size_of_element (object_view self.now).object_type) 4294967295 }
+    {
+        self.object_type.element_size()
+    }
+
+    /// How many bytes it takes (4,294,967,295 where it takes more).
+    #[tactic(auto, using(crate::proofs::Capped::capped_product))]
+    pub fn size(&self) -> u32
+        ensures { result ≡ min (size_of_object (object_view self.now)) 4294967295 }
+    {
+        let count = match self.dimension {
+            Some(count) => count as u32,
+            None => 1,
+        };
+        count.saturating_mul(self.object_type.element_size())
+    }
 }

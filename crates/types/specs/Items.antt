@@ -2,7 +2,6 @@
 use Rattle.std.specs.Prelude.{ℕ, ◌+◌, ◌*◌, Bool, true, false, not, ◌&&◌, ◌||◌, List, [], ◌∷◌, ◌++◌, length, Option, Some, None, is_some, is_none, Ok, nat_le, if◌then◌else◌}
 use Rattle.std.specs.List.{list_any}
 use Rattle.std.specs.Option.{option_map_or}
-use Rattle.std.specs.Str.{bytes_eq}
 use Rattle.trees.specs.declared.declaration.Dimension.{Dimension}
 use Rattle.trees.specs.declared.declaration.Dimension.TheVariants.{Count, Implied}
 use Rattle.trees.specs.declared.declaration.Linkage.{Linkage}
@@ -27,7 +26,7 @@ use Rattle.typed_trees.specs.declared.parts.GlobalItem.TheVariants.{GlobalObject
 use Rattle.typed_trees.specs.declared.parts.InitialValue.{InitialValue}
 use Rattle.typed_trees.specs.declared.parts.TypedMember.{TypedMember}
 use Rattle.typed_trees.specs.TypedTrees.{ObjectType, ScalarObject, StructureObject, Home, InData, InConstants, Placed, BasedOn, Elsewhere, Nowhere, InFrame, TypedObject, Constants}
-use Rattle.typed_trees.specs.Sizes.{count_of, size_of_element, size_of_object}
+use Rattle.typed_trees.specs.Sizes.{count_of, size_of_element, size_of_object, has_member}
 use Rattle.types.specs.Checks.{Checked, ◌>>=◌, refuse, require}
 use Rattle.types.specs.References.{Known, line_of, bound, object_of}
 use Rattle.types.specs.Blocks.{Owner, TheModule, OfProcedure, Block, Progress, with_global, is_public_linkage, is_external_linkage, line_of_linkage, is_reentrant, is_external, is_module_level, declares_parameter}
@@ -105,16 +104,13 @@ extents_of block item (Some Implied) = do
   _ ← require (is_some item.value_list) WrongConstant (line_of_item item)
   Ok AsListed
 
--- the members of a structure differ from each other
-abbrev pub has_member : List TypedMember → List ℕ → Bool
-has_member members name = list_any (λ (member : TypedMember). bytes_eq member.name name) members
-
 abbrev pub member_dimension : Option Number → Checked (Option ℕ)
 member_dimension None = Ok None
 member_dimension (Some number) = do
   _ ← require (nat_le 1 number.value) WrongConstant number.place.line
   Ok (Some number.value)
 
+-- the members of a structure differ from each other
 abbrev pub typed_members : (before : List TypedMember) → List Member → Checked (List TypedMember)
 typed_members before [] = Ok before
 typed_members before (member ∷ others) = do

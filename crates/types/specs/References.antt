@@ -14,7 +14,8 @@ use Rattle.names.specs.BuiltIns.{binding_of}
 use Rattle.types.specs.declared.fault.Cause.TheVariants.{UnknownName, WrongUse, WrongConstant, ConstantWritten, NoLocation}
 use Rattle.typed_trees.specs.declared.parts.TypedMember.{TypedMember}
 use Rattle.typed_trees.specs.TypedTrees.{TypedExpression, LocationNode, TypedReference, PartOf, Subscript, NoSubscript, At, TypedArguments, NoArguments as NoTyped, MoreArguments as MoreTyped, ObjectType, ScalarObject, StructureObject, Home, InConstants, InFrame, TypedObject, TypedProcedure, Constants}
-use Rattle.typed_trees.specs.Sizes.{size_of_scalar, size_of_element, FoundMember, member_named}
+use Rattle.typed_trees.specs.declared.members.FoundMember.{FoundMember}
+use Rattle.typed_trees.specs.Sizes.{size_of_scalar, size_of_element, member_named}
 use Rattle.types.specs.Checks.{Checked, ◌>>=◌, refuse, require, found}
 use Rattle.types.specs.Nodes.{as_type, Destination, Variable, Port}
 
