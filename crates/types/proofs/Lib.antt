@@ -1,1 +1,2 @@
+pub mod Loops
 pub mod ItemLemmas

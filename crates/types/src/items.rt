@@ -1,6 +1,6 @@
 //! What DECLARE declares.
 
-ghost use Rattle.std.specs.Prelude.{◌≡◌, map, is_some};
+ghost use Rattle.std.specs.Prelude.{◌≡◌, [], ◌∷◌, map, is_some, Ok};
 ghost use Rattle.std.specs.Option.{option_map};
 ghost use Rattle.trees.specs.Views.{element_tree, item_tree, item_type_tree, at_tree, subject_tree, value_list_tree};
 ghost use Rattle.std.specs.List.{list_any};
@@ -9,6 +9,9 @@ ghost use Rattle.trees.specs.declared.identifier.Identifier.{Identifier as TheId
 ghost use Rattle.names.specs.Environment.{is_among as name_among};
 ghost use Rattle.types.specs.Blocks.{declares_parameter as parameter_in, is_external_linkage, line_of_linkage as linkage_line};
 ghost use Rattle.typed_trees.specs.Views.{home_view, object_view, type_view};
+ghost use Rattle.types.specs.Checks.{◌>>=◌};
+ghost use Rattle.types.specs.Statements.{with_here};
+ghost use Rattle.names.specs.Uses.{declared_by};
 ghost use Rattle.types.specs.Items as items;
 ghost use Rattle.types.specs.internal.Results.{Answers, Leaves};
 ghost use Rattle.types.specs.internal.Views.{block_view, contents_view, extents_view, owner_view, known_view, progress_view, typed_item_view};
@@ -20,8 +23,10 @@ use crate::filling::{Contents, Extents};
 use crate::known::{Known, refuse, require};
 use failure::Failure;
 use names::{Binding, Entity};
+use std::alloc::Global;
+use std::rc::Rc;
 use trees::{
-    Dimension, Element, Identifier, Item, ItemType, Linkage, Name, Place, ScalarType, Storage,
+    Dimension, Element, Identifier, Item, ItemType, Linkage, Member, Name, Place, ScalarType, Storage,
     Subject, ValueList,
 };
 use typed_trees::{AtAddress, Home, InitialValue, ObjectType, TypedObject};
@@ -130,10 +135,11 @@ impl Known {
     {
         match &item.item_type {
             ItemType::Scalar(scalar) => Ok(ObjectType::Scalar(*scalar)),
-            ItemType::Structure(_) => {
+            ItemType::Structure(members) => {
                 let is_parameter = names_parameter(block, &item.subject);
                 require(!is_parameter, Cause::WrongUse, line_of_item(item))?;
-                Err(Failure::Memory)
+                let typed = typed_members(self.alloc, members.as_slice())?;
+                Ok(ObjectType::Structure(Rc::new(self.alloc, typed)?))
             }
         }
     }
@@ -364,6 +370,33 @@ fn home_of(
     }
 }
 
+// The members of a structure, which differ from each other.
+fn typed_members(alloc: Global, members: &[Member]) -> Result<Members, Failure<Fault>>
+    ensures { Answers (λ made. made) result (items.typed_members [] members.now) }
+{
+    let mut typed = Members::new(alloc);
+    for member in members {
+        add_member(&mut typed, *member)?;
+    }
+    Ok(typed)
+}
+
+// Adds a member to those before it.
+fn add_member(typed: &mut Members, member: Member) -> Result<(), Failure<Fault>>
+    ensures { Leaves result typed.new (items.typed_members typed.old (member ∷ [])) }
+{
+    let added = typed.push(TypedMember {
+        name: member.name.name,
+        dimension: member.dimension.map(|number| number.value),
+        scalar: member.scalar,
+    })?;
+    require(added, Cause::DeclaredTwice, member.name.place.line)?;
+    match member.dimension {
+        Some(number) => require(1 <= number.value, Cause::WrongConstant, number.place.line),
+        None => Ok(()),
+    }
+}
+
 impl Checker {
     /// Declares the elements of a DECLARE.
     pub(crate) fn declare_elements(
@@ -374,6 +407,106 @@ impl Checker {
         ensures { Leaves result (progress_view self.new)
             (items.declare_elements (block_view block.entry) (map element_tree elements.now) (progress_view self.old)) }
     {
+        for element in elements {
+            self.declare_element(block, element)?;
+        }
+        Ok(())
+    }
+
+    // Declares an element of a DECLARE.
+    fn declare_element(
+        &mut self,
+        block: Block<'_>,
+        element: &Element,
+    ) -> Result<(), Failure<Fault>>
+        ensures { Leaves result (progress_view self.new)
+            (items.declare_element (block_view block.entry) (element_tree element.now) (progress_view self.old)) }
+    {
+        match element {
+            Element::Literally(definition) => self.declare_definition(block, definition.name),
+            Element::Item(item) => self.declare_item(block, item),
+        }
+    }
+
+    // A definition by LITERALLY declares its name.
+    fn declare_definition(
+        &mut self,
+        block: Block<'_>,
+        name: Identifier,
+    ) -> Result<(), Failure<Fault>>
+        ensures { Leaves result (progress_view self.new)
+            (items.declare_definition (block_view block.entry) name (progress_view self.old)) }
+    {
+        twice(self.known.scopes.declare_definition(name))?;
+        require(!block.owner.is_external(), Cause::MisplacedAttribute, name.place.line)
+    }
+
+    // Declares the name of an object. In an EXTERNAL procedure it is a parameter.
+    fn declare_name(&mut self, block: Block<'_>, name: Identifier) -> Result<(), Failure<Fault>>
+        ensures { Leaves result (progress_view self.new)
+            (items.declare_names (block_view block.entry) (name ∷ []) (known_view self.old.known).here
+            >>= (λ here. Ok (with_here here (progress_view self.old)))) }
+    {
+        twice(self.known.scopes.declare_object(name))?;
+        let goes = !block.owner.is_external() || declares_parameter(block, name);
+        require(goes, Cause::MisplacedAttribute, name.place.line)
+    }
+
+    // Declares the names of objects.
+    fn declare_names(&mut self, block: Block<'_>, subject: &Subject) -> Result<(), Failure<Fault>>
+        ensures { Leaves result (progress_view self.new)
+            (items.declare_names (block_view block.entry) (declared_by (subject_tree subject.now))
+            (known_view self.old.known).here >>= (λ here. Ok (with_here here (progress_view self.old)))) }
+    {
+        match subject {
+            Subject::Single { name, .. } => self.declare_name(block, *name),
+            Subject::Group(names) => self.declare_group(block, names.as_slice()),
+        }
+    }
+
+    // Declares the names of objects that stand in parentheses.
+    fn declare_group(
+        &mut self,
+        block: Block<'_>,
+        names: &[Identifier],
+    ) -> Result<(), Failure<Fault>>
+        ensures { Leaves result (progress_view self.new)
+            (items.declare_names (block_view block.entry) names.now (known_view self.old.known).here
+            >>= (λ here. Ok (with_here here (progress_view self.old)))) }
+    {
+        for name in names {
+            self.declare_name(block, *name)?;
+        }
+        Ok(())
+    }
+
+    // Puts an object at the end of the table, and where else it belongs.
+    fn add_object(
+        &mut self,
+        block: Block<'_>,
+        item: TypedItem,
+        name: Identifier,
+    ) -> Result<(), Failure<Fault>>
+        ensures { Leaves result (progress_view self.new)
+            (items.with_objects (block_view block.entry) (typed_item_view item) (name ∷ []) (progress_view self.old)) }
+    {
         Err(Failure::Memory)
+    }
+
+    // Declares an item. Its names are known after the whole of it.
+    fn declare_item(&mut self, block: Block<'_>, item: &Item) -> Result<(), Failure<Fault>>
+        ensures { Leaves result (progress_view self.new)
+            (items.declare_item (block_view block.entry) (item_tree item.now) (progress_view self.old)) }
+    {
+        Err(Failure::Memory)
+    }
+}
+
+// What the scopes answer to a declaration, as the checker answers it.
+fn twice<T>(declared: Result<T, Failure<names::Fault>>) -> Result<T, Failure<Fault>> {
+    match declared {
+        Ok(value) => Ok(value),
+        Err(Failure::Memory) => Err(Failure::Memory),
+        Err(Failure::Fault(fault)) => Err(refuse(Cause::DeclaredTwice, fault.line())),
     }
 }

@@ -4,6 +4,7 @@
 mod blocks;
 mod calls;
 mod checker;
+mod constants;
 mod expression_nodes;
 mod expressions;
 mod fault;
