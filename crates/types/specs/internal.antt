@@ -1,5 +1,6 @@
 pub mod Results
 pub mod Views
+pub mod Items
 pub mod Samples
 pub mod Examples
 pub mod Measures

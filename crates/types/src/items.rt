@@ -1,19 +1,19 @@
 //! What DECLARE declares.
 
-ghost use Rattle.std.specs.Prelude.{◌≡◌, [], ◌∷◌, map, is_some, Ok};
+ghost use Rattle.std.specs.Prelude.{◌≡◌, [], ◌∷◌, map, is_some};
 ghost use Rattle.std.specs.Option.{option_map};
 ghost use Rattle.trees.specs.Views.{element_tree, item_tree, item_type_tree, at_tree, subject_tree, value_list_tree};
 ghost use Rattle.std.specs.List.{list_any};
 ghost use Rattle.std.specs.Str.{bytes_eq};
 ghost use Rattle.trees.specs.declared.identifier.Identifier.{Identifier as TheIdentifier};
+ghost use Rattle.trees.specs.declared.identifier.Number.{Number as TheNumber};
 ghost use Rattle.names.specs.Environment.{is_among as name_among};
 ghost use Rattle.types.specs.Blocks.{declares_parameter as parameter_in, is_external_linkage, line_of_linkage as linkage_line};
 ghost use Rattle.typed_trees.specs.Views.{home_view, object_view, type_view};
-ghost use Rattle.types.specs.Checks.{◌>>=◌};
-ghost use Rattle.types.specs.Statements.{with_here};
 ghost use Rattle.names.specs.Uses.{declared_by};
 ghost use Rattle.types.specs.Items as items;
-ghost use Rattle.types.specs.internal.Results.{Answers, Leaves};
+ghost use Rattle.types.specs.internal.Items.{with_names};
+ghost use Rattle.types.specs.internal.Results.{Answers, Leaves, as_fault};
 ghost use Rattle.types.specs.internal.Views.{block_view, contents_view, extents_view, owner_view, known_view, progress_view, typed_item_view};
 
 use crate::blocks::{Block, Owner};
@@ -26,10 +26,10 @@ use names::{Binding, Entity};
 use std::alloc::Global;
 use std::rc::Rc;
 use trees::{
-    Dimension, Element, Identifier, Item, ItemType, Linkage, Member, Name, Place, ScalarType, Storage,
-    Subject, ValueList,
+    Dimension, Element, Identifier, Item, ItemType, Linkage, Member, Name, Place, ScalarType,
+    Storage, Subject, ValueList,
 };
-use typed_trees::{AtAddress, Home, InitialValue, ObjectType, TypedObject};
+use typed_trees::{AtAddress, Home, InitialValue, Members, ObjectType, TypedMember, TypedObject};
 
 /// An item, all but its names.
 #[derive(Drop)]
@@ -385,15 +385,32 @@ fn typed_members(alloc: Global, members: &[Member]) -> Result<Members, Failure<F
 fn add_member(typed: &mut Members, member: Member) -> Result<(), Failure<Fault>>
     ensures { Leaves result typed.new (items.typed_members typed.old (member ∷ [])) }
 {
-    let added = typed.push(TypedMember {
-        name: member.name.name,
-        dimension: member.dimension.map(|number| number.value),
-        scalar: member.scalar,
-    })?;
-    require(added, Cause::DeclaredTwice, member.name.place.line)?;
-    match member.dimension {
+    let line = member.name.place.line;
+    let dimension = member.dimension;
+    let added = typed.push(member_of(member))?;
+    require(added, Cause::DeclaredTwice, line)?;
+    match dimension {
         Some(number) => require(1 <= number.value, Cause::WrongConstant, number.place.line),
         None => Ok(()),
+    }
+}
+
+// A member, whatever its dimension is.
+fn member_of(member: Member) -> TypedMember
+    ensures { result ≡ record {
+      name = member.name.name;
+      dimension = option_map (λ (number : TheNumber). number.value) member.dimension;
+      scalar = member.scalar;
+    } }
+{
+    let dimension = match member.dimension {
+        Some(number) => Some(number.value),
+        None => None,
+    };
+    TypedMember {
+        name: member.name.name,
+        dimension,
+        scalar: member.scalar,
     }
 }
 
@@ -414,11 +431,7 @@ impl Checker {
     }
 
     // Declares an element of a DECLARE.
-    fn declare_element(
-        &mut self,
-        block: Block<'_>,
-        element: &Element,
-    ) -> Result<(), Failure<Fault>>
+    fn declare_element(&mut self, block: Block<'_>, element: &Element) -> Result<(), Failure<Fault>>
         ensures { Leaves result (progress_view self.new)
             (items.declare_element (block_view block.entry) (element_tree element.now) (progress_view self.old)) }
     {
@@ -437,26 +450,35 @@ impl Checker {
         ensures { Leaves result (progress_view self.new)
             (items.declare_definition (block_view block.entry) name (progress_view self.old)) }
     {
-        twice(self.known.scopes.declare_definition(name))?;
-        require(!block.owner.is_external(), Cause::MisplacedAttribute, name.place.line)
+        let line = name.place.line;
+        let owner = block.owner;
+        let is_external = owner.is_external();
+        let declared = self.known.scopes.declare_definition(name);
+        twice(declared)?;
+        require(!is_external, Cause::MisplacedAttribute, line)
     }
 
     // Declares the name of an object. In an EXTERNAL procedure it is a parameter.
     fn declare_name(&mut self, block: Block<'_>, name: Identifier) -> Result<(), Failure<Fault>>
         ensures { Leaves result (progress_view self.new)
-            (items.declare_names (block_view block.entry) (name ∷ []) (known_view self.old.known).here
-            >>= (λ here. Ok (with_here here (progress_view self.old)))) }
+            (with_names (block_view block.entry) (name ∷ []) (progress_view self.old)) }
     {
-        twice(self.known.scopes.declare_object(name))?;
-        let goes = !block.owner.is_external() || declares_parameter(block, name);
-        require(goes, Cause::MisplacedAttribute, name.place.line)
+        let declared = self.known.scopes.declare_object(name);
+        twice(declared)?;
+        let owner = block.owner;
+        let is_external = owner.is_external();
+        let is_parameter = declares_parameter(block, name);
+        require(
+            !is_external || is_parameter,
+            Cause::MisplacedAttribute,
+            name.place.line,
+        )
     }
 
     // Declares the names of objects.
     fn declare_names(&mut self, block: Block<'_>, subject: &Subject) -> Result<(), Failure<Fault>>
         ensures { Leaves result (progress_view self.new)
-            (items.declare_names (block_view block.entry) (declared_by (subject_tree subject.now))
-            (known_view self.old.known).here >>= (λ here. Ok (with_here here (progress_view self.old)))) }
+            (with_names (block_view block.entry) (declared_by (subject_tree subject.now)) (progress_view self.old)) }
     {
         match subject {
             Subject::Single { name, .. } => self.declare_name(block, *name),
@@ -471,8 +493,7 @@ impl Checker {
         names: &[Identifier],
     ) -> Result<(), Failure<Fault>>
         ensures { Leaves result (progress_view self.new)
-            (items.declare_names (block_view block.entry) names.now (known_view self.old.known).here
-            >>= (λ here. Ok (with_here here (progress_view self.old)))) }
+            (with_names (block_view block.entry) names.now (progress_view self.old)) }
     {
         for name in names {
             self.declare_name(block, *name)?;
@@ -503,9 +524,11 @@ impl Checker {
 }
 
 // What the scopes answer to a declaration, as the checker answers it.
-fn twice<T>(declared: Result<T, Failure<names::Fault>>) -> Result<T, Failure<Fault>> {
+fn twice(declared: Result<(), Failure<names::Fault>>) -> Result<(), Failure<Fault>>
+    ensures { result ≡ as_fault declared }
+{
     match declared {
-        Ok(value) => Ok(value),
+        Ok(()) => Ok(()),
         Err(Failure::Memory) => Err(Failure::Memory),
         Err(Failure::Fault(fault)) => Err(refuse(Cause::DeclaredTwice, fault.line())),
     }
