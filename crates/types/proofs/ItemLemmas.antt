@@ -1,7 +1,52 @@
 -- Items of a DECLARE.
-use Rattle.std.proofs.Common.{◌≡◌, List, [], ◌∷◌, map, Bool, ◌||◌, ap, refl}
+use Rattle.std.proofs.Common.{◌≡◌, List, [], ◌∷◌, ◌++◌, map, Bool, ◌||◌, not, Ok, Err, ap, refl}
 use Rattle.std.specs.List.{list_any}
+use Rattle.names.specs.Environment.{Here, with_object, is_declared_again}
+use Rattle.trees.specs.declared.declaration.Element.{Element}
+use Rattle.trees.specs.declared.declaration.Member.{Member}
+use Rattle.trees.specs.declared.identifier.Identifier.{Identifier}
+use Rattle.trees.specs.Views.{element_tree}
+use Rattle.typed_trees.specs.declared.parts.TypedMember.{TypedMember}
+use Rattle.typed_trees.specs.Sizes.{has_member}
+use Rattle.types.specs.declared.fault.Cause.TheVariants.{DeclaredTwice, MisplacedAttribute}
+use Rattle.types.specs.Blocks.{Block, Progress, is_external, declares_parameter}
+use Rattle.types.specs.Checks.{Checked, ◌>>=◌, require}
+use Rattle.types.specs.Items.{declare_names, declare_element, declare_elements, member_dimension, typed_members}
+use Rattle.types.specs.References.{line_of}
+use Rattle.types.specs.Statements.{with_here}
+use Rattle.types.specs.internal.Items.{with_names}
 
 pub any_of_map : {A B : Type 0} (test : B → Bool) (f : A → B) (all : List A) → list_any test (map f all) ≡ list_any (λ a. test (f a)) all
 any_of_map test f [] = refl
 any_of_map test f (first ∷ others) = ap (λ rest. test (f first) || rest) (any_of_map test f others)
+
+-- two checks, whose outcome goes into what follows
+two_then : {A B C : Type 0} (first : Checked A) (second : Checked B) (made : B → C) (next : C → Checked C) → first >>= (λ _. second >>= λ b. next (made b)) ≡ (first >>= λ _. second >>= λ b. Ok (made b)) >>= next
+two_then (Ok a) (Ok b) made next = refl
+two_then (Ok a) (Err fault) made next = refl
+two_then (Err fault) second made next = refl
+
+-- one name, and then the others
+names_then : {A B : Type 0} (first : Checked A) (second : Checked B) (block : Block) (others : List Identifier) (here : Here) (progress : Progress)
+    → (first >>= λ _. second >>= λ _. declare_names block others here) >>= (λ after. Ok (with_here after progress))
+    ≡ ((first >>= λ _. second >>= λ _. Ok here) >>= (λ after. Ok (with_here after progress))) >>= with_names block others
+names_then (Ok a) (Ok b) block others here progress = refl
+names_then (Ok a) (Err fault) block others here progress = refl
+names_then (Err fault) second block others here progress = refl
+
+pub first_name : (block : Block) (name : Identifier) (others : List Identifier) (progress : Progress) → with_names block (name ∷ others) progress ≡ with_names block (name ∷ []) progress >>= with_names block others
+first_name block name others progress =
+    names_then (require (not (is_declared_again progress.known.here name.name)) DeclaredTwice (line_of name))
+    (require (not (is_external block.owner) || declares_parameter block name.name) MisplacedAttribute (line_of name))
+    block others (with_object name.name progress.known.here) progress
+
+-- one member, and then the others
+pub first_member : (member : Member) (others : List Member) (before : List TypedMember) → typed_members before (member ∷ others) ≡ typed_members before (member ∷ []) >>= (λ now. typed_members now others)
+first_member member others before =
+    two_then (require (not (has_member before member.name.name)) DeclaredTwice (line_of member.name)) (member_dimension member.dimension)
+    (λ dimension. before ++ record { name = member.name.name; dimension = dimension; scalar = member.scalar } ∷ []) (λ now. typed_members now others)
+
+-- one element, and then the others
+pub first_element : (block : Block) (element : Element) (others : List Element) (progress : Progress)
+    → declare_elements block (map element_tree (element ∷ others)) progress ≡ declare_element block (element_tree element) progress >>= (λ after. declare_elements block (map element_tree others) after)
+first_element block element others progress = refl
