@@ -1,5 +1,7 @@
 -- Items of a DECLARE.
-use Rattle.std.proofs.Common.{◌≡◌, List, [], ◌∷◌, ◌++◌, map, Bool, ◌||◌, not, Ok, Err, ap, refl}
+use Rattle.std.proofs.Common.{◌≡◌, ℕ, ◌<◌, ◌≤◌, min, nat_le, true, arith, le-leb, leb-true, sym, ◌∙◌, List, [], ◌∷◌, ◌++◌, map, Bool, ◌||◌, not, Ok, Err, ap, refl}
+use Rattle.std.proofs.lemmas.Bool.{lt-leb}
+use Rattle.std.proofs.Math.Decide.{dec_le}
 use Rattle.std.specs.List.{list_any}
 use Rattle.names.specs.Environment.{Here, with_object, is_declared_again}
 use Rattle.trees.specs.declared.declaration.Element.{Element}
@@ -50,3 +52,14 @@ first_member member others before =
 pub first_element : (block : Block) (element : Element) (others : List Element) (progress : Progress)
     → declare_elements block (map element_tree (element ∷ others)) progress ≡ declare_element block (element_tree element) progress >>= (λ after. declare_elements block (map element_tree others) after)
 first_element block element others progress = refl
+
+-- a number that stops at the greatest of 32 bits, against a limit below that
+pub capped_within : (all limit : ℕ) → limit < 4294967295 → nat_le (min all 4294967295) limit ≡ nat_le all limit
+capped_within all limit small =
+    elim (dec_le all limit) [
+      | yes within ↦ le-leb (min all 4294967295) limit (omega (arith, within)) ∙ sym (le-leb all limit within)
+      | no beyond ↦ lt-leb (min all 4294967295) limit (omega (arith, small, beyond)) ∙ sym (lt-leb all limit (omega (arith, beyond)))
+    ]
+
+pub capped_exact : (all limit : ℕ) → limit < 4294967295 → nat_le all limit ≡ true → min all 4294967295 ≡ all
+capped_exact all limit small within = let is : all ≤ limit = leb-true all limit within in omega (arith, small, is)

@@ -1,6 +1,6 @@
 //! What DECLARE declares.
 
-ghost use Rattle.std.specs.Prelude.{◌≡◌, [], ◌∷◌, map, is_some};
+ghost use Rattle.std.specs.Prelude.{◌≡◌, [], ◌∷◌, length, map, min, is_some, Ok};
 ghost use Rattle.std.specs.Option.{option_map};
 ghost use Rattle.trees.specs.Views.{element_tree, item_tree, item_type_tree, at_tree, subject_tree, value_list_tree};
 ghost use Rattle.std.specs.List.{list_any};
@@ -8,19 +8,19 @@ ghost use Rattle.std.specs.Str.{bytes_eq};
 ghost use Rattle.trees.specs.declared.identifier.Identifier.{Identifier as TheIdentifier};
 ghost use Rattle.trees.specs.declared.identifier.Number.{Number as TheNumber};
 ghost use Rattle.names.specs.Environment.{is_among as name_among};
-ghost use Rattle.types.specs.Blocks.{declares_parameter as parameter_in, is_external_linkage, line_of_linkage as linkage_line};
+ghost use Rattle.types.specs.Blocks.{declares_parameter as parameter_in, is_external_linkage, is_public_linkage, line_of_linkage as linkage_line, with_global};
 ghost use Rattle.typed_trees.specs.Views.{home_view, object_view, type_view};
 ghost use Rattle.names.specs.Uses.{declared_by};
 ghost use Rattle.types.specs.Items as items;
-ghost use Rattle.types.specs.internal.Items.{with_names};
+ghost use Rattle.types.specs.internal.Items.{bytes_with, with_names, with_object};
 ghost use Rattle.types.specs.internal.Results.{Answers, Leaves, as_fault};
-ghost use Rattle.types.specs.internal.Views.{block_view, contents_view, extents_view, owner_view, known_view, progress_view, typed_item_view};
+ghost use Rattle.types.specs.internal.Views.{block_view, constants_view, contents_view, extents_view, owner_view, known_view, progress_view, typed_item_view};
 
 use crate::blocks::{Block, Owner};
 use crate::checker::Checker;
 use crate::fault::{Cause, Fault};
 use crate::filling::{Contents, Extents};
-use crate::known::{Known, refuse, require};
+use crate::known::{Constants, Known, refuse, require};
 use failure::Failure;
 use names::{Binding, Entity};
 use std::alloc::Global;
@@ -29,7 +29,10 @@ use trees::{
     Dimension, Element, Identifier, Item, ItemType, Linkage, Member, Name, Place, ScalarType,
     Storage, Subject, ValueList,
 };
-use typed_trees::{AtAddress, Home, InitialValue, Members, ObjectType, TypedMember, TypedObject};
+use typed_trees::{
+    AtAddress, ConstantItem, FRAME_LIMIT, GlobalItem, Home, InitialValue, Members, ObjectType,
+    TypedMember, TypedObject,
+};
 
 /// An item, all but its names.
 #[derive(Drop)]
@@ -145,9 +148,118 @@ impl Known {
     }
 }
 
+impl Known {
+    // The number of the object that comes next.
+    fn next_object(&self) -> Result<u32, Failure<Fault>>
+        ensures { Answers (λ number. number) result (Ok (length (known_view self.now).objects)) }
+    {
+        match u32::try_from(self.objects.len()) {
+            Ok(number) => Ok(number),
+            Err(_) => Err(Failure::Memory),
+        }
+    }
+
+    // One more object at the end of the table.
+    fn add_object(&mut self, object: TypedObject) -> Result<(), Failure<Fault>>
+        ensures { Leaves result (known_view self.new) (Ok (with_object (object_view object) (known_view self.old))) }
+    {
+        self.objects.push(object)?;
+        Ok(())
+    }
+}
+
+impl Constants {
+    // An object with DATA is one of the constants.
+    fn add_object(&mut self, home: &Home, number: u32) -> Result<(), Failure<Fault>>
+        ensures { Leaves result (constants_view self.new)
+            (Ok (items.with_constant (home_view home.now) number (constants_view self.old))) }
+    {
+        if let Home::Constant(_) = home {
+            self.items.push(ConstantItem::ConstantObject(number))?;
+        }
+        Ok(())
+    }
+}
+
+// One more global, where there is a linkage.
+fn add_global(
+    globals: &mut Vec<GlobalItem>,
+    linkage: Option<Linkage>,
+    item: GlobalItem,
+) -> Result<(), Failure<Fault>>
+    ensures { Leaves result globals.new.items (Ok (with_global linkage item globals.old.items)) }
+{
+    if linkage.is_some() {
+        globals.push(item)?;
+    }
+    Ok(())
+}
+
+// The object of a name of an item.
+fn object_named(
+    block: Block<'_>,
+    item: TypedItem,
+    name: Name,
+) -> Result<TypedObject, Failure<Fault>>
+    ensures { Answers object_view result
+        (Ok (items.object_named (block_view block.entry) (typed_item_view item) name)) }
+{
+    let dimension = fitting(item.dimension)?;
+    let is_public = is_public(item.linkage);
+    let is_parameter = declares_parameter(block, name);
+    Ok(TypedObject {
+        name,
+        dimension,
+        object_type: item.object_type,
+        home: item.home,
+        is_public,
+        is_parameter,
+    })
+}
+
+// A dimension as that of an object, which it fits.
+fn fitting(dimension: Option<u32>) -> Result<Option<u16>, Failure<Fault>>
+    ensures { Answers (λ made. made) result (Ok dimension) }
+{
+    match dimension {
+        Some(count) => match u16::try_from(count) {
+            Ok(count) => Ok(Some(count)),
+            Err(_) => Err(Failure::Memory),
+        },
+        None => Ok(None),
+    }
+}
+
+// Whether a linkage is PUBLIC.
+fn is_public(linkage: Option<Linkage>) -> bool
+    ensures { result ≡ is_public_linkage linkage }
+{
+    matches!(linkage, Some(Linkage::Public(_)))
+}
+
+// How many bytes an object takes in the frame of a call (4,294,967,295 where it takes more).
+fn bytes_in_frame(object: &TypedObject) -> u32
+    ensures { result ≡ min (items.bytes_in_frame (object_view object.now).home (object_view object.now)) 4294967295 }
+{
+    match &object.home {
+        Home::Frame(_) if !object.is_parameter => object.size(),
+        _ => 0,
+    }
+}
+
+// The bytes in the frame of a call with one more object, at most 1024.
+#[tactic(auto, using(crate::proofs::ItemLemmas::capped_within, crate::proofs::ItemLemmas::capped_exact))]
+fn frame_with(frame: u32, object: &TypedObject, line: u32) -> Result<u32, Failure<Fault>>
+    ensures { Answers (λ bytes. bytes) result (bytes_with frame (object_view object.now) line) }
+{
+    let bytes = frame.saturating_add(bytes_in_frame(object));
+    require(bytes <= FRAME_LIMIT, Cause::TooLarge, line)?;
+    Ok(bytes)
+}
+
 // Whether a name that a block declares is one of the parameters of its procedure.
-fn declares_parameter(block: Block<'_>, name: Identifier) -> bool
-    ensures { result ≡ parameter_in (block_view block.entry) name.name }
+fn declares_parameter(block: Block<'_>, name: Name) -> bool
+    ensures { result ≡ parameter_in (block_view block.entry) name }
 {
     match block.owner {
         Owner::Procedure { heading, .. } => {
@@ -167,10 +279,10 @@ fn same_name(left: Name, right: Name) -> bool
 
 // Whether a name is one of these.
 #[tactic(auto, using(crate::proofs::ItemLemmas::any_of_map))]
-fn is_among(names: &[Identifier], name: Identifier) -> bool
-    ensures { result ≡ name_among (map (λ (one : TheIdentifier). one.name) names.now) name.name }
+fn is_among(names: &[Identifier], name: Name) -> bool
+    ensures { result ≡ name_among (map (λ (one : TheIdentifier). one.name) names.now) name }
 {
-    any_named(names, name.name)
+    any_named(names, name)
 }
 
 // Whether one of these has a name.
@@ -185,7 +297,7 @@ fn names_parameter(block: Block<'_>, subject: &Subject) -> bool
     ensures { result ≡ items.names_parameter (block_view block.entry) (subject_tree subject.now) }
 {
     match subject {
-        Subject::Single { name, .. } => declares_parameter(block, *name),
+        Subject::Single { name, .. } => declares_parameter(block, name.name),
         Subject::Group(names) => any_parameter(block, names.as_slice()),
     }
 }
@@ -196,7 +308,7 @@ fn any_parameter(block: Block<'_>, names: &[Identifier]) -> bool
         (λ (name : TheIdentifier).
         parameter_in (block_view block.entry) name.name) names.now }
 {
-    names.iter().any(|name| declares_parameter(block, *name))
+    names.iter().any(|name| declares_parameter(block, name.name))
 }
 
 // The line of the first name of an item.
@@ -467,7 +579,7 @@ impl Checker {
         twice(declared)?;
         let owner = block.owner;
         let is_external = owner.is_external();
-        let is_parameter = declares_parameter(block, name);
+        let is_parameter = declares_parameter(block, name.name);
         require(
             !is_external || is_parameter,
             Cause::MisplacedAttribute,
@@ -511,7 +623,15 @@ impl Checker {
         ensures { Leaves result (progress_view self.new)
             (items.with_objects (block_view block.entry) (typed_item_view item) (name ∷ []) (progress_view self.old)) }
     {
-        Err(Failure::Memory)
+        let linkage = item.linkage;
+        let object = object_named(block, item, name.name)?;
+        let frame = frame_with(self.frame, &object, name.place.line)?;
+        let number = self.known.next_object()?;
+        self.constants.add_object(&object.home, number)?;
+        add_global(&mut self.globals, linkage, GlobalItem::GlobalObject(number))?;
+        self.known.add_object(object)?;
+        self.frame = frame;
+        Ok(())
     }
 
     // Declares an item. Its names are known after the whole of it.

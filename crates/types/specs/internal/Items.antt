@@ -1,9 +1,13 @@
 -- Items of a DECLARE, as the checker goes through them.
-use Rattle.std.specs.Prelude.{List, Ok}
+use Rattle.std.specs.Prelude.{ℕ, ◌+◌, List, [], ◌∷◌, ◌++◌, Ok, nat_le}
 use Rattle.trees.specs.declared.identifier.Identifier.{Identifier}
-use Rattle.types.specs.Checks.{Checked, ◌>>=◌}
+use Rattle.types.specs.declared.fault.Cause.TheVariants.{TooLarge}
+use Rattle.typed_trees.specs.declared.limits.TheConstants.{FRAME_LIMIT}
+use Rattle.typed_trees.specs.TypedTrees.{TypedObject}
+use Rattle.types.specs.Checks.{Checked, ◌>>=◌, require}
+use Rattle.types.specs.References.{Known}
 use Rattle.types.specs.Blocks.{Block, Progress}
-use Rattle.types.specs.Items.{declare_names}
+use Rattle.types.specs.Items.{declare_names, bytes_in_frame}
 use Rattle.types.specs.Statements.{with_here}
 
 -- the names of an item declared, whatever they are
@@ -11,3 +15,13 @@ abbrev pub with_names : Block → List Identifier → Progress → Checked Progr
 with_names block names progress = do
   here ← declare_names block names progress.known.here
   Ok (with_here here progress)
+
+-- one more object at the end of the table
+abbrev pub with_object : TypedObject → Known → Known
+with_object object known = record known { objects = known.objects ++ object ∷ [] }
+
+-- the bytes in the frame of a call with one more object
+abbrev pub bytes_with : (frame : ℕ) → TypedObject → (line : ℕ) → Checked ℕ
+bytes_with frame object line = do
+  _ ← require (nat_le (frame + bytes_in_frame object.home object) FRAME_LIMIT) TooLarge line
+  Ok (frame + bytes_in_frame object.home object)
