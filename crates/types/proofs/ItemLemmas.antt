@@ -7,16 +7,19 @@ use Rattle.names.specs.Environment.{Here, with_object, is_declared_again}
 use Rattle.trees.specs.declared.declaration.Element.{Element}
 use Rattle.trees.specs.declared.declaration.Member.{Member}
 use Rattle.trees.specs.declared.identifier.Identifier.{Identifier}
+use Rattle.trees.specs.Trees.{ItemTree}
 use Rattle.trees.specs.Views.{element_tree}
+use Rattle.names.specs.Uses.{declared_by}
+use Rattle.typed_trees.specs.declared.limits.TheConstants.{FRAME_LIMIT, OBJECT_LIMIT}
 use Rattle.typed_trees.specs.declared.parts.TypedMember.{TypedMember}
 use Rattle.typed_trees.specs.Sizes.{has_member}
-use Rattle.types.specs.declared.fault.Cause.TheVariants.{DeclaredTwice, MisplacedAttribute}
+use Rattle.types.specs.declared.fault.Cause.TheVariants.{DeclaredTwice, MisplacedAttribute, TooLarge}
 use Rattle.types.specs.Blocks.{Block, Progress, is_external, declares_parameter}
 use Rattle.types.specs.Checks.{Checked, ◌>>=◌, require}
-use Rattle.types.specs.Items.{declare_names, declare_element, declare_elements, member_dimension, typed_members}
+use Rattle.types.specs.Items.{TypedItem, declare_names, declare_element, declare_elements, declare_item, line_of_item, member_dimension, object_named, size_of_item, typed_item, typed_members, with_objects, with_typed_object}
 use Rattle.types.specs.References.{line_of}
 use Rattle.types.specs.Statements.{with_here}
-use Rattle.types.specs.internal.Items.{with_names}
+use Rattle.types.specs.internal.Items.{item_in_turn, with_names}
 
 pub any_of_map : {A B : Type 0} (test : B → Bool) (f : A → B) (all : List A) → list_any test (map f all) ≡ list_any (λ a. test (f a)) all
 any_of_map test f [] = refl
@@ -63,3 +66,60 @@ capped_within all limit small =
 
 pub capped_exact : (all limit : ℕ) → limit < 4294967295 → nat_le all limit ≡ true → min all 4294967295 ≡ all
 capped_exact all limit small within = let is : all ≤ limit = leb-true all limit within in omega (arith, small, is)
+
+-- one object, and then the others
+objects_then : {A : Type 0} (first : Checked A) (next : Progress → Checked Progress) (after : Progress) → first >>= (λ _. next after) ≡ (first >>= λ _. Ok after) >>= next
+objects_then (Ok a) next after = refl
+objects_then (Err fault) next after = refl
+
+-- what one name of an item makes of a text
+object_of_name : Block → TypedItem → Identifier → Progress → Progress
+object_of_name block item name progress = with_typed_object item.linkage (object_named block item name.name) progress
+
+room_for : Block → TypedItem → Identifier → Progress → Checked (Unit {0})
+room_for block item name progress = require (nat_le (object_of_name block item name progress).frame FRAME_LIMIT) TooLarge (line_of name)
+
+pub first_object : (block : Block) (item : TypedItem) (name : Identifier) (others : List Identifier) (progress : Progress)
+    → with_objects block item (name ∷ others) progress ≡ with_objects block item (name ∷ []) progress >>= with_objects block item others
+unfolding object_of_name room_for
+first_object block item name others progress = objects_then (room_for block item name progress) (with_objects block item others) (object_of_name block item name progress)
+
+-- the objects of an item have nothing to do with what names stand for
+objects_aside : (block : Block) (item : TypedItem) (names : List Identifier) (here : Here) (progress : Progress)
+    → with_objects block item names (with_here here progress) ≡ with_objects block item names progress >>= (λ declared. Ok (with_here here declared))
+unfolding object_of_name room_for
+objects_aside block item [] here progress = refl
+objects_aside block item (name ∷ others) here progress =
+    aside (room_for block item name progress) (objects_aside block item others here (object_of_name block item name progress))
+  where
+    aside : (first : Checked (Unit {0})) → with_objects block item others (with_here here (object_of_name block item name progress)) ≡ with_objects block item others (object_of_name block item name progress) >>= (λ declared. Ok (with_here here declared))
+        → first >>= (λ _. with_objects block item others (with_here here (object_of_name block item name progress)))
+        ≡ (first >>= λ _. with_objects block item others (object_of_name block item name progress)) >>= (λ declared. Ok (with_here here declared))
+    aside (Ok a) is = is
+    aside (Err fault) is = refl
+
+-- the names of an item may be declared before its objects are made
+module _ (block : Block) (item : ItemTree) (progress : Progress) where
+  objects_after : (here : Here) (typed : TypedItem) (fits : Checked (Unit {0}))
+      → fits >>= (λ _. with_objects block typed (declared_by item.subject) (with_here here progress))
+      ≡ fits >>= (λ _. with_objects block typed (declared_by item.subject) progress >>= λ declared. Ok (with_here here declared))
+  objects_after here typed (Ok a) = objects_aside block typed (declared_by item.subject) here progress
+  objects_after here typed (Err fault) = refl
+
+  typed_after : (here : Here) (typed : Checked TypedItem)
+      → typed >>= (λ typed. require (nat_le (size_of_item typed) OBJECT_LIMIT) TooLarge (line_of_item item) >>= λ _. with_objects block typed (declared_by item.subject) (with_here here progress))
+      ≡ typed >>= (λ typed. require (nat_le (size_of_item typed) OBJECT_LIMIT) TooLarge (line_of_item item) >>= λ _.
+      with_objects block typed (declared_by item.subject) progress >>= λ declared. Ok (with_here here declared))
+  typed_after here (Ok typed) = objects_after here typed (require (nat_le (size_of_item typed) OBJECT_LIMIT) TooLarge (line_of_item item))
+  typed_after here (Err fault) = refl
+
+  named_after : (names : Checked Here)
+      → (names >>= λ here. Ok (with_here here progress)) >>= (λ named. typed_item progress.known block item >>= λ typed.
+      require (nat_le (size_of_item typed) OBJECT_LIMIT) TooLarge (line_of_item item) >>= λ _. with_objects block typed (declared_by item.subject) named)
+      ≡ names >>= (λ here. typed_item progress.known block item >>= λ typed. require (nat_le (size_of_item typed) OBJECT_LIMIT) TooLarge (line_of_item item) >>= λ _.
+      with_objects block typed (declared_by item.subject) progress >>= λ declared. Ok (with_here here declared))
+  named_after (Ok here) = typed_after here (typed_item progress.known block item)
+  named_after (Err fault) = refl
+
+  pub in_turn : declare_item block item progress ≡ item_in_turn block item progress
+  in_turn = sym (named_after (declare_names block (declared_by item.subject) progress.known.here))

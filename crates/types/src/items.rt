@@ -1,6 +1,6 @@
 //! What DECLARE declares.
 
-ghost use Rattle.std.specs.Prelude.{◌≡◌, [], ◌∷◌, length, map, min, is_some, Ok};
+ghost use Rattle.std.specs.Prelude.{◌≡◌, [], ◌∷◌, length, map, min, nat_le, is_some, Ok};
 ghost use Rattle.std.specs.Option.{option_map};
 ghost use Rattle.trees.specs.Views.{element_tree, item_tree, item_type_tree, at_tree, subject_tree, value_list_tree};
 ghost use Rattle.std.specs.List.{list_any};
@@ -9,6 +9,9 @@ ghost use Rattle.trees.specs.declared.identifier.Identifier.{Identifier as TheId
 ghost use Rattle.trees.specs.declared.identifier.Number.{Number as TheNumber};
 ghost use Rattle.names.specs.Environment.{is_among as name_among};
 ghost use Rattle.types.specs.Blocks.{declares_parameter as parameter_in, is_external_linkage, is_public_linkage, line_of_linkage as linkage_line, with_global};
+ghost use Rattle.typed_trees.specs.declared.limits.TheConstants.{OBJECT_LIMIT as object_limit};
+ghost use Rattle.types.specs.declared.fault.Cause.TheVariants.{TooLarge};
+ghost use Rattle.types.specs.Checks.{require as required};
 ghost use Rattle.typed_trees.specs.Views.{home_view, object_view, type_view};
 ghost use Rattle.names.specs.Uses.{declared_by};
 ghost use Rattle.types.specs.Items as items;
@@ -30,8 +33,8 @@ use trees::{
     Storage, Subject, ValueList,
 };
 use typed_trees::{
-    AtAddress, ConstantItem, FRAME_LIMIT, GlobalItem, Home, InitialValue, Members, ObjectType,
-    TypedMember, TypedObject,
+    AtAddress, ConstantItem, FRAME_LIMIT, GlobalItem, Home, InitialValue, Members, OBJECT_LIMIT,
+    ObjectType, TypedMember, TypedObject,
 };
 
 /// An item, all but its names.
@@ -41,6 +44,66 @@ pub(crate) struct TypedItem {
     object_type: ObjectType,
     home: Home,
     linkage: Option<Linkage>,
+}
+
+impl TypedItem {
+    // The same again, for another name. The members of a structure are shared.
+    fn copy(&self) -> Result<TypedItem, Failure<Fault>>
+        ensures { Answers typed_item_view result (Ok (typed_item_view self.now)) }
+    {
+        Ok(TypedItem {
+            dimension: self.dimension,
+            object_type: copy_of_type(&self.object_type)?,
+            home: copy_of_home(&self.home)?,
+            linkage: self.linkage,
+        })
+    }
+}
+
+// The same type, whose members are shared.
+fn copy_of_type(object_type: &ObjectType) -> Result<ObjectType, Failure<Fault>>
+    ensures { Answers type_view result (Ok (type_view object_type.now)) }
+{
+    match object_type {
+        ObjectType::Scalar(scalar) => Ok(ObjectType::Scalar(*scalar)),
+        ObjectType::Structure(members) => Ok(ObjectType::Structure(members.clone()?)),
+    }
+}
+
+// The same home.
+fn copy_of_home(home: &Home) -> Result<Home, Failure<Fault>>
+    ensures { Answers home_view result (Ok (home_view home.now)) }
+{
+    match home {
+        Home::Data(values) => Ok(Home::Data(values.clone()?)),
+        Home::Constant(values) => Ok(Home::Constant(values.clone()?)),
+        Home::At(address) => Ok(Home::At(*address)),
+        Home::Based(base) => Ok(Home::Based(*base)),
+        Home::External => Ok(Home::External),
+        Home::Absent => Ok(Home::Absent),
+        Home::Frame(procedure) => Ok(Home::Frame(*procedure)),
+    }
+}
+
+// An object has at most 65,535 bytes.
+#[tactic(auto, using(crate::proofs::ItemLemmas::capped_within))]
+fn check_size(item: &TypedItem, line: u32) -> Result<(), Failure<Fault>>
+    ensures { Answers (λ _. tt) result
+        (required (nat_le (items.size_of_item (typed_item_view item.now)) object_limit) TooLarge line) }
+{
+    require(item_size(item) <= OBJECT_LIMIT, Cause::TooLarge, line)
+}
+
+// How many bytes each object of an item takes (4,294,967,295 where it takes more).
+#[tactic(auto, using(typed_trees::proofs::Capped::capped_product))]
+fn item_size(item: &TypedItem) -> u32
+    ensures { result ≡ min (items.size_of_item (typed_item_view item.now)) 4294967295 }
+{
+    let count = match item.dimension {
+        Some(count) => count,
+        None => 1,
+    };
+    count.saturating_mul(item.object_type.element_size())
 }
 
 impl Known {
@@ -308,7 +371,9 @@ fn any_parameter(block: Block<'_>, names: &[Identifier]) -> bool
         (λ (name : TheIdentifier).
         parameter_in (block_view block.entry) name.name) names.now }
 {
-    names.iter().any(|name| declares_parameter(block, name.name))
+    names
+        .iter()
+        .any(|name| declares_parameter(block, name.name))
 }
 
 // The line of the first name of an item.
@@ -634,12 +699,64 @@ impl Checker {
         Ok(())
     }
 
-    // Declares an item. Its names are known after the whole of it.
+    // Puts the objects of an item at the end of the table.
+    fn add_objects(
+        &mut self,
+        block: Block<'_>,
+        item: TypedItem,
+        subject: &Subject,
+    ) -> Result<(), Failure<Fault>>
+        ensures { Leaves result (progress_view self.new)
+            (items.with_objects (block_view block.entry) (typed_item_view item) (declared_by (subject_tree subject.now))
+            (progress_view self.old)) }
+    {
+        match subject {
+            Subject::Single { name, .. } => self.add_object(block, item, *name),
+            Subject::Group(names) => self.add_group(block, &item, names.as_slice()),
+        }
+    }
+
+    // Puts an object for each of these names at the end of the table.
+    fn add_group(
+        &mut self,
+        block: Block<'_>,
+        item: &TypedItem,
+        names: &[Identifier],
+    ) -> Result<(), Failure<Fault>>
+        ensures { Leaves result (progress_view self.new)
+            (items.with_objects (block_view block.entry) (typed_item_view item.now) names.now (progress_view self.old)) }
+    {
+        for name in names {
+            self.add_copy(block, item, *name)?;
+        }
+        Ok(())
+    }
+
+    // Puts an object for one name of several at the end of the table.
+    fn add_copy(
+        &mut self,
+        block: Block<'_>,
+        item: &TypedItem,
+        name: Identifier,
+    ) -> Result<(), Failure<Fault>>
+        ensures { Leaves result (progress_view self.new)
+            (items.with_objects (block_view block.entry) (typed_item_view item.now) (name ∷ []) (progress_view self.old)) }
+    {
+        let copy = item.copy()?;
+        self.add_object(block, copy, name)
+    }
+
+    // Declares an item. What it is comes from the names before it, and that one of its own is declared twice comes first.
+    #[tactic(auto, using(crate::proofs::ItemLemmas::in_turn))]
     fn declare_item(&mut self, block: Block<'_>, item: &Item) -> Result<(), Failure<Fault>>
         ensures { Leaves result (progress_view self.new)
             (items.declare_item (block_view block.entry) (item_tree item.now) (progress_view self.old)) }
     {
-        Err(Failure::Memory)
+        let typed = self.known.typed_item(block, item);
+        self.declare_names(block, &item.subject)?;
+        let typed = typed?;
+        check_size(&typed, line_of_item(item))?;
+        self.add_objects(block, typed, &item.subject)
     }
 }
 
