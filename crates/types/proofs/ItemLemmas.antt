@@ -72,54 +72,57 @@ objects_then : {A : Type 0} (first : Checked A) (next : Progress → Checked Pro
 objects_then (Ok a) next after = refl
 objects_then (Err fault) next after = refl
 
--- what one name of an item makes of a text
-object_of_name : Block → TypedItem → Identifier → Progress → Progress
+-- what one name of an item makes of a text, and whether there is room for it
+abbrev object_of_name : Block → TypedItem → Identifier → Progress → Progress
 object_of_name block item name progress = with_typed_object item.linkage (object_named block item name.name) progress
 
-room_for : Block → TypedItem → Identifier → Progress → Checked (Unit {0})
+abbrev room_for : Block → TypedItem → Identifier → Progress → Checked (Unit {0})
 room_for block item name progress = require (nat_le (object_of_name block item name progress).frame FRAME_LIMIT) TooLarge (line_of name)
 
 pub first_object : (block : Block) (item : TypedItem) (name : Identifier) (others : List Identifier) (progress : Progress)
     → with_objects block item (name ∷ others) progress ≡ with_objects block item (name ∷ []) progress >>= with_objects block item others
-unfolding object_of_name room_for
 first_object block item name others progress = objects_then (room_for block item name progress) (with_objects block item others) (object_of_name block item name progress)
 
--- the objects of an item have nothing to do with what names stand for
-objects_aside : (block : Block) (item : TypedItem) (names : List Identifier) (here : Here) (progress : Progress)
-    → with_objects block item names (with_here here progress) ≡ with_objects block item names progress >>= (λ declared. Ok (with_here here declared))
-unfolding object_of_name room_for
+-- objects have nothing to do with what names stand for
+abbrev objects_with : Block → TypedItem → List Identifier → Here → Progress → Checked Progress
+objects_with block item names here progress = with_objects block item names progress >>= (λ declared. Ok (with_here here declared))
+
+aside : {A : Type 0} (first : Checked A) (next second : Checked Progress) (here : Here) → next ≡ second >>= (λ declared. Ok (with_here here declared))
+    → first >>= (λ _. next) ≡ (first >>= λ _. second) >>= (λ declared. Ok (with_here here declared))
+aside (Ok a) next second here is = is
+aside (Err fault) next second here is = refl
+
+objects_aside : (block : Block) (item : TypedItem) (names : List Identifier) (here : Here) (progress : Progress) → objects_with block item names here progress ≡ with_objects block item names (with_here here progress)
 objects_aside block item [] here progress = refl
 objects_aside block item (name ∷ others) here progress =
-    aside (room_for block item name progress) (objects_aside block item others here (object_of_name block item name progress))
-  where
-    aside : (first : Checked (Unit {0})) → with_objects block item others (with_here here (object_of_name block item name progress)) ≡ with_objects block item others (object_of_name block item name progress) >>= (λ declared. Ok (with_here here declared))
-        → first >>= (λ _. with_objects block item others (with_here here (object_of_name block item name progress)))
-        ≡ (first >>= λ _. with_objects block item others (object_of_name block item name progress)) >>= (λ declared. Ok (with_here here declared))
-    aside (Ok a) is = is
-    aside (Err fault) is = refl
+    sym (aside (room_for block item name progress) _ (with_objects block item others (object_of_name block item name progress)) here
+    (sym (objects_aside block item others here (object_of_name block item name progress))))
 
 -- the names of an item may be declared before its objects are made
 module _ (block : Block) (item : ItemTree) (progress : Progress) where
-  objects_after : (here : Here) (typed : TypedItem) (fits : Checked (Unit {0}))
-      → fits >>= (λ _. with_objects block typed (declared_by item.subject) (with_here here progress))
-      ≡ fits >>= (λ _. with_objects block typed (declared_by item.subject) progress >>= λ declared. Ok (with_here here declared))
-  objects_after here typed (Ok a) = objects_aside block typed (declared_by item.subject) here progress
-  objects_after here typed (Err fault) = refl
+  abbrev fits : TypedItem → Checked (Unit {0})
+  fits typed = require (nat_le (size_of_item typed) OBJECT_LIMIT) TooLarge (line_of_item item)
 
-  typed_after : (here : Here) (typed : Checked TypedItem)
-      → typed >>= (λ typed. require (nat_le (size_of_item typed) OBJECT_LIMIT) TooLarge (line_of_item item) >>= λ _. with_objects block typed (declared_by item.subject) (with_here here progress))
-      ≡ typed >>= (λ typed. require (nat_le (size_of_item typed) OBJECT_LIMIT) TooLarge (line_of_item item) >>= λ _.
-      with_objects block typed (declared_by item.subject) progress >>= λ declared. Ok (with_here here declared))
-  typed_after here (Ok typed) = objects_after here typed (require (nat_le (size_of_item typed) OBJECT_LIMIT) TooLarge (line_of_item item))
-  typed_after here (Err fault) = refl
+  abbrev made_from : TypedItem → Progress → Checked Progress
+  made_from typed from = with_objects block typed (declared_by item.subject) from
 
-  named_after : (names : Checked Here)
-      → (names >>= λ here. Ok (with_here here progress)) >>= (λ named. typed_item progress.known block item >>= λ typed.
-      require (nat_le (size_of_item typed) OBJECT_LIMIT) TooLarge (line_of_item item) >>= λ _. with_objects block typed (declared_by item.subject) named)
-      ≡ names >>= (λ here. typed_item progress.known block item >>= λ typed. require (nat_le (size_of_item typed) OBJECT_LIMIT) TooLarge (line_of_item item) >>= λ _.
-      with_objects block typed (declared_by item.subject) progress >>= λ declared. Ok (with_here here declared))
-  named_after (Ok here) = typed_after here (typed_item progress.known block item)
-  named_after (Err fault) = refl
+  abbrev made_with : TypedItem → Here → Checked Progress
+  made_with typed here = objects_with block typed (declared_by item.subject) here progress
+
+  fitting_in_turn : (here : Here) (typed : TypedItem) (fitting : Checked (Unit {0})) → fitting >>= (λ _. made_with typed here) ≡ fitting >>= (λ _. made_from typed (with_here here progress))
+  fitting_in_turn here typed (Ok fitting) = objects_aside block typed (declared_by item.subject) here progress
+  fitting_in_turn here typed (Err fault) = refl
+
+  typed_in_turn : (here : Here) (typed : Checked TypedItem)
+      → typed >>= (λ typed. fits typed >>= λ _. made_with typed here) ≡ typed >>= (λ typed. fits typed >>= λ _. made_from typed (with_here here progress))
+  typed_in_turn here (Ok typed) = fitting_in_turn here typed (fits typed)
+  typed_in_turn here (Err fault) = refl
+
+  named_in_turn : (names : Checked Here)
+      → names >>= (λ here. typed_item progress.known block item >>= λ typed. fits typed >>= λ _. made_with typed here)
+      ≡ (names >>= λ here. Ok (with_here here progress)) >>= (λ named. typed_item progress.known block item >>= λ typed. fits typed >>= λ _. made_from typed named)
+  named_in_turn (Ok here) = typed_in_turn here (typed_item progress.known block item)
+  named_in_turn (Err fault) = refl
 
   pub in_turn : declare_item block item progress ≡ item_in_turn block item progress
-  in_turn = sym (named_after (declare_names block (declared_by item.subject) progress.known.here))
+  in_turn = named_in_turn (declare_names block (declared_by item.subject) progress.known.here)

@@ -15,7 +15,7 @@ ghost use Rattle.types.specs.Checks.{require as required};
 ghost use Rattle.typed_trees.specs.Views.{home_view, object_view, type_view};
 ghost use Rattle.names.specs.Uses.{declared_by};
 ghost use Rattle.types.specs.Items as items;
-ghost use Rattle.types.specs.internal.Items.{bytes_with, with_names, with_object};
+ghost use Rattle.types.specs.internal.Items.{bytes_with, with_last_object, with_names};
 ghost use Rattle.types.specs.internal.Results.{Answers, Leaves, as_fault};
 ghost use Rattle.types.specs.internal.Views.{block_view, constants_view, contents_view, extents_view, owner_view, known_view, progress_view, typed_item_view};
 
@@ -44,66 +44,6 @@ pub(crate) struct TypedItem {
     object_type: ObjectType,
     home: Home,
     linkage: Option<Linkage>,
-}
-
-impl TypedItem {
-    // The same again, for another name. The members of a structure are shared.
-    fn copy(&self) -> Result<TypedItem, Failure<Fault>>
-        ensures { Answers typed_item_view result (Ok (typed_item_view self.now)) }
-    {
-        Ok(TypedItem {
-            dimension: self.dimension,
-            object_type: copy_of_type(&self.object_type)?,
-            home: copy_of_home(&self.home)?,
-            linkage: self.linkage,
-        })
-    }
-}
-
-// The same type, whose members are shared.
-fn copy_of_type(object_type: &ObjectType) -> Result<ObjectType, Failure<Fault>>
-    ensures { Answers type_view result (Ok (type_view object_type.now)) }
-{
-    match object_type {
-        ObjectType::Scalar(scalar) => Ok(ObjectType::Scalar(*scalar)),
-        ObjectType::Structure(members) => Ok(ObjectType::Structure(members.clone()?)),
-    }
-}
-
-// The same home.
-fn copy_of_home(home: &Home) -> Result<Home, Failure<Fault>>
-    ensures { Answers home_view result (Ok (home_view home.now)) }
-{
-    match home {
-        Home::Data(values) => Ok(Home::Data(values.clone()?)),
-        Home::Constant(values) => Ok(Home::Constant(values.clone()?)),
-        Home::At(address) => Ok(Home::At(*address)),
-        Home::Based(base) => Ok(Home::Based(*base)),
-        Home::External => Ok(Home::External),
-        Home::Absent => Ok(Home::Absent),
-        Home::Frame(procedure) => Ok(Home::Frame(*procedure)),
-    }
-}
-
-// An object has at most 65,535 bytes.
-#[tactic(auto, using(crate::proofs::ItemLemmas::capped_within))]
-fn check_size(item: &TypedItem, line: u32) -> Result<(), Failure<Fault>>
-    ensures { Answers (λ _. tt) result
-        (required (nat_le (items.size_of_item (typed_item_view item.now)) object_limit) TooLarge line) }
-{
-    require(item_size(item) <= OBJECT_LIMIT, Cause::TooLarge, line)
-}
-
-// How many bytes each object of an item takes (4,294,967,295 where it takes more).
-#[tactic(auto, using(typed_trees::proofs::Capped::capped_product))]
-fn item_size(item: &TypedItem) -> u32
-    ensures { result ≡ min (items.size_of_item (typed_item_view item.now)) 4294967295 }
-{
-    let count = match item.dimension {
-        Some(count) => count,
-        None => 1,
-    };
-    count.saturating_mul(item.object_type.element_size())
 }
 
 impl Known {
@@ -209,9 +149,7 @@ impl Known {
             }
         }
     }
-}
 
-impl Known {
     // The number of the object that comes next.
     fn next_object(&self) -> Result<u32, Failure<Fault>>
         ensures { Answers (λ number. number) result (Ok (length (known_view self.now).objects)) }
@@ -224,10 +162,70 @@ impl Known {
 
     // One more object at the end of the table.
     fn add_object(&mut self, object: TypedObject) -> Result<(), Failure<Fault>>
-        ensures { Leaves result (known_view self.new) (Ok (with_object (object_view object) (known_view self.old))) }
+        ensures { Leaves result (known_view self.new) (Ok (with_last_object (object_view object) (known_view self.old))) }
     {
         self.objects.push(object)?;
         Ok(())
+    }
+}
+
+impl TypedItem {
+    // The same again, for another name. The members of a structure are shared.
+    fn copy(&self) -> Result<TypedItem, Failure<Fault>>
+        ensures { Answers typed_item_view result (Ok (typed_item_view self.now)) }
+    {
+        Ok(TypedItem {
+            dimension: self.dimension,
+            object_type: copy_of_type(&self.object_type)?,
+            home: copy_of_home(&self.home)?,
+            linkage: self.linkage,
+        })
+    }
+
+    // How many bytes each of its objects takes (4,294,967,295 where it takes more).
+    #[tactic(auto, using(typed_trees::proofs::Capped::capped_product))]
+    fn size(&self) -> u32
+        ensures { result ≡ min (items.size_of_item (typed_item_view self.now)) 4294967295 }
+    {
+        let count = match self.dimension {
+            Some(count) => count,
+            None => 1,
+        };
+        count.saturating_mul(self.object_type.element_size())
+    }
+
+    // An object has at most 65,535 bytes.
+    #[tactic(auto, using(crate::proofs::ItemLemmas::capped_within))]
+    fn check_size(&self, line: u32) -> Result<(), Failure<Fault>>
+        ensures { Answers (λ _. tt) result
+            (required (nat_le (items.size_of_item (typed_item_view self.now)) object_limit) TooLarge line) }
+    {
+        require(self.size() <= OBJECT_LIMIT, Cause::TooLarge, line)
+    }
+}
+
+// The same type, whose members are shared.
+fn copy_of_type(object_type: &ObjectType) -> Result<ObjectType, Failure<Fault>>
+    ensures { Answers type_view result (Ok (type_view object_type.now)) }
+{
+    match object_type {
+        ObjectType::Scalar(scalar) => Ok(ObjectType::Scalar(*scalar)),
+        ObjectType::Structure(members) => Ok(ObjectType::Structure(members.clone()?)),
+    }
+}
+
+// The same home.
+fn copy_of_home(home: &Home) -> Result<Home, Failure<Fault>>
+    ensures { Answers home_view result (Ok (home_view home.now)) }
+{
+    match home {
+        Home::Data(values) => Ok(Home::Data(values.clone()?)),
+        Home::Constant(values) => Ok(Home::Constant(values.clone()?)),
+        Home::At(address) => Ok(Home::At(*address)),
+        Home::Based(base) => Ok(Home::Based(*base)),
+        Home::External => Ok(Home::External),
+        Home::Absent => Ok(Home::Absent),
+        Home::Frame(procedure) => Ok(Home::Frame(*procedure)),
     }
 }
 
@@ -755,7 +753,7 @@ impl Checker {
         let typed = self.known.typed_item(block, item);
         self.declare_names(block, &item.subject)?;
         let typed = typed?;
-        check_size(&typed, line_of_item(item))?;
+        typed.check_size(line_of_item(item))?;
         self.add_objects(block, typed, &item.subject)
     }
 }

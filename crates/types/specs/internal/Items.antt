@@ -19,8 +19,8 @@ with_names block names progress = do
   Ok (with_here here progress)
 
 -- one more object at the end of the table
-abbrev pub with_object : TypedObject → Known → Known
-with_object object known = record known { objects = known.objects ++ object ∷ [] }
+abbrev pub with_last_object : TypedObject → Known → Known
+with_last_object object known = record known { objects = known.objects ++ object ∷ [] }
 
 -- the bytes in the frame of a call with one more object
 abbrev pub bytes_with : (frame : ℕ) → TypedObject → (line : ℕ) → Checked ℕ
