@@ -1,7 +1,7 @@
-use Rattle.std.proofs.Common.{[], ◌∷◌, refl, rules}
+use Rattle.std.proofs.Common.{[], ◌∷◌, rules}
 use Rattle.types.specs.Items as items
 use Rattle.types.proofs.ItemLemmas.{first_member}
-use Rattle.types.proofs.Loops.{goes_on, fails_within, ended, answers_failure}
+use Rattle.types.proofs.Loops.{goes_on, fails_within, answers_failure}
 use Rattle.types.proofs.items.typed_members.Goals as goal
 
 pub loop-member-preserved : goal.loop-member-preserved
@@ -16,8 +16,3 @@ returns-in_err-add_member c =
     (fails_within (λ member before. items.typed_members before (member ∷ [])) (λ members before. items.typed_members before members) first_member
     c.args.members.now c.loop-member.member-index c.member-item.result c.loop-member.typed _ _
     c.loop-member-test.true c.member-item.is c.loop-member.invariant c.in_err-add_member.ensures)
-
-pub returns : goal.returns
-returns c =
-    ended (λ member before. items.typed_members before (member ∷ [])) (λ members before. items.typed_members before members) first_member
-    c.args.members.now c.loop-member.member-index c.loop-member.typed _ _ c.loop-member-test.false c.loop-member.invariant refl

@@ -1,9 +1,9 @@
-use Rattle.std.proofs.Common.{map, refl, rules}
+use Rattle.std.proofs.Common.{map, rules}
 use Rattle.trees.specs.Views.{element_tree}
 use Rattle.types.specs.Items as items
 use Rattle.types.specs.internal.Views.{block_view, progress_view}
 use Rattle.types.proofs.ItemLemmas.{first_element}
-use Rattle.types.proofs.Loops.{goes_on, fails_within, ended, leaves_failure}
+use Rattle.types.proofs.Loops.{goes_on, fails_within, leaves_failure}
 use Rattle.types.proofs.checker.Checker.declare_elements.Goals as goal
 
 pub loop-element-preserved : goal.loop-element-preserved
@@ -20,9 +20,3 @@ returns-in_err-declare_element c =
     (first_element (block_view c.args.block))
     c.args.elements.now c.loop-element.element-index c.element-item.result (progress_view c.loop-element.self) _ _
     c.loop-element-test.true c.element-item.is c.loop-element.invariant c.in_err-declare_element.ensures)
-
-pub returns : goal.returns
-returns c =
-    ended (λ element. items.declare_element (block_view c.args.block) (element_tree element)) (λ elements. items.declare_elements (block_view c.args.block) (map element_tree elements))
-    (first_element (block_view c.args.block))
-    c.args.elements.now c.loop-element.element-index (progress_view c.loop-element.self) _ _ c.loop-element-test.false c.loop-element.invariant refl
