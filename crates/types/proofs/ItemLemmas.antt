@@ -1,35 +1,25 @@
 -- Items of a DECLARE.
-use Rattle.std.proofs.Common.{◌≡◌, ℕ, ◌<◌, ◌≤◌, min, nat_le, true, arith, le-leb, leb-true, sym, ◌∙◌, List, [], ◌∷◌, ◌++◌, map, Bool, ◌||◌, not, Ok, Err, ap, refl}
+use Rattle.std.proofs.Common.{◌≡◌, ℕ, ◌<◌, ◌≤◌, min, nat_le, true, arith, le-leb, leb-true, sym, ◌∙◌, List, [], ◌∷◌, map, Bool, ◌||◌, not, Ok, Err, ap, refl}
 use Rattle.std.proofs.lemmas.Bool.{lt-leb}
 use Rattle.std.proofs.Math.Decide.{dec_le}
 use Rattle.std.specs.List.{list_any}
 use Rattle.names.specs.Environment.{Here, with_object, is_declared_again}
-use Rattle.trees.specs.declared.declaration.Element.{Element}
-use Rattle.trees.specs.declared.declaration.Member.{Member}
 use Rattle.trees.specs.declared.identifier.Identifier.{Identifier}
 use Rattle.trees.specs.Trees.{ItemTree}
-use Rattle.trees.specs.Views.{element_tree}
 use Rattle.names.specs.Uses.{declared_by}
 use Rattle.typed_trees.specs.declared.limits.TheConstants.{FRAME_LIMIT, OBJECT_LIMIT}
-use Rattle.typed_trees.specs.declared.parts.TypedMember.{TypedMember}
-use Rattle.typed_trees.specs.Sizes.{has_member}
 use Rattle.types.specs.declared.fault.Cause.TheVariants.{DeclaredTwice, MisplacedAttribute, TooLarge}
 use Rattle.types.specs.Blocks.{Block, Progress, is_external, declares_parameter}
 use Rattle.types.specs.Checks.{Checked, ◌>>=◌, require}
-use Rattle.types.specs.Items.{TypedItem, declare_names, declare_element, declare_elements, declare_item, line_of_item, member_dimension, object_named, size_of_item, typed_item, typed_members, with_objects, with_typed_object}
+use Rattle.types.specs.Items.{TypedItem, declare_names, declare_item, line_of_item, object_named, size_of_item, typed_item, with_objects, with_typed_object}
 use Rattle.types.specs.References.{line_of}
 use Rattle.types.specs.Statements.{with_here}
 use Rattle.types.specs.internal.Items.{item_in_turn, with_names}
 
+-- a test of what a function makes of the items of a list
 pub any_of_map : {A B : Type 0} (test : B → Bool) (f : A → B) (all : List A) → list_any test (map f all) ≡ list_any (λ a. test (f a)) all
 any_of_map test f [] = refl
 any_of_map test f (first ∷ others) = ap (λ rest. test (f first) || rest) (any_of_map test f others)
-
--- two checks, whose outcome goes into what follows
-two_then : {A B C : Type 0} (first : Checked A) (second : Checked B) (made : B → C) (next : C → Checked C) → first >>= (λ _. second >>= λ b. next (made b)) ≡ (first >>= λ _. second >>= λ b. Ok (made b)) >>= next
-two_then (Ok a) (Ok b) made next = refl
-two_then (Ok a) (Err fault) made next = refl
-two_then (Err fault) second made next = refl
 
 -- one name, and then the others
 names_then : {A B : Type 0} (first : Checked A) (second : Checked B) (block : Block) (others : List Identifier) (here : Here) (progress : Progress)
@@ -45,17 +35,6 @@ first_name block name others progress =
     (require (not (is_external block.owner) || declares_parameter block name.name) MisplacedAttribute (line_of name))
     block others (with_object name.name progress.known.here) progress
 
--- one member, and then the others
-pub first_member : (member : Member) (others : List Member) (before : List TypedMember) → typed_members before (member ∷ others) ≡ typed_members before (member ∷ []) >>= (λ now. typed_members now others)
-first_member member others before =
-    two_then (require (not (has_member before member.name.name)) DeclaredTwice (line_of member.name)) (member_dimension member.dimension)
-    (λ dimension. before ++ record { name = member.name.name; dimension = dimension; scalar = member.scalar } ∷ []) (λ now. typed_members now others)
-
--- one element, and then the others
-pub first_element : (block : Block) (element : Element) (others : List Element) (progress : Progress)
-    → declare_elements block (map element_tree (element ∷ others)) progress ≡ declare_element block (element_tree element) progress >>= (λ after. declare_elements block (map element_tree others) after)
-first_element block element others progress = refl
-
 -- a number that stops at the greatest of 32 bits, against a limit below that
 pub capped_within : (all limit : ℕ) → limit < 4294967295 → nat_le (min all 4294967295) limit ≡ nat_le all limit
 capped_within all limit small =
@@ -67,21 +46,12 @@ capped_within all limit small =
 pub capped_exact : (all limit : ℕ) → limit < 4294967295 → nat_le all limit ≡ true → min all 4294967295 ≡ all
 capped_exact all limit small within = let is : all ≤ limit = leb-true all limit within in omega (arith, small, is)
 
--- one object, and then the others
-objects_then : {A : Type 0} (first : Checked A) (next : Progress → Checked Progress) (after : Progress) → first >>= (λ _. next after) ≡ (first >>= λ _. Ok after) >>= next
-objects_then (Ok a) next after = refl
-objects_then (Err fault) next after = refl
-
 -- what one name of an item makes of a text, and whether there is room for it
 abbrev object_of_name : Block → TypedItem → Identifier → Progress → Progress
 object_of_name block item name progress = with_typed_object item.linkage (object_named block item name.name) progress
 
 abbrev room_for : Block → TypedItem → Identifier → Progress → Checked (Unit {0})
 room_for block item name progress = require (nat_le (object_of_name block item name progress).frame FRAME_LIMIT) TooLarge (line_of name)
-
-pub first_object : (block : Block) (item : TypedItem) (name : Identifier) (others : List Identifier) (progress : Progress)
-    → with_objects block item (name ∷ others) progress ≡ with_objects block item (name ∷ []) progress >>= with_objects block item others
-first_object block item name others progress = objects_then (room_for block item name progress) (with_objects block item others) (object_of_name block item name progress)
 
 -- objects have nothing to do with what names stand for
 abbrev objects_with : Block → TypedItem → List Identifier → Here → Progress → Checked Progress
