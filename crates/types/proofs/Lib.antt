@@ -28,3 +28,4 @@ pub mod Walks
 pub mod Lines
 pub mod Modules
 pub mod Headings
+pub mod ItemLemmas

@@ -3,6 +3,7 @@ pub mod Fillings
 pub mod Views
 pub mod Given
 pub mod Fronts
+pub mod Items
 pub mod Samples
 pub mod Examples
 pub mod Measures
