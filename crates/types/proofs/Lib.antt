@@ -29,3 +29,4 @@ pub mod Lines
 pub mod Modules
 pub mod Headings
 pub mod ItemLemmas
+pub mod TypedLaws

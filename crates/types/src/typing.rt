@@ -6,6 +6,8 @@ ghost use Rattle.trees.specs.Views.{block_declarations, block_statements, declar
 ghost use Rattle.names.specs.internal.Parts.{case_tree, do_tree, if_tree, iterate_tree, procedure_parts, while_tree};
 ghost use Rattle.typed_trees.specs.Views.{else_view, list_view, module_view, procedure_view, statement_view, statements_view};
 ghost use Rattle.types.specs.Statements.{list_of, places_from};
+ghost use Rattle.typed_trees.specs.Jumps.{JumpsAreSound};
+ghost use Rattle.types.specs.Untyped.{GivesBack};
 ghost use Rattle.types.specs.Typing.{alone, cases, declaration, declarations, else_part, entered, kind, left, main_procedure, module_with, statements, typing_of};
 ghost use Rattle.types.specs.internal.Results.{Answers, Gives, Leaves};
 ghost use Rattle.types.specs.internal.Views.{block_view, progress_view};
@@ -439,6 +441,8 @@ fn typed(alloc: Global, parsed: &Module) -> Result<Typed, Failure<Fault>>
 pub fn check(alloc: Global, parsed: Module) -> Result<Typed, Failure<Fault>>
     ensures ok { IfOk result (λ typed. typing_of (module_tree parsed) ≡ Ok (module_view typed)) }
     ensures fault { IfFault result (λ fault. typing_of (module_tree parsed) ≡ Err fault) }
+    ensures given_back { IfOk result (λ typed. GivesBack (module_tree parsed) (module_view typed)) }
+    ensures jumps { IfOk result (λ typed. JumpsAreSound (module_view typed)) }
 {
     typed(alloc, &parsed)
 }
