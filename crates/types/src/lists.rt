@@ -58,14 +58,6 @@ pub(crate) fn without_label(labels: &[Identifier]) -> Result<(), Failure<Fault>>
     }
 }
 
-/// The number of the next label.
-pub(crate) fn next_label(scopes: &Scopes) -> Result<u32, Failure<Fault>>
-    ensures ok { IfOk result (λ next. next ≡ (scopes.now).labels) }
-    ensures err { IfFault result (λ _. ⊥) }
-{
-    Err(Failure::Memory)
-}
-
 // The number after this one. There is no source with so many labels, but the numbers end.
 fn next_number(number: u32) -> Result<u32, Failure<Fault>>
     ensures ok { IfOk result (λ next. next ≡ number + 1) }

@@ -16,7 +16,7 @@ ghost use Rattle.types.specs.internal.Walking.{inside_view, list_left, listing, 
 use crate::blocks::{Block, Owner};
 use crate::checker::Checker;
 use crate::fault::Fault;
-use crate::lists::{Listed, declare_labels, name_failure, next_label, without_label};
+use crate::lists::{Listed, declare_labels, name_failure, without_label};
 use crate::procedures::{check_body, next_procedure, parameter_objects};
 use crate::statement_nodes;
 use failure::Failure;
@@ -243,7 +243,7 @@ impl Checker {
             (λ label. statements (block_view block.entry) (statement_trees trees.now) label)
             (progress_view self.old)) }
     {
-        let first_label = next_label(&self.known.scopes)?;
+        let first_label = self.known.scopes.next_label();
         self.open_list(trees)?;
         let listed = self.statements(block, trees, first_label)?;
         self.close_list();
