@@ -2,8 +2,8 @@
 -- Manual, "Storage of variables"). The data segment holds the objects without AT and DATA, in the order of
 -- their declarations and without gaps; the code segment begins with the objects with DATA and the constant
 -- lists, in the order of the text.
-use Rattle.std.specs.Prelude.{ℕ, Bool, false, not, ◌==◌, List, length, map, take, take_while, Option, Some, None, Result, Ok, Err, nat_le, if◌then◌else◌, sum_by}
-use Rattle.std.specs.List.{enumerate_from}
+use Rattle.std.specs.Prelude.{ℕ, Bool, false, not, ◌&&◌, ◌==◌, List, length, map, take, take_while, Option, Some, None, Result, Ok, Err, nat_le, if◌then◌else◌, sum_by}
+use Rattle.std.specs.List.{enumerate_from, list_all}
 use Rattle.typed_trees.specs.declared.parts.ConstantItem.TheVariants.{ConstantObject, ConstantList}
 use Rattle.typed_trees.specs.declared.parts.ConstantItem.{ConstantItem}
 use Rattle.typed_trees.specs.TypedTrees.{Home, InData, InConstants, TypedObject, TypedModule}
@@ -76,11 +76,29 @@ storage_with typed = record {
   constant_size = constant_bytes typed;
 }
 
+-- the bytes of the constants that an object takes
+abbrev pub bytes_in_constants : Home → TypedObject → ℕ
+bytes_in_constants (InConstants values) object = size_of_object object
+bytes_in_constants home object = 0
+
+abbrev pub fits_as_object : TypedObject → Bool
+fits_as_object object = nat_le (bytes_in_constants object.home object) SEGMENT_LIMIT
+
+abbrev pub fits_as_list : List ℕ → Bool
+fits_as_list bytes = nat_le (length bytes) SEGMENT_LIMIT
+
+-- Whether the constants fit into a segment: all together, and each object with DATA and each list alone. The
+-- second says no more where all of these stand among the constants.
+abbrev pub constants_fit : TypedModule → Bool
+constants_fit typed =
+    nat_le (constant_bytes typed) SEGMENT_LIMIT && list_all fits_as_object typed.objects
+    && list_all fits_as_list typed.constants.lists
+
 -- Neither the data segment nor the constants have over 65535 bytes.
 unfoldable pub storage_of : TypedModule → Result Storage Fault
 storage_of typed =
     if nat_le (data_bytes typed.objects) SEGMENT_LIMIT
     then
-    (if nat_le (constant_bytes typed) SEGMENT_LIMIT then Ok (storage_with typed)
+    (if constants_fit typed then Ok (storage_with typed)
     else Err ConstantsTooLarge)
     else Err DataTooLarge

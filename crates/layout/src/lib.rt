@@ -2,7 +2,11 @@
 #![tactic(auto)]
 
 mod fault;
+mod offsets;
+mod sizes;
 mod slot;
+mod storage;
 
 pub use fault::Fault;
 pub use slot::{Layout, SEGMENT_LIMIT, Segment, Slot};
+pub use storage::layout;

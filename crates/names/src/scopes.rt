@@ -438,6 +438,13 @@ impl Scopes {
         self.body.block.get(name)
     }
 
+    /// The number of the next label.
+    pub fn next_label(&self) -> u32
+        ensures { result ≡ (self.now).labels }
+    {
+        self.labels
+    }
+
     /// What the name after GOTO is bound to.
     pub fn jump(&self, name: Name) -> Binding
         ensures { result ≡ jump_of self.now name }

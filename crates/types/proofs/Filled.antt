@@ -20,7 +20,7 @@ use Rattle.types.specs.internal.Results.{FailsBy}
 use Rattle.types.specs.declared.fault.Fault.{Fault}
 use Rattle.types.specs.internal.Fillings.{onto, values_filled, elements_listed}
 use Rattle.types.proofs.LeftScalars.{repeat_empty}
-use Rattle.types.proofs.Loops.{fails_then, then_then}
+use Rattle.types.proofs.Loops.{fails_more, then_then}
 
 -- values and then more of them
 abbrev joined : Filled → Filled → Filled
@@ -165,7 +165,7 @@ module _ (known : Known) (line : ℕ) (t : ObjectType) (values : List Restricted
 
   pub listed_fails : (fault : Option Fault) → FailsBy fault (elements_listed line used each) → FailsBy fault (contents known line t AsListed values)
   listed_fails fault fails =
-      subst (FailsBy fault) (sym listed) (fails_then fault (elements_listed line used each) (λ dimension. Ok (record { dimension = Some dimension; values = made })) fails)
+      subst (FailsBy fault) (sym listed) (fails_more fault (elements_listed line used each) (λ dimension. Ok (record { dimension = Some dimension; values = made })) fails)
 
   pub some_each : 0 < used → 0 < each
   some_each some =

@@ -22,3 +22,11 @@ pub mod GivenParts
 pub mod ArgumentLoops
 pub mod MemberPlaces
 pub mod Operands
+pub mod Arguments
+pub mod Listings
+pub mod Walks
+pub mod Lines
+pub mod Modules
+pub mod Headings
+pub mod ItemLemmas
+pub mod TypedLaws

@@ -3,6 +3,7 @@ pub mod Fillings
 pub mod Views
 pub mod Given
 pub mod Fronts
+pub mod Items
 pub mod Samples
 pub mod Examples
 pub mod Measures
@@ -10,3 +11,5 @@ pub mod GivenBack
 pub mod Refusals
 pub mod Scopes
 pub mod Tables
+pub mod Walking
+pub mod Lists

@@ -1,16 +1,593 @@
 //! What DECLARE declares.
 
-ghost use Rattle.std.specs.Prelude.{map};
-ghost use Rattle.trees.specs.Views.{element_tree};
-ghost use Rattle.types.specs.Items.{declare_elements};
-ghost use Rattle.types.specs.internal.Results.{Leaves};
-ghost use Rattle.types.specs.internal.Views.{block_view, progress_view};
+ghost use Rattle.std.specs.Prelude.{◌≡◌, [], ◌∷◌, length, map, min, nat_le, is_some, Ok};
+ghost use Rattle.std.specs.Option.{option_map};
+ghost use Rattle.trees.specs.Views.{element_tree, item_tree, item_type_tree, at_tree, subject_tree, value_list_tree};
+ghost use Rattle.std.specs.List.{list_any};
+ghost use Rattle.std.specs.Str.{bytes_eq};
+ghost use Rattle.trees.specs.declared.identifier.Identifier.{Identifier as TheIdentifier};
+ghost use Rattle.trees.specs.declared.identifier.Number.{Number as TheNumber};
+ghost use Rattle.names.specs.Environment.{is_among as name_among};
+ghost use Rattle.types.specs.Blocks.{declares_parameter as parameter_in, is_external_linkage, is_public_linkage, line_of_linkage as linkage_line, with_global};
+ghost use Rattle.typed_trees.specs.declared.limits.TheConstants.{OBJECT_LIMIT as object_limit};
+ghost use Rattle.types.specs.declared.fault.Cause.TheVariants.{TooLarge};
+ghost use Rattle.types.specs.Checks.{require as required};
+ghost use Rattle.typed_trees.specs.Views.{home_view, object_view, type_view};
+ghost use Rattle.names.specs.Uses.{declared_by};
+ghost use Rattle.types.specs.Items as items;
+ghost use Rattle.types.specs.internal.Items.{bytes_with, with_last_object, with_names};
+ghost use Rattle.types.specs.internal.Results.{Answers, Leaves, as_fault};
+ghost use Rattle.types.specs.internal.Views.{block_view, constants_view, contents_view, extents_view, owner_view, known_view, progress_view, typed_item_view};
 
-use crate::blocks::Block;
+use crate::blocks::{Block, Owner};
 use crate::checker::Checker;
-use crate::fault::Fault;
+use crate::fault::{Cause, Fault};
+use crate::filling::{Contents, Extents};
+use crate::known::{Constants, Known, refuse, require};
 use failure::Failure;
-use trees::Element;
+use names::{Binding, Entity};
+use std::alloc::Global;
+use std::rc::Rc;
+use trees::{
+    Dimension, Element, Identifier, Item, ItemType, Linkage, Member, Name, Place, ScalarType,
+    Storage, Subject, ValueList,
+};
+use typed_trees::{
+    AtAddress, ConstantItem, FRAME_LIMIT, GlobalItem, Home, InitialValue, Members, OBJECT_LIMIT,
+    ObjectType, TypedMember, TypedObject,
+};
+
+/// An item, all but its names.
+#[derive(Drop)]
+pub(crate) struct TypedItem {
+    dimension: Option<u32>,
+    object_type: ObjectType,
+    home: Home,
+    linkage: Option<Linkage>,
+}
+
+impl Known {
+    // What an item is based on. Parameters are not BASED.
+    fn typed_base(&self, block: Block<'_>, subject: &Subject) -> Result<Option<u32>, Failure<Fault>>
+        ensures { Answers (λ base. base) result (items.typed_base (known_view self.now) (block_view block.entry)
+            (subject_tree subject.now) (items.base_of (subject_tree subject.now))) }
+    {
+        let Subject::Single {
+            name: _,
+            base: Some(name),
+        } = subject
+        else {
+            return Ok(None);
+        };
+        require(
+            !names_parameter(block, subject),
+            Cause::MisplacedAttribute,
+            name.place.line,
+        )?;
+        let number = object_bound(self.bound(*name)?, name.place.line)?;
+        let object = self.object(*name, number)?;
+        require(is_base(object), Cause::WrongUse, name.place.line)?;
+        Ok(Some(number))
+    }
+
+    // Where AT puts an item.
+    fn typed_at(&self, block: Block<'_>, item: &Item) -> Result<Option<AtAddress>, Failure<Fault>>
+        ensures { Answers (λ at. at) result (items.typed_at (known_view self.now) (block_view block.entry)
+            (item_tree item.now) (item_tree item.now).at) }
+    {
+        match &item.at {
+            Some(at) => {
+                require(
+                    is_plain(block, item),
+                    Cause::MisplacedAttribute,
+                    at.place.line,
+                )?;
+                Ok(Some(self.at_address(&at.address)?))
+            }
+            None => Ok(None),
+        }
+    }
+
+    // What an item is filled with. INITIAL and DATA do not go with AT.
+    fn typed_contents(
+        &self,
+        block: Block<'_>,
+        item: &Item,
+        object_type: &ObjectType,
+        extents: Extents,
+    ) -> Result<Contents, Failure<Fault>>
+        ensures { Answers contents_view result (items.typed_contents (known_view self.now) (block_view block.entry)
+            (item_tree item.now) (type_view object_type.now) (extents_view extents) (item_tree item.now).value_list) }
+    {
+        let line = line_of_item(item);
+        match &item.value_list {
+            Some(list) => {
+                let goes = is_plain(block, item) && item.at.is_none();
+                require(
+                    goes,
+                    Cause::MisplacedAttribute,
+                    place_of_storage(list.storage).line,
+                )?;
+                self.contents(line, object_type, extents, list.values.as_slice())
+            }
+            None => self.contents(line, object_type, extents, &[]),
+        }
+    }
+
+    // An item as it is for each of its names.
+    fn typed_item(&self, block: Block<'_>, item: &Item) -> Result<TypedItem, Failure<Fault>>
+        ensures { Answers typed_item_view result
+            (items.typed_item (known_view self.now) (block_view block.entry) (item_tree item.now)) }
+    {
+        let base = self.typed_base(block, &item.subject)?;
+        let extents = extents_of(block, item)?;
+        let object_type = self.typed_type(block, item)?;
+        check_linkage(block, item)?;
+        let at = self.typed_at(block, item)?;
+        let filled = self.typed_contents(block, item, &object_type, extents)?;
+        let home = home_of(block.owner, item, base, at, filled.values);
+        Ok(TypedItem {
+            dimension: filled.dimension,
+            object_type,
+            home,
+            linkage: item.linkage,
+        })
+    }
+
+    // The type of an item.
+    fn typed_type(&self, block: Block<'_>, item: &Item) -> Result<ObjectType, Failure<Fault>>
+        ensures { Answers type_view result (items.typed_type (block_view block.entry) (item_tree item.now)
+            (item_tree item.now).item_type) }
+    {
+        match &item.item_type {
+            ItemType::Scalar(scalar) => Ok(ObjectType::Scalar(*scalar)),
+            ItemType::Structure(members) => {
+                let is_parameter = names_parameter(block, &item.subject);
+                require(!is_parameter, Cause::WrongUse, line_of_item(item))?;
+                let typed = typed_members(self.alloc, members.as_slice())?;
+                Ok(ObjectType::Structure(Rc::new(self.alloc, typed)?))
+            }
+        }
+    }
+
+    // The number of the object that comes next.
+    fn next_object(&self) -> Result<u32, Failure<Fault>>
+        ensures { Answers (λ number. number) result (Ok (length (known_view self.now).objects)) }
+    {
+        match u32::try_from(self.objects.len()) {
+            Ok(number) => Ok(number),
+            Err(_) => Err(Failure::Memory),
+        }
+    }
+
+    // One more object at the end of the table.
+    fn add_object(&mut self, object: TypedObject) -> Result<(), Failure<Fault>>
+        ensures { Leaves result (known_view self.new) (Ok (with_last_object (object_view object) (known_view self.old))) }
+    {
+        self.objects.push(object)?;
+        Ok(())
+    }
+}
+
+impl TypedItem {
+    // The same again, for another name. The members of a structure are shared.
+    fn copy(&self) -> Result<TypedItem, Failure<Fault>>
+        ensures { Answers typed_item_view result (Ok (typed_item_view self.now)) }
+    {
+        Ok(TypedItem {
+            dimension: self.dimension,
+            object_type: copy_of_type(&self.object_type)?,
+            home: copy_of_home(&self.home)?,
+            linkage: self.linkage,
+        })
+    }
+
+    // How many bytes each of its objects takes (4,294,967,295 where it takes more).
+    #[tactic(auto, using(typed_trees::proofs::Capped::capped_product))]
+    fn size(&self) -> u32
+        ensures { result ≡ min (items.size_of_item (typed_item_view self.now)) 4294967295 }
+    {
+        let count = match self.dimension {
+            Some(count) => count,
+            None => 1,
+        };
+        count.saturating_mul(self.object_type.element_size())
+    }
+
+    // An object has at most 65,535 bytes.
+    #[tactic(auto, using(crate::proofs::ItemLemmas::capped_within))]
+    fn check_size(&self, line: u32) -> Result<(), Failure<Fault>>
+        ensures { Answers (λ _. tt) result
+            (required (nat_le (items.size_of_item (typed_item_view self.now)) object_limit) TooLarge line) }
+    {
+        require(self.size() <= OBJECT_LIMIT, Cause::TooLarge, line)
+    }
+}
+
+// The same type, whose members are shared.
+fn copy_of_type(object_type: &ObjectType) -> Result<ObjectType, Failure<Fault>>
+    ensures { Answers type_view result (Ok (type_view object_type.now)) }
+{
+    match object_type {
+        ObjectType::Scalar(scalar) => Ok(ObjectType::Scalar(*scalar)),
+        ObjectType::Structure(members) => Ok(ObjectType::Structure(members.clone()?)),
+    }
+}
+
+// The same home.
+fn copy_of_home(home: &Home) -> Result<Home, Failure<Fault>>
+    ensures { Answers home_view result (Ok (home_view home.now)) }
+{
+    match home {
+        Home::Data(values) => Ok(Home::Data(values.clone()?)),
+        Home::Constant(values) => Ok(Home::Constant(values.clone()?)),
+        Home::At(address) => Ok(Home::At(*address)),
+        Home::Based(base) => Ok(Home::Based(*base)),
+        Home::External => Ok(Home::External),
+        Home::Absent => Ok(Home::Absent),
+        Home::Frame(procedure) => Ok(Home::Frame(*procedure)),
+    }
+}
+
+impl Constants {
+    // An object with DATA is one of the constants.
+    fn add_object(&mut self, home: &Home, number: u32) -> Result<(), Failure<Fault>>
+        ensures { Leaves result (constants_view self.new)
+            (Ok (items.with_constant (home_view home.now) number (constants_view self.old))) }
+    {
+        if let Home::Constant(_) = home {
+            self.items.push(ConstantItem::ConstantObject(number))?;
+        }
+        Ok(())
+    }
+}
+
+// One more global, where there is a linkage.
+fn add_global(
+    globals: &mut Vec<GlobalItem>,
+    linkage: Option<Linkage>,
+    item: GlobalItem,
+) -> Result<(), Failure<Fault>>
+    ensures { Leaves result globals.new.items (Ok (with_global linkage item globals.old.items)) }
+{
+    if linkage.is_some() {
+        globals.push(item)?;
+    }
+    Ok(())
+}
+
+// The object of a name of an item.
+fn object_named(
+    block: Block<'_>,
+    item: TypedItem,
+    name: Name,
+) -> Result<TypedObject, Failure<Fault>>
+    ensures { Answers object_view result
+        (Ok (items.object_named (block_view block.entry) (typed_item_view item) name)) }
+{
+    let dimension = fitting(item.dimension)?;
+    let is_public = is_public(item.linkage);
+    let is_parameter = declares_parameter(block, name);
+    Ok(TypedObject {
+        name,
+        dimension,
+        object_type: item.object_type,
+        home: item.home,
+        is_public,
+        is_parameter,
+    })
+}
+
+// A dimension as that of an object, which it fits.
+fn fitting(dimension: Option<u32>) -> Result<Option<u16>, Failure<Fault>>
+    ensures { Answers (λ made. made) result (Ok dimension) }
+{
+    match dimension {
+        Some(count) => match u16::try_from(count) {
+            Ok(count) => Ok(Some(count)),
+            Err(_) => Err(Failure::Memory),
+        },
+        None => Ok(None),
+    }
+}
+
+// Whether a linkage is PUBLIC.
+fn is_public(linkage: Option<Linkage>) -> bool
+    ensures { result ≡ is_public_linkage linkage }
+{
+    matches!(linkage, Some(Linkage::Public(_)))
+}
+
+// How many bytes an object takes in the frame of a call (4,294,967,295 where it takes more).
+fn bytes_in_frame(object: &TypedObject) -> u32
+    ensures { result ≡ min (items.bytes_in_frame (object_view object.now).home (object_view object.now)) 4294967295 }
+{
+    match &object.home {
+        Home::Frame(_) if !object.is_parameter => object.size(),
+        _ => 0,
+    }
+}
+
+// The bytes in the frame of a call with one more object, at most 1024.
+#[tactic(auto, using(crate::proofs::ItemLemmas::capped_within, crate::proofs::ItemLemmas::capped_exact))]
+fn frame_with(frame: u32, object: &TypedObject, line: u32) -> Result<u32, Failure<Fault>>
+    ensures { Answers (λ bytes. bytes) result (bytes_with frame (object_view object.now) line) }
+{
+    let bytes = frame.saturating_add(bytes_in_frame(object));
+    require(bytes <= FRAME_LIMIT, Cause::TooLarge, line)?;
+    Ok(bytes)
+}
+
+// Whether a name that a block declares is one of the parameters of its procedure.
+fn declares_parameter(block: Block<'_>, name: Name) -> bool
+    ensures { result ≡ parameter_in (block_view block.entry) name }
+{
+    match block.owner {
+        Owner::Procedure { heading, .. } => {
+            block.is_own && is_among(heading.parameters.as_slice(), name)
+        }
+        Owner::Module => false,
+    }
+}
+
+// Whether two names are the same.
+#[tactic(auto, using(trees::proofs::Keys::names_equal))]
+fn same_name(left: Name, right: Name) -> bool
+    ensures { result ≡ bytes_eq left right }
+{
+    left == right
+}
+
+// Whether a name is one of these.
+#[tactic(auto, using(crate::proofs::ItemLemmas::any_of_map))]
+fn is_among(names: &[Identifier], name: Name) -> bool
+    ensures { result ≡ name_among (map (λ (one : TheIdentifier). one.name) names.now) name }
+{
+    any_named(names, name)
+}
+
+// Whether one of these has a name.
+fn any_named(names: &[Identifier], name: Name) -> bool
+    ensures { result ≡ list_any (λ (one : TheIdentifier). bytes_eq name one.name) names.now }
+{
+    names.iter().any(|one| same_name(name, one.name))
+}
+
+// Whether an item declares a parameter.
+fn names_parameter(block: Block<'_>, subject: &Subject) -> bool
+    ensures { result ≡ items.names_parameter (block_view block.entry) (subject_tree subject.now) }
+{
+    match subject {
+        Subject::Single { name, .. } => declares_parameter(block, name.name),
+        Subject::Group(names) => any_parameter(block, names.as_slice()),
+    }
+}
+
+// Whether one of these names is a parameter.
+fn any_parameter(block: Block<'_>, names: &[Identifier]) -> bool
+    ensures { result ≡ list_any
+        (λ (name : TheIdentifier).
+        parameter_in (block_view block.entry) name.name) names.now }
+{
+    names
+        .iter()
+        .any(|name| declares_parameter(block, name.name))
+}
+
+// The line of the first name of an item.
+fn line_of_item(item: &Item) -> u32
+    ensures { result ≡ items.line_of_item (item_tree item.now) }
+{
+    match &item.subject {
+        Subject::Single { name, .. } => name.place.line,
+        Subject::Group(names) => match names.as_slice() {
+            [first, ..] => first.place.line,
+            [] => 0,
+        },
+    }
+}
+
+// Whether an object may be a base: a scalar ADDRESS that is not BASED itself.
+fn is_base(object: &TypedObject) -> bool
+    ensures { result ≡ items.is_base (object_view object.now) }
+{
+    let is_address = matches!(&object.object_type, ObjectType::Scalar(ScalarType::Address));
+    object.dimension.is_none() && is_address && !matches!(&object.home, Home::Based(_))
+}
+
+// The object that a name is bound to.
+fn object_bound(binding: Binding, line: u32) -> Result<u32, Failure<Fault>>
+    ensures { Answers (λ number. number) result (items.object_bound binding line) }
+{
+    match binding {
+        Binding::Declared(Entity::Object(number)) => Ok(number),
+        _ => Err(refuse(Cause::WrongUse, line)),
+    }
+}
+
+// How many elements an item is declared with. A dimension is 1 or more. Parameters are scalars. `(*)` goes with one
+// name, and with INITIAL or DATA.
+fn extents_of(block: Block<'_>, item: &Item) -> Result<Extents, Failure<Fault>>
+    ensures { Answers extents_view result
+        (items.extents_of (block_view block.entry) (item_tree item.now) (item_tree item.now).dimension) }
+{
+    let is_scalar = !names_parameter(block, &item.subject);
+    match item.dimension {
+        None => Ok(Extents::NoArray),
+        Some(Dimension::Count(number)) => {
+            require(1 <= number.value, Cause::WrongConstant, number.place.line)?;
+            require(is_scalar, Cause::WrongUse, number.place.line)?;
+            Ok(Extents::Elements(number.value))
+        }
+        Some(Dimension::Implied) => {
+            let line = line_of_item(item);
+            require(is_scalar, Cause::WrongUse, line)?;
+            require(!is_group(&item.subject), Cause::MisplacedAttribute, line)?;
+            require(item.value_list.is_some(), Cause::WrongConstant, line)?;
+            Ok(Extents::AsListed)
+        }
+    }
+}
+
+// Whether an item declares several names in parentheses.
+fn is_group(subject: &Subject) -> bool
+    ensures { result ≡ items.is_group (subject_tree subject.now) }
+{
+    matches!(subject, Subject::Group(_))
+}
+
+// Whether an item is BASED.
+fn is_based(subject: &Subject) -> bool
+    ensures { result ≡ is_some (items.base_of (subject_tree subject.now)) }
+{
+    matches!(subject, Subject::Single { base: Some(_), .. })
+}
+
+// PUBLIC and EXTERNAL stand at the level of the module, and not with BASED.
+fn check_linkage(block: Block<'_>, item: &Item) -> Result<(), Failure<Fault>>
+    ensures { Answers (λ _. tt) result
+        (items.check_linkage (block_view block.entry) (item_tree item.now) (item_tree item.now).linkage) }
+{
+    match item.linkage {
+        Some(linkage) => {
+            let goes = block.is_module_level() && !is_based(&item.subject);
+            require(goes, Cause::MisplacedAttribute, line_of_linkage(linkage))
+        }
+        None => Ok(()),
+    }
+}
+
+// The line of PUBLIC or EXTERNAL.
+fn line_of_linkage(linkage: Linkage) -> u32
+    ensures { result ≡ linkage_line linkage }
+{
+    match linkage {
+        Linkage::Public(place) | Linkage::External(place) => place.line,
+    }
+}
+
+// Whether an item may have a place or values of its own: one name, not BASED, not EXTERNAL, no parameter, and no
+// variable of a REENTRANT procedure.
+fn is_plain(block: Block<'_>, item: &Item) -> bool
+    ensures { result ≡ items.is_plain (block_view block.entry) (item_tree item.now) }
+{
+    !is_group(&item.subject)
+        && !is_based(&item.subject)
+        && !is_external(item.linkage)
+        && !names_parameter(block, &item.subject)
+        && !block.owner.is_reentrant()
+}
+
+// Whether a linkage is EXTERNAL.
+fn is_external(linkage: Option<Linkage>) -> bool
+    ensures { result ≡ is_external_linkage linkage }
+{
+    matches!(linkage, Some(Linkage::External(_)))
+}
+
+// Where INITIAL or DATA stands.
+fn place_of_storage(storage: Storage) -> Place
+    ensures { result ≡ items.place_of_storage storage }
+{
+    match storage {
+        Storage::Initial(place) | Storage::Data(place) => place,
+    }
+}
+
+// Whether the values of an item are DATA's.
+fn is_data(values: &Option<ValueList>) -> bool
+    ensures { result ≡ items.is_data (option_map value_list_tree values.now) }
+{
+    match values {
+        Some(list) => matches!(list.storage, Storage::Data(_)),
+        None => false,
+    }
+}
+
+// Where the variables and parameters of an owner live that say nothing else.
+fn home_in(owner: Owner<'_>, values: Vec<InitialValue>) -> Home
+    ensures { home_view result ≡ items.home_in (owner_view owner.entry) values.items }
+{
+    match owner {
+        Owner::Module => Home::Data(values),
+        Owner::Procedure { number, heading } => {
+            if is_external(heading.linkage) {
+                Home::Absent
+            } else if heading.reentrant.is_some() {
+                Home::Frame(number)
+            } else {
+                Home::Data(values)
+            }
+        }
+    }
+}
+
+// Where an item lives: by BASED, by EXTERNAL, by AT, by DATA, or by what declares it.
+fn home_of(
+    owner: Owner<'_>,
+    item: &Item,
+    base: Option<u32>,
+    at: Option<AtAddress>,
+    values: Vec<InitialValue>,
+) -> Home
+    ensures { home_view result ≡ items.home_of (owner_view owner.entry) (item_tree item.now) base at values.items }
+{
+    if let Some(number) = base {
+        return Home::Based(number);
+    }
+    if is_external(item.linkage) {
+        return Home::External;
+    }
+    match at {
+        Some(address) => Home::At(address),
+        None if is_data(&item.value_list) => Home::Constant(values),
+        None => home_in(owner, values),
+    }
+}
+
+// The members of a structure, which differ from each other.
+fn typed_members(alloc: Global, members: &[Member]) -> Result<Members, Failure<Fault>>
+    ensures { Answers (λ made. made) result (items.typed_members [] members.now) }
+{
+    let mut typed = Members::new(alloc);
+    for member in members {
+        add_member(&mut typed, *member)?;
+    }
+    Ok(typed)
+}
+
+// Adds a member to those before it.
+fn add_member(typed: &mut Members, member: Member) -> Result<(), Failure<Fault>>
+    ensures { Leaves result typed.new (items.typed_members typed.old (member ∷ [])) }
+{
+    let line = member.name.place.line;
+    let dimension = member.dimension;
+    let added = typed.push(member_of(member))?;
+    require(added, Cause::DeclaredTwice, line)?;
+    match dimension {
+        Some(number) => require(1 <= number.value, Cause::WrongConstant, number.place.line),
+        None => Ok(()),
+    }
+}
+
+// A member, whatever its dimension is.
+fn member_of(member: Member) -> TypedMember
+    ensures { result ≡ record {
+      name = member.name.name;
+      dimension = option_map (λ (number : TheNumber). number.value) member.dimension;
+      scalar = member.scalar;
+    } }
+{
+    let dimension = match member.dimension {
+        Some(number) => Some(number.value),
+        None => None,
+    };
+    TypedMember {
+        name: member.name.name,
+        dimension,
+        scalar: member.scalar,
+    }
+}
 
 impl Checker {
     /// Declares the elements of a DECLARE.
@@ -20,8 +597,174 @@ impl Checker {
         elements: &[Element],
     ) -> Result<(), Failure<Fault>>
         ensures { Leaves result (progress_view self.new)
-            (declare_elements (block_view block.entry) (map element_tree elements.now) (progress_view self.old)) }
+            (items.declare_elements (block_view block.entry) (map element_tree elements.now) (progress_view self.old)) }
     {
-        Err(Failure::Memory)
+        for element in elements {
+            self.declare_element(block, element)?;
+        }
+        Ok(())
+    }
+
+    // Declares an element of a DECLARE.
+    fn declare_element(&mut self, block: Block<'_>, element: &Element) -> Result<(), Failure<Fault>>
+        ensures { Leaves result (progress_view self.new)
+            (items.declare_element (block_view block.entry) (element_tree element.now) (progress_view self.old)) }
+    {
+        match element {
+            Element::Literally(definition) => self.declare_definition(block, definition.name),
+            Element::Item(item) => self.declare_item(block, item),
+        }
+    }
+
+    // A definition by LITERALLY declares its name.
+    fn declare_definition(
+        &mut self,
+        block: Block<'_>,
+        name: Identifier,
+    ) -> Result<(), Failure<Fault>>
+        ensures { Leaves result (progress_view self.new)
+            (items.declare_definition (block_view block.entry) name (progress_view self.old)) }
+    {
+        let line = name.place.line;
+        let owner = block.owner;
+        let is_external = owner.is_external();
+        let declared = self.known.scopes.declare_definition(name);
+        twice(declared)?;
+        require(!is_external, Cause::MisplacedAttribute, line)
+    }
+
+    // Declares the name of an object. In an EXTERNAL procedure it is a parameter.
+    fn declare_name(&mut self, block: Block<'_>, name: Identifier) -> Result<(), Failure<Fault>>
+        ensures { Leaves result (progress_view self.new)
+            (with_names (block_view block.entry) (name ∷ []) (progress_view self.old)) }
+    {
+        let declared = self.known.scopes.declare_object(name);
+        twice(declared)?;
+        let owner = block.owner;
+        let is_external = owner.is_external();
+        let is_parameter = declares_parameter(block, name.name);
+        require(
+            !is_external || is_parameter,
+            Cause::MisplacedAttribute,
+            name.place.line,
+        )
+    }
+
+    // Declares the names of objects.
+    fn declare_names(&mut self, block: Block<'_>, subject: &Subject) -> Result<(), Failure<Fault>>
+        ensures { Leaves result (progress_view self.new)
+            (with_names (block_view block.entry) (declared_by (subject_tree subject.now)) (progress_view self.old)) }
+    {
+        match subject {
+            Subject::Single { name, .. } => self.declare_name(block, *name),
+            Subject::Group(names) => self.declare_group(block, names.as_slice()),
+        }
+    }
+
+    // Declares the names of objects that stand in parentheses.
+    fn declare_group(
+        &mut self,
+        block: Block<'_>,
+        names: &[Identifier],
+    ) -> Result<(), Failure<Fault>>
+        ensures { Leaves result (progress_view self.new)
+            (with_names (block_view block.entry) names.now (progress_view self.old)) }
+    {
+        for name in names {
+            self.declare_name(block, *name)?;
+        }
+        Ok(())
+    }
+
+    // Puts an object at the end of the table, and where else it belongs.
+    fn add_object(
+        &mut self,
+        block: Block<'_>,
+        item: TypedItem,
+        name: Identifier,
+    ) -> Result<(), Failure<Fault>>
+        ensures { Leaves result (progress_view self.new)
+            (items.with_objects (block_view block.entry) (typed_item_view item) (name ∷ []) (progress_view self.old)) }
+    {
+        let linkage = item.linkage;
+        let object = object_named(block, item, name.name)?;
+        let frame = frame_with(self.frame, &object, name.place.line)?;
+        let number = self.known.next_object()?;
+        self.constants.add_object(&object.home, number)?;
+        add_global(&mut self.globals, linkage, GlobalItem::GlobalObject(number))?;
+        self.known.add_object(object)?;
+        self.frame = frame;
+        Ok(())
+    }
+
+    // Puts the objects of an item at the end of the table.
+    fn add_objects(
+        &mut self,
+        block: Block<'_>,
+        item: TypedItem,
+        subject: &Subject,
+    ) -> Result<(), Failure<Fault>>
+        ensures { Leaves result (progress_view self.new)
+            (items.with_objects (block_view block.entry) (typed_item_view item) (declared_by (subject_tree subject.now))
+            (progress_view self.old)) }
+    {
+        match subject {
+            Subject::Single { name, .. } => self.add_object(block, item, *name),
+            Subject::Group(names) => self.add_group(block, &item, names.as_slice()),
+        }
+    }
+
+    // Puts an object for each of these names at the end of the table.
+    fn add_group(
+        &mut self,
+        block: Block<'_>,
+        item: &TypedItem,
+        names: &[Identifier],
+    ) -> Result<(), Failure<Fault>>
+        ensures { Leaves result (progress_view self.new)
+            (items.with_objects (block_view block.entry) (typed_item_view item.now) names.now (progress_view self.old)) }
+    {
+        for name in names {
+            self.add_copy(block, item, *name)?;
+        }
+        Ok(())
+    }
+
+    // Puts an object for one name of several at the end of the table.
+    fn add_copy(
+        &mut self,
+        block: Block<'_>,
+        item: &TypedItem,
+        name: Identifier,
+    ) -> Result<(), Failure<Fault>>
+        ensures { Leaves result (progress_view self.new)
+            (items.with_objects (block_view block.entry) (typed_item_view item.now) (name ∷ []) (progress_view self.old)) }
+    {
+        let copy = item.copy()?;
+        self.add_object(block, copy, name)
+    }
+
+    // Declares an item. What it is comes from the names before it, and that one of its own is declared twice comes first.
+    #[tactic(auto, using(crate::proofs::ItemLemmas::in_turn))]
+    fn declare_item(&mut self, block: Block<'_>, item: &Item) -> Result<(), Failure<Fault>>
+        ensures { Leaves result (progress_view self.new)
+            (items.declare_item (block_view block.entry) (item_tree item.now) (progress_view self.old)) }
+    {
+        let typed = self.known.typed_item(block, item);
+        self.declare_names(block, &item.subject)?;
+        let typed = typed?;
+        typed.check_size(line_of_item(item))?;
+        self.add_objects(block, typed, &item.subject)
+    }
+}
+
+// What the scopes answer to a declaration, as the checker answers it.
+fn twice(declared: Result<(), Failure<names::Fault>>) -> Result<(), Failure<Fault>>
+    ensures { result ≡ as_fault declared }
+{
+    match declared {
+        Ok(()) => Ok(()),
+        Err(Failure::Memory) => Err(Failure::Memory),
+        Err(Failure::Fault(fault)) => Err(refuse(Cause::DeclaredTwice, fault.line())),
     }
 }

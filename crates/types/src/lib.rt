@@ -12,10 +12,13 @@ mod filling;
 mod functions;
 mod items;
 mod known;
+mod lists;
 mod members;
+mod procedures;
 mod references;
 mod scalars;
 mod statement_nodes;
+mod statements;
 mod typing;
 
 pub use fault::{Cause, Fault};

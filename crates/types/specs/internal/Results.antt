@@ -2,6 +2,9 @@
 use Rattle.std.specs.Prelude.{◌≡◌, Option, None, Some, Result, Ok, Err}
 use Rattle.failure.specs.declared.Failure.{Failure}
 use Rattle.failure.specs.declared.Failure.TheVariants as failures
+use Rattle.names.specs.declared.fault.Fault.{Fault as NameFault}
+use Rattle.names.specs.Faults.{line_of}
+use Rattle.types.specs.declared.fault.Cause.TheVariants.{DeclaredTwice}
 use Rattle.types.specs.declared.fault.Fault.{Fault}
 use Rattle.types.specs.Checks.{Checked}
 
@@ -30,3 +33,10 @@ Gives view (Err failure) after checked = FailsBy (fault_in failure) checked
 abbrev pub Leaves : {X S : Type 0} → Result X (Failure Fault) → (after : S) → Checked S → Type 0
 Leaves (Ok x) after checked = checked ≡ Ok after
 Leaves (Err failure) after checked = FailsBy (fault_in failure) checked
+
+-- what the scopes answer to a declaration, as the checker answers it
+abbrev pub as_fault : {A : Type 0} → Result A (Failure NameFault) → Result A (Failure Fault)
+as_fault (Ok done) = Ok done
+as_fault (Err failures.Memory) = Err failures.Memory
+as_fault (Err (failures.Fault fault)) =
+    Err (failures.Fault (record { cause = DeclaredTwice; line = line_of fault }))

@@ -2,7 +2,7 @@
 use Rattle.std.specs.Prelude.{map, vec_items}
 use Rattle.trees.specs.Views.{heading_tree}
 use Rattle.typed_trees.specs.TypedTrees.{Constants}
-use Rattle.typed_trees.specs.Views.{reference_view, object_view, procedure_view}
+use Rattle.typed_trees.specs.Views.{reference_view, home_view, type_view, object_view, procedure_view}
 use Rattle.types.specs.declared.blocks.Block.{Block as CodeBlock}
 use Rattle.types.specs.declared.blocks.Owner.{Owner as CodeOwner}
 use Rattle.types.specs.declared.blocks.Owner.TheVariants as owners
@@ -10,12 +10,14 @@ use Rattle.types.specs.declared.checker.Checker.{Checker}
 use Rattle.types.specs.declared.filling.Contents.{Contents as CodeContents}
 use Rattle.types.specs.declared.filling.Extents.{Extents as CodeExtents}
 use Rattle.types.specs.declared.filling.Extents.TheVariants as code_extents
+use Rattle.types.specs.declared.items.TypedItem.{TypedItem as CodeItem}
 use Rattle.types.specs.declared.known.Constants.{Constants as CodeConstants}
 use Rattle.types.specs.declared.known.Known.{Known as CodeKnown}
 use Rattle.types.specs.declared.known.Destination.{Destination as CodeDestination}
 use Rattle.types.specs.declared.known.Destination.TheVariants as destinations
 use Rattle.types.specs.References.{Known}
 use Rattle.types.specs.Filling.{Extents, NoArray, Elements, AsListed, Contents}
+use Rattle.types.specs.Items.{TypedItem}
 use Rattle.types.specs.Blocks.{Owner, TheModule, OfProcedure, Block, Progress}
 use Rattle.types.specs.Nodes.{Destination, Variable, Port}
 
@@ -56,3 +58,11 @@ extents_view code_extents.AsListed = AsListed
 
 abbrev pub contents_view : CodeContents → Contents
 contents_view contents = record { dimension = contents.dimension; values = contents.values.items }
+
+abbrev pub typed_item_view : CodeItem → TypedItem
+typed_item_view item = record {
+  dimension = item.dimension;
+  object_type = type_view item.object_type;
+  home = home_view item.home;
+  linkage = item.linkage;
+}

@@ -3,7 +3,7 @@ use Rattle.trees.specs.Views.{restricted_tree}
 use Rattle.typed_trees.specs.Views.{type_view}
 use Rattle.types.specs.internal.Views.{known_view, contents_view}
 use Rattle.types.proofs.Filled.{listed_ok, listed_fails, some_each}
-use Rattle.types.proofs.Loops.{answers_failure}
+use Rattle.types.proofs.Loops.{answers_fault}
 use Rattle.types.proofs.known.Known.contents_as_listed.Goals as goal
 
 pub elements_for-requires : goal.elements_for-requires
@@ -13,7 +13,7 @@ elements_for-requires c =
 
 pub returns-in_err-dimension : goal.returns-in_err-dimension
 returns-in_err-dimension c =
-    answers_failure contents_view c.from_residual-in_err-dimension.result c.in_err-dimension.field-0.0 _ (search rules)
+    answers_fault contents_view c.from_residual-in_err-dimension.result c.in_err-dimension.field-0.0 _ (search rules)
     (listed_fails (known_view c.args.self.now) c.args.line (type_view c.args.object_type.now) (map restricted_tree c.args.values.now) c.in-Some-Some.elements c.len.result c.in-Some-Some.each
     c.in_ok-values.values.items (search rules) (search rules) (search rules) (search rules) _ c.in_err-dimension.ensures)
 

@@ -2,12 +2,12 @@ use Rattle.typed_trees.specs.Views.{type_view}
 use Rattle.types.specs.internal.Fillings.{filled_view}
 use Rattle.types.specs.internal.Views.{known_view}
 use Rattle.types.proofs.Filled.{onto_value, onto_values, values_first}
-use Rattle.types.proofs.Loops.{goes_on}
+use Rattle.types.proofs.Loops.{state_goes_on}
 use Rattle.types.proofs.known.Known.fill.Goals as goal
 
 pub loop-value-preserved : goal.loop-value-preserved
 loop-value-preserved c =
     let known = known_view c.args.self.now in
-    goes_on (onto_value known) (onto_values known) (values_first known) c.args.values.now c.loop-value.value-index c.value-item.result
+    state_goes_on (onto_value known) (onto_values known) (values_first known) c.args.values.now c.loop-value.value-index c.value-item.result
     (filled_view (type_view c.args.object_type.now) c.loop-value.filling) (filled_view (type_view c.args.object_type.now) c.fill_value.new.filling) _
     c.loop-value-test.true c.value-item.is c.loop-value.invariant c.in_ok-fill_value.ensures

@@ -1,0 +1,12 @@
+use Rattle.std.proofs.Common.{◌≡◌, ◌+◌, ◌≤◌, min, drop}
+use Rattle.std.specs.Prelude.{sum_by}
+use Rattle.typed_trees.specs.Views.{module_view}
+use Rattle.typed_trees.specs.Weight.{constant_bytes, size_of_constant}
+use Rattle.layout.proofs.sizes.constant_size.Given as goal
+
+abbrev pub invariant-loop-item : goal.invariant-loop-item
+invariant-loop-item l =
+    (l.total ≤ 4294967295)
+    × (min (
+    l.total + sum_by (size_of_constant (module_view l.typed)) (drop l.item-index l.typed.constants.items)) 4294967295
+    ≡ min (constant_bytes (module_view l.typed)) 4294967295)

@@ -1,0 +1,22 @@
+-- Lists of arguments.
+use Rattle.std.proofs.Common.{◌≡◌, ℕ, suc, List, [], ◌∷◌, length, ap, refl}
+use Rattle.trees.specs.declared.expression.Expression.{Expression}
+use Rattle.trees.specs.Views.{argument_trees}
+use Rattle.typed_trees.specs.declared.expression.TypedExpression.{TypedExpression}
+use Rattle.typed_trees.specs.Views.{arguments_view}
+use Rattle.types.specs.declared.fault.Cause.TheVariants.{WrongUse}
+use Rattle.types.specs.Checks.{refuse}
+use Rattle.types.specs.References.{number_of_arguments}
+use Rattle.types.specs.Statements.{moved}
+
+pub number_of_trees : (trees : List Expression) → number_of_arguments (argument_trees trees) ≡ length trees
+number_of_trees [] = refl
+number_of_trees (first ∷ others) = ap suc (number_of_trees others)
+
+-- MOVE has three arguments
+pub not_moved : (line : ℕ) (values : List TypedExpression) → (length values ≡ 3 → ⊥) → moved line (arguments_view values) ≡ refuse WrongUse line
+not_moved line [] not_three = refl
+not_moved line (one ∷ []) not_three = refl
+not_moved line (one ∷ two ∷ []) not_three = refl
+not_moved line (one ∷ two ∷ three ∷ []) not_three = absurd (not_three refl)
+not_moved line (one ∷ two ∷ three ∷ four ∷ others) not_three = refl

@@ -1,0 +1,98 @@
+-- Items of a DECLARE.
+use Rattle.std.proofs.Common.{◌≡◌, ℕ, ◌<◌, ◌≤◌, min, nat_le, true, arith, le-leb, leb-true, sym, ◌∙◌, List, [], ◌∷◌, map, Bool, ◌||◌, not, Ok, Err, ap, refl}
+use Rattle.std.proofs.lemmas.Bool.{lt-leb}
+use Rattle.std.proofs.Math.Decide.{dec_le}
+use Rattle.std.specs.List.{list_any}
+use Rattle.names.specs.Environment.{Here, with_object, is_declared_again}
+use Rattle.trees.specs.declared.identifier.Identifier.{Identifier}
+use Rattle.trees.specs.Trees.{ItemTree}
+use Rattle.names.specs.Uses.{declared_by}
+use Rattle.typed_trees.specs.declared.limits.TheConstants.{FRAME_LIMIT, OBJECT_LIMIT}
+use Rattle.types.specs.declared.fault.Cause.TheVariants.{DeclaredTwice, MisplacedAttribute, TooLarge}
+use Rattle.types.specs.Blocks.{Block, Progress, is_external, declares_parameter}
+use Rattle.types.specs.Checks.{Checked, ◌>>=◌, require}
+use Rattle.types.specs.Items.{TypedItem, declare_names, declare_item, line_of_item, object_named, size_of_item, typed_item, with_objects, with_typed_object}
+use Rattle.types.specs.References.{line_of}
+use Rattle.types.specs.Statements.{with_here}
+use Rattle.types.specs.internal.Items.{item_in_turn, with_names}
+
+-- a test of what a function makes of the items of a list
+pub any_of_map : {A B : Type 0} (test : B → Bool) (f : A → B) (all : List A) → list_any test (map f all) ≡ list_any (λ a. test (f a)) all
+any_of_map test f [] = refl
+any_of_map test f (first ∷ others) = ap (λ rest. test (f first) || rest) (any_of_map test f others)
+
+-- one name, and then the others
+names_then : {A B : Type 0} (first : Checked A) (second : Checked B) (block : Block) (others : List Identifier) (here : Here) (progress : Progress)
+    → (first >>= λ _. second >>= λ _. declare_names block others here) >>= (λ after. Ok (with_here after progress))
+    ≡ ((first >>= λ _. second >>= λ _. Ok here) >>= (λ after. Ok (with_here after progress))) >>= with_names block others
+names_then (Ok a) (Ok b) block others here progress = refl
+names_then (Ok a) (Err fault) block others here progress = refl
+names_then (Err fault) second block others here progress = refl
+
+pub first_name : (block : Block) (name : Identifier) (others : List Identifier) (progress : Progress) → with_names block (name ∷ others) progress ≡ with_names block (name ∷ []) progress >>= with_names block others
+first_name block name others progress =
+    names_then (require (not (is_declared_again progress.known.here name.name)) DeclaredTwice (line_of name))
+    (require (not (is_external block.owner) || declares_parameter block name.name) MisplacedAttribute (line_of name))
+    block others (with_object name.name progress.known.here) progress
+
+-- a number that stops at the greatest of 32 bits, against a limit below that
+pub capped_within : (all limit : ℕ) → limit < 4294967295 → nat_le (min all 4294967295) limit ≡ nat_le all limit
+capped_within all limit small =
+    elim (dec_le all limit) [
+      | yes within ↦ le-leb (min all 4294967295) limit (omega (arith, within)) ∙ sym (le-leb all limit within)
+      | no beyond ↦ lt-leb (min all 4294967295) limit (omega (arith, small, beyond)) ∙ sym (lt-leb all limit (omega (arith, beyond)))
+    ]
+
+pub capped_exact : (all limit : ℕ) → limit < 4294967295 → nat_le all limit ≡ true → min all 4294967295 ≡ all
+capped_exact all limit small within = let is : all ≤ limit = leb-true all limit within in omega (arith, small, is)
+
+-- what one name of an item makes of a text, and whether there is room for it
+abbrev object_of_name : Block → TypedItem → Identifier → Progress → Progress
+object_of_name block item name progress = with_typed_object item.linkage (object_named block item name.name) progress
+
+abbrev room_for : Block → TypedItem → Identifier → Progress → Checked (Unit {0})
+room_for block item name progress = require (nat_le (object_of_name block item name progress).frame FRAME_LIMIT) TooLarge (line_of name)
+
+-- objects have nothing to do with what names stand for
+abbrev objects_with : Block → TypedItem → List Identifier → Here → Progress → Checked Progress
+objects_with block item names here progress = with_objects block item names progress >>= (λ declared. Ok (with_here here declared))
+
+aside : {A : Type 0} (first : Checked A) (next second : Checked Progress) (here : Here) → next ≡ second >>= (λ declared. Ok (with_here here declared))
+    → first >>= (λ _. next) ≡ (first >>= λ _. second) >>= (λ declared. Ok (with_here here declared))
+aside (Ok a) next second here is = is
+aside (Err fault) next second here is = refl
+
+objects_aside : (block : Block) (item : TypedItem) (names : List Identifier) (here : Here) (progress : Progress) → objects_with block item names here progress ≡ with_objects block item names (with_here here progress)
+objects_aside block item [] here progress = refl
+objects_aside block item (name ∷ others) here progress =
+    sym (aside (room_for block item name progress) _ (with_objects block item others (object_of_name block item name progress)) here
+    (sym (objects_aside block item others here (object_of_name block item name progress))))
+
+-- the names of an item may be declared before its objects are made
+module _ (block : Block) (item : ItemTree) (progress : Progress) where
+  abbrev fits : TypedItem → Checked (Unit {0})
+  fits typed = require (nat_le (size_of_item typed) OBJECT_LIMIT) TooLarge (line_of_item item)
+
+  abbrev made_from : TypedItem → Progress → Checked Progress
+  made_from typed from = with_objects block typed (declared_by item.subject) from
+
+  abbrev made_with : TypedItem → Here → Checked Progress
+  made_with typed here = objects_with block typed (declared_by item.subject) here progress
+
+  fitting_in_turn : (here : Here) (typed : TypedItem) (fitting : Checked (Unit {0})) → fitting >>= (λ _. made_with typed here) ≡ fitting >>= (λ _. made_from typed (with_here here progress))
+  fitting_in_turn here typed (Ok fitting) = objects_aside block typed (declared_by item.subject) here progress
+  fitting_in_turn here typed (Err fault) = refl
+
+  typed_in_turn : (here : Here) (typed : Checked TypedItem)
+      → typed >>= (λ typed. fits typed >>= λ _. made_with typed here) ≡ typed >>= (λ typed. fits typed >>= λ _. made_from typed (with_here here progress))
+  typed_in_turn here (Ok typed) = fitting_in_turn here typed (fits typed)
+  typed_in_turn here (Err fault) = refl
+
+  named_in_turn : (names : Checked Here)
+      → names >>= (λ here. typed_item progress.known block item >>= λ typed. fits typed >>= λ _. made_with typed here)
+      ≡ (names >>= λ here. Ok (with_here here progress)) >>= (λ named. typed_item progress.known block item >>= λ typed. fits typed >>= λ _. made_from typed named)
+  named_in_turn (Ok here) = typed_in_turn here (typed_item progress.known block item)
+  named_in_turn (Err fault) = refl
+
+  pub in_turn : declare_item block item progress ≡ item_in_turn block item progress
+  in_turn = named_in_turn (declare_names block (declared_by item.subject) progress.known.here)

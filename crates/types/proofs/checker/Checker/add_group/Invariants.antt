@@ -1,0 +1,10 @@
+use Rattle.std.proofs.Common.{◌≡◌, drop}
+use Rattle.types.specs.Items as items
+use Rattle.types.specs.internal.Views.{block_view, progress_view, typed_item_view}
+use Rattle.types.proofs.checker.Checker.add_group.Given as goal
+
+-- the names that are left decide
+abbrev pub invariant-loop-name : goal.invariant-loop-name
+invariant-loop-name l =
+    items.with_objects (block_view l.block) (typed_item_view l.item) (drop l.name-index l.names) (progress_view l.self)
+    ≡ items.with_objects (block_view l.block) (typed_item_view l.item) l.names (progress_view l.initial.self)

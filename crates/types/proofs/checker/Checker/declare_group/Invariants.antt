@@ -1,0 +1,10 @@
+use Rattle.std.proofs.Common.{◌≡◌, drop}
+use Rattle.types.specs.internal.Items.{with_names}
+use Rattle.types.specs.internal.Views.{block_view, progress_view}
+use Rattle.types.proofs.checker.Checker.declare_group.Given as goal
+
+-- the names that are left decide
+abbrev pub invariant-loop-name : goal.invariant-loop-name
+invariant-loop-name l =
+    with_names (block_view l.block) (drop l.name-index l.names) (progress_view l.self)
+    ≡ with_names (block_view l.block) l.names (progress_view l.initial.self)

@@ -1,0 +1,6 @@
+use Rattle.std.proofs.Common.{◌≡◌, drop}
+use Rattle.types.specs.Statements.{declare_labels}
+use Rattle.types.proofs.lists.declare_labels.Given as goal
+
+abbrev pub invariant-loop-label : goal.invariant-loop-label
+invariant-loop-label l = declare_labels (drop l.label-index l.labels) l.scopes ≡ declare_labels l.labels l.fn.scopes

@@ -1,0 +1,8 @@
+use Rattle.std.proofs.Common.{◌≡◌, map}
+use Rattle.typed_trees.specs.Views.{target_view}
+use Rattle.types.specs.internal.Views.{destination_view}
+use Rattle.types.specs.internal.Walking.{targets_for}
+use Rattle.types.proofs.statements.targets_of.Given as goal
+
+abbrev pub invariant-loop-place : goal.invariant-loop-place
+invariant-loop-place l = map target_view l.targets.items ≡ targets_for (map destination_view l.yielded) l.from

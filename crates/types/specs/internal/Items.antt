@@ -1,0 +1,37 @@
+-- Items of a DECLARE, as the checker goes through them.
+use Rattle.std.specs.Prelude.{ℕ, ◌+◌, List, [], ◌∷◌, ◌++◌, Ok, nat_le}
+use Rattle.trees.specs.declared.identifier.Identifier.{Identifier}
+use Rattle.trees.specs.Trees.{ItemTree}
+use Rattle.names.specs.Uses.{declared_by}
+use Rattle.types.specs.declared.fault.Cause.TheVariants.{TooLarge}
+use Rattle.typed_trees.specs.declared.limits.TheConstants.{FRAME_LIMIT, OBJECT_LIMIT}
+use Rattle.typed_trees.specs.TypedTrees.{TypedObject}
+use Rattle.types.specs.Checks.{Checked, ◌>>=◌, require}
+use Rattle.types.specs.References.{Known}
+use Rattle.types.specs.Blocks.{Block, Progress}
+use Rattle.types.specs.Items.{declare_names, bytes_in_frame, line_of_item, size_of_item, typed_item, with_objects}
+use Rattle.types.specs.Statements.{with_here}
+
+-- the names of an item declared, whatever they are
+abbrev pub with_names : Block → List Identifier → Progress → Checked Progress
+with_names block names progress = do
+  here ← declare_names block names progress.known.here
+  Ok (with_here here progress)
+
+-- one more object at the end of the table
+abbrev pub with_last_object : TypedObject → Known → Known
+with_last_object object known = record known { objects = known.objects ++ object ∷ [] }
+
+-- the bytes in the frame of a call with one more object
+abbrev pub bytes_with : (frame : ℕ) → TypedObject → (line : ℕ) → Checked ℕ
+bytes_with frame object line = do
+  _ ← require (nat_le (frame + bytes_in_frame object.home object) FRAME_LIMIT) TooLarge line
+  Ok (frame + bytes_in_frame object.home object)
+
+-- an item whose names are declared before its objects are made
+abbrev pub item_in_turn : Block → ItemTree → Progress → Checked Progress
+item_in_turn block item progress = do
+  named ← with_names block (declared_by item.subject) progress
+  typed ← typed_item progress.known block item
+  _ ← require (nat_le (size_of_item typed) OBJECT_LIMIT) TooLarge (line_of_item item)
+  with_objects block typed (declared_by item.subject) named

@@ -1,0 +1,356 @@
+//! What statements need beside the statements in them.
+
+ghost use Rattle.std.specs.Prelude.{◌≡◌, map, Some, IfOk};
+ghost use Rattle.std.specs.Option.{option_map};
+ghost use Rattle.trees.specs.Views.{argument_trees, expression_tree, iteration_tree, reference_tree, target_trees};
+ghost use Rattle.names.specs.declared.entity.Binding.TheVariants.{Declared};
+ghost use Rattle.names.specs.declared.entity.Entity.TheVariants.{Object};
+ghost use Rattle.typed_trees.specs.Views.{arguments_view, expression_view, iteration_view, object_view, statement_view, target_view};
+ghost use Rattle.types.specs.Expressions.{arguments};
+ghost use Rattle.types.specs.Nodes.{target_of};
+ghost use Rattle.types.specs.References.{is_writable};
+ghost use Rattle.types.specs.Statements.{assigned, assignment, call, call_bound, counter_bound, destinations, goto, goto_bound, iteration, moved, return_from, return_with, step, value};
+ghost use Rattle.types.specs.internal.Results.{Answers, Gives};
+ghost use Rattle.types.specs.internal.Walking.{call_of_bound, call_of_move, call_of_procedure, call_statement, counter_type, counter_view, targets_for};
+ghost use Rattle.types.specs.internal.Views.{constants_view, destination_view, known_view, owner_view, progress_view};
+
+use crate::blocks::Owner;
+use crate::checker::Checker;
+use crate::expression_nodes::as_type;
+use crate::fault::{Cause, Fault};
+use crate::known::{Constants, Destination, Known, refuse, require};
+use crate::statement_nodes;
+use failure::Failure;
+use names::{Binding, BuiltIn, Entity};
+use std::alloc::{AllocError, Global};
+use trees::{Assignment, Expression, Identifier, Iteration, Reference, ScalarType, Selector};
+use typed_trees::{
+    Home, ObjectType, TypedExpression, TypedIteration, TypedObject, TypedStatement, TypedTarget,
+};
+
+impl Checker {
+    /// An expression in a statement.
+    pub(crate) fn value(&mut self, tree: &Expression) -> Result<TypedExpression, Failure<Fault>>
+        ensures { Gives expression_view result (progress_view self.new)
+            (value (expression_tree tree.now) (progress_view self.old)) }
+    {
+        self.known.expression(tree, &mut self.constants)
+    }
+}
+
+// What goes to a target, of a type.
+fn target_of(place: Destination, from: ScalarType) -> TypedTarget
+    ensures { target_view result ≡ target_of (destination_view place) from }
+{
+    match place {
+        Destination::Variable {
+            scalar: to,
+            reference,
+        } => TypedTarget::Stored {
+            from,
+            to,
+            reference,
+        },
+        Destination::Port(port) => TypedTarget::Sent { from, port },
+    }
+}
+
+// Targets of an assignment of a value of a type.
+fn targets_of(
+    alloc: Global,
+    places: Vec<Destination>,
+    from: ScalarType,
+) -> Result<Vec<TypedTarget>, AllocError>
+    ensures { IfOk result (λ made. map target_view made.items ≡
+        targets_for (map destination_view places.items) from) }
+{
+    let mut targets = Vec::new(alloc);
+    for place in places {
+        targets.push(target_of(place, from))?;
+    }
+    Ok(targets)
+}
+
+impl Known {
+    // The targets of an assignment, from left to right.
+    fn destinations(
+        &self,
+        first: &Reference,
+        others: &[Reference],
+        constants: &mut Constants,
+    ) -> Result<Vec<Destination>, Failure<Fault>>
+        ensures { Gives (λ made. map destination_view made.items) result (constants_view constants.new)
+            (destinations (known_view self.now) (target_trees first.now others.now)
+            (constants_view constants.old)) }
+    {
+        let mut made = Vec::new(self.alloc);
+        let place = self.destination(first, constants)?;
+        made.push(place)?;
+        for target in others {
+            let place = self.destination(target, constants)?;
+            made.push(place)?;
+        }
+        Ok(made)
+    }
+}
+
+impl Checker {
+    /// Targets, and then the value that all of them get.
+    pub(crate) fn assignment(&mut self, tree: &Assignment) -> Result<TypedStatement, Failure<Fault>>
+        ensures { Gives statement_view result (progress_view self.new)
+            (assignment (target_trees tree.now.target tree.now.others.items)
+            (expression_tree tree.now.value) (progress_view self.old)) }
+    {
+        let others = tree.others.as_slice();
+        let places = self
+            .known
+            .destinations(&tree.target, others, &mut self.constants)?;
+        let source = self.value(&tree.value)?;
+        let targets = targets_of(self.alloc, places, source.scalar())?;
+        Ok(statement_nodes::assignment(self.alloc, targets, source)?)
+    }
+}
+
+// CALL of MOVE, whose arguments are ADDRESSes.
+#[tactic(auto, using(crate::proofs::Arguments::not_moved))]
+fn moved(
+    alloc: Global,
+    line: u32,
+    values: Vec<TypedExpression>,
+) -> Result<TypedStatement, Failure<Fault>>
+    ensures { Answers statement_view result (moved line (arguments_view values.items)) }
+{
+    if values.len() != 3 {
+        return Err(refuse(Cause::WrongUse, line));
+    }
+    let mut values = values;
+    let (Some(destination), Some(source), Some(count)) = (values.pop(), values.pop(), values.pop())
+    else {
+        return Err(refuse(Cause::WrongUse, line));
+    };
+    let count = as_type(alloc, count, ScalarType::Address)?;
+    let source = as_type(alloc, source, ScalarType::Address)?;
+    let destination = as_type(alloc, destination, ScalarType::Address)?;
+    Ok(statement_nodes::copying(alloc, count, source, destination)?)
+}
+
+impl Checker {
+    // CALL of MOVE.
+    #[tactic(auto, using(crate::proofs::Arguments::number_of_trees))]
+    fn call_of_move(
+        &mut self,
+        name: Identifier,
+        trees: &[Expression],
+    ) -> Result<TypedStatement, Failure<Fault>>
+        ensures { Gives statement_view result (progress_view self.new)
+            (call_of_move name (argument_trees trees.now) (progress_view self.old)) }
+    {
+        require(trees.len() == 3, Cause::WrongUse, name.place.line)?;
+        let values = self.known.arguments(trees, &mut self.constants)?;
+        moved(self.alloc, name.place.line, values)
+    }
+
+    // CALL of an untyped procedure of a number.
+    fn call_of_procedure(
+        &mut self,
+        name: Identifier,
+        number: u32,
+        trees: &[Expression],
+    ) -> Result<TypedStatement, Failure<Fault>>
+        ensures { Gives statement_view result (progress_view self.new)
+            (call_of_procedure number name (argument_trees trees.now) (progress_view self.old)) }
+    {
+        let line = name.place.line;
+        let procedure = self.known.procedure(name, number)?;
+        let is_untyped = procedure.result.is_none();
+        require(is_untyped, Cause::WrongUse, line)?;
+        let values = self
+            .known
+            .call_arguments(procedure, line, trees, &mut self.constants)?;
+        Ok(statement_nodes::call(number, values))
+    }
+
+    // CALL of what a name is bound to: an untyped procedure, or MOVE.
+    fn call_bound(
+        &mut self,
+        binding: Binding,
+        name: Identifier,
+        trees: &[Expression],
+    ) -> Result<TypedStatement, Failure<Fault>>
+        ensures { Gives statement_view result (progress_view self.new)
+            (call_of_bound binding name (argument_trees trees.now) (progress_view self.old)) }
+    {
+        match binding {
+            Binding::Declared(Entity::Procedure(number)) => {
+                self.call_of_procedure(name, number, trees)
+            }
+            Binding::BuiltInName(BuiltIn::Move) => self.call_of_move(name, trees),
+            _ => Err(refuse(Cause::WrongUse, name.place.line)),
+        }
+    }
+
+    /// CALL of an untyped procedure, or of MOVE.
+    pub(crate) fn call(&mut self, procedure: &Selector) -> Result<TypedStatement, Failure<Fault>>
+        ensures { Gives statement_view result (progress_view self.new)
+            (call_statement procedure.now.name (argument_trees procedure.now.arguments.items)
+            (progress_view self.old)) }
+    {
+        let binding = self.known.bound(procedure.name)?;
+        self.call_bound(binding, procedure.name, procedure.arguments.as_slice())
+    }
+
+    // RETURN of a value, in a procedure with a result of this type.
+    fn return_value(
+        &mut self,
+        line: u32,
+        scalar: ScalarType,
+        tree: &Expression,
+    ) -> Result<TypedStatement, Failure<Fault>>
+        ensures { Gives statement_view result (progress_view self.new)
+            (return_with line (Some scalar) (Some (expression_tree tree.now)) (progress_view self.old)) }
+    {
+        let typed = self.value(tree)?;
+        let typed = as_type(self.alloc, typed, scalar)?;
+        Ok(statement_nodes::return_value(self.alloc, Some(typed))?)
+    }
+
+    // RETURN in a procedure with this result.
+    fn return_with(
+        &mut self,
+        line: u32,
+        scalar: Option<ScalarType>,
+        tree: &Option<Box<Expression>>,
+    ) -> Result<TypedStatement, Failure<Fault>>
+        ensures { Gives statement_view result (progress_view self.new)
+            (return_with line scalar (option_map (λ held. expression_tree held.value) tree.now)
+            (progress_view self.old)) }
+    {
+        match (scalar, tree) {
+            (None, None) => Ok(statement_nodes::return_value(self.alloc, None)?),
+            (Some(scalar), Some(tree)) => self.return_value(line, scalar, tree),
+            _ => Err(refuse(Cause::WrongUse, line)),
+        }
+    }
+
+    /// RETURN, which stands in procedures, with a value exactly in typed ones.
+    pub(crate) fn return_from(
+        &mut self,
+        line: u32,
+        owner: Owner<'_>,
+        tree: &Option<Box<Expression>>,
+    ) -> Result<TypedStatement, Failure<Fault>>
+        ensures { Gives statement_view result (progress_view self.new)
+            (return_from line (owner_view owner.entry)
+            (option_map (λ held. expression_tree held.value) tree.now) (progress_view self.old)) }
+    {
+        match owner {
+            Owner::Module => Err(refuse(Cause::WrongUse, line)),
+            Owner::Procedure { heading, .. } => self.return_with(line, heading.result, tree),
+        }
+    }
+}
+
+// The label that a name after GOTO is bound to.
+fn goto_bound(line: u32, binding: Binding) -> Result<TypedStatement, Failure<Fault>>
+    ensures { Answers statement_view result (goto_bound line binding) }
+{
+    match binding {
+        Binding::Declared(Entity::Label(label)) => Ok(TypedStatement::Goto(label)),
+        _ => Err(refuse(Cause::UnknownLabel, line)),
+    }
+}
+
+impl Checker {
+    /// GOTO a label that is known there.
+    pub(crate) fn goto(&mut self, label: Identifier) -> Result<TypedStatement, Failure<Fault>>
+        ensures { Gives statement_view result (progress_view self.new)
+            (goto label (progress_view self.old)) }
+    {
+        goto_bound(label.place.line, self.known.scopes.jump(label.name))
+    }
+}
+
+// The type of an object that is a variable of an iterative DO.
+fn counter_type(object: &TypedObject, name: Identifier) -> Result<ScalarType, Failure<Fault>>
+    ensures { Answers (λ scalar. scalar) result (counter_type (object_view object.now) name) }
+{
+    require(
+        !matches!(object.home, Home::Constant(_)),
+        Cause::ConstantWritten,
+        name.place.line,
+    )?;
+    require(
+        object.dimension.is_none() && !matches!(object.home, Home::Based(_)),
+        Cause::WrongUse,
+        name.place.line,
+    )?;
+    match object.object_type {
+        ObjectType::Scalar(scalar) => Ok(scalar),
+        ObjectType::Structure(_) => Err(refuse(Cause::WrongUse, name.place.line)),
+    }
+}
+
+// The variable of an iterative DO.
+#[derive(Clone, Copy)]
+struct Counter {
+    object: u32,
+    scalar: ScalarType,
+}
+
+impl Known {
+    // The object of a number, as the variable of an iterative DO.
+    fn counter_object(&self, number: u32, name: Identifier) -> Result<Counter, Failure<Fault>>
+        ensures { Answers counter_view result
+            (counter_bound (known_view self.now) (Declared (Object number)) name) }
+    {
+        let variable = name;
+        let object = self.object(name, number)?;
+        let scalar = counter_type(object, variable)?;
+        Ok(Counter {
+            object: number,
+            scalar,
+        })
+    }
+
+    // The variable of an iterative DO, from what its name is bound to.
+    fn counter_bound(&self, binding: Binding, name: Identifier) -> Result<Counter, Failure<Fault>>
+        ensures { Answers counter_view result (counter_bound (known_view self.now) binding name) }
+    {
+        match binding {
+            Binding::Declared(Entity::Object(number)) => self.counter_object(number, name),
+            _ => Err(refuse(Cause::WrongUse, name.place.line)),
+        }
+    }
+}
+
+impl Checker {
+    // The step of an iterative DO, if there is one.
+    fn step(&mut self, tree: &Option<Expression>) -> Result<Option<TypedExpression>, Failure<Fault>>
+        ensures { Gives (option_map expression_view) result (progress_view self.new)
+            (step (option_map expression_tree tree.now) (progress_view self.old)) }
+    {
+        match tree {
+            Some(tree) => Ok(Some(self.value(tree)?)),
+            None => Ok(None),
+        }
+    }
+
+    /// The head of an iterative DO.
+    pub(crate) fn iteration(&mut self, tree: &Iteration) -> Result<TypedIteration, Failure<Fault>>
+        ensures { Gives iteration_view result (progress_view self.new)
+            (iteration (iteration_tree tree.now) (progress_view self.old)) }
+    {
+        let binding = self.known.bound(tree.variable)?;
+        let counter = self.known.counter_bound(binding, tree.variable)?;
+        let first = self.value(&tree.first)?;
+        let last = self.value(&tree.last)?;
+        let step = self.step(&tree.step)?;
+        Ok(TypedIteration {
+            variable: counter.object,
+            scalar: counter.scalar,
+            first,
+            last,
+            step,
+        })
+    }
+}
