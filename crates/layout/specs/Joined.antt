@@ -7,7 +7,7 @@ use Rattle.std.specs.Str.{bytes_eq}
 use Rattle.trees.specs.declared.declaration.ScalarType.{ScalarType}
 use Rattle.trees.specs.declared.declaration.ScalarType.TheVariants.{Byte, Address}
 use Rattle.typed_trees.specs.declared.parts.Visibility.{Visibility}
-use Rattle.typed_trees.specs.declared.parts.Visibility.TheVariants.{Public}
+use Rattle.typed_trees.specs.declared.parts.Visibility.TheVariants.{Public, External}
 use Rattle.typed_trees.specs.declared.parts.GlobalItem.TheVariants.{GlobalObject, GlobalProcedure}
 use Rattle.typed_trees.specs.declared.parts.GlobalItem.{GlobalItem}
 use Rattle.typed_trees.specs.declared.parts.TypedMember.{TypedMember}
@@ -169,29 +169,30 @@ abbrev pub in_module : (number_of_module : ℕ) → Option ℕ → Option InProg
 in_module number_of_module found =
     option_map (λ number. record { number_of_module = number_of_module; number = number }) found
 
-abbrev pub public_object_in : TypedModule → List ℕ → Option ℕ
-public_object_in typed name =
+-- the first module in which something is found, with its number there
+abbrev pub first_found :
+    (number_of_module : ℕ) → (in_one : TypedModule → Option ℕ) → List TypedModule → Option InProgram
+first_found number_of_module in_one [] = None
+first_found number_of_module in_one (typed ∷ others) =
+    option_or (in_module number_of_module (in_one typed)) (first_found (number_of_module + 1) in_one others)
+
+-- the PUBLIC object of a name, and the PUBLIC procedure
+abbrev pub public_object_in : List ℕ → TypedModule → Option ℕ
+public_object_in name typed =
     position (λ (object : TypedObject). object.is_public && bytes_eq object.name name) typed.objects
 
-abbrev pub public_object_from : (number_of_module : ℕ) → List TypedModule → List ℕ → Option InProgram
-public_object_from number_of_module [] name = None
-public_object_from number_of_module (typed ∷ others) name =
-    option_or (in_module number_of_module (public_object_in typed name))
-    (public_object_from (number_of_module + 1) others name)
-
-abbrev pub public_procedure_in : TypedModule → List ℕ → Option ℕ
-public_procedure_in typed name =
+abbrev pub public_procedure_in : List ℕ → TypedModule → Option ℕ
+public_procedure_in name typed =
     position
     (λ (procedure : TypedProcedure). is_public_procedure procedure.visibility && bytes_eq procedure.name name)
     typed.procedures
 
-abbrev pub public_procedure_from : (number_of_module : ℕ) → List TypedModule → List ℕ → Option InProgram
-public_procedure_from number_of_module [] name = None
-public_procedure_from number_of_module (typed ∷ others) name =
-    option_or (in_module number_of_module (public_procedure_in typed name))
-    (public_procedure_from (number_of_module + 1) others name)
-
 -- what an object of a module stands for: an EXTERNAL one for the PUBLIC of its name, and any other for itself
 abbrev pub object_meant : List TypedModule → InProgram → TypedObject → Home → Option InProgram
-object_meant modules at object Elsewhere = public_object_from 0 modules object.name
+object_meant modules at object Elsewhere = first_found 0 (public_object_in object.name) modules
 object_meant modules at object home = Some at
+
+-- what a procedure of a module stands for where it is called, likewise
+abbrev pub procedure_meant : List TypedModule → InProgram → TypedProcedure → Visibility → Option InProgram
+procedure_meant modules at procedure External = first_found 0 (public_procedure_in procedure.name) modules
+procedure_meant modules at procedure visibility = Some at

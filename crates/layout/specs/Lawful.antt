@@ -1,26 +1,18 @@
 -- Lawful placements of a joined program.
-use Rattle.std.specs.Prelude.{◌≡◌, ℕ, ◌+◌, ◌%◌, ◌≤◌, List, length, zip, All, AllPairs, slice_index}
+use Rattle.std.specs.Prelude.{◌≡◌, ℕ, List, length, zip, All, AllPairs}
 use Rattle.mem80.specs.declared.range.Range.{Range}
 use Rattle.mem80.specs.Range.{IsIn, Meets}
-use Rattle.typed_trees.specs.declared.parts.AtAddress.TheVariants.{AtNumber, AtObject}
-use Rattle.typed_trees.specs.declared.parts.AtAddress.{AtAddress}
 use Rattle.typed_trees.specs.TypedTrees.{Home, Placed, TypedObject, TypedModule}
-use Rattle.layout.specs.Placement.{ModulePlacement, Placement, PlacedPiece, pieces_of, own_pieces, constant_pieces, IsWritable}
+use Rattle.layout.specs.Placement.{ModulePlacement, Placement, EndsInMemory, address_at, PlacedPiece, pieces_of, own_pieces, constant_pieces, IsWritable}
 
 -- an address for each object and each constant list of a module, and that for each module
 pub record HasAddresses (placed : TypedModule × ModulePlacement) : Type 0 where
   pub objects : length (placed.1).objects ≡ length (placed.0).objects
   pub lists : length (placed.1).lists ≡ length (placed.0).constants.lists
 
--- The address that AT says: a number, or so much after where another object of the module begins, modulo
--- 65536.
-abbrev pub address_at : ModulePlacement → AtAddress → ℕ
-address_at placed (AtNumber address) = address
-address_at placed (AtObject object offset) = (slice_index placed.objects object + offset) % 65536
-
 -- an object with AT lies where that says
 abbrev pub LiesByHome : ModulePlacement → (address : ℕ) → Home → Type 0
-LiesByHome placed address (Placed at) = address ≡ address_at placed at
+LiesByHome placed address (Placed at) = address ≡ address_at placed.objects at
 LiesByHome placed address home = Unit {0}
 
 abbrev pub LiesWhereAtSays : TypedModule × ModulePlacement → Type 0
@@ -28,13 +20,10 @@ LiesWhereAtSays placed =
     All (λ (object : TypedObject × ℕ). LiesByHome placed.1 object.1 (object.0).home)
     (zip (placed.0).objects (placed.1).objects)
 
--- something ends within memory; it lies in a range
-abbrev pub EndsInMemory : PlacedPiece → Type 0
-EndsInMemory piece = piece.range.start + piece.range.len ≤ 65536
-
-pub record LiesIn (outer : Range) (piece : PlacedPiece) : Type 0 where
-  pub after : outer.start ≤ piece.range.start
-  pub before : piece.range.start + piece.range.len ≤ outer.start + outer.len
+-- Each byte of something lies in a range. This says nothing of a list without bytes, which has the address
+-- where the next thing begins.
+abbrev pub LiesIn : (outer : Range) → PlacedPiece → Type 0
+LiesIn outer piece = (address : ℕ) → IsIn address piece.range → IsIn address outer
 
 -- two pieces have no byte in common
 abbrev pub AreDisjoint : PlacedPiece → PlacedPiece → Type 0
@@ -44,9 +33,9 @@ AreDisjoint left right = ¬ Meets left.range right.range
 pub record IsLawful (modules : List TypedModule) (placement : Placement) : Type 0 where
   pub for_each_module : length placement.modules ≡ length modules
   pub complete : All HasAddresses (zip modules placement.modules)
-  pub in_memory : All EndsInMemory (pieces_of modules placement)
-  pub code_in_memory : placement.code.start + placement.code.len ≤ 65536
-  pub stack_in_memory : placement.stack.start + placement.stack.len ≤ 65536
+  pub in_memory : All (λ (piece : PlacedPiece). EndsInMemory piece.range) (pieces_of modules placement)
+  pub code_in_memory : EndsInMemory placement.code
+  pub stack_in_memory : EndsInMemory placement.stack
   pub disjoint : AllPairs AreDisjoint (own_pieces modules placement)
   pub where_at_says : All LiesWhereAtSays (zip modules placement.modules)
   pub constants_in_code : All (LiesIn placement.code) (constant_pieces modules placement)

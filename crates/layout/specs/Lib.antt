@@ -2,6 +2,8 @@ pub mod Storage
 pub mod Joined
 pub mod Placement
 pub mod Lawful
+pub mod Following
+pub mod Placing
 pub mod StartingMemory
 pub mod Views
 pub mod internal

@@ -1,7 +1,10 @@
 -- Where a joined program lies in memory.
-use Rattle.std.specs.Prelude.{ℕ, Bool, true, false, List, ◌++◌, length, map, filter_map, flat_map, zip, Any, filter, Option, Some, None, option_map}
+use Rattle.std.specs.Prelude.{ℕ, ◌+◌, ◌%◌, ◌≤◌, Bool, true, false, List, ◌++◌, length, map, filter_map, flat_map, zip, Any, filter, Option, Some, None, option_map, slice_index}
+use Rattle.mem80.specs.declared.memory.TheConstants.{MEMORY_SIZE}
 use Rattle.mem80.specs.declared.range.Range.{Range}
 use Rattle.mem80.specs.Range.{IsIn}
+use Rattle.typed_trees.specs.declared.parts.AtAddress.TheVariants.{AtNumber, AtObject}
+use Rattle.typed_trees.specs.declared.parts.AtAddress.{AtAddress}
 use Rattle.typed_trees.specs.TypedTrees.{Home, InData, InConstants, Placed, TypedObject, TypedModule}
 use Rattle.typed_trees.specs.Sizes.{size_of_object}
 
@@ -28,6 +31,15 @@ pub record PlacedPiece : Type 0 where
 
 abbrev pub range_of : (start len : ℕ) → Range
 range_of start len = record { start = start; len = len }
+
+abbrev pub EndsInMemory : Range → Type 0
+EndsInMemory range = range.start + range.len ≤ MEMORY_SIZE
+
+-- The address that AT says, where the objects of the module lie as told: a number, or so much after where
+-- another object begins, modulo the size of memory.
+abbrev pub address_at : (addresses : List ℕ) → AtAddress → ℕ
+address_at addresses (AtNumber address) = address
+address_at addresses (AtObject object offset) = (slice_index addresses object + offset) % MEMORY_SIZE
 
 abbrev pub kind_of : Home → Option PieceKind
 kind_of (InData values) = Some StaticPiece

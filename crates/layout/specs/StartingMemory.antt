@@ -3,6 +3,7 @@
 use Rattle.std.specs.Prelude.{ℕ, ◌+◌, ◌/◌, ◌%◌, List, [], ◌∷◌, ◌++◌, map, flat_map, fold, zip, Option, slice_get, slice_index, slice_set}
 use Rattle.std.specs.List.{enumerate_from}
 use Rattle.std.specs.Option.{option_map_or, option_and_then}
+use Rattle.mem80.specs.declared.memory.TheConstants.{MEMORY_SIZE}
 use Rattle.typed_trees.specs.declared.parts.InitialValue.TheVariants.{ByteValue, WordValue, LocationValue}
 use Rattle.typed_trees.specs.declared.parts.InitialValue.{InitialValue}
 use Rattle.typed_trees.specs.TypedTrees.{Home, InData, InConstants, TypedObject, TypedModule}
@@ -36,7 +37,8 @@ bytes_of_word word = word % 256 ∷ word / 256 ∷ []
 abbrev pub bytes_of_value : (address_of : ℕ → ℕ) → InitialValue → List ℕ
 bytes_of_value address_of (ByteValue byte) = byte ∷ []
 bytes_of_value address_of (WordValue word) = bytes_of_word word
-bytes_of_value address_of (LocationValue object offset) = bytes_of_word ((address_of object + offset) % 65536)
+bytes_of_value address_of (LocationValue object offset) =
+    bytes_of_word ((address_of object + offset) % MEMORY_SIZE)
 
 -- the bytes that fill an object from its start on
 abbrev pub values_in : Home → List InitialValue

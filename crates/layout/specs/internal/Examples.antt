@@ -1,5 +1,6 @@
 -- Worked values: storage, joining and starting memory.
-use Rattle.std.specs.Prelude.{◌≡◌, ℕ, List, [], ◌∷◌, filter_map, replicate, Option, None, Some, Result, Ok, Err, codes, refl}
+use Rattle.std.specs.Prelude.{◌≡◌, ℕ, List, [], ◌∷◌, map, filter_map, replicate, Option, None, Some, Result, Ok, Err, codes, refl}
+use Rattle.std.specs.List.{enumerate_from}
 use Rattle.trees.specs.declared.declaration.Linkage.{Linkage}
 use Rattle.trees.specs.declared.declaration.Linkage.TheVariants.{Public, External}
 use Rattle.trees.specs.declared.declaration.ScalarType.{ScalarType}
@@ -9,16 +10,15 @@ use Rattle.trees.specs.declared.declaration.Storage.TheVariants.{Initial}
 use Rattle.trees.specs.Trees.{ListLeaf, LocationOrigin, RestrictedTree, ScalarItem, ElementTree, ItemElement, HeadingTree, CallStatement as Call, DoStatement, DeclarationTree, DeclareTree, ModuleTree}
 use Rattle.names.specs.BuiltIns.{built_in_of}
 use Rattle.typed_trees.specs.declared.parts.AtAddress.TheVariants.{AtObject}
-use Rattle.typed_trees.specs.TypedTrees.{TypedModule}
+use Rattle.typed_trees.specs.TypedTrees.{TypedProcedure, TypedModule}
 use Rattle.types.specs.Checks.{Checked}
 use Rattle.types.specs.Typing.{typing_of}
 use Rattle.types.specs.internal.Samples.{on_line, name_on, number_on, string_on, a_number, plain, arguments_of, item_with, scalar_item, data_item, alone, unlabelled, assigns, statements_of, declarations_of, heading_on, procedure_of, value_of, module_of}
 use Rattle.types.specs.internal.Measures.{structures, sends}
 use Rattle.layout.specs.declared.slot.Segment.TheVariants.{Code, Data}
 use Rattle.layout.specs.Storage.{Storage, storage_of}
-use Rattle.layout.specs.Joined.{NoPublic, PublicTwice, DeclarationsDiffer, NotOneMain, join_refusal}
-use Rattle.layout.specs.Placement.{ModulePlacement, Placement, StaticPiece, ConstantPiece, AtPiece, range_of, pieces_of}
-use Rattle.layout.specs.Lawful.{address_at}
+use Rattle.layout.specs.Joined.{NoPublic, PublicTwice, DeclarationsDiffer, NotOneMain, join_refusal, InProgram, procedure_meant}
+use Rattle.layout.specs.Placement.{ModulePlacement, Placement, StaticPiece, ConstantPiece, AtPiece, range_of, address_at, pieces_of}
 use Rattle.layout.specs.StartingMemory.{starting_memory}
 
 -- the modules among trees that have a typing
@@ -101,6 +101,18 @@ shower scalar = module_of
     (procedure_of (show_heading (Public (on_line 2))) (its_parameter scalar ∷ [])
     (sends 3 4 (value_of (plain 3 (codes "X"))) ∷ []) ∷ []) []
 
+-- what the procedures of each module stand for
+abbrev pub procedures_called : List TypedModule → List (List (Option InProgram))
+procedures_called modules = map (λ (numbered : ℕ × TypedModule). called modules numbered.0 numbered.1)
+    (enumerate_from 0 modules)
+  where
+    called : List TypedModule → (number_of_module : ℕ) → TypedModule → List (Option InProgram)
+    called modules number_of_module typed = map
+        (λ (numbered : ℕ × TypedProcedure).
+        procedure_meant modules (record { number_of_module = number_of_module; number = numbered.0 }) numbered.1
+        (numbered.1).visibility)
+        (enumerate_from 0 typed.procedures)
+
 pub joined : join_refusal (typed (caller ∷ shower Byte ∷ [])) ≡ None
 unfolding typing_of built_in_of join_refusal
 joined = refl
@@ -130,6 +142,15 @@ no_main = refl
 pub two_mains : join_refusal (typed (caller ∷ caller ∷ shower Byte ∷ [])) ≡ Some NotOneMain
 unfolding typing_of built_in_of join_refusal
 two_mains = refl
+
+-- the call of SHOW in the first module is one of the only procedure of the second
+pub show_called :
+    procedures_called (typed (caller ∷ shower Byte ∷ []))
+    ≡ (Some (record { number_of_module = 1; number = 0 }) ∷ [])
+    ∷ (Some (record { number_of_module = 1; number = 0 }) ∷ [])
+    ∷ []
+unfolding typing_of built_in_of
+show_called = refl
 
 -- DECLARE A BYTE INITIAL (7), W ADDRESS INITIAL (.A + 1), K BYTE DATA (9); W = .(1); with A at 2, W at 3, K
 -- at 6 and the list at 7
@@ -191,5 +212,5 @@ pub pieces_with_at :
 unfolding typing_of built_in_of
 pieces_with_at = refl
 
-pub address_of_x : address_at structures_placed (AtObject 0 8) ≡ 28
+pub address_of_x : address_at structures_placed.objects (AtObject 0 8) ≡ 28
 address_of_x = refl

@@ -1,0 +1,46 @@
+-- Placements in which the objects and the constant lists of a module lie as its segments have them.
+use Rattle.std.specs.Prelude.{◌≡◌, ℕ, ◌+◌, ◌%◌, List, zip, All, Option, Some, None}
+use Rattle.mem80.specs.declared.memory.TheConstants.{MEMORY_SIZE}
+use Rattle.typed_trees.specs.TypedTrees.{TypedModule}
+use Rattle.layout.specs.declared.slot.Segment.{Segment}
+use Rattle.layout.specs.declared.slot.Segment.TheVariants.{Code, Data}
+use Rattle.layout.specs.declared.slot.Slot.{Slot}
+use Rattle.layout.specs.Storage.{Storage, storage_with}
+use Rattle.layout.specs.Placement.{ModulePlacement, Placement, range_of, EndsInMemory}
+
+-- where the segments of a module begin
+pub record Bases : Type 0 where
+  pub code_base : ℕ
+  pub data_base : ℕ
+
+abbrev pub base_of : Bases → Segment → ℕ
+base_of bases Code = bases.code_base
+base_of bases Data = bases.data_base
+
+-- Where a slot lies: so much after the base of its segment. What has no byte and stands at the end of memory
+-- has the address 0.
+abbrev pub address_of_slot : Bases → Slot → ℕ
+address_of_slot bases slot = (base_of bases slot.segment + slot.offset) % MEMORY_SIZE
+
+abbrev pub LiesInSlot : Bases → (address : ℕ) → Option Slot → Type 0
+LiesInSlot bases address None = Unit {0}
+LiesInSlot bases address (Some slot) = address ≡ address_of_slot bases slot
+
+-- each object and each constant list with a place in a segment lies there, and neither segment passes the end
+-- of memory
+pub record FollowsBases (bases : Bases) (storage : Storage) (placed : ModulePlacement) : Type 0 where
+  pub objects :
+      All (λ (object : Option Slot × ℕ). LiesInSlot bases object.1 object.0)
+      (zip storage.objects placed.objects)
+  pub lists :
+      All (λ (list : Slot × ℕ). list.1 ≡ address_of_slot bases list.0) (zip storage.lists placed.lists)
+  pub constants_in_memory : EndsInMemory (range_of bases.code_base storage.constant_size)
+  pub data_in_memory : EndsInMemory (range_of bases.data_base storage.data_size)
+
+-- the segments of each module begin somewhere, and what it has lies there by its storage
+abbrev pub FollowsStorage : List TypedModule → Placement → Type 0
+FollowsStorage modules placement =
+    All
+    (λ (placed : TypedModule × ModulePlacement).
+    (bases : Bases) × FollowsBases bases (storage_with placed.0) placed.1)
+    (zip modules placement.modules)
