@@ -1,0 +1,4 @@
+pub mod SameLists
+pub mod GlobalLoops
+pub mod PublicTables
+pub mod MainModules
