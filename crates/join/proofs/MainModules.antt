@@ -1,6 +1,7 @@
 -- Main modules, counted.
 use Rattle.std.proofs.Common.{◌≡◌, ℕ, suc, ◌+◌, ◌<◌, ◌≤◌, ◌==◌, Bool, true, false, not, nat_eq, List, [], ◌∷◌, map, length, drop, get_or, count_by, if◌then◌else◌, cond, refl, ap, sym, ◌∙◌, arith}
 use Rattle.std.proofs.lemmas.Grind.{common_steps}
+use Rattle.std.proofs.lemmas.List.Sums.{sum_by-cons}
 use Rattle.typed_trees.specs.declared.module.Typed.{Typed}
 use Rattle.typed_trees.specs.declared.statement.TypedStatement.{TypedStatement}
 use Rattle.typed_trees.specs.TypedTrees.{TypedModule, ListOf}
@@ -8,9 +9,9 @@ use Rattle.typed_trees.specs.Views.{module_view, statements_view}
 use Rattle.layout.specs.Joined.{has_statement, is_main}
 use Rattle.join.proofs.GlobalLoops.{at_item, at_end}
 
-pub statements_stand : (first : ℕ) (places : List ℕ) (statements : List TypedStatement) → not (nat_eq (length statements) 0) ≡ has_statement (ListOf first places (statements_view statements))
-statements_stand first places [] = grind (arith, common_steps)
-statements_stand first places (statement ∷ others) = grind (arith, common_steps)
+pub statements_stand : (first : ℕ) (places : List ℕ) (statements : List TypedStatement) (empty : Bool) → empty ≡ (length statements == 0) → not empty ≡ has_statement (ListOf first places (statements_view statements))
+statements_stand first places [] empty is = grind (arith, common_steps, is)
+statements_stand first places (statement ∷ others) empty is = grind (arith, common_steps, is)
 
 -- how many of the modules before were main modules, and of those that are left
 abbrev pub mains : Bool → List Typed → ℕ
@@ -21,7 +22,9 @@ module _ (found : Bool) (modules : List Typed) (i : ℕ) (rest : mains found (dr
       → (if found then 1 else 0) + ((if main then 1 else 0) + count_by is_main (map module_view (drop (i + 1) modules))) ≡ count_by is_main (map module_view modules)
   module_step typed main within is given =
       ap (λ counts. (if found then 1 else 0) + ((if counts then 1 else 0) + count_by is_main (map module_view (drop (i + 1) modules)))) (sym given)
-      ∙ sym (at_item (mains found) modules i typed within is) ∙ rest
+      ∙ ap (λ count. (if found then 1 else 0) + count) (sym (sum_by-cons (λ counted. cond (is_main counted) 1 0) (module_view typed) (map module_view (drop (i + 1) modules))))
+      ∙ sym (at_item (mains found) modules i typed within is)
+      ∙ rest
 
   pub other_module : (typed : Typed) → i < length modules → typed ≡ get_or modules i typed → is_main (module_view typed) ≡ false
       → mains found (drop (i + 1) modules) ≡ count_by is_main (map module_view modules)
@@ -30,7 +33,7 @@ module _ (found : Bool) (modules : List Typed) (i : ℕ) (rest : mains found (dr
   pub main_module : (typed : Typed) → i < length modules → typed ≡ get_or modules i typed → is_main (module_view typed) ≡ true → found ≡ false
       → mains true (drop (i + 1) modules) ≡ count_by is_main (map module_view modules)
   main_module typed within is given first =
-      let counted = module_step typed true within is given in rw first at counted
+      omega (arith, rw first at (module_step typed true within is given))
 
   pub second_main : (typed : Typed) → i < length modules → typed ≡ get_or modules i typed → is_main (module_view typed) ≡ true → found ≡ true
       → false ≡ (count_by is_main (map module_view modules) == 1)

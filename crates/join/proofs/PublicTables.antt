@@ -144,13 +144,17 @@ named_after publics [] name = alone (named_in publics name)
     alone : (found : Option Global) → found ≡ option_or found None
     alone None = refl
     alone (Some global) = refl
-named_after publics (global ∷ others) name = by global.is_public
+named_after publics (global ∷ others) name =
+    by global.is_public (named_after (with_public publics global) others name ∙ public_step publics global name (public_named (publics_among others) name)) (named_after publics others name)
   where
     by : (public : Bool)
+        → named_in (with_publics (with_public publics global) others) name
+        ≡ option_or (named_in publics name) (cond (bytes_eq global.name name) (Some global) (public_named (publics_among others) name))
+        → named_in (with_publics publics others) name ≡ option_or (named_in publics name) (public_named (publics_among others) name)
         → named_in (with_publics (if public then with_public publics global else publics) others) name
         ≡ option_or (named_in publics name) (public_named (cond public (global ∷ publics_among others) (publics_among others)) name)
-    by true = named_after (with_public publics global) others name ∙ public_step publics global name (public_named (publics_among others) name)
-    by false = named_after publics others name
+    by true taken left = taken
+    by false taken left = left
 
 pub table_names : (globals : List Global) (name : List ℕ) → named_in (with_publics no_publics globals) name ≡ public_named (publics_among globals) name
 table_names globals name = named_after no_publics globals name
@@ -185,34 +189,50 @@ noted_first : (noted : Option (List ℕ)) (name : List ℕ) (later : Option (Lis
 noted_first None name later = refl
 noted_first (Some first) name later = refl
 
-repeated_after : (publics : PublicTable) (before : List (List ℕ)) (globals : List Global) → Stood publics before
-    → (with_publics publics globals).repeated ≡ option_or publics.repeated (name_of_first (first_repeated before (publics_among globals)))
+-- the table with one more PUBLIC, whose name stood before or is new
+abbrev again_in : PublicTable → Global → PublicTable
+again_in publics global = record { table = publics.table; repeated = option_or publics.repeated (Some global.name) }
+
+abbrev new_in : PublicTable → Global → PublicTable
+new_in publics global = record { table = publics.table ++ (global.name, global) ∷ []; repeated = publics.repeated }
+
+abbrev RepeatedAfter : PublicTable → List (List ℕ) → List Global → Type 0
+RepeatedAfter publics before globals =
+    (with_publics publics globals).repeated ≡ option_or publics.repeated (name_of_first (first_repeated before (publics_among globals)))
+
+repeated_taken : (publics : PublicTable) (before : List (List ℕ)) (global : Global) (others : List Global) (again : Bool)
+    → RepeatedAfter (again_in publics global) before others
+    → RepeatedAfter (new_in publics global) (global.name ∷ before) others
+    → (with_publics (if again then again_in publics global else new_in publics global) others).repeated
+    ≡ option_or publics.repeated (name_of_first (if again then Some global else first_repeated (global.name ∷ before) (publics_among others)))
+repeated_taken publics before global others true later new =
+    later ∙ noted_first publics.repeated global.name (name_of_first (first_repeated before (publics_among others)))
+repeated_taken publics before global others false later new = new
+
+repeated_step : (publics : PublicTable) (before : List (List ℕ)) (global : Global) (others : List Global) → Stood publics before → (public : Bool)
+    → RepeatedAfter (again_in publics global) before others
+    → RepeatedAfter (new_in publics global) (global.name ∷ before) others
+    → RepeatedAfter publics before others
+    → (with_publics (if public then with_public publics global else publics) others).repeated
+    ≡ option_or publics.repeated (name_of_first (first_repeated before (cond public (global ∷ publics_among others) (publics_among others))))
 unfolding with_public
+repeated_step publics before global others stood true later new left =
+    subst (λ (again : Bool). (with_publics (if again then again_in publics global else new_in publics global) others).repeated
+    ≡ option_or publics.repeated (name_of_first (if list_any (bytes_eq global.name) before then Some global else first_repeated (global.name ∷ before) (publics_among others))))
+    (stood global.name) (repeated_taken publics before global others (list_any (bytes_eq global.name) before) later new)
+repeated_step publics before global others stood false later new left = left
+
+repeated_after : (publics : PublicTable) (before : List (List ℕ)) (globals : List Global) → Stood publics before → RepeatedAfter publics before globals
 repeated_after publics before [] stood = alone publics.repeated
   where
     alone : (found : Option (List ℕ)) → found ≡ option_or found None
     alone None = refl
     alone (Some name) = refl
-repeated_after publics before (global ∷ others) stood = by global.is_public
-  where
-    taken : (again : Bool) → list_any (bytes_eq global.name) before ≡ again
-        → (with_publics (if again then record { table = publics.table; repeated = option_or publics.repeated (Some global.name) } else record { table = publics.table ++ (global.name, global) ∷ []; repeated = publics.repeated }) others).repeated
-        ≡ option_or publics.repeated (name_of_first (if again then Some global else first_repeated (global.name ∷ before) (publics_among others)))
-    taken true is =
-        repeated_after (record { table = publics.table; repeated = option_or publics.repeated (Some global.name) }) before others stood
-        ∙ noted_first publics.repeated global.name (name_of_first (first_repeated before (publics_among others)))
-    taken false is =
-        repeated_after (record { table = publics.table ++ (global.name, global) ∷ []; repeated = publics.repeated }) (global.name ∷ before) others
-        (stood_more publics before global stood)
-
-    by : (public : Bool)
-        → (with_publics (if public then with_public publics global else publics) others).repeated
-        ≡ option_or publics.repeated (name_of_first (first_repeated before (cond public (global ∷ publics_among others) (publics_among others))))
-    by true =
-        subst (λ (again : Bool). (with_publics (if again then record { table = publics.table; repeated = option_or publics.repeated (Some global.name) } else record { table = publics.table ++ (global.name, global) ∷ []; repeated = publics.repeated }) others).repeated
-        ≡ option_or publics.repeated (name_of_first (if list_any (bytes_eq global.name) before then Some global else first_repeated (global.name ∷ before) (publics_among others))))
-        (stood global.name) (taken (list_any (bytes_eq global.name) before) refl)
-    by false = repeated_after publics before others stood
+repeated_after publics before (global ∷ others) stood =
+    repeated_step publics before global others stood global.is_public
+    (repeated_after (again_in publics global) before others stood)
+    (repeated_after (new_in publics global) (global.name ∷ before) others (stood_more publics before global stood))
+    (repeated_after publics before others stood)
 
 pub table_repeats : (globals : List Global) → (with_publics no_publics globals).repeated ≡ name_of_first (first_repeated [] (publics_among globals))
 table_repeats globals = repeated_after no_publics [] globals (λ name. refl)

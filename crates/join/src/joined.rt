@@ -33,7 +33,7 @@ impl Joined {
 fn is_main(typed: &Typed) -> bool
     ensures { result ≡ is_main (module_view typed.now) }
 {
-    !typed.main.body.statements.is_empty()
+    !typed.main.body.statements.as_slice().is_empty()
 }
 
 // Whether just one module is a main module.

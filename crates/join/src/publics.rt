@@ -11,7 +11,7 @@ use crate::fault::Fault;
 use crate::shared::Shared;
 use failure::Failure;
 use indexmap::IndexMap;
-use std::alloc::{AllocError, Global};
+use std::alloc::Global;
 use trees::Name;
 
 /// The first PUBLIC of each name, and the first name of a PUBLIC that stood before.
@@ -45,13 +45,16 @@ impl<'a> Publics<'a> {
 
     // A name has this PUBLIC from now on.
     #[tactic(auto, using(typed_trees::proofs::Keys::same_keys))]
-    fn insert(&mut self, name: Name, global: Shared<'a>) -> Result<(), AllocError>
+    fn insert(&mut self, name: Name, global: Shared<'a>) -> Result<(), Failure<Fault>>
         ensures entries { OnOk result
             (self.new.table.entries ≡ insert_entry bytes_eq self.old.table.entries name global.entry) }
         ensures repeated { OnOk result (self.new.repeated ≡ self.old.repeated) }
+        ensures err { IfFault result (λ _. ⊥) }
     {
-        self.table.insert(name, global)?;
-        Ok(())
+        match self.table.insert(name, global) {
+            Ok(_) => Ok(()),
+            Err(_) => Err(Failure::Memory),
+        }
     }
 
     // Takes in one more PUBLIC.
