@@ -2,3 +2,4 @@ pub mod SameLists
 pub mod GlobalLoops
 pub mod PublicTables
 pub mod MainModules
+pub mod Refusals

@@ -9,9 +9,13 @@ use Rattle.typed_trees.specs.Views.{module_view, statements_view}
 use Rattle.layout.specs.Joined.{has_statement, is_main}
 use Rattle.join.proofs.GlobalLoops.{at_item, at_end}
 
-pub statements_stand : (first : ℕ) (places : List ℕ) (statements : List TypedStatement) (empty : Bool) → empty ≡ (length statements == 0) → not empty ≡ has_statement (ListOf first places (statements_view statements))
-statements_stand first places [] empty is = grind (arith, common_steps, is)
-statements_stand first places (statement ∷ others) empty is = grind (arith, common_steps, is)
+pub statements_stand : (first : ℕ) (places : List ℕ) (statements slice : List TypedStatement) (empty : Bool) → slice ≡ statements → empty ≡ (length slice == 0)
+    → not empty ≡ has_statement (ListOf first places (statements_view statements))
+statements_stand first places statements slice empty same is = by statements (is ∙ ap (λ (list : List TypedStatement). length list == 0) same)
+  where
+    by : (list : List TypedStatement) → empty ≡ (length list == 0) → not empty ≡ has_statement (ListOf first places (statements_view list))
+    by [] is = grind (arith, common_steps, is)
+    by (statement ∷ others) is = grind (arith, common_steps, is)
 
 -- how many of the modules before were main modules, and of those that are left
 abbrev pub mains : Bool → List Typed → ℕ

@@ -42,13 +42,26 @@ by_found : (found : Option Shared) (named : Option Global) → option_map global
 by_found None named is = ap is_some is
 by_found (Some global) named is = ap is_some is
 
--- a PUBLIC of a name that stood before
-pub put_again : (publics : PublicTable) (global : Global) (found : Option Shared) → option_map global_view found ≡ named_in publics global.name → is_some found ≡ true
-    → record { table = publics.table; repeated = option_or publics.repeated (Some global.name) } ≡ with_public publics global
+-- the table with one more PUBLIC, whose name stood before or is new
+abbrev again_in : PublicTable → Global → PublicTable
+again_in publics global = record { table = publics.table; repeated = option_or publics.repeated (Some global.name) }
+
+abbrev new_in : PublicTable → Global → PublicTable
+new_in publics global = record { table = publics.table ++ (global.name, global) ∷ []; repeated = publics.repeated }
+
+with_found : (publics : PublicTable) (global : Global) (name : List ℕ) (found : Option Shared) (again : Bool) → name ≡ global.name → option_map global_view found ≡ named_in publics name → again ≡ is_some found
+    → (if again then again_in publics global else new_in publics global) ≡ with_public publics global
 unfolding with_public
-put_again publics global found is some =
-    ap (λ again. if again then record { table = publics.table; repeated = option_or publics.repeated (Some global.name) } else record { table = publics.table ++ (global.name, global) ∷ []; repeated = publics.repeated })
-    (sym some ∙ by_found found (named_in publics global.name) is)
+with_found publics global name found again is given same =
+    ap (λ (known : Bool). if known then again_in publics global else new_in publics global)
+    (same ∙ by_found found (named_in publics name) given ∙ ap (λ other. is_some (named_in publics other)) is)
+
+pub put_again : (old : Publics) (global : Shared) (name : List ℕ) (found : Option Shared) (repeated : Option (List ℕ)) → name ≡ (global_view global).name → option_map global_view found ≡ named_in (publics_view old) name
+    → true ≡ is_some found → repeated ≡ option_or old.repeated (Some name)
+    → publics_view (record { table = old.table; repeated = repeated }) ≡ with_public (publics_view old) (global_view global)
+put_again old global name found repeated is given some noted =
+    (λ i. record { table = map entry_view old.table.entries; repeated = (noted ∙ ap (λ other. option_or old.repeated (Some other)) is) i })
+    ∙ with_found (publics_view old) (global_view global) name found true is given some
 
 -- a PUBLIC of a new name goes last
 inserted : (entries : List (List ℕ × Global)) (name : List ℕ) (global : Global) → is_some (lookup (bytes_eq name) entries) ≡ false → insert_entry bytes_eq entries name global ≡ entries ++ (name, global) ∷ []
@@ -71,19 +84,17 @@ viewed_insert (first ∷ others) name global = by (bytes_eq name first.0) (viewe
     by true is = refl
     by false is = ap (λ entries. entry_view first ∷ entries) is
 
-pub put_new : (old new : Publics) (global : Shared) (found : Option Shared) → option_map global_view found ≡ named_in (publics_view old) (global_view global).name → is_some found ≡ false
-    → new.table.entries ≡ insert_entry bytes_eq old.table.entries (global_view global).name global → new.repeated ≡ old.repeated
+pub put_new : (old new : Publics) (global : Shared) (name : List ℕ) (found : Option Shared) → name ≡ (global_view global).name → option_map global_view found ≡ named_in (publics_view old) name
+    → false ≡ is_some found → new.table.entries ≡ insert_entry bytes_eq old.table.entries name global → new.repeated ≡ old.repeated
     → publics_view new ≡ with_public (publics_view old) (global_view global)
-unfolding with_public
-put_new old new global found is none entries repeated =
-    let viewed : Global = global_view global in
-    let before : PublicTable = publics_view old in
+put_new old new global name found is given none entries repeated =
     (λ i. record {
-      table = (ap (map entry_view) entries ∙ viewed_insert old.table.entries viewed.name global ∙ inserted before.table viewed.name viewed (sym (by_found found (named_in before viewed.name) is) ∙ none)) i;
+      table = (ap (map entry_view) entries ∙ viewed_insert old.table.entries name global
+          ∙ inserted (map entry_view old.table.entries) name (global_view global) (sym (none ∙ by_found found (named_in (publics_view old) name) given))
+          ∙ ap (λ other. map entry_view old.table.entries ++ (other, global_view global) ∷ []) is) i;
       repeated = repeated i;
     })
-    ∙ ap (λ again. if again then record { table = before.table; repeated = option_or before.repeated (Some viewed.name) } else record { table = before.table ++ (viewed.name, viewed) ∷ []; repeated = before.repeated })
-    (sym none ∙ by_found found (named_in before viewed.name) is)
+    ∙ with_found (publics_view old) (global_view global) name found false is given none
 
 -- what is found in a table with one more entry
 looked_last : (test : List ℕ → Bool) (entries : List (List ℕ × Global)) (name : List ℕ) (global : Global)
@@ -188,13 +199,6 @@ name_of_first found = option_map (λ (global : Global). global.name) found
 noted_first : (noted : Option (List ℕ)) (name : List ℕ) (later : Option (List ℕ)) → option_or (option_or noted (Some name)) later ≡ option_or noted (Some name)
 noted_first None name later = refl
 noted_first (Some first) name later = refl
-
--- the table with one more PUBLIC, whose name stood before or is new
-abbrev again_in : PublicTable → Global → PublicTable
-again_in publics global = record { table = publics.table; repeated = option_or publics.repeated (Some global.name) }
-
-abbrev new_in : PublicTable → Global → PublicTable
-new_in publics global = record { table = publics.table ++ (global.name, global) ∷ []; repeated = publics.repeated }
 
 abbrev RepeatedAfter : PublicTable → List (List ℕ) → List Global → Type 0
 RepeatedAfter publics before globals =

@@ -54,19 +54,21 @@ fn has_one_main(modules: &[Typed]) -> bool
 }
 
 // Why modules make no program.
+#[tactic(auto, using(crate::proofs::Refusals::without_found, crate::proofs::Refusals::twice_found, crate::proofs::Refusals::otherwise_found, crate::proofs::Refusals::nothing_found))]
 fn fault_of(alloc: Global, modules: &[Typed]) -> Result<Option<Fault>, Failure<Fault>>
     ensures ok { IfOk result (λ found. join_refusal (map module_view modules.now) ≡ option_map refusal_of found) }
     ensures err { IfFault result (λ _. ⊥) }
 {
-    let globals = shared_by(alloc, modules)?;
-    let publics = publics_among(alloc, globals.as_slice())?;
-    if let Some(name) = publics.first_without(globals.as_slice()) {
+    let shared = shared_by(alloc, modules)?;
+    let globals = shared.as_slice();
+    let publics = publics_among(alloc, globals)?;
+    if let Some(name) = publics.first_without(globals) {
         return Ok(Some(Fault::NoPublic { name }));
     }
     if let Some(name) = publics.repeated {
         return Ok(Some(Fault::PublicTwice { name }));
     }
-    if let Some(name) = publics.first_different(globals.as_slice()) {
+    if let Some(name) = publics.first_different(globals) {
         return Ok(Some(Fault::DeclarationsDiffer { name }));
     }
     if has_one_main(modules) {

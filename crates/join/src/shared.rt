@@ -81,10 +81,7 @@ fn global_at(typed: &Typed, item: GlobalItem) -> Option<Shared<'_>>
 
 // Adds what a module shares.
 #[tactic(auto, using(crate::proofs::GlobalLoops::item_missing, crate::proofs::GlobalLoops::item_pushed, crate::proofs::GlobalLoops::items_ended))]
-fn push_shared<'a>(
-    globals: &mut Vec<Shared<'a>>,
-    typed: &'a Typed,
-) -> Result<(), Failure<Fault>>
+fn push_shared<'a>(globals: &mut Vec<Shared<'a>>, typed: &'a Typed) -> Result<(), Failure<Fault>>
     ensures ok { OnOk result (globals_view globals.new.items
         ≡ globals_view globals.old.items ++ filter_map (global_of (module_view typed.now)) typed.now.globals.items) }
     ensures err { IfFault result (λ _. ⊥) }
