@@ -1,6 +1,6 @@
 -- Loops over modules, over what they share, and over the numbers of that.
-use Rattle.std.proofs.Common.{◌≡◌, ℕ, suc, ◌+◌, ◌<◌, ◌≤◌, Bool, true, false, not, List, [], ◌∷◌, ◌++◌, map, length, drop, get_or, Option, None, Some, option_map, if◌then◌else◌, cond, refl, ap, sym, ◌∙◌, add-one, arith}
-use Rattle.std.specs.List.{filter_map, flat_map, cons_option}
+use Rattle.std.proofs.Common.{◌≡◌, ℕ, suc, ◌+◌, ◌<◌, ◌≤◌, Bool, true, false, List, [], ◌∷◌, ◌++◌, map, length, drop, get_or, Option, None, Some, option_map, if◌then◌else◌, refl, ap, sym, ◌∙◌, add-one, arith}
+use Rattle.std.specs.List.{filter_map, cons_option}
 use Rattle.std.proofs.Math.ListN.{drop_of_length-le}
 use Rattle.std.proofs.Math.Seq.{drop-cons}
 use Rattle.std.proofs.lemmas.Grind.{common_steps}

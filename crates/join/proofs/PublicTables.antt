@@ -1,6 +1,6 @@
 -- The table of the PUBLICs of modules: what it holds, and what is found by it.
 use Rattle.std.proofs.Common.{◌≡◌, ℕ, Bool, true, false, not, ◌||◌, cond, List, [], ◌∷◌, ◌++◌, map, is_some, Option, None, Some, option_map, if◌then◌else◌, refl, ap, sym, subst, ◌∙◌, true≢false}
-use Rattle.std.specs.List.{filter, find, list_any}
+use Rattle.std.specs.List.{filter, list_any}
 use Rattle.std.specs.Map.{lookup}
 use Rattle.std.specs.Option.{option_or, option_map_or}
 use Rattle.std.specs.Str.{bytes_eq}
@@ -9,11 +9,10 @@ use Rattle.std.proofs.lemmas.Slice.Eq.{bytes_eq-Decides}
 use Rattle.indexmap.specs.IndexMap.{insert_entry}
 use Rattle.trees.specs.contracts.name.NamePartialEq.TheImpl.{eq-value}
 use Rattle.typed_trees.proofs.Keys.{same_keys}
-use Rattle.typed_trees.specs.TypedTrees.{TypedModule}
-use Rattle.layout.specs.Joined.{Global, agree, globals_of, publics_of, externals_of, public_named, first_repeated, lacks_public, differs_from_public}
+use Rattle.layout.specs.Joined.{Global, agree, public_named, first_repeated, lacks_public, differs_from_public}
 use Rattle.join.specs.declared.publics.Publics.{Publics}
 use Rattle.join.specs.declared.shared.Shared.{Shared}
-use Rattle.join.specs.internal.Shared.{global_view, first_external}
+use Rattle.join.specs.internal.Shared.{global_view}
 use Rattle.join.specs.internal.PublicTables.{PublicTable, entry_view, publics_view, no_publics, named_in, with_public, with_publics, lacks_in, differs_in}
 
 -- what the code's table has for a name

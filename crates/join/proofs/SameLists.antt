@@ -1,5 +1,5 @@
 -- Structures with the same members by their positions.
-use Rattle.std.proofs.Common.{◌≡◌, ℕ, suc, ◌+◌, ◌<◌, ◌≤◌, ◌&&◌, List, zero, nat_eq, [], ◌∷◌, Bool, true, false, Option, Some, None, length, drop, slice_get, refl, ap, sym, ◌∙◌, add-one, arith}
+use Rattle.std.proofs.Common.{◌≡◌, ℕ, suc, ◌+◌, ◌<◌, ◌≤◌, ◌&&◌, List, zero, nat_eq, [], ◌∷◌, Bool, true, false, Some, None, length, drop, slice_get, refl, ap, sym, ◌∙◌, add-one, arith}
 use Rattle.std.proofs.Math.Seq.{drop-cons}
 use Rattle.std.proofs.Math.ListN.{drop_of_length-le}
 use Rattle.std.proofs.lemmas.Grind.{common_steps}

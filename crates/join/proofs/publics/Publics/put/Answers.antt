@@ -1,4 +1,3 @@
-use Rattle.std.proofs.Common.{arith, ◌≡◌, true, false, is_some}
 use Rattle.join.proofs.PublicTables.{put_again, put_new}
 use Rattle.join.proofs.publics.Publics.put.Goals as goal
 
