@@ -4,7 +4,7 @@ ghost use Rattle.std.specs.Prelude.{◌≡◌, ◌==◌, None, Some, count_by, m
 ghost use Rattle.failure.specs.Failure.{IfFault};
 ghost use Rattle.typed_trees.specs.Views.{module_view};
 ghost use Rattle.layout.specs.Joined.{is_main, join_refusal};
-ghost use Rattle.join.specs.Views.{refusal_of};
+ghost use Rattle.join.specs.Views.{modules_of, refusal_of};
 
 use crate::fault::Fault;
 use crate::publics::publics_among;
@@ -22,7 +22,7 @@ pub struct Joined {
 impl Joined {
     /// Its modules.
     pub fn modules(&self) -> &[Typed]
-        ensures { result.now ≡ self.now.modules.items }
+        ensures { result.now ≡ modules_of self.now }
     {
         self.modules.as_slice()
     }
@@ -80,7 +80,7 @@ fn fault_of(alloc: Global, modules: &[Typed]) -> Result<Option<Fault>, Failure<F
 
 /// Joins modules into a program.
 pub fn join(alloc: Global, modules: Vec<Typed>) -> Result<Joined, Failure<Fault>>
-    ensures kept { IfOk result (λ joined. joined.modules ≡ modules) }
+    ensures kept { IfOk result (λ joined. modules_of joined ≡ modules.items) }
     ensures ok { IfOk result (λ _. join_refusal (map module_view modules.items) ≡ None) }
     ensures fault { IfFault result (λ fault. join_refusal (map module_view modules.items) ≡ Some (refusal_of fault)) }
 {

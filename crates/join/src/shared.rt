@@ -3,7 +3,7 @@
 ghost use Rattle.std.specs.Prelude.{◌≡◌, ◌++◌, List, filter_map, map, option_map, OnOk, IfOk};
 ghost use Rattle.failure.specs.Failure.{IfFault};
 ghost use Rattle.typed_trees.specs.Views.{module_view};
-ghost use Rattle.layout.specs.Joined.{agree, global_of, globals_of};
+ghost use Rattle.layout.specs.Joined.{agree, global_of, globals_of, is_public_procedure};
 ghost use Rattle.join.specs.internal.Shared.{global_view, globals_view};
 
 use crate::agreement::{objects_agree, procedures_agree};
@@ -22,7 +22,7 @@ pub(crate) enum Shared<'a> {
 
 // Whether a procedure is PUBLIC.
 fn is_public_procedure(visibility: Visibility) -> bool
-    ensures { result ≡ Rattle.layout.specs.Joined.is_public_procedure visibility }
+    ensures { result ≡ is_public_procedure visibility }
 {
     match visibility {
         Visibility::Public => true,
