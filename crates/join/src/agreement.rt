@@ -97,7 +97,8 @@ fn same_parameters(left: &[ScalarType], right: &[ScalarType]) -> bool
 
 /// Whether two objects agree.
 pub(crate) fn objects_agree(left: &TypedObject, right: &TypedObject) -> bool
-    ensures { result ≡ agree (DeclaredObject (object_view left.now)) (DeclaredObject (object_view right.now)) }
+    ensures { result
+        ≡ agree (DeclaredObject (object_view left.now)) (DeclaredObject (object_view right.now)) }
 {
     same_dimension(left.dimension, right.dimension)
         && same_type(&left.object_type, &right.object_type)
@@ -105,7 +106,8 @@ pub(crate) fn objects_agree(left: &TypedObject, right: &TypedObject) -> bool
 
 /// Whether two procedures agree.
 pub(crate) fn procedures_agree(left: &TypedProcedure, right: &TypedProcedure) -> bool
-    ensures { result ≡ agree (DeclaredProcedure (procedure_view left.now)) (DeclaredProcedure (procedure_view right.now)) }
+    ensures { result
+        ≡ agree (DeclaredProcedure (procedure_view left.now)) (DeclaredProcedure (procedure_view right.now)) }
 {
     same_result(left.result, right.result)
         && same_parameters(

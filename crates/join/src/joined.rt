@@ -56,7 +56,8 @@ fn has_one_main(modules: &[Typed]) -> bool
 // Why modules make no program.
 #[tactic(auto, using(crate::proofs::Refusals::without_found, crate::proofs::Refusals::twice_found, crate::proofs::Refusals::otherwise_found, crate::proofs::Refusals::nothing_found))]
 fn fault_of(alloc: Global, modules: &[Typed]) -> Result<Option<Fault>, Failure<Fault>>
-    ensures ok { IfOk result (λ found. join_refusal (map module_view modules.now) ≡ option_map refusal_of found) }
+    ensures ok { IfOk result (λ found.
+        join_refusal (map module_view modules.now) ≡ option_map refusal_of found) }
     ensures err { IfFault result (λ _. ⊥) }
 {
     let shared = shared_by(alloc, modules)?;
@@ -82,7 +83,8 @@ fn fault_of(alloc: Global, modules: &[Typed]) -> Result<Option<Fault>, Failure<F
 pub fn join(alloc: Global, modules: Vec<Typed>) -> Result<Joined, Failure<Fault>>
     ensures kept { IfOk result (λ joined. modules_of joined ≡ modules.items) }
     ensures ok { IfOk result (λ _. join_refusal (map module_view modules.items) ≡ None) }
-    ensures fault { IfFault result (λ fault. join_refusal (map module_view modules.items) ≡ Some (refusal_of fault)) }
+    ensures fault { IfFault result (λ fault.
+        join_refusal (map module_view modules.items) ≡ Some (refusal_of fault)) }
 {
     match fault_of(alloc, modules.as_slice())? {
         Some(fault) => Err(Failure::Fault(fault)),

@@ -58,9 +58,9 @@ impl<'a> Publics<'a> {
     }
 
     // Takes in one more PUBLIC.
-    #[tactic(auto, using(crate::proofs::PublicTables::put_again, crate::proofs::PublicTables::put_new))]
     fn put(&mut self, global: Shared<'a>) -> Result<(), Failure<Fault>>
-        ensures ok { OnOk result (publics_view self.new ≡ with_public (publics_view self.old) (global_view global.entry)) }
+        ensures ok { OnOk result
+            (publics_view self.new ≡ with_public (publics_view self.old) (global_view global.entry)) }
         ensures err { IfFault result (λ _. ⊥) }
     {
         let name = global.name();
@@ -122,7 +122,8 @@ pub(crate) fn publics_among<'a>(
     alloc: Global,
     globals: &[Shared<'a>],
 ) -> Result<Publics<'a>, Failure<Fault>>
-    ensures ok { IfOk result (λ publics. publics_view publics ≡ with_publics no_publics (globals_view globals.now)) }
+    ensures ok { IfOk result (λ publics.
+        publics_view publics ≡ with_publics no_publics (globals_view globals.now)) }
     ensures err { IfFault result (λ _. ⊥) }
 {
     let mut publics = Publics::new(alloc);

@@ -83,7 +83,8 @@ fn global_at(typed: &Typed, item: GlobalItem) -> Option<Shared<'_>>
 #[tactic(auto, using(crate::proofs::GlobalLoops::item_missing, crate::proofs::GlobalLoops::item_pushed, crate::proofs::GlobalLoops::items_ended))]
 fn push_shared<'a>(globals: &mut Vec<Shared<'a>>, typed: &'a Typed) -> Result<(), Failure<Fault>>
     ensures ok { OnOk result (globals_view globals.new.items
-        ≡ globals_view globals.old.items ++ filter_map (global_of (module_view typed.now)) typed.now.globals.items) }
+        ≡ globals_view globals.old.items
+        ++ filter_map (global_of (module_view typed.now)) typed.now.globals.items) }
     ensures err { IfFault result (λ _. ⊥) }
 {
     for item in typed.globals.as_slice() {
@@ -97,7 +98,8 @@ fn push_shared<'a>(globals: &mut Vec<Shared<'a>>, typed: &'a Typed) -> Result<()
 /// What modules share, in the order of the modules and in that of each text.
 #[tactic(auto, using(crate::proofs::GlobalLoops::module_pushed, crate::proofs::GlobalLoops::modules_ended))]
 pub(crate) fn shared_by(alloc: Global, modules: &[Typed]) -> Result<Vec<Shared<'_>>, Failure<Fault>>
-    ensures ok { IfOk result (λ globals. globals_view globals.items ≡ globals_of (map module_view modules.now)) }
+    ensures ok { IfOk result (λ globals.
+        globals_view globals.items ≡ globals_of (map module_view modules.now)) }
     ensures err { IfFault result (λ _. ⊥) }
 {
     let mut globals = Vec::new(alloc);
