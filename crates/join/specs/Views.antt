@@ -2,8 +2,10 @@
 use Rattle.std.specs.Prelude.{ℕ, List, map, codes}
 use Rattle.join.specs.declared.fault.Fault.{Fault}
 use Rattle.join.specs.declared.fault.Fault.TheVariants as faults
+use Rattle.join.specs.declared.joined.Joined.{Joined}
 use Rattle.join.specs.declared.placement.ModulePlacement.{ModulePlacement as CodeModulePlacement}
 use Rattle.join.specs.declared.placement.Placement.{Placement as CodePlacement}
+use Rattle.typed_trees.specs.declared.module.Typed.{Typed}
 use Rattle.layout.specs.Joined.{JoinRefusal, NoPublic, PublicTwice, DeclarationsDiffer, NotOneMain}
 use Rattle.layout.specs.Placement.{ModulePlacement, Placement}
 
@@ -20,6 +22,10 @@ refusal_of (faults.NoPublic name) = NoPublic name
 refusal_of (faults.PublicTwice name) = PublicTwice name
 refusal_of (faults.DeclarationsDiffer name) = DeclarationsDiffer name
 refusal_of faults.NotOneMain = NotOneMain
+
+-- the modules of a program
+abbrev pub modules_of : Joined → List Typed
+modules_of joined = joined.modules.items
 
 abbrev pub module_placement_view : CodeModulePlacement → ModulePlacement
 module_placement_view placed = record { objects = placed.objects.items; lists = placed.lists.items }

@@ -1,0 +1,5 @@
+pub mod SameLists
+pub mod GlobalLoops
+pub mod PublicTables
+pub mod MainModules
+pub mod Refusals

@@ -1,0 +1,2 @@
+pub mod Shared
+pub mod PublicTables
