@@ -49,8 +49,9 @@ pub(crate) struct TypedItem {
 impl Known {
     // What an item is based on. Parameters are not BASED.
     fn typed_base(&self, block: Block<'_>, subject: &Subject) -> Result<Option<u32>, Failure<Fault>>
-        ensures { Answers (λ base. base) result (items.typed_base (known_view self.now) (block_view block.entry)
-            (subject_tree subject.now) (items.base_of (subject_tree subject.now))) }
+        ensures { Answers (λ base. base) result
+            (items.typed_base (known_view self.now) (block_view block.entry) (subject_tree subject.now)
+            (items.base_of (subject_tree subject.now))) }
     {
         let Subject::Single {
             name: _,
@@ -96,8 +97,9 @@ impl Known {
         object_type: &ObjectType,
         extents: Extents,
     ) -> Result<Contents, Failure<Fault>>
-        ensures { Answers contents_view result (items.typed_contents (known_view self.now) (block_view block.entry)
-            (item_tree item.now) (type_view object_type.now) (extents_view extents) (item_tree item.now).value_list) }
+        ensures { Answers contents_view result
+            (items.typed_contents (known_view self.now) (block_view block.entry) (item_tree item.now)
+            (type_view object_type.now) (extents_view extents) (item_tree item.now).value_list) }
     {
         let line = line_of_item(item);
         match &item.value_list {
@@ -162,7 +164,8 @@ impl Known {
 
     // One more object at the end of the table.
     fn add_object(&mut self, object: TypedObject) -> Result<(), Failure<Fault>>
-        ensures { Leaves result (known_view self.new) (Ok (with_last_object (object_view object) (known_view self.old))) }
+        ensures { Leaves result (known_view self.new)
+            (Ok (with_last_object (object_view object) (known_view self.old))) }
     {
         self.objects.push(object)?;
         Ok(())
@@ -300,7 +303,8 @@ fn is_public(linkage: Option<Linkage>) -> bool
 
 // How many bytes an object takes in the frame of a call (4,294,967,295 where it takes more).
 fn bytes_in_frame(object: &TypedObject) -> u32
-    ensures { result ≡ min (items.bytes_in_frame (object_view object.now).home (object_view object.now)) 4294967295 }
+    ensures { result
+        ≡ min (items.bytes_in_frame (object_view object.now).home (object_view object.now)) 4294967295 }
 {
     match &object.home {
         Home::Frame(_) if !object.is_parameter => object.size(),
@@ -530,7 +534,8 @@ fn home_of(
     at: Option<AtAddress>,
     values: Vec<InitialValue>,
 ) -> Home
-    ensures { home_view result ≡ items.home_of (owner_view owner.entry) (item_tree item.now) base at values.items }
+    ensures { home_view result
+        ≡ items.home_of (owner_view owner.entry) (item_tree item.now) base at values.items }
 {
     if let Some(number) = base {
         return Home::Based(number);

@@ -262,7 +262,8 @@ impl Checker {
         trees: &[Statement],
         first_label: u32,
     ) -> Result<Listed, Failure<Fault>>
-        ensures statements { Gives (λ listed. statements_view listed.statements.items) result (progress_view self.new)
+        ensures statements { Gives (λ listed. statements_view listed.statements.items) result
+            (progress_view self.new)
             (statements (block_view block.entry) (statement_trees trees.now) first_label
             (progress_view self.old)) }
         ensures places { IfOk result
