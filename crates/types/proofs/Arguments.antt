@@ -4,10 +4,10 @@ use Rattle.trees.specs.declared.expression.Expression.{Expression}
 use Rattle.trees.specs.Views.{argument_trees}
 use Rattle.typed_trees.specs.declared.expression.TypedExpression.{TypedExpression}
 use Rattle.typed_trees.specs.Views.{arguments_view}
-use Rattle.types.specs.declared.fault.Cause.TheVariants.{WrongUse}
-use Rattle.types.specs.Checks.{refuse}
-use Rattle.types.specs.References.{number_of_arguments}
-use Rattle.types.specs.Statements.{moved}
+use Rattle.typing.specs.declared.fault.Cause.TheVariants.{WrongUse}
+use Rattle.typing.specs.Checks.{refuse}
+use Rattle.typing.specs.References.{number_of_arguments}
+use Rattle.typing.specs.Statements.{moved}
 
 pub number_of_trees : (trees : List Expression) → number_of_arguments (argument_trees trees) ≡ length trees
 number_of_trees [] = refl

@@ -10,15 +10,15 @@ use Rattle.typed_trees.specs.declared.parts.GlobalItem.{GlobalItem}
 use Rattle.typed_trees.specs.declared.parts.GlobalItem.TheVariants.{GlobalProcedure}
 use Rattle.typed_trees.specs.TypedTrees.{TypedProcedure}
 use Rattle.typed_trees.specs.Views.{procedure_view}
-use Rattle.types.specs.declared.fault.Cause.TheVariants.{DeclaredTwice, MisplacedAttribute}
-use Rattle.types.specs.declared.fault.Fault.{Fault}
-use Rattle.types.specs.Checks.{Checked, ◌>>=◌, require}
-use Rattle.types.specs.References.{line_of}
-use Rattle.types.specs.Blocks.{Block, Progress, is_reentrant, is_external, with_global}
-use Rattle.types.specs.Procedures.{check_reentrant, check_visibility, declare_parameters, no_more_parameters, empty_list, open_procedure, parameter_types, procedure_with, with_heading}
-use Rattle.types.specs.internal.Results.{FailsBy}
+use Rattle.typing.specs.declared.fault.Cause.TheVariants.{DeclaredTwice, MisplacedAttribute}
+use Rattle.typing.specs.declared.fault.Fault.{Fault}
+use Rattle.typing.specs.Checks.{Checked, ◌>>=◌, require}
+use Rattle.typing.specs.References.{line_of}
+use Rattle.typing.specs.Blocks.{Block, Progress, is_reentrant, is_external, with_global}
+use Rattle.typing.specs.Procedures.{check_reentrant, check_visibility, declare_parameters, no_more_parameters, empty_list, open_procedure, parameter_types, procedure_with, with_heading}
+use Rattle.typing.specs.Results.{FailsBy}
 use Rattle.types.specs.internal.Walking.{heading_opened}
-use Rattle.types.proofs.Loops.{fails_more}
+use Rattle.typing.proofs.Loops.{fails_more}
 
 pub procedure_replaced : (procedures : List Procedure) (number : ℕ) (procedure : Procedure) → map procedure_view (slice_set procedures number procedure) ≡ slice_set (map procedure_view procedures) number (procedure_view procedure)
 procedure_replaced procedures number procedure = map-set procedure_view procedures number procedure

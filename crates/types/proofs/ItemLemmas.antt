@@ -8,12 +8,12 @@ use Rattle.trees.specs.declared.identifier.Identifier.{Identifier}
 use Rattle.trees.specs.Trees.{ItemTree}
 use Rattle.names.specs.Uses.{declared_by}
 use Rattle.typed_trees.specs.declared.limits.TheConstants.{FRAME_LIMIT, OBJECT_LIMIT}
-use Rattle.types.specs.declared.fault.Cause.TheVariants.{DeclaredTwice, MisplacedAttribute, TooLarge}
-use Rattle.types.specs.Blocks.{Block, Progress, is_external, declares_parameter}
-use Rattle.types.specs.Checks.{Checked, ◌>>=◌, require}
-use Rattle.types.specs.Items.{TypedItem, declare_names, declare_item, line_of_item, object_named, size_of_item, typed_item, with_objects, with_typed_object}
-use Rattle.types.specs.References.{line_of}
-use Rattle.types.specs.Statements.{with_here}
+use Rattle.typing.specs.declared.fault.Cause.TheVariants.{DeclaredTwice, MisplacedAttribute, TooLarge}
+use Rattle.typing.specs.Blocks.{Block, Progress, is_external, declares_parameter}
+use Rattle.typing.specs.Checks.{Checked, ◌>>=◌, require}
+use Rattle.typing.specs.Items.{TypedItem, declare_names, declare_item, line_of_item, object_named, size_of_item, typed_item, with_objects, with_typed_object}
+use Rattle.typing.specs.References.{line_of}
+use Rattle.typing.specs.Statements.{with_here}
 use Rattle.types.specs.internal.Items.{item_in_turn, with_names}
 
 -- a test of what a function makes of the items of a list

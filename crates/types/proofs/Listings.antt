@@ -7,7 +7,7 @@ use Rattle.typed_trees.specs.declared.statement.TypedStatement.{TypedStatement a
 use Rattle.typed_trees.specs.declared.statement.TypedStatement.TheVariants.{Label}
 use Rattle.typed_trees.specs.TypedTrees.{TypedStatements, NoStatements, MoreStatements}
 use Rattle.typed_trees.specs.Views.{statement_view, statements_view}
-use Rattle.types.specs.Statements.{after_labels, labels_before, places_of, places_from}
+use Rattle.typing.specs.Statements.{after_labels, labels_before, places_of, places_from}
 use Rattle.types.specs.internal.Lists.{Listing, with_label, with_labels, with_statement, statements_before}
 
 pub before_more : (made : List Statement) (statement : Statement) (rest : TypedStatements) → statements_before (made ++ statement ∷ []) rest ≡ statements_before made (MoreStatements (statement_view statement) rest)

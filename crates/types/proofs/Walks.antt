@@ -6,14 +6,15 @@ use Rattle.trees.specs.Views.{statement_tree, statement_trees}
 use Rattle.typed_trees.specs.declared.statement.TypedStatement.{TypedStatement as Statement}
 use Rattle.typed_trees.specs.TypedTrees.{TypedStatement, TypedStatements, NoStatements, MoreStatements}
 use Rattle.typed_trees.specs.Views.{statement_view, statements_view}
-use Rattle.types.specs.Checks.{Checked, ◌>>=◌}
-use Rattle.types.specs.Blocks.{Block, Progress}
-use Rattle.types.specs.Statements.{after_labels, declare_labels, places_from, with_here}
-use Rattle.types.specs.Typing.{alone, cases, labelled, statements}
+use Rattle.typing.specs.Checks.{Checked, ◌>>=◌}
+use Rattle.typing.specs.Blocks.{Block, Progress}
+use Rattle.typing.specs.Statements.{after_labels, declare_labels, places_from, with_here}
+use Rattle.typing.specs.Typing.{alone, cases, labelled, statements}
 use Rattle.types.specs.internal.Lists.{Listing, with_statement, statements_after}
-use Rattle.types.specs.internal.Walking.{in_front, statement_with_labels}
+use Rattle.typing.specs.Results.{in_front}
+use Rattle.types.specs.internal.Walking.{statement_with_labels}
 use Rattle.types.proofs.Listings.{before_more, before_none, label_after, statement_in_front, places_on}
-use Rattle.types.proofs.Loops.{drop_item, made_goes_on, made_ended}
+use Rattle.typing.proofs.Loops.{drop_item, made_goes_on, made_ended}
 
 -- the statements of a DO CASE
 module _ (block : Block) where

@@ -1,15 +1,4 @@
-pub mod Results
-pub mod Fillings
 pub mod Views
-pub mod Given
-pub mod Fronts
 pub mod Items
-pub mod Samples
-pub mod Examples
-pub mod Measures
-pub mod GivenBack
-pub mod Refusals
-pub mod Scopes
-pub mod Tables
 pub mod Walking
 pub mod Lists

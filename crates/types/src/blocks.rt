@@ -18,7 +18,7 @@ pub(crate) struct Block<'a> {
 
 impl<'a> Owner<'a> {
     ghost use Rattle.std.specs.Prelude.{◌≡◌};
-    ghost use Rattle.types.specs.Blocks.{is_external, is_reentrant};
+    ghost use Rattle.typing.specs.Blocks.{is_external, is_reentrant};
     ghost use Rattle.types.specs.internal.Views.{owner_view};
 
     /// Whether it is a REENTRANT procedure.
@@ -47,7 +47,7 @@ impl<'a> Owner<'a> {
 
 impl<'a> Block<'a> {
     ghost use Rattle.std.specs.Prelude.{◌≡◌};
-    ghost use Rattle.types.specs.Blocks.{is_module_level};
+    ghost use Rattle.typing.specs.Blocks.{is_module_level};
     ghost use Rattle.types.specs.internal.Views.{block_view};
 
     /// Whether declarations stand at the level of the module.

@@ -2,8 +2,8 @@
 
 ghost use Rattle.std.specs.Prelude.{◌≡◌};
 
-use crate::fault::Fault;
-use crate::known::{Constants, Known};
+use typing::Fault;
+use typed_expressions::{Constants, Known};
 use failure::Failure;
 use names::Scopes;
 use std::alloc::Global;
@@ -21,7 +21,7 @@ pub(crate) struct Checker {
 }
 
 impl Checker {
-    ghost use Rattle.types.specs.Typing.{at_the_beginning};
+    ghost use Rattle.typing.specs.Typing.{at_the_beginning};
     ghost use Rattle.types.specs.internal.Views.{progress_view};
 
     /// A checker at the start of a module.

@@ -8,22 +8,23 @@ ghost use Rattle.std.specs.Str.{bytes_eq};
 ghost use Rattle.trees.specs.declared.identifier.Identifier.{Identifier as TheIdentifier};
 ghost use Rattle.trees.specs.declared.identifier.Number.{Number as TheNumber};
 ghost use Rattle.names.specs.Environment.{is_among as name_among};
-ghost use Rattle.types.specs.Blocks.{declares_parameter as parameter_in, is_external_linkage, is_public_linkage, line_of_linkage as linkage_line, with_global};
+ghost use Rattle.typing.specs.Blocks.{declares_parameter as parameter_in, is_external_linkage, is_public_linkage, line_of_linkage as linkage_line, with_global};
 ghost use Rattle.typed_trees.specs.declared.limits.TheConstants.{OBJECT_LIMIT as object_limit};
-ghost use Rattle.types.specs.declared.fault.Cause.TheVariants.{TooLarge};
-ghost use Rattle.types.specs.Checks.{require as required};
+ghost use Rattle.typing.specs.declared.fault.Cause.TheVariants.{TooLarge};
+ghost use Rattle.typing.specs.Checks.{require as required};
 ghost use Rattle.typed_trees.specs.Views.{home_view, object_view, type_view};
 ghost use Rattle.names.specs.Uses.{declared_by};
-ghost use Rattle.types.specs.Items as items;
+ghost use Rattle.typing.specs.Items as items;
 ghost use Rattle.types.specs.internal.Items.{bytes_with, with_last_object, with_names};
-ghost use Rattle.types.specs.internal.Results.{Answers, Leaves, as_fault};
-ghost use Rattle.types.specs.internal.Views.{block_view, constants_view, contents_view, extents_view, owner_view, known_view, progress_view, typed_item_view};
+ghost use Rattle.typing.specs.Results.{Answers, Leaves, as_fault};
+ghost use Rattle.typed_expressions.specs.internal.Views.{constants_view, contents_view, extents_view, known_view};
+ghost use Rattle.types.specs.internal.Views.{block_view, owner_view, progress_view, typed_item_view};
 
 use crate::blocks::{Block, Owner};
 use crate::checker::Checker;
-use crate::fault::{Cause, Fault};
-use crate::filling::{Contents, Extents};
-use crate::known::{Constants, Known, refuse, require};
+use typing::{Cause, Fault};
+use typed_expressions::{Contents, Extents};
+use typed_expressions::{Constants, Known, refuse, require};
 use failure::Failure;
 use names::{Binding, Entity};
 use std::alloc::Global;
@@ -46,130 +47,128 @@ pub(crate) struct TypedItem {
     linkage: Option<Linkage>,
 }
 
-impl Known {
-    // What an item is based on. Parameters are not BASED.
-    fn typed_base(&self, block: Block<'_>, subject: &Subject) -> Result<Option<u32>, Failure<Fault>>
-        ensures { Answers (λ base. base) result
-            (items.typed_base (known_view self.now) (block_view block.entry) (subject_tree subject.now)
-            (items.base_of (subject_tree subject.now))) }
-    {
-        let Subject::Single {
-            name: _,
-            base: Some(name),
-        } = subject
-        else {
-            return Ok(None);
-        };
-        require(
-            !names_parameter(block, subject),
-            Cause::MisplacedAttribute,
-            name.place.line,
-        )?;
-        let number = object_bound(self.bound(*name)?, name.place.line)?;
-        let object = self.object(*name, number)?;
-        require(is_base(object), Cause::WrongUse, name.place.line)?;
-        Ok(Some(number))
-    }
+// What an item is based on. Parameters are not BASED.
+fn typed_base(known: &Known, block: Block<'_>, subject: &Subject) -> Result<Option<u32>, Failure<Fault>>
+    ensures { Answers (λ base. base) result
+        (items.typed_base (known_view known.now) (block_view block.entry) (subject_tree subject.now)
+        (items.base_of (subject_tree subject.now))) }
+{
+    let Subject::Single {
+        name: _,
+        base: Some(name),
+    } = subject
+    else {
+        return Ok(None);
+    };
+    require(
+        !names_parameter(block, subject),
+        Cause::MisplacedAttribute,
+        name.place.line,
+    )?;
+    let number = object_bound(known.bound(*name)?, name.place.line)?;
+    let object = known.object(*name, number)?;
+    require(is_base(object), Cause::WrongUse, name.place.line)?;
+    Ok(Some(number))
+}
 
-    // Where AT puts an item.
-    fn typed_at(&self, block: Block<'_>, item: &Item) -> Result<Option<AtAddress>, Failure<Fault>>
-        ensures { Answers (λ at. at) result (items.typed_at (known_view self.now) (block_view block.entry)
-            (item_tree item.now) (item_tree item.now).at) }
-    {
-        match &item.at {
-            Some(at) => {
-                require(
-                    is_plain(block, item),
-                    Cause::MisplacedAttribute,
-                    at.place.line,
-                )?;
-                Ok(Some(self.at_address(&at.address)?))
-            }
-            None => Ok(None),
+// Where AT puts an item.
+fn typed_at(known: &Known, block: Block<'_>, item: &Item) -> Result<Option<AtAddress>, Failure<Fault>>
+    ensures { Answers (λ at. at) result (items.typed_at (known_view known.now) (block_view block.entry)
+        (item_tree item.now) (item_tree item.now).at) }
+{
+    match &item.at {
+        Some(at) => {
+            require(
+                is_plain(block, item),
+                Cause::MisplacedAttribute,
+                at.place.line,
+            )?;
+            Ok(Some(known.at_address(&at.address)?))
+        }
+        None => Ok(None),
+    }
+}
+
+// What an item is filled with. INITIAL and DATA do not go with AT.
+fn typed_contents(
+    known: &Known,
+    block: Block<'_>,
+    item: &Item,
+    object_type: &ObjectType,
+    extents: Extents,
+) -> Result<Contents, Failure<Fault>>
+    ensures { Answers contents_view result
+        (items.typed_contents (known_view known.now) (block_view block.entry) (item_tree item.now)
+        (type_view object_type.now) (extents_view extents) (item_tree item.now).value_list) }
+{
+    let line = line_of_item(item);
+    match &item.value_list {
+        Some(list) => {
+            let goes = is_plain(block, item) && item.at.is_none();
+            require(
+                goes,
+                Cause::MisplacedAttribute,
+                place_of_storage(list.storage).line,
+            )?;
+            known.contents(line, object_type, extents, list.values.as_slice())
+        }
+        None => known.contents(line, object_type, extents, &[]),
+    }
+}
+
+// An item as it is for each of its names.
+fn typed_item(known: &Known, block: Block<'_>, item: &Item) -> Result<TypedItem, Failure<Fault>>
+    ensures { Answers typed_item_view result
+        (items.typed_item (known_view known.now) (block_view block.entry) (item_tree item.now)) }
+{
+    let base = typed_base(known, block, &item.subject)?;
+    let extents = extents_of(block, item)?;
+    let object_type = typed_type(known, block, item)?;
+    check_linkage(block, item)?;
+    let at = typed_at(known, block, item)?;
+    let filled = typed_contents(known, block, item, &object_type, extents)?;
+    let home = home_of(block.owner, item, base, at, filled.values);
+    Ok(TypedItem {
+        dimension: filled.dimension,
+        object_type,
+        home,
+        linkage: item.linkage,
+    })
+}
+
+// The type of an item.
+fn typed_type(known: &Known, block: Block<'_>, item: &Item) -> Result<ObjectType, Failure<Fault>>
+    ensures { Answers type_view result (items.typed_type (block_view block.entry) (item_tree item.now)
+        (item_tree item.now).item_type) }
+{
+    match &item.item_type {
+        ItemType::Scalar(scalar) => Ok(ObjectType::Scalar(*scalar)),
+        ItemType::Structure(members) => {
+            let is_parameter = names_parameter(block, &item.subject);
+            require(!is_parameter, Cause::WrongUse, line_of_item(item))?;
+            let typed = typed_members(known.alloc, members.as_slice())?;
+            Ok(ObjectType::Structure(Rc::new(known.alloc, typed)?))
         }
     }
+}
 
-    // What an item is filled with. INITIAL and DATA do not go with AT.
-    fn typed_contents(
-        &self,
-        block: Block<'_>,
-        item: &Item,
-        object_type: &ObjectType,
-        extents: Extents,
-    ) -> Result<Contents, Failure<Fault>>
-        ensures { Answers contents_view result
-            (items.typed_contents (known_view self.now) (block_view block.entry) (item_tree item.now)
-            (type_view object_type.now) (extents_view extents) (item_tree item.now).value_list) }
-    {
-        let line = line_of_item(item);
-        match &item.value_list {
-            Some(list) => {
-                let goes = is_plain(block, item) && item.at.is_none();
-                require(
-                    goes,
-                    Cause::MisplacedAttribute,
-                    place_of_storage(list.storage).line,
-                )?;
-                self.contents(line, object_type, extents, list.values.as_slice())
-            }
-            None => self.contents(line, object_type, extents, &[]),
-        }
+// The number of the object that comes next.
+fn next_object(known: &Known) -> Result<u32, Failure<Fault>>
+    ensures { Answers (λ number. number) result (Ok (length (known_view known.now).objects)) }
+{
+    match u32::try_from(known.objects.len()) {
+        Ok(number) => Ok(number),
+        Err(_) => Err(Failure::Memory),
     }
+}
 
-    // An item as it is for each of its names.
-    fn typed_item(&self, block: Block<'_>, item: &Item) -> Result<TypedItem, Failure<Fault>>
-        ensures { Answers typed_item_view result
-            (items.typed_item (known_view self.now) (block_view block.entry) (item_tree item.now)) }
-    {
-        let base = self.typed_base(block, &item.subject)?;
-        let extents = extents_of(block, item)?;
-        let object_type = self.typed_type(block, item)?;
-        check_linkage(block, item)?;
-        let at = self.typed_at(block, item)?;
-        let filled = self.typed_contents(block, item, &object_type, extents)?;
-        let home = home_of(block.owner, item, base, at, filled.values);
-        Ok(TypedItem {
-            dimension: filled.dimension,
-            object_type,
-            home,
-            linkage: item.linkage,
-        })
-    }
-
-    // The type of an item.
-    fn typed_type(&self, block: Block<'_>, item: &Item) -> Result<ObjectType, Failure<Fault>>
-        ensures { Answers type_view result (items.typed_type (block_view block.entry) (item_tree item.now)
-            (item_tree item.now).item_type) }
-    {
-        match &item.item_type {
-            ItemType::Scalar(scalar) => Ok(ObjectType::Scalar(*scalar)),
-            ItemType::Structure(members) => {
-                let is_parameter = names_parameter(block, &item.subject);
-                require(!is_parameter, Cause::WrongUse, line_of_item(item))?;
-                let typed = typed_members(self.alloc, members.as_slice())?;
-                Ok(ObjectType::Structure(Rc::new(self.alloc, typed)?))
-            }
-        }
-    }
-
-    // The number of the object that comes next.
-    fn next_object(&self) -> Result<u32, Failure<Fault>>
-        ensures { Answers (λ number. number) result (Ok (length (known_view self.now).objects)) }
-    {
-        match u32::try_from(self.objects.len()) {
-            Ok(number) => Ok(number),
-            Err(_) => Err(Failure::Memory),
-        }
-    }
-
-    // One more object at the end of the table.
-    fn add_object(&mut self, object: TypedObject) -> Result<(), Failure<Fault>>
-        ensures { Leaves result (known_view self.new)
-            (Ok (with_last_object (object_view object) (known_view self.old))) }
-    {
-        self.objects.push(object)?;
-        Ok(())
-    }
+// One more object at the end of the table.
+fn push_object(known: &mut Known, object: TypedObject) -> Result<(), Failure<Fault>>
+    ensures { Leaves result (known_view known.new)
+        (Ok (with_last_object (object_view object) (known_view known.old))) }
+{
+    known.objects.push(object)?;
+    Ok(())
 }
 
 impl TypedItem {
@@ -232,17 +231,15 @@ fn copy_of_home(home: &Home) -> Result<Home, Failure<Fault>>
     }
 }
 
-impl Constants {
-    // An object with DATA is one of the constants.
-    fn add_object(&mut self, home: &Home, number: u32) -> Result<(), Failure<Fault>>
-        ensures { Leaves result (constants_view self.new)
-            (Ok (items.with_constant (home_view home.now) number (constants_view self.old))) }
-    {
-        if let Home::Constant(_) = home {
-            self.items.push(ConstantItem::ConstantObject(number))?;
-        }
-        Ok(())
+// An object with DATA is one of the constants.
+fn add_constant(constants: &mut Constants, home: &Home, number: u32) -> Result<(), Failure<Fault>>
+    ensures { Leaves result (constants_view constants.new)
+        (Ok (items.with_constant (home_view home.now) number (constants_view constants.old))) }
+{
+    if let Home::Constant(_) = home {
+        constants.items.push(ConstantItem::ConstantObject(number))?;
     }
+    Ok(())
 }
 
 // One more global, where there is a linkage.
@@ -694,10 +691,10 @@ impl Checker {
         let linkage = item.linkage;
         let object = object_named(block, item, name.name)?;
         let frame = frame_with(self.frame, &object, name.place.line)?;
-        let number = self.known.next_object()?;
-        self.constants.add_object(&object.home, number)?;
+        let number = next_object(&self.known)?;
+        add_constant(&mut self.constants, &object.home, number)?;
         add_global(&mut self.globals, linkage, GlobalItem::GlobalObject(number))?;
-        self.known.add_object(object)?;
+        push_object(&mut self.known, object)?;
         self.frame = frame;
         Ok(())
     }
@@ -755,7 +752,7 @@ impl Checker {
         ensures { Leaves result (progress_view self.new)
             (items.declare_item (block_view block.entry) (item_tree item.now) (progress_view self.old)) }
     {
-        let typed = self.known.typed_item(block, item);
+        let typed = typed_item(&self.known, block, item);
         self.declare_names(block, &item.subject)?;
         let typed = typed?;
         typed.check_size(line_of_item(item))?;

@@ -2,24 +2,12 @@
 #![tactic(auto)]
 
 mod blocks;
-mod calls;
 mod checker;
-mod constants;
-mod expression_nodes;
-mod expressions;
-mod fault;
-mod filling;
-mod functions;
 mod items;
-mod known;
 mod lists;
-mod members;
 mod procedures;
-mod references;
-mod scalars;
 mod statement_nodes;
 mod statements;
-mod typing;
+mod walk;
 
-pub use fault::{Cause, Fault};
-pub use typing::check;
+pub use walk::check;

@@ -2,13 +2,13 @@
 
 ghost use Rattle.std.specs.Prelude.{◌≡◌, ◌+◌, ◌++◌, Ok, OnOk, IfOk, length};
 ghost use Rattle.failure.specs.Failure.{IfFault};
-ghost use Rattle.types.specs.Statements.{declare_labels, places_of, without_label};
-ghost use Rattle.types.specs.internal.Results.{Answers, Leaves, fault_in};
+ghost use Rattle.typing.specs.Statements.{declare_labels, places_of, without_label};
+ghost use Rattle.typing.specs.Results.{Answers, Leaves, fault_in};
 ghost use Rattle.types.specs.internal.Walking.{label_declared, name_fault_in};
 ghost use Rattle.types.specs.internal.Lists.{listed_view, with_label, with_labels, with_statement};
 
-use crate::fault::{Cause, Fault};
-use crate::known::refuse;
+use typing::{Cause, Fault};
+use typed_expressions::refuse;
 use failure::Failure;
 use names::Scopes;
 use trees::Identifier;

@@ -7,17 +7,17 @@ ghost use Rattle.trees.specs.Views.{declaration_tree, declaration_trees, element
 ghost use Rattle.names.specs.Environment.{into_body};
 ghost use Rattle.names.specs.Uses.{declared_by};
 ghost use Rattle.typed_trees.specs.Views.{list_view, procedure_view};
-ghost use Rattle.types.specs.Blocks.{is_external, is_external_linkage, is_reentrant, with_global};
-ghost use Rattle.types.specs.Statements.{line_of_kind, line_of_statement, line_of_targets};
-ghost use Rattle.types.specs.Procedures.{check_body, check_reentrant, check_visibility, declare_parameters, empty_list, no_more_parameters, open_procedure, parameter_object, parameter_objects, parameter_types, procedure_with, scalar_in_block, scalar_in_declaration, scalar_in_element, scalar_in_elements, scalar_of_type, visibility_of};
-ghost use Rattle.types.specs.internal.Results.{Answers, Leaves};
+ghost use Rattle.typing.specs.Blocks.{is_external, is_external_linkage, is_reentrant, with_global};
+ghost use Rattle.typing.specs.Statements.{line_of_kind, line_of_statement, line_of_targets};
+ghost use Rattle.typing.specs.Procedures.{check_body, check_reentrant, check_visibility, declare_parameters, empty_list, no_more_parameters, open_procedure, parameter_object, parameter_objects, parameter_types, procedure_with, scalar_in_block, scalar_in_declaration, scalar_in_element, scalar_in_elements, scalar_of_type, visibility_of};
+ghost use Rattle.typing.specs.Results.{Answers, Leaves};
 ghost use Rattle.types.specs.internal.Views.{block_view, owner_view, progress_view};
 ghost use Rattle.types.specs.internal.Walking.{heading_opened, names_among, parameter_declared, procedure_closed, procedure_declared};
 
 use crate::blocks::{Block, Owner};
 use crate::checker::Checker;
-use crate::fault::{Cause, Fault};
-use crate::known::{refuse, require};
+use typing::{Cause, Fault};
+use typed_expressions::{refuse, require};
 use crate::lists::name_failure;
 use failure::Failure;
 use names::{Entity, Scopes};

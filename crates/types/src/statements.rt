@@ -6,19 +6,20 @@ ghost use Rattle.trees.specs.Views.{argument_trees, expression_tree, iteration_t
 ghost use Rattle.names.specs.declared.entity.Binding.TheVariants.{Declared};
 ghost use Rattle.names.specs.declared.entity.Entity.TheVariants.{Object};
 ghost use Rattle.typed_trees.specs.Views.{arguments_view, expression_view, iteration_view, object_view, statement_view, target_view};
-ghost use Rattle.types.specs.Expressions.{arguments};
-ghost use Rattle.types.specs.Nodes.{target_of};
-ghost use Rattle.types.specs.References.{is_writable};
-ghost use Rattle.types.specs.Statements.{assigned, assignment, call, call_bound, counter_bound, destinations, goto, goto_bound, iteration, moved, return_from, return_with, step, value};
-ghost use Rattle.types.specs.internal.Results.{Answers, Gives};
+ghost use Rattle.typing.specs.Expressions.{arguments};
+ghost use Rattle.typing.specs.Nodes.{target_of};
+ghost use Rattle.typing.specs.References.{is_writable};
+ghost use Rattle.typing.specs.Statements.{assigned, assignment, call, call_bound, counter_bound, destinations, goto, goto_bound, iteration, moved, return_from, return_with, step, value};
+ghost use Rattle.typing.specs.Results.{Answers, Gives};
 ghost use Rattle.types.specs.internal.Walking.{call_of_bound, call_of_move, call_of_procedure, call_statement, counter_type, counter_view, targets_for};
-ghost use Rattle.types.specs.internal.Views.{constants_view, destination_view, known_view, owner_view, progress_view};
+ghost use Rattle.typed_expressions.specs.internal.Views.{constants_view, destination_view, known_view};
+ghost use Rattle.types.specs.internal.Views.{owner_view, progress_view};
 
 use crate::blocks::Owner;
 use crate::checker::Checker;
-use crate::expression_nodes::as_type;
-use crate::fault::{Cause, Fault};
-use crate::known::{Constants, Destination, Known, refuse, require};
+use typed_expressions::as_type;
+use typing::{Cause, Fault};
+use typed_expressions::{Constants, Destination, Known, refuse, require};
 use crate::statement_nodes;
 use failure::Failure;
 use names::{Binding, BuiltIn, Entity};
@@ -69,29 +70,6 @@ fn targets_of(
         targets.push(target_of(place, from))?;
     }
     Ok(targets)
-}
-
-impl Known {
-    // The targets of an assignment, from left to right.
-    fn destinations(
-        &self,
-        first: &Reference,
-        others: &[Reference],
-        constants: &mut Constants,
-    ) -> Result<Vec<Destination>, Failure<Fault>>
-        ensures { Gives (λ made. map destination_view made.items) result (constants_view constants.new)
-            (destinations (known_view self.now) (target_trees first.now others.now)
-            (constants_view constants.old)) }
-    {
-        let mut made = Vec::new(self.alloc);
-        let place = self.destination(first, constants)?;
-        made.push(place)?;
-        for target in others {
-            let place = self.destination(target, constants)?;
-            made.push(place)?;
-        }
-        Ok(made)
-    }
 }
 
 impl Checker {
@@ -297,29 +275,27 @@ struct Counter {
     scalar: ScalarType,
 }
 
-impl Known {
-    // The object of a number, as the variable of an iterative DO.
-    fn counter_object(&self, number: u32, name: Identifier) -> Result<Counter, Failure<Fault>>
-        ensures { Answers counter_view result
-            (counter_bound (known_view self.now) (Declared (Object number)) name) }
-    {
-        let variable = name;
-        let object = self.object(name, number)?;
-        let scalar = counter_type(object, variable)?;
-        Ok(Counter {
-            object: number,
-            scalar,
-        })
-    }
+// The object of a number, as the variable of an iterative DO.
+fn counter_object(known: &Known, number: u32, name: Identifier) -> Result<Counter, Failure<Fault>>
+    ensures { Answers counter_view result
+        (counter_bound (known_view known.now) (Declared (Object number)) name) }
+{
+    let variable = name;
+    let object = known.object(name, number)?;
+    let scalar = counter_type(object, variable)?;
+    Ok(Counter {
+        object: number,
+        scalar,
+    })
+}
 
-    // The variable of an iterative DO, from what its name is bound to.
-    fn counter_bound(&self, binding: Binding, name: Identifier) -> Result<Counter, Failure<Fault>>
-        ensures { Answers counter_view result (counter_bound (known_view self.now) binding name) }
-    {
-        match binding {
-            Binding::Declared(Entity::Object(number)) => self.counter_object(number, name),
-            _ => Err(refuse(Cause::WrongUse, name.place.line)),
-        }
+// The variable of an iterative DO, from what its name is bound to.
+fn counter_bound(known: &Known, binding: Binding, name: Identifier) -> Result<Counter, Failure<Fault>>
+    ensures { Answers counter_view result (counter_bound (known_view known.now) binding name) }
+{
+    match binding {
+        Binding::Declared(Entity::Object(number)) => counter_object(known, number, name),
+        _ => Err(refuse(Cause::WrongUse, name.place.line)),
     }
 }
 
@@ -341,7 +317,7 @@ impl Checker {
             (iteration (iteration_tree tree.now) (progress_view self.old)) }
     {
         let binding = self.known.bound(tree.variable)?;
-        let counter = self.known.counter_bound(binding, tree.variable)?;
+        let counter = counter_bound(&self.known, binding, tree.variable)?;
         let first = self.value(&tree.first)?;
         let last = self.value(&tree.last)?;
         let step = self.step(&tree.step)?;

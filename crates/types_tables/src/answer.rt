@@ -82,7 +82,7 @@ fn of_syntax(failure: Failure<syntax::Fault>) -> Failure<Place> {
 }
 
 // The place of a fault of the typing.
-fn of_types(failure: Failure<types::Fault>) -> Failure<Place> {
+fn of_types(failure: Failure<typing::Fault>) -> Failure<Place> {
     match failure {
         Failure::Fault(fault) => Failure::Fault(Place {
             number: fault.number(),

@@ -3,14 +3,14 @@ use Rattle.std.specs.Prelude.{ℕ, ◌+◌, List, [], ◌∷◌, ◌++◌, Ok, n
 use Rattle.trees.specs.declared.identifier.Identifier.{Identifier}
 use Rattle.trees.specs.Trees.{ItemTree}
 use Rattle.names.specs.Uses.{declared_by}
-use Rattle.types.specs.declared.fault.Cause.TheVariants.{TooLarge}
+use Rattle.typing.specs.declared.fault.Cause.TheVariants.{TooLarge}
 use Rattle.typed_trees.specs.declared.limits.TheConstants.{FRAME_LIMIT, OBJECT_LIMIT}
 use Rattle.typed_trees.specs.TypedTrees.{TypedObject}
-use Rattle.types.specs.Checks.{Checked, ◌>>=◌, require}
-use Rattle.types.specs.References.{Known}
-use Rattle.types.specs.Blocks.{Block, Progress}
-use Rattle.types.specs.Items.{declare_names, bytes_in_frame, line_of_item, size_of_item, typed_item, with_objects}
-use Rattle.types.specs.Statements.{with_here}
+use Rattle.typing.specs.Checks.{Checked, ◌>>=◌, require}
+use Rattle.typing.specs.References.{Known}
+use Rattle.typing.specs.Blocks.{Block, Progress}
+use Rattle.typing.specs.Items.{declare_names, bytes_in_frame, line_of_item, size_of_item, typed_item, with_objects}
+use Rattle.typing.specs.Statements.{with_here}
 
 -- the names of an item declared, whatever they are
 abbrev pub with_names : Block → List Identifier → Progress → Checked Progress

@@ -18,27 +18,19 @@ use Rattle.names.specs.Events.{labels_of}
 use Rattle.typed_trees.specs.declared.limits.TheConstants.{PARAMETER_LIMIT}
 use Rattle.typed_trees.specs.TypedTrees.{TypedTarget, TypedStatement, TypedList, TypedObject}
 use Rattle.typed_trees.specs.Views.{list_view}
-use Rattle.types.specs.declared.fault.Cause.TheVariants.{UnknownName, DeclaredTwice, WrongUse, MisplacedAttribute}
-use Rattle.types.specs.declared.fault.Fault.{Fault}
+use Rattle.typing.specs.declared.fault.Cause.TheVariants.{UnknownName, DeclaredTwice, WrongUse, MisplacedAttribute}
+use Rattle.typing.specs.declared.fault.Fault.{Fault}
 use Rattle.types.specs.declared.statements.Counter.{Counter as CodeCounter}
-use Rattle.types.specs.declared.typing.Inside.{Inside}
-use Rattle.types.specs.Checks.{Checked, ◌>>=◌, require, found}
-use Rattle.types.specs.Nodes.{Destination, target_of}
-use Rattle.types.specs.References.{Given, line_of, scalar_of, is_writable}
-use Rattle.types.specs.Expressions.{arguments}
-use Rattle.types.specs.Items.{is_not_based}
-use Rattle.types.specs.Blocks.{OfProcedure, Block, Progress, is_reentrant, is_external}
-use Rattle.types.specs.Statements.{with_here, with_constants, call, call_bound, Counter, labels_before, declare_labels, list_of}
-use Rattle.types.specs.Procedures.{declare_parameters, no_more_parameters, check_visibility, check_reentrant, parameter_objects, check_body, close_procedure}
-use Rattle.types.specs.Typing.{labelled, statements, declarations, module_block}
-
--- what is given, with what was made in front of it
-abbrev pub in_front : {Q : Type 0} → (Q → Q) → Checked Q → Checked Q
-in_front front given = given >>= (λ rest. Ok (front rest))
-
--- destinations after others
-abbrev pub after_destinations : {S : Type 0} → List Destination → List Destination × S → List Destination × S
-after_destinations made rest = (made ++ rest.0, rest.1)
+use Rattle.types.specs.declared.walk.Inside.{Inside}
+use Rattle.typing.specs.Checks.{Checked, ◌>>=◌, require, found}
+use Rattle.typing.specs.Nodes.{Destination, target_of}
+use Rattle.typing.specs.References.{Given, line_of, scalar_of, is_writable}
+use Rattle.typing.specs.Expressions.{arguments}
+use Rattle.typing.specs.Items.{is_not_based}
+use Rattle.typing.specs.Blocks.{OfProcedure, Block, Progress, is_reentrant, is_external}
+use Rattle.typing.specs.Statements.{with_here, with_constants, call, call_bound, Counter, labels_before, declare_labels, list_of}
+use Rattle.typing.specs.Procedures.{declare_parameters, no_more_parameters, check_visibility, check_reentrant, parameter_objects, check_body, close_procedure}
+use Rattle.typing.specs.Typing.{labelled, statements, declarations, module_block}
 
 -- arguments as they stand in the text
 abbrev pub given : Progress → ArgumentTrees → Given

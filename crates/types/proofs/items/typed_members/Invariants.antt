@@ -1,5 +1,5 @@
 use Rattle.std.proofs.Common.{◌≡◌, [], drop}
-use Rattle.types.specs.Items as items
+use Rattle.typing.specs.Items as items
 use Rattle.types.proofs.items.typed_members.Given as goal
 
 -- the members that are left decide

@@ -1,5 +1,5 @@
 use Rattle.std.proofs.Common.{◌≡◌, drop}
-use Rattle.types.specs.Procedures.{declare_parameters}
+use Rattle.typing.specs.Procedures.{declare_parameters}
 use Rattle.types.proofs.procedures.declare_parameters.Given as goal
 
 abbrev pub invariant-loop-name : goal.invariant-loop-name

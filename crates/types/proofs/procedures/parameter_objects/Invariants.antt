@@ -1,6 +1,6 @@
 use Rattle.std.proofs.Common.{◌≡◌, ◌++◌, drop}
-use Rattle.types.specs.Procedures.{parameter_objects}
-use Rattle.types.specs.internal.Walking.{in_front}
+use Rattle.typing.specs.Procedures.{parameter_objects}
+use Rattle.typing.specs.Results.{in_front}
 use Rattle.types.proofs.procedures.parameter_objects.Given as goal
 
 abbrev pub invariant-loop-parameter : goal.invariant-loop-parameter

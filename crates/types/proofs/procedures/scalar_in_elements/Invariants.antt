@@ -1,6 +1,6 @@
 use Rattle.std.proofs.Common.{◌≡◌, drop, map}
 use Rattle.trees.specs.Views.{element_tree}
-use Rattle.types.specs.Procedures.{scalar_in_elements}
+use Rattle.typing.specs.Procedures.{scalar_in_elements}
 use Rattle.types.proofs.procedures.scalar_in_elements.Given as goal
 
 abbrev pub invariant-loop-element : goal.invariant-loop-element

@@ -1,6 +1,6 @@
 use Rattle.std.proofs.Common.{◌≡◌, drop, map}
 use Rattle.trees.specs.Views.{element_tree}
-use Rattle.types.specs.Items as items
+use Rattle.typing.specs.Items as items
 use Rattle.types.specs.internal.Views.{block_view, progress_view}
 use Rattle.types.proofs.checker.Checker.declare_elements.Given as goal
 

@@ -1,0 +1,7 @@
+pub mod LeftScalars
+pub mod Filled
+pub mod Subscripts
+pub mod GivenParts
+pub mod ArgumentLoops
+pub mod MemberPlaces
+pub mod Operands

@@ -1,0 +1,64 @@
+-- The operands of built-in functions.
+use Rattle.std.proofs.Common.{◌≡◌, ℕ, List, [], ◌∷◌, ◌++◌, length, false, refl, ap, sym, ◌∙◌, arith}
+use Rattle.std.proofs.lemmas.List.{length-append}
+use Rattle.trees.specs.Trees.{ConstantLeaf, ReferenceLeaf, LocationLeaf, ListLeaf, ParenthesizedNode, AssignmentNode, UnaryNode, BinaryNode, ReferenceTo, ArgumentTrees, NoArguments, MoreArguments}
+use Rattle.trees.specs.declared.expression.Expression.{Expression}
+use Rattle.trees.specs.declared.identifier.Identifier.{Identifier}
+use Rattle.trees.specs.Trees.{MemberOf}
+use Rattle.trees.specs.Views.{argument_trees}
+use Rattle.typed_trees.specs.declared.expression.TypedExpression.{TypedExpression}
+use Rattle.typed_trees.specs.declared.parts.Measure.{Measure}
+use Rattle.typed_trees.specs.declared.parts.ShiftFunction.{ShiftFunction}
+use Rattle.typed_trees.specs.declared.parts.UnaryFunction.{UnaryFunction}
+use Rattle.typed_trees.specs.TypedTrees.{TypedObject}
+use Rattle.typed_trees.specs.Views.{arguments_view}
+use Rattle.typing.specs.declared.fault.Cause.TheVariants.{WrongUse}
+use Rattle.typing.specs.Checks.{refuse}
+use Rattle.typing.specs.References.{Known}
+use Rattle.typing.specs.Functions.{function_of, shift_of, measured_member, measurement}
+use Rattle.typed_expressions.specs.internal.Given.{is_plain}
+
+pub no_operand : (function : UnaryFunction) (line : ℕ) (values : List TypedExpression) → (length values ≡ 1 → ⊥) → function_of function line (arguments_view values) ≡ refuse WrongUse line
+no_operand function line [] other = refl
+no_operand function line (value ∷ []) other = absurd (other refl)
+no_operand function line (value ∷ second ∷ others) other = refl
+
+pub no_pair : (function : ShiftFunction) (line : ℕ) (values : List TypedExpression) → (length values ≡ 2 → ⊥) → shift_of function line (arguments_view values) ≡ refuse WrongUse line
+no_pair function line [] other = refl
+no_pair function line (value ∷ []) other = refl
+no_pair function line (value ∷ second ∷ []) other = absurd (other refl)
+no_pair function line (value ∷ second ∷ third ∷ others) other = refl
+
+-- what is left of operands once the last is taken
+empty_front : {A : Type 0} (front : List A) (rest : List A) → length (front ++ rest) ≡ length rest → front ≡ []
+empty_front [] rest same = refl
+empty_front (first ∷ others) rest same = absurd (omega (arith, length-append others rest))
+
+pub one_operand : (values front : List TypedExpression) (operand : TypedExpression) → length values ≡ 1 → values ≡ front ++ operand ∷ [] → values ≡ operand ∷ []
+one_operand values front operand one is =
+    is ∙ ap (λ before. before ++ operand ∷ []) (empty_front front (operand ∷ []) (ap length (sym is) ∙ one))
+
+pub two_operands : (values front rest : List TypedExpression) (value count : TypedExpression) → length values ≡ 2 → values ≡ front ++ count ∷ [] → front ≡ rest ++ value ∷ [] → values ≡ value ∷ count ∷ []
+two_operands values front rest value count two is before =
+    let one : length front ≡ 1 = omega (arith, ap length is, length-append front (count ∷ [])) in
+    is ∙ ap (λ all. all ++ count ∷ []) (one_operand front rest value one before)
+
+-- a member with arguments is not measured
+pub member_with_arguments : (number : ℕ) (object : TypedObject) (name : Identifier) (arguments : List Expression) → (length arguments ≡ 0 → ⊥)
+    → measured_member number object (MemberOf name (argument_trees arguments)) ≡ refuse WrongUse name.place.line
+member_with_arguments number object name [] other = absurd (other refl)
+member_with_arguments number object name (first ∷ others) other = refl
+
+-- what is no variable without subscripts is not measured
+pub no_measurement : (known : Known) (measure : Measure) (line : ℕ) (trees : ArgumentTrees) → is_plain trees ≡ false → measurement known measure line trees ≡ refuse WrongUse line
+no_measurement known measure line NoArguments other = refl
+no_measurement known measure line (MoreArguments (ReferenceLeaf (ReferenceTo name NoArguments part)) NoArguments) other = absurd (cc)
+no_measurement known measure line (MoreArguments (ReferenceLeaf (ReferenceTo name NoArguments part)) (MoreArguments second others)) other = refl
+no_measurement known measure line (MoreArguments (ReferenceLeaf (ReferenceTo name (MoreArguments first rest) part)) others) other = refl
+no_measurement known measure line (MoreArguments (ConstantLeaf constant) others) other = refl
+no_measurement known measure line (MoreArguments (LocationLeaf reference) others) other = refl
+no_measurement known measure line (MoreArguments (ListLeaf list) others) other = refl
+no_measurement known measure line (MoreArguments (ParenthesizedNode inner) others) other = refl
+no_measurement known measure line (MoreArguments (AssignmentNode target value) others) other = refl
+no_measurement known measure line (MoreArguments (UnaryNode operator operand) others) other = refl
+no_measurement known measure line (MoreArguments (BinaryNode operator left right) others) other = refl

@@ -1,0 +1,13 @@
+use Rattle.std.proofs.Common.{◌≡◌, drop, length}
+use Rattle.std.specs.Vec.Iter.{into_iter_items, into_iter_len}
+use Rattle.typed_trees.specs.Views.{arguments_view}
+use Rattle.typing.specs.Nodes.{arguments_as}
+use Rattle.typed_expressions.specs.internal.Fronts.{in_front}
+use Rattle.typed_expressions.proofs.calls.arguments_as.Given as goal
+
+abbrev pub invariant-loop-value : goal.invariant-loop-value
+invariant-loop-value l = record {
+  left : in_front l.made.items (arguments_as (drop (length l.made.items) l.scalars) (arguments_view (into_iter_items l.value-iterator)))
+      ≡ arguments_as l.scalars (arguments_view (into_iter_items l.initial.value-iterator));
+  counted : into_iter_len l.value-iterator ≡ length (into_iter_items l.value-iterator);
+}

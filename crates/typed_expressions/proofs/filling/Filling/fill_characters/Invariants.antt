@@ -1,0 +1,10 @@
+use Rattle.std.proofs.Common.{◌≡◌, drop}
+use Rattle.typed_trees.specs.Views.{type_view}
+use Rattle.typing.specs.Filling.{fill_characters as fill_from}
+use Rattle.typed_expressions.specs.internal.Fillings.{left_of, onto}
+use Rattle.typed_expressions.proofs.filling.Filling.fill_characters.Given as goal
+
+abbrev pub invariant-loop-character : goal.invariant-loop-character
+invariant-loop-character l =
+    onto l.self.values.items (fill_from l.line (drop l.character-index l.characters) (left_of (type_view l.object_type) l.self.scalars))
+    ≡ onto l.fn.self.values.items (fill_from l.line l.characters (left_of (type_view l.object_type) l.fn.self.scalars))

@@ -1,0 +1,14 @@
+use Rattle.typed_expressions.specs.internal.Views.{constants_view, known_view}
+use Rattle.typed_expressions.proofs.ArgumentLoops.{goes_on, ended}
+use Rattle.typed_expressions.proofs.known.Known.+expression.Goals as goal
+
+pub arguments-loop-tree-preserved : goal.arguments-loop-tree-preserved
+arguments-loop-tree-preserved t c =
+    rw c.in_ok-push.ensures.items
+    (goes_on (known_view c.args.self.now) c.args.trees.now c.loop-tree.tree-index c.tree-item.result c.loop-tree.made.items (constants_view c.loop-tree.constants) _
+    c.loop-tree-test.true c.tree-item.is c.loop-tree.invariant c.in_ok-argument.argument (constants_view c.expression.new.constants) c.in_ok-argument.ensures)
+
+pub arguments-returns : goal.arguments-returns
+arguments-returns t c =
+    ended (known_view c.args.self.now) c.args.trees.now c.loop-tree.tree-index c.loop-tree.made.items (constants_view c.loop-tree.constants) _
+    c.loop-tree-test.false c.loop-tree.invariant

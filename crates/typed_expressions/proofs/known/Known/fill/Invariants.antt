@@ -1,0 +1,11 @@
+use Rattle.std.proofs.Common.{◌≡◌, drop}
+use Rattle.typed_trees.specs.Views.{type_view}
+use Rattle.typed_expressions.specs.internal.Fillings.{filled_view}
+use Rattle.typed_expressions.specs.internal.Views.{known_view}
+use Rattle.typed_expressions.proofs.Filled.{onto_values}
+use Rattle.typed_expressions.proofs.known.Known.fill.Given as goal
+
+abbrev pub invariant-loop-value : goal.invariant-loop-value
+invariant-loop-value l =
+    onto_values (known_view l.self) (drop l.value-index l.values) (filled_view (type_view l.object_type) l.filling)
+    ≡ onto_values (known_view l.self) l.values (filled_view (type_view l.object_type) l.initial.filling)

@@ -1,0 +1,11 @@
+use Rattle.std.proofs.Common.{◌≡◌}
+use Rattle.typed_trees.specs.Views.{type_view}
+use Rattle.typed_expressions.specs.internal.Fillings.{runs_from}
+use Rattle.typed_expressions.proofs.scalars.Scalars.goes_on.Given as goal
+
+-- the members so far have no scalars
+abbrev pub invariant-loop-position : goal.invariant-loop-position
+invariant-loop-position l = record {
+  left : runs_from (type_view l.object_type) l.position ≡ runs_from (type_view l.object_type) l.fn.self.position;
+  kept : l.self ≡ l.fn.self;
+}

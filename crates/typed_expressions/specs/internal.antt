@@ -1,0 +1,4 @@
+pub mod Views
+pub mod Given
+pub mod Fronts
+pub mod Fillings

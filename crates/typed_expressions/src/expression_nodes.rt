@@ -1,0 +1,245 @@
+//! Making nodes of typed expressions, with the conversions that they need.
+
+ghost use Rattle.std.specs.Prelude.{◌≡◌};
+ghost use Rattle.typed_trees.specs.TypedTrees.{NumberNode, ValueNode, LocationNode, ListNode, AssignmentNode, CallNode};
+ghost use Rattle.typed_trees.specs.TypedTrees.{FunctionNode, InputNode};
+ghost use Rattle.typing.specs.Nodes.{as_type as converted_to, unary_node, binary_node, shift_node};
+ghost use Rattle.typed_trees.specs.Views.{Makes, expression_view, reference_view, target_view, arguments_view};
+ghost use Rattle.typing.specs.Constants.{type_of_number as number_type};
+ghost use Rattle.typed_trees.specs.ExpressionTypes.{type_of};
+ghost use Rattle.typing.specs.Nodes.{target_of as target_for};
+ghost use Rattle.typed_expressions.specs.internal.Views.{destination_view};
+ghost use Rattle.typing.specs.Nodes.{common_type as common, type_of_operands as operand_type, type_of_shift as shift_type};
+
+use crate::known::Destination;
+use std::alloc::{AllocError, Global};
+use trees::{BinaryOperator, ScalarType, UnaryOperator};
+use typed_trees::{
+    NumberOrigin, ShiftFunction, TypedExpression, TypedReference, TypedTarget, UnaryFunction,
+};
+
+/// The type of a number.
+pub fn type_of_number(value: u16) -> ScalarType
+    ensures { result ≡ number_type value }
+{
+    if value <= 255 {
+        ScalarType::Byte
+    } else {
+        ScalarType::Address
+    }
+}
+
+/// What two types are extended to.
+fn common_type(left: ScalarType, right: ScalarType) -> ScalarType
+    ensures { result ≡ common left right }
+{
+    match (left, right) {
+        (ScalarType::Byte, ScalarType::Byte) => ScalarType::Byte,
+        _ => ScalarType::Address,
+    }
+}
+
+/// What the operands of an operator are extended to.
+fn type_of_operands(operator: BinaryOperator, left: ScalarType, right: ScalarType) -> ScalarType
+    ensures { result ≡ operand_type operator left right }
+{
+    match operator {
+        BinaryOperator::Multiply | BinaryOperator::Divide | BinaryOperator::Modulo => {
+            ScalarType::Address
+        }
+        _ => common_type(left, right),
+    }
+}
+
+/// The type of a shift or a rotation of a value of a type.
+fn type_of_shift(function: ShiftFunction, value: ScalarType) -> ScalarType
+    ensures { result ≡ shift_type function value }
+{
+    match function {
+        ShiftFunction::RotateLeft | ShiftFunction::RotateRight => ScalarType::Byte,
+        _ => value,
+    }
+}
+
+/// A number.
+pub fn number(scalar: ScalarType, value: u16, origin: NumberOrigin) -> TypedExpression
+    ensures view { expression_view result ≡ NumberNode scalar value origin }
+{
+    TypedExpression::Number {
+        scalar,
+        value,
+        origin,
+    }
+}
+
+/// The value of a scalar.
+pub fn value(
+    alloc: Global,
+    scalar: ScalarType,
+    reference: TypedReference,
+) -> Result<TypedExpression, AllocError>
+    ensures view { Makes result (ValueNode scalar (reference_view reference)) }
+{
+    let reference = Box::new(alloc, reference)?;
+    Ok(TypedExpression::Value { scalar, reference })
+}
+
+/// Where something lies.
+pub fn location(
+    alloc: Global,
+    reference: TypedReference,
+) -> Result<TypedExpression, AllocError>
+    ensures view { Makes result (LocationNode (reference_view reference)) }
+{
+    Ok(TypedExpression::Location(Box::new(alloc, reference)?))
+}
+
+/// Where a constant list lies.
+pub fn list(number: u32) -> TypedExpression
+    ensures view { expression_view result ≡ ListNode number }
+{
+    TypedExpression::List(number)
+}
+
+/// The same value as one of a type.
+pub fn as_type(
+    alloc: Global,
+    expression: TypedExpression,
+    scalar: ScalarType,
+) -> Result<TypedExpression, AllocError>
+    ensures view { Makes result (converted_to scalar (expression_view expression)) }
+{
+    match (scalar, expression.scalar()) {
+        (ScalarType::Byte, ScalarType::Byte) => Ok(expression),
+        (ScalarType::Address, ScalarType::Address) => Ok(expression),
+        _ => {
+            let inner = Box::new(alloc, expression)?;
+            Ok(TypedExpression::Conversion { scalar, inner })
+        }
+    }
+}
+
+/// `(target := value)`
+pub fn assignment(
+    alloc: Global,
+    target: TypedTarget,
+    value: TypedExpression,
+) -> Result<TypedExpression, AllocError>
+    ensures view { Makes result (AssignmentNode (target_view target) (expression_view value)) }
+{
+    let target = Box::new(alloc, target)?;
+    let value = Box::new(alloc, value)?;
+    Ok(TypedExpression::Assignment { target, value })
+}
+
+/// An operator with one operand.
+pub fn unary(
+    alloc: Global,
+    operator: UnaryOperator,
+    operand: TypedExpression,
+) -> Result<TypedExpression, AllocError>
+    ensures view { Makes result (unary_node operator (expression_view operand)) }
+{
+    let scalar = operand.scalar();
+    let operand = Box::new(alloc, operand)?;
+    Ok(TypedExpression::Unary {
+        scalar,
+        operator,
+        operand,
+    })
+}
+
+/// An operator with two operands, which are extended as it needs them.
+pub fn binary(
+    alloc: Global,
+    operator: BinaryOperator,
+    left: TypedExpression,
+    right: TypedExpression,
+) -> Result<TypedExpression, AllocError>
+    ensures view { Makes result (binary_node operator (expression_view left) (expression_view right)) }
+{
+    let operands = type_of_operands(operator, left.scalar(), right.scalar());
+    let left = as_type(alloc, left, operands)?;
+    let right = as_type(alloc, right, operands)?;
+    let left = Box::new(alloc, left)?;
+    let right = Box::new(alloc, right)?;
+    Ok(TypedExpression::Binary {
+        operands,
+        operator,
+        left,
+        right,
+    })
+}
+
+/// A call of a procedure with a result of a type. The arguments are of the types of its parameters.
+#[tactic(auto, using(typed_trees::specs::declared::expression::TypedExpression::the_lemmas, typed_trees::proofs::Views::argument_rows_are))]
+pub fn call(
+    procedure: u32,
+    scalar: ScalarType,
+    arguments: Vec<TypedExpression>,
+) -> TypedExpression
+    ensures view { expression_view result ≡ CallNode procedure scalar (arguments_view arguments.items) }
+{
+    TypedExpression::Call {
+        procedure,
+        scalar,
+        arguments,
+    }
+}
+
+/// LOW, HIGH or DOUBLE.
+pub fn function(
+    alloc: Global,
+    function: UnaryFunction,
+    operand: TypedExpression,
+) -> Result<TypedExpression, AllocError>
+    ensures view { Makes result (FunctionNode function (expression_view operand)) }
+{
+    let operand = Box::new(alloc, operand)?;
+    Ok(TypedExpression::Function { function, operand })
+}
+
+/// A shift or a rotation of a value by a count.
+pub fn shift(
+    alloc: Global,
+    function: ShiftFunction,
+    value: TypedExpression,
+    count: TypedExpression,
+) -> Result<TypedExpression, AllocError>
+    ensures view { Makes result (shift_node function (expression_view value) (expression_view count)) }
+{
+    let scalar = type_of_shift(function, value.scalar());
+    let value = as_type(alloc, value, scalar)?;
+    let count = as_type(alloc, count, ScalarType::Byte)?;
+    let value = Box::new(alloc, value)?;
+    let count = Box::new(alloc, count)?;
+    Ok(TypedExpression::Shift {
+        scalar,
+        function,
+        value,
+        count,
+    })
+}
+
+/// INPUT of a port.
+pub fn input(port: u8) -> TypedExpression
+    ensures view { expression_view result ≡ InputNode port }
+{
+    TypedExpression::Input(port)
+}
+
+/// Where a value goes, once its type is known.
+pub fn target_of(destination: Destination, value: &TypedExpression) -> TypedTarget
+    ensures view { target_view result
+        ≡ target_for (destination_view destination) (type_of (expression_view value.now)) }
+{
+    let from = value.scalar();
+    match destination {
+        Destination::Variable { scalar, reference } => TypedTarget::Stored {
+            from,
+            to: scalar,
+            reference,
+        },
+        Destination::Port(port) => TypedTarget::Sent { from, port },
+    }
+}

@@ -1,0 +1,317 @@
+//! The typing of expressions.
+
+ghost use Rattle.std.specs.Prelude.{map};
+ghost use Rattle.trees.specs.Trees.{ListLeaf};
+ghost use Rattle.trees.specs.Views.{argument_trees, constant_tree, expression_tree, reference_tree, target_trees};
+ghost use Rattle.typed_trees.specs.Views.{arguments_view, expression_view, object_view, subscript_view, type_view};
+ghost use Rattle.typing.specs.Expressions.{arguments, expression, given_reference, number_node};
+ghost use Rattle.typing.specs.References.{destination_of, location_of, part_of, part_with_member, scalar_part};
+ghost use Rattle.typing.specs.Functions.{value_of};
+ghost use Rattle.typing.specs.Statements.{destinations};
+ghost use Rattle.typed_expressions.specs.internal.Given.{GivesScalar, extent_view, given, part_view};
+ghost use Rattle.typing.specs.Results.{Answers, Gives};
+ghost use Rattle.typed_expressions.specs.internal.Views.{constants_view, destination_view, known_view};
+
+use crate::constants::{bytes_of_constants, number_of_constant};
+use crate::expression_nodes;
+use crate::expression_nodes::{target_of, type_of_number};
+use typing::{Cause, Fault};
+use crate::known::{Constants, Destination, Known, refuse, require};
+use crate::members::{element_size, member_place};
+use crate::references::{
+    Extent, FoundPart, FoundScalar, has_location, part_of_member, port_of, require_writable,
+    subscript_of, takes_subscripts, whole_part,
+};
+use failure::Failure;
+use names::{Binding, BuiltIn, Entity};
+use trees::{Constant, Expression, Reference};
+use typed_trees::{
+    ConstantItem, NumberOrigin, ObjectType, TypedExpression, TypedObject, TypedSubscript,
+};
+
+/// A number, or a string that stands for one.
+fn number_node(constant: &Constant) -> Result<TypedExpression, Failure<Fault>>
+    ensures { Answers expression_view result (number_node (constant_tree constant.now)) }
+{
+    let value = number_of_constant(constant)?;
+    let origin = match constant {
+        Constant::Number(_) => NumberOrigin::FromDigits,
+        Constant::String(_) => NumberOrigin::FromString,
+    };
+    Ok(expression_nodes::number(type_of_number(value), value, origin))
+}
+
+impl Known {
+    /// A constant list, which gets the next number and stands after the constants so far.
+    fn list_node(
+        &self,
+        list: &[Constant],
+        constants: &mut Constants,
+    ) -> Result<TypedExpression, Failure<Fault>>
+        ensures { Gives expression_view result (constants_view constants.new)
+            (expression (known_view self.now) (ListLeaf (map constant_tree list.now))
+            (constants_view constants.old)) }
+    {
+        let Ok(number) = u32::try_from(constants.lists.len()) else {
+            return Err(Failure::Memory);
+        };
+        let bytes = bytes_of_constants(self.alloc, list)?;
+        constants.lists.push(bytes)?;
+        constants.items.push(ConstantItem::ConstantList(number))?;
+        Ok(expression_nodes::list(number))
+    }
+
+    /// An expression. Constant lists in it are numbered on.
+    #[cycle(expression)]
+    #[tactic(auto, using(crate::proofs::GivenParts::given_is))]
+    pub fn expression(
+        &self,
+        tree: &Expression,
+        constants: &mut Constants,
+    ) -> Result<TypedExpression, Failure<Fault>>
+        ensures { Gives expression_view result (constants_view constants.new)
+            (expression (known_view self.now) (expression_tree tree.now) (constants_view constants.old)) }
+    {
+        match tree {
+            Expression::Constant(constant) => number_node(constant),
+            Expression::Reference(reference) => self.value_of(reference, constants),
+            Expression::Location(reference) => self.location_of(reference, constants),
+            Expression::List(list) => self.list_node(list.as_slice(), constants),
+            Expression::Parenthesized(inner) => self.expression(inner, constants),
+            Expression::Assignment { target, value } => {
+                let destination = self.destination(target, constants)?;
+                let value = self.expression(value, constants)?;
+                let target = target_of(destination, &value);
+                Ok(expression_nodes::assignment(self.alloc, target, value)?)
+            }
+            Expression::Unary(operator, operand) => {
+                let operand = self.expression(operand, constants)?;
+                Ok(expression_nodes::unary(self.alloc, *operator, operand)?)
+            }
+            Expression::Binary(operator, left, right) => {
+                let left = self.expression(left, constants)?;
+                let right = self.expression(right, constants)?;
+                Ok(expression_nodes::binary(self.alloc, *operator, left, right)?)
+            }
+        }
+    }
+
+    /// Arguments or subscripts, from left to right.
+    #[cycle(expression)]
+    pub fn arguments(
+        &self,
+        trees: &[Expression],
+        constants: &mut Constants,
+    ) -> Result<Vec<TypedExpression>, Failure<Fault>>
+        ensures { Gives (λ made. arguments_view made.items) result (constants_view constants.new)
+            (arguments (known_view self.now) (argument_trees trees.now) (constants_view constants.old)) }
+    {
+        let mut made = Vec::with_capacity(self.alloc, trees.len())?;
+        for tree in trees {
+            let argument = self.expression(tree, constants)?;
+            made.push(argument)?;
+        }
+        Ok(made)
+    }
+
+    /// A part of an object, once the subscript of the object is known: the element, or a member of it.
+    #[cycle(expression)]
+    #[tactic(auto, using(crate::proofs::GivenParts::count_of_arguments))]
+    fn part_with_member(
+        &self,
+        reference: &Reference,
+        object: u32,
+        object_type: &ObjectType,
+        subscript: TypedSubscript,
+        extent: Extent,
+        constants: &mut Constants,
+    ) -> Result<FoundPart, Failure<Fault>>
+        ensures { Gives part_view result (constants_view constants.new)
+            (part_with_member object (type_view object_type.now) (subscript_view subscript) (extent_view extent)
+            (given self.now reference.now).member (constants_view constants.old)) }
+    {
+        let Some(selector) = &reference.member else {
+            return Ok(whole_part(object, subscript, object_type));
+        };
+        let line = selector.name.place.line;
+        let place = member_place(object_type, selector.name)?;
+        let count = selector.arguments.len();
+        require(
+            takes_subscripts(extent, place.member.dimension, count),
+            Cause::WrongUse,
+            line,
+        )?;
+        let indices = self.arguments(selector.arguments.as_slice(), constants)?;
+        Ok(part_of_member(self.alloc, object, subscript, place, indices)?)
+    }
+
+    /// What a reference to an object means.
+    #[cycle(expression)]
+    #[tactic(auto, using(crate::proofs::GivenParts::count_of_arguments))]
+    fn part_of(
+        &self,
+        reference: &Reference,
+        number: u32,
+        object: &TypedObject,
+        extent: Extent,
+        constants: &mut Constants,
+    ) -> Result<FoundPart, Failure<Fault>>
+        ensures { Gives part_view result (constants_view constants.new)
+            (part_of number (object_view object.now) (extent_view extent) (given self.now reference.now)
+            (constants_view constants.old)) }
+    {
+        let line = reference.name.place.line;
+        let count = reference.arguments.len();
+        require(
+            takes_subscripts(extent, object.dimension, count),
+            Cause::WrongUse,
+            line,
+        )?;
+        let indices = self.arguments(reference.arguments.as_slice(), constants)?;
+        let stride = element_size(object)?;
+        let subscript = subscript_of(self.alloc, stride, object.dimension, indices)?;
+        self.part_with_member(
+            reference,
+            number,
+            &object.object_type,
+            subscript,
+            extent,
+            constants,
+        )
+    }
+
+    /// A reference to a scalar: an array without a subscript and a structure are none.
+    #[cycle(expression)]
+    fn scalar_part(
+        &self,
+        reference: &Reference,
+        number: u32,
+        object: &TypedObject,
+        constants: &mut Constants,
+    ) -> Result<FoundScalar, Failure<Fault>>
+        ensures { GivesScalar result (constants_view constants.new)
+            (scalar_part number (object_view object.now) (given self.now reference.now)
+            (constants_view constants.old)) }
+    {
+        let part = self.part_of(reference, number, object, Extent::AnElement, constants)?;
+        let FoundPart {
+            reference: found,
+            scalar,
+        } = part;
+        match scalar {
+            Some(scalar) => Ok(FoundScalar {
+                reference: found,
+                scalar,
+            }),
+            None => Err(refuse(Cause::WrongUse, reference.name.place.line)),
+        }
+    }
+
+    /// Where an object lies, or a part of it, and of an array or a structure its beginning.
+    #[cycle(expression)]
+    fn location_of(
+        &self,
+        reference: &Reference,
+        constants: &mut Constants,
+    ) -> Result<TypedExpression, Failure<Fault>>
+        ensures { Gives expression_view result (constants_view constants.new)
+            (location_of (known_view self.now) (given self.now reference.now) (constants_view constants.old)) }
+    {
+        let line = reference.name.place.line;
+        match self.bound(reference.name)? {
+            Binding::Declared(Entity::Object(number)) => {
+                let object = self.object(reference.name, number)?;
+                require(has_location(&object.home), Cause::NoLocation, line)?;
+                let part = self.part_of(
+                    reference,
+                    number,
+                    object,
+                    Extent::AlsoTheWhole,
+                    constants,
+                )?;
+                Ok(expression_nodes::location(self.alloc, part.reference)?)
+            }
+            Binding::Declared(Entity::Procedure(_)) => Err(refuse(Cause::NoLocation, line)),
+            _ => Err(refuse(Cause::WrongUse, line)),
+        }
+    }
+
+    /// What a value can be assigned to: a scalar, or OUTPUT.
+    #[cycle(expression)]
+    #[tactic(auto, using(crate::proofs::GivenParts::given_is))]
+    pub fn destination(
+        &self,
+        target: &Reference,
+        constants: &mut Constants,
+    ) -> Result<Destination, Failure<Fault>>
+        ensures { Gives destination_view result (constants_view constants.new)
+            (destination_of (known_view self.now)
+            (given_reference (known_view self.now) (reference_tree target.now)) (constants_view constants.old)) }
+    {
+        let line = target.name.place.line;
+        match self.bound(target.name)? {
+            Binding::Declared(Entity::Object(number)) => {
+                let object = self.object(target.name, number)?;
+                require_writable(object, target.name)?;
+                let FoundScalar { reference, scalar } = self.scalar_part(
+                    target, number, object, constants,
+                )?;
+                Ok(Destination::Variable { scalar, reference })
+            }
+            Binding::BuiltInName(BuiltIn::Output) => {
+                let port = port_of(line, target.arguments.as_slice())?;
+                self.no_member(&target.member)?;
+                Ok(Destination::Port(port))
+            }
+            _ => Err(refuse(Cause::WrongUse, line)),
+        }
+    }
+
+    /// The value of a scalar, a typed procedure or a built-in function.
+    #[cycle(expression)]
+    fn value_of(
+        &self,
+        reference: &Reference,
+        constants: &mut Constants,
+    ) -> Result<TypedExpression, Failure<Fault>>
+        ensures { Gives expression_view result (constants_view constants.new)
+            (value_of (known_view self.now) (given self.now reference.now) (constants_view constants.old)) }
+    {
+        match self.bound(reference.name)? {
+            Binding::Declared(Entity::Object(number)) => {
+                let object = self.object(reference.name, number)?;
+                let found = self.scalar_part(reference, number, object, constants)?;
+                Ok(expression_nodes::value(self.alloc, found.scalar, found.reference)?)
+            }
+            Binding::Declared(Entity::Procedure(number)) => {
+                let procedure = self.procedure(reference.name, number)?;
+                self.call_of(reference, number, procedure, constants)
+            }
+            Binding::BuiltInName(built_in) => self.built_in_value(reference, built_in, constants),
+            _ => Err(refuse(Cause::WrongUse, reference.name.place.line)),
+        }
+    }
+}
+
+impl Known {
+    /// The targets of an assignment, from left to right.
+    pub fn destinations(
+        &self,
+        first: &Reference,
+        others: &[Reference],
+        constants: &mut Constants,
+    ) -> Result<Vec<Destination>, Failure<Fault>>
+        ensures { Gives (λ made. map destination_view made.items) result (constants_view constants.new)
+            (destinations (known_view self.now) (target_trees first.now others.now)
+            (constants_view constants.old)) }
+    {
+        let mut made = Vec::new(self.alloc);
+        let place = self.destination(first, constants)?;
+        made.push(place)?;
+        for target in others {
+            let place = self.destination(target, constants)?;
+            made.push(place)?;
+        }
+        Ok(made)
+    }
+}

@@ -1,0 +1,395 @@
+//! Restricted expressions: where AT puts objects, and what INITIAL and DATA fill them with.
+
+ghost use Rattle.std.specs.Prelude.{◌≡◌, ◌<◌, IfSome, [], ◌∷◌, map, vec_items};
+ghost use Rattle.trees.specs.Views.{offset_tree, origin_tree, restricted_tree, string_tree};
+ghost use Rattle.typed_trees.specs.Sizes.{scalars_of_elements};
+ghost use Rattle.typed_trees.specs.Views.{home_view, type_view};
+ghost use Rattle.names.specs.declared.entity.Binding.TheVariants.{Declared};
+ghost use Rattle.names.specs.declared.entity.Entity.TheVariants.{Object};
+ghost use Rattle.typing.specs.Filling.{AsListed, at_address, contents, enough_elements as elements_enough, fill_characters as characters_filled, fill_scalar as scalar_filled, fill_string as string_filled, fill_value as value_filled, line_of_origin as origin_line, restricted_value, scalars_at_most as most_scalars, static_bound, static_object, with_address as home_address};
+ghost use Rattle.typed_expressions.specs.internal.Fillings.{elements_listed, filled_view, left_of, onto, reach_view, value_view, values_filled};
+ghost use Rattle.typing.specs.Results.{Answers, Leaves};
+ghost use Rattle.typed_expressions.specs.internal.Views.{contents_view, extents_view, known_view};
+
+use crate::constants::{line_of_constant, number_of_characters, number_of_constant, with_offsets};
+use typing::{Cause, Fault};
+use crate::known::{Known, refuse};
+use crate::scalars::{Scalars, scalars_in_element};
+use failure::Failure;
+use names::{Binding, Entity};
+use std::alloc::Global;
+use trees::{Constant, Identifier, Offset, Origin, Restricted, ScalarType, StringLiteral};
+use typed_trees::{AtAddress, Home, InitialValue, ObjectType};
+
+/// How many elements an object is declared with: it is no array, there are so many, or as many as its list needs.
+#[derive(Clone, Copy)]
+pub enum Extents {
+    NoArray,
+    Elements(u16),
+    AsListed,
+}
+
+/// An object's dimension, and what it is filled with. A dimension that a list gives may be too great for an object.
+#[derive(Drop)]
+pub struct Contents {
+    pub dimension: Option<u32>,
+    pub values: Vec<InitialValue>,
+}
+
+/// Whether the objects of other modules may be located.
+#[derive(Clone, Copy)]
+enum Reach {
+    ThisModule,
+    OtherModulesToo,
+}
+
+/// The value of a restricted expression: a number, or a distance from where an object begins.
+#[derive(Clone, Copy)]
+enum RestrictedValue {
+    Number(u16),
+    FromObject { object: u32, offset: u16 },
+}
+
+/// The values that fill the first scalars of an object, and the scalars after those.
+#[derive(Drop)]
+struct Filling {
+    scalars: Scalars,
+    values: Vec<InitialValue>,
+}
+
+// The number of an object whose address is known before the program runs.
+fn with_address(reach: Reach, home: &Home, number: u32, line: u32) -> Result<u32, Failure<Fault>>
+    ensures { Answers (λ number. number) result
+        (home_address (reach_view reach) (home_view home.now) number line) }
+{
+    match (home, reach) {
+        (Home::Frame(_), _) => Err(refuse(Cause::NoLocation, line)),
+        (Home::Data(_) | Home::Constant(_) | Home::At(_), _)
+        | (Home::External, Reach::OtherModulesToo) => Ok(number),
+        _ => Err(refuse(Cause::WrongConstant, line)),
+    }
+}
+
+// The line of what a restricted expression begins with.
+fn line_of_origin(origin: &Origin) -> u32
+    ensures { result ≡ origin_line (origin_tree origin.now) }
+{
+    match origin {
+        Origin::Constant(constant) => line_of_constant(constant),
+        Origin::Location(name) => name.place.line,
+    }
+}
+
+// How many scalars a value takes at most.
+fn scalars_at_most(origin: &Origin) -> usize
+    ensures { result ≡ most_scalars (origin_tree origin.now) }
+{
+    match origin {
+        Origin::Constant(Constant::String(string)) => string.characters.len().max(1),
+        _ => 1,
+    }
+}
+
+// So many elements that their scalars are enough for a list, if the number is no greater than numbers can be.
+fn enough_elements(values: &[Restricted]) -> Option<usize>
+    ensures { IfSome result (λ count. count ≡ elements_enough (map restricted_tree values.now)) }
+{
+    let mut count = 0_usize;
+    for value in values {
+        count = count.checked_add(scalars_at_most(&value.origin))?;
+    }
+    Some(count)
+}
+
+// The least number of elements of so many scalars each that holds so many scalars. There is one scalar at least.
+fn elements_for(line: u32, used: usize, each: usize) -> Result<u32, Failure<Fault>>
+    requires { 0 < used → 0 < each }
+    ensures { Answers (λ elements. elements) result (elements_listed line used each) }
+{
+    if used == 0 {
+        return Err(refuse(Cause::WrongConstant, line));
+    }
+    match u32::try_from((used - 1) / each + 1) {
+        Ok(elements) => Ok(elements),
+        Err(_) => Err(Failure::Memory),
+    }
+}
+
+impl Known {
+    // The number of an object, whose address is known before the program runs.
+    fn object_with_address(
+        &self,
+        reach: Reach,
+        number: u32,
+        name: Identifier,
+    ) -> Result<u32, Failure<Fault>>
+        ensures { Answers (λ number. number) result
+            (static_bound (reach_view reach) (known_view self.now) (Declared (Object number)) name) }
+    {
+        let line = name.place.line;
+        let object = self.object(name, number)?;
+        with_address(reach, &object.home, number, line)
+    }
+
+    // The number of an object that a name is bound to, whose address is known before the program runs.
+    fn static_bound(
+        &self,
+        reach: Reach,
+        binding: Binding,
+        name: Identifier,
+    ) -> Result<u32, Failure<Fault>>
+        ensures { Answers (λ number. number) result
+            (static_bound (reach_view reach) (known_view self.now) binding name) }
+    {
+        match binding {
+            Binding::Declared(Entity::Object(number)) => self.object_with_address(
+                reach, number, name,
+            ),
+            Binding::Declared(Entity::Procedure(_)) => {
+                Err(refuse(Cause::NoLocation, name.place.line))
+            }
+            _ => Err(refuse(Cause::WrongUse, name.place.line)),
+        }
+    }
+
+    // The number of an object that a name stands for, whose address is known before the program runs.
+    fn static_object(&self, reach: Reach, name: Identifier) -> Result<u32, Failure<Fault>>
+        ensures { Answers (λ number. number) result
+            (static_object (reach_view reach) (known_view self.now) name) }
+    {
+        self.static_bound(reach, self.bound(name)?, name)
+    }
+
+    // The value of a restricted expression.
+    fn restricted_value(
+        &self,
+        reach: Reach,
+        origin: &Origin,
+        offsets: &[Offset],
+    ) -> Result<RestrictedValue, Failure<Fault>>
+        ensures { Answers value_view result (restricted_value (reach_view reach) (known_view self.now)
+            (origin_tree origin.now) (map offset_tree offsets.now)) }
+    {
+        match origin {
+            Origin::Constant(constant) => {
+                let number = number_of_constant(constant)?;
+                Ok(RestrictedValue::Number(with_offsets(number, offsets)?))
+            }
+            Origin::Location(name) => {
+                let object = self.static_object(reach, *name)?;
+                let offset = with_offsets(0, offsets)?;
+                Ok(RestrictedValue::FromObject { object, offset })
+            }
+        }
+    }
+
+    /// Where AT puts an object.
+    pub fn at_address(&self, restricted: &Restricted) -> Result<AtAddress, Failure<Fault>>
+        ensures { Answers (λ address. address) result
+            (at_address (known_view self.now) (restricted_tree restricted.now)) }
+    {
+        match self.restricted_value(
+            Reach::ThisModule,
+            &restricted.origin,
+            restricted.offsets.as_slice(),
+        )? {
+            RestrictedValue::Number(number) => Ok(AtAddress::AtNumber(number)),
+            RestrictedValue::FromObject { object, offset } => {
+                Ok(AtAddress::AtObject { object, offset })
+            }
+        }
+    }
+
+    // Fills scalars with a value of a list.
+    fn fill_value(
+        &self,
+        object_type: &ObjectType,
+        restricted: &Restricted,
+        filling: &mut Filling,
+    ) -> Result<(), Failure<Fault>>
+        ensures { Leaves result (filled_view (type_view object_type.now) filling.new)
+            (onto filling.old.values.items (value_filled (known_view self.now)
+            (left_of (type_view object_type.now) filling.old.scalars)
+            (restricted_tree restricted.now).origin (restricted_tree restricted.now).offsets)) }
+    {
+        match &restricted.origin {
+            Origin::Constant(Constant::String(string)) if restricted.offsets.is_empty() => {
+                filling.fill_string(object_type, string)
+            }
+            origin => {
+                let offsets = restricted.offsets.as_slice();
+                let value = self.restricted_value(Reach::OtherModulesToo, origin, offsets)?;
+                filling.fill_scalar(object_type, line_of_origin(origin), value)
+            }
+        }
+    }
+
+    // The values that fill the scalars of so many elements from the first on.
+    fn fill(
+        &self,
+        object_type: &ObjectType,
+        values: &[Restricted],
+        elements: usize,
+    ) -> Result<Vec<InitialValue>, Failure<Fault>>
+        ensures { Answers vec_items result (values_filled (known_view self.now) (map restricted_tree values.now)
+            (scalars_of_elements elements (type_view object_type.now))) }
+    {
+        let mut filling = Filling::new(self.alloc, object_type, elements);
+        for value in values {
+            self.fill_value(object_type, value, &mut filling)?;
+        }
+        Ok(filling.values)
+    }
+
+    // The dimension of an array that is as long as its list, and its values.
+    fn contents_as_listed(
+        &self,
+        line: u32,
+        object_type: &ObjectType,
+        values: &[Restricted],
+    ) -> Result<Contents, Failure<Fault>>
+        ensures { Answers contents_view result (contents (known_view self.now) line
+            (type_view object_type.now) AsListed (map restricted_tree values.now)) }
+    {
+        let (Some(elements), Some(each)) = (
+            enough_elements(values),
+            scalars_in_element(object_type),
+        ) else {
+            return Err(Failure::Memory);
+        };
+        let values = self.fill(object_type, values, elements)?;
+        let dimension = elements_for(line, values.len(), each)?;
+        Ok(Contents {
+            dimension: Some(dimension),
+            values,
+        })
+    }
+
+    /// The dimension of an object, and its values, which fill its scalars from the first on. The line is that of the
+    /// item.
+    pub fn contents(
+        &self,
+        line: u32,
+        object_type: &ObjectType,
+        extents: Extents,
+        values: &[Restricted],
+    ) -> Result<Contents, Failure<Fault>>
+        ensures { Answers contents_view result (contents (known_view self.now) line
+            (type_view object_type.now) (extents_view extents) (map restricted_tree values.now)) }
+    {
+        match extents {
+            Extents::NoArray => Ok(Contents {
+                dimension: None,
+                values: self.fill(object_type, values, 1)?,
+            }),
+            Extents::Elements(count) => Ok(Contents {
+                dimension: Some(u32::from(count)),
+                values: self.fill(object_type, values, usize::from(count))?,
+            }),
+            Extents::AsListed => self.contents_as_listed(line, object_type, values),
+        }
+    }
+}
+
+impl Filling {
+    // Nothing yet of so many elements.
+    fn new(alloc: Global, object_type: &ObjectType, elements: usize) -> Filling
+        ensures { filled_view (type_view object_type.now) result
+            ≡ record { values = []; left = scalars_of_elements elements (type_view object_type.now) } }
+    {
+        Filling {
+            scalars: Scalars::new(object_type, elements),
+            values: Vec::new(alloc),
+        }
+    }
+
+    // Fills a scalar with a value.
+    fn fill_scalar(
+        &mut self,
+        object_type: &ObjectType,
+        line: u32,
+        value: RestrictedValue,
+    ) -> Result<(), Failure<Fault>>
+        ensures { Leaves result (filled_view (type_view object_type.now) self.new)
+            (onto self.old.values.items
+            (scalar_filled line (left_of (type_view object_type.now) self.old.scalars) (value_view value))) }
+    {
+        let filled = match (self.scalars.next(object_type), value) {
+            (Some(ScalarType::Byte), RestrictedValue::Number(number)) => {
+                match u8::try_from(number) {
+                    Ok(byte) => InitialValue::ByteValue(byte),
+                    Err(_) => return Err(refuse(Cause::WrongConstant, line)),
+                }
+            }
+            (Some(ScalarType::Address), RestrictedValue::Number(number)) => {
+                InitialValue::WordValue(number)
+            }
+            (Some(ScalarType::Address), RestrictedValue::FromObject { object, offset }) => {
+                InitialValue::LocationValue { object, offset }
+            }
+            _ => return Err(refuse(Cause::WrongConstant, line)),
+        };
+        self.values.push(filled)?;
+        Ok(())
+    }
+
+    // Fills a BYTE with a character.
+    fn fill_character(
+        &mut self,
+        object_type: &ObjectType,
+        line: u32,
+        character: u8,
+    ) -> Result<(), Failure<Fault>>
+        ensures { Leaves result (filled_view (type_view object_type.now) self.new)
+            (onto self.old.values.items (characters_filled line (character ∷ [])
+            (left_of (type_view object_type.now) self.old.scalars))) }
+    {
+        match self.scalars.next(object_type) {
+            Some(ScalarType::Byte) => {
+                self.values.push(InitialValue::ByteValue(character))?;
+                Ok(())
+            }
+            _ => Err(refuse(Cause::WrongConstant, line)),
+        }
+    }
+
+    // Fills a BYTE with each character.
+    fn fill_characters(
+        &mut self,
+        object_type: &ObjectType,
+        line: u32,
+        characters: &[u8],
+    ) -> Result<(), Failure<Fault>>
+        ensures { Leaves result (filled_view (type_view object_type.now) self.new)
+            (onto self.old.values.items (characters_filled line characters.now
+            (left_of (type_view object_type.now) self.old.scalars))) }
+    {
+        for character in characters {
+            self.fill_character(object_type, line, *character)?;
+        }
+        Ok(())
+    }
+
+    // Fills scalars with a string that stands alone.
+    fn fill_string(
+        &mut self,
+        object_type: &ObjectType,
+        string: &StringLiteral,
+    ) -> Result<(), Failure<Fault>>
+        ensures { Leaves result (filled_view (type_view object_type.now) self.new)
+            (onto self.old.values.items (string_filled (string_tree string.now)
+            (left_of (type_view object_type.now) self.old.scalars))) }
+    {
+        let line = string.place.line;
+        let characters = string.characters.as_slice();
+        match self.scalars.first(object_type) {
+            Some(ScalarType::Address) => match number_of_characters(characters) {
+                Some(number) => {
+                    self.fill_scalar(object_type, line, RestrictedValue::Number(number))
+                }
+                None => Err(refuse(Cause::WrongConstant, line)),
+            },
+            _ => self.fill_characters(object_type, line, characters),
+        }
+    }
+}

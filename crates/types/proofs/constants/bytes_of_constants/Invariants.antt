@@ -1,9 +1,0 @@
-use Rattle.std.proofs.Common.{◌≡◌, ◌++◌, map, drop}
-use Rattle.trees.specs.Views.{constant_tree}
-use Rattle.types.specs.Constants.{bytes_of_constants}
-use Rattle.types.proofs.constants.bytes_of_constants.Given as goal
-
-abbrev pub invariant-loop-constant : goal.invariant-loop-constant
-invariant-loop-constant l =
-    l.bytes.items ++ bytes_of_constants (map constant_tree (drop l.constant-index l.list))
-    ≡ bytes_of_constants (map constant_tree l.list)

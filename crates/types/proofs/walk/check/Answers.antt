@@ -1,0 +1,18 @@
+use Rattle.trees.specs.Views.{module_tree}
+use Rattle.typed_trees.specs.Jumps.{JumpsAreSound}
+use Rattle.typed_trees.specs.Views.{module_view}
+use Rattle.typing.specs.Typing.{typing_of}
+use Rattle.typing.specs.Untyped.{GivesBack}
+use Rattle.typing.proofs.JumpsLaw.{jumps_are_sound}
+use Rattle.typing.proofs.StatementsBack.{gives_back}
+use Rattle.typing.proofs.TypedLaws.{where_typed}
+use Rattle.types.proofs.walk.check.Goals as goal
+
+pub returns-clause-given_back : goal.returns-clause-given_back
+returns-clause-given_back c =
+    where_typed module_view c.typed.result (typing_of (module_tree c.args.parsed)) (GivesBack (module_tree c.args.parsed)) c.typed.ensures
+    (gives_back (module_tree c.args.parsed))
+
+pub returns-clause-jumps : goal.returns-clause-jumps
+returns-clause-jumps c =
+    where_typed module_view c.typed.result (typing_of (module_tree c.args.parsed)) JumpsAreSound c.typed.ensures (jumps_are_sound (module_tree c.args.parsed))

@@ -1,9 +1,0 @@
--- Typed arguments that stand before others.
-use Rattle.std.specs.Prelude.{List, [], ◌∷◌}
-use Rattle.typed_trees.specs.declared.expression.TypedExpression.{TypedExpression as Expression}
-use Rattle.typed_trees.specs.TypedTrees.{TypedArguments, MoreArguments}
-use Rattle.typed_trees.specs.Views.{expression_view}
-
-abbrev pub in_front : List Expression → TypedArguments → TypedArguments
-in_front [] others = others
-in_front (first ∷ rest) others = MoreArguments (expression_view first) (in_front rest others)

@@ -1,0 +1,134 @@
+-- The parts of a module that have no statements in them: expressions, simple statements, heads of loops.
+use Rattle.std.proofs.Common.{◌≡◌, ℕ, List, Option, None, Some, sym, subst}
+use Rattle.std.specs.Prelude.{All, IfOk, IfSome, is_none, ◌==◌}
+use Rattle.std.specs.Option.{option_map_or}
+use Rattle.trees.specs.declared.declaration.ScalarType.{ScalarType}
+use Rattle.trees.specs.declared.identifier.Identifier.{Identifier}
+use Rattle.trees.specs.Trees.{ExpressionTree, ReferenceTree, IterationTree}
+use Rattle.names.specs.declared.entity.Entity.{Entity}
+use Rattle.names.specs.declared.entity.Entity.TheVariants.{Procedure, Label}
+use Rattle.names.specs.declared.entity.Binding.{Binding}
+use Rattle.names.specs.declared.entity.Binding.TheVariants.{Declared, BuiltInName, UnknownLabel}
+use Rattle.names.specs.declared.entity.BuiltIn.TheVariants.{Move}
+use Rattle.names.specs.BuiltIns.{jump_of}
+use Rattle.names.specs.Environment.{Here, Body, Names, known_in}
+use Rattle.typed_trees.specs.TypedTrees.{TypedArguments, NoArguments as NoTyped, MoreArguments as MoreTyped, TypedStatement, TypedProcedure, Constants}
+use Rattle.typed_trees.specs.Jumps.{LabelsOf, JumpsStay, ListsStand, BodyIsSound}
+use Rattle.typing.specs.declared.fault.Cause.TheVariants.{WrongUse}
+use Rattle.typing.specs.Checks.{require}
+use Rattle.typing.specs.References.{Known, Given, line_of, count_of_given, bound, procedure_of}
+use Rattle.typing.specs.Functions.{call_arguments}
+use Rattle.typing.specs.Expressions.{expression}
+use Rattle.typing.specs.Blocks.{Owner, TheModule, OfProcedure, Progress}
+use Rattle.typing.specs.Statements.{with_constants, value, destinations, assignment, moved, call_bound, call, return_with, return_from, goto_bound, goto, counter_bound, step, iteration}
+use Rattle.typing.proofs.Steps.{then, then_any}
+use Rattle.typing.proofs.KnownLabels.{IsLabelAround, AreAround}
+use Rattle.typing.proofs.LabelPlaces.{IsNoLabel}
+
+-- a place of a text, with the labels that are known there and the bodies around its own
+pub record IsIn (lists : List Names) (outer : List Body) (here : Here) : Type 0 where
+  pub lists_are : here.body.lists ≡ lists
+  pub outer_are : here.outer_bodies ≡ outer
+
+abbrev pub AreSound : List TypedProcedure → Type 0
+AreSound procedures = All (λ (procedure : TypedProcedure). BodyIsSound procedure.body) procedures
+
+-- what is known at such a place, where all procedures so far are sound
+pub record IsAt (lists : List Names) (outer : List Body) (known : Known) : Type 0 where
+  pub here : IsIn lists outer known.here
+  pub procedures : AreSound known.procedures
+
+-- a statement of these lists
+pub record IsSound (around : List LabelsOf) (statement : TypedStatement) : Type 0 where
+  pub jumps : JumpsStay around statement
+  pub stands : ListsStand statement
+  pub is_no_label : IsNoLabel statement
+
+-- a statement that is typed, and the place after it
+abbrev pub IsDone : List LabelsOf → List Names → List Body → TypedStatement × Progress → Type 0
+IsDone around lists outer typed = IsSound around typed.0 × IsAt lists outer typed.1.known
+
+moved_is : (around : List LabelsOf) (line : ℕ) (values : TypedArguments) → IfOk (moved line values) (IsSound around)
+moved_is around line (MoreTyped count (MoreTyped source (MoreTyped destination NoTyped))) =
+    record { jumps = tt; stands = tt; is_no_label = tt }
+moved_is around line values = tt
+
+call_bound_is : (around : List LabelsOf) (known : Known) (binding : Binding) (name : Identifier) (given : Given)
+    (constants : Constants) → IfOk (call_bound known binding name given constants) (λ typed. IsSound around typed.0)
+call_bound_is around known (Declared (Procedure number)) name given constants =
+    then_any _ (procedure_of known name number) _ (λ procedure.
+    then_any _ (require (is_none procedure.result) WrongUse (line_of name)) _ (λ is_untyped.
+    then_any _ (call_arguments procedure (line_of name) given constants) _ (λ typed.
+    record { jumps = tt; stands = tt; is_no_label = tt })))
+call_bound_is around known (BuiltInName Move) name given constants =
+    then_any _ (require (count_of_given given == 3) WrongUse (line_of name)) _ (λ are_three.
+    then_any _ (given.typed constants) _ (λ typed.
+    then _ _ (moved (line_of name) typed.0) _ (moved_is around (line_of name) typed.0) (λ moving is. is)))
+call_bound_is around known binding name given constants = tt
+
+goto_bound_is : (around : List LabelsOf) (line : ℕ) (found : Option Entity) → IfSome found (IsLabelAround around)
+    → IfOk (goto_bound line (option_map_or Declared found UnknownLabel)) (IsSound around)
+goto_bound_is around line None is = tt
+goto_bound_is around line (Some (Label label)) is = record { jumps = is; stands = tt; is_no_label = tt }
+goto_bound_is around line (Some entity) is = tt
+
+module _ {lists : List Names} {outer : List Body} where
+  -- These parts leave the place as it was.
+  pub value_is : (tree : ExpressionTree) (progress : Progress)
+      → IsAt lists outer progress.known → IfOk (value tree progress) (λ typed. IsAt lists outer typed.1.known)
+  value_is tree progress at = then_any _ (expression progress.known tree progress.constants) _ (λ typed. at)
+
+  pub assignment_is : (around : List LabelsOf) (targets : List ReferenceTree)
+      (source : ExpressionTree) (progress : Progress)
+      → IsAt lists outer progress.known → IfOk (assignment targets source progress) (IsDone around lists outer)
+  assignment_is around targets source progress at =
+      then_any _ (destinations progress.known targets progress.constants) _ (λ places.
+      then _ _ (value source (with_constants places.1 progress)) _ (value_is source (with_constants places.1 progress) at)
+      (λ typed after. (record { jumps = tt; stands = tt; is_no_label = tt }, after)))
+
+  pub call_is : (around : List LabelsOf) (name : Identifier) (given : Given)
+      (progress : Progress)
+      → IsAt lists outer progress.known → IfOk (call name given progress) (IsDone around lists outer)
+  call_is around name given progress at =
+      then_any _ (bound progress.known name) _ (λ binding.
+      then _ _ (call_bound progress.known binding name given progress.constants) _
+      (call_bound_is around progress.known binding name given progress.constants) (λ typed is. (is, at)))
+
+  return_with_is : (around : List LabelsOf) (line : ℕ)
+      (result : Option ScalarType) (tree : Option ExpressionTree) (progress : Progress)
+      → IsAt lists outer progress.known → IfOk (return_with line result tree progress) (IsDone around lists outer)
+  return_with_is around line None None progress at = (record { jumps = tt; stands = tt; is_no_label = tt }, at)
+  return_with_is around line (Some scalar) (Some tree) progress at =
+      then _ _ (value tree progress) _ (value_is tree progress at)
+      (λ typed after. (record { jumps = tt; stands = tt; is_no_label = tt }, after))
+  return_with_is around line result tree progress at = tt
+
+  pub return_is : (around : List LabelsOf) (line : ℕ) (owner : Owner)
+      (tree : Option ExpressionTree) (progress : Progress)
+      → IsAt lists outer progress.known → IfOk (return_from line owner tree progress) (IsDone around lists outer)
+  return_is around line TheModule tree progress at = tt
+  return_is around line (OfProcedure number heading) tree progress at = return_with_is around line heading.result tree progress at
+
+  pub goto_is : {around : List LabelsOf} (label : Identifier) (progress : Progress)
+      → AreAround around lists → IsAt lists outer progress.known
+      → IfOk (goto label progress) (IsDone around lists outer)
+  goto_is {around = around} label progress are at =
+      then _ _ (goto_bound (line_of label) (jump_of progress.known.here label.name)) _
+      (goto_bound_is around (line_of label) (known_in progress.known.here.body.lists label.name)
+      (subst (λ (lists : List Names). IfSome (known_in lists label.name) (IsLabelAround around)) (sym at.here.lists_are)
+      (are.known label.name)))
+      (λ typed is. (is, at))
+
+  step_is : (tree : Option ExpressionTree) (progress : Progress)
+      → IsAt lists outer progress.known → IfOk (step tree progress) (λ typed. IsAt lists outer typed.1.known)
+  step_is None progress at = at
+  step_is (Some tree) progress at = then _ _ (value tree progress) _ (value_is tree progress at) (λ typed after. after)
+
+  pub iteration_is : (tree : IterationTree) (progress : Progress)
+      → IsAt lists outer progress.known → IfOk (iteration tree progress) (λ typed. IsAt lists outer typed.1.known)
+  iteration_is tree progress at =
+      then_any _ (bound progress.known tree.variable) _ (λ binding.
+      then_any _ (counter_bound progress.known binding tree.variable) _ (λ counter.
+      then _ _ (value tree.first progress) _ (value_is tree.first progress at) (λ first at_first.
+      then _ _ (value tree.last first.1) _ (value_is tree.last first.1 at_first) (λ last at_last.
+      then _ _ (step tree.step last.1) _ (step_is tree.step last.1 at_last) (λ by at_end. at_end)))))

@@ -1,0 +1,53 @@
+-- Constants and the numbers that they stand for (PL/M-80 Programming Manual, "Constants").
+use Rattle.std.specs.Prelude.{ℕ, ◌+◌, ◌-◌, ◌*◌, ◌/◌, ◌%◌, List, [], ◌∷◌, Option, Some, None, Ok, nat_le, if◌then◌else◌, flat_map}
+use Rattle.trees.specs.declared.declaration.ScalarType.{ScalarType}
+use Rattle.trees.specs.declared.declaration.ScalarType.TheVariants.{Byte, Address}
+use Rattle.trees.specs.declared.declaration.Sign.{Sign}
+use Rattle.trees.specs.declared.declaration.Sign.TheVariants.{Plus, Minus}
+use Rattle.trees.specs.Trees.{ConstantTree, NumberConstant, StringConstant, OffsetTree}
+use Rattle.typing.specs.declared.fault.Cause.TheVariants.{WrongConstant}
+use Rattle.typing.specs.Checks.{Checked, ◌>>=◌, found}
+
+-- a number up to 255 is a BYTE, and a greater one an ADDRESS
+abbrev pub type_of_number : ℕ → ScalarType
+type_of_number value = if nat_le value 255 then Byte else Address
+
+-- the number that a string of one or two characters stands for, the first character high
+abbrev pub number_of_characters : List ℕ → Option ℕ
+number_of_characters (character ∷ []) = Some character
+number_of_characters (high ∷ low ∷ []) = Some (256 * high + low)
+number_of_characters characters = None
+
+-- the line of a constant
+abbrev pub line_of_constant : ConstantTree → ℕ
+line_of_constant (NumberConstant number) = number.place.line
+line_of_constant (StringConstant string) = string.place.line
+
+-- the number that a constant is; a string of none or of more than two characters is none
+abbrev pub number_of_constant : ConstantTree → Checked ℕ
+number_of_constant (NumberConstant number) = Ok number.value
+number_of_constant (StringConstant string) =
+    found (number_of_characters string.characters) WrongConstant string.place.line
+
+-- constants added to a number and subtracted from it, from the left, modulo 65536
+abbrev pub moved_by : ℕ → Sign → ℕ → ℕ
+moved_by sum Plus number = (sum + number) % 65536
+moved_by sum Minus number = (sum + (65536 - number)) % 65536
+
+abbrev pub with_offsets : ℕ → List OffsetTree → Checked ℕ
+with_offsets sum [] = Ok sum
+with_offsets sum (offset ∷ others) = do
+  number ← number_of_constant offset.constant
+  with_offsets (moved_by sum offset.sign number) others
+
+-- the bytes of a constant in a list `.(..)`: one up to 255, else two, the low one first; a string gives its
+-- characters
+abbrev pub bytes_of_number : ℕ → List ℕ
+bytes_of_number number = if nat_le number 255 then number ∷ [] else number % 256 ∷ number / 256 ∷ []
+
+abbrev pub bytes_of_constant : ConstantTree → List ℕ
+bytes_of_constant (NumberConstant number) = bytes_of_number number.value
+bytes_of_constant (StringConstant string) = string.characters
+
+abbrev pub bytes_of_constants : List ConstantTree → List ℕ
+bytes_of_constants constants = flat_map bytes_of_constant constants

@@ -1,0 +1,16 @@
+pub mod Faults
+pub mod Checks
+pub mod Constants
+pub mod Nodes
+pub mod References
+pub mod Functions
+pub mod Expressions
+pub mod Blocks
+pub mod Filling
+pub mod Items
+pub mod Statements
+pub mod Procedures
+pub mod Typing
+pub mod Untyped
+pub mod Results
+pub mod internal

@@ -1,0 +1,164 @@
+-- Headings of procedures and their parameters (PL/M-80 Programming Manual, "Procedures").
+use Rattle.std.specs.Prelude.{ℕ, true, not, ◌||◌, List, [], ◌∷◌, ◌++◌, length, map, take, drop, Option, Some, None, is_some, unwrap_or, Ok, slice_set, if◌then◌else◌}
+use Rattle.std.specs.Map.{lookup}
+use Rattle.std.specs.Option.{option_or}
+use Rattle.std.specs.Str.{bytes_eq}
+use Rattle.trees.specs.declared.declaration.Linkage.{Linkage}
+use Rattle.trees.specs.declared.declaration.Linkage.TheVariants as linkages
+use Rattle.trees.specs.declared.declaration.ScalarType.{ScalarType}
+use Rattle.trees.specs.declared.declaration.ScalarType.TheVariants.{Byte}
+use Rattle.trees.specs.declared.identifier.Identifier.{Identifier}
+use Rattle.trees.specs.declared.identifier.Place.{Place}
+use Rattle.trees.specs.Trees.{ItemTypeTree, ScalarItem, StructureItem, ElementTree, LiterallyElement, ItemElement, HeadingTree, StatementTrees, NoStatements, MoreStatements, DeclarationTree, DeclareTree, ProcedureTree, DeclarationTrees, NoDeclarations, MoreDeclarations}
+use Rattle.names.specs.declared.entity.Entity.{Entity}
+use Rattle.names.specs.declared.entity.Entity.TheVariants.{Object}
+use Rattle.names.specs.Environment.{Here, is_among, into_body, out_of_body, with_procedure, with_parameter, is_declared_again, is_parameter_again}
+use Rattle.names.specs.Uses.{declared_by}
+use Rattle.typing.specs.declared.fault.Cause.TheVariants.{DeclaredTwice, WrongUse, MisplacedAttribute, WrongConstant}
+use Rattle.typed_trees.specs.declared.limits.TheConstants.{PARAMETER_LIMIT}
+use Rattle.typed_trees.specs.declared.parts.Visibility.{Visibility}
+use Rattle.typed_trees.specs.declared.parts.Visibility.TheVariants.{Private, Public, External}
+use Rattle.typed_trees.specs.declared.parts.GlobalItem.TheVariants.{GlobalProcedure}
+use Rattle.typed_trees.specs.TypedTrees.{NoStatements as NoTyped, TypedList, ListOf, TypedProcedure}
+use Rattle.typing.specs.Checks.{Checked, ◌>>=◌, refuse, require}
+use Rattle.typing.specs.References.{line_of}
+use Rattle.typing.specs.Blocks.{OfProcedure, Block, Progress, with_global, is_external_linkage, line_of_linkage, is_reentrant, is_external, is_module_level}
+use Rattle.typing.specs.Statements.{line_of_statement}
+
+-- The parameters of a heading differ from each other, and there are not too many.
+abbrev pub declare_parameters : List Identifier → Here → Checked Here
+declare_parameters [] here = Ok here
+declare_parameters (parameter ∷ others) here = do
+  _ ← require (not (is_parameter_again here parameter.name)) DeclaredTwice (line_of parameter)
+  declare_parameters others (with_parameter parameter.name here)
+
+abbrev pub no_more_parameters : List Identifier → Checked (Unit {0})
+no_more_parameters [] = Ok tt
+no_more_parameters (parameter ∷ others) = refuse WrongConstant (line_of parameter)
+
+-- PUBLIC and EXTERNAL stand at the level of the module
+abbrev pub check_visibility : Block → Option Linkage → Checked (Unit {0})
+check_visibility block None = Ok tt
+check_visibility block (Some linkage) =
+    require (is_module_level block) MisplacedAttribute (line_of_linkage linkage)
+
+-- REENTRANT does not go with EXTERNAL
+abbrev pub check_reentrant : Option Linkage → Option Place → Checked (Unit {0})
+check_reentrant linkage None = Ok tt
+check_reentrant linkage (Some place) =
+    require (not (is_external_linkage linkage)) MisplacedAttribute place.line
+
+abbrev pub visibility_of : Option Linkage → Visibility
+visibility_of None = Private
+visibility_of (Some (linkages.Public place)) = Public
+visibility_of (Some (linkages.External place)) = External
+
+-- The type that a procedure's own block declares a name with. A procedure can be called before that is
+-- reached.
+abbrev pub scalar_of_type : ItemTypeTree → ScalarType
+scalar_of_type (ScalarItem scalar) = scalar
+scalar_of_type (StructureItem members) = Byte
+
+abbrev pub scalar_in_element : ElementTree → List ℕ → Option ScalarType
+scalar_in_element (LiterallyElement defined text) name = None
+scalar_in_element (ItemElement item) name =
+    if is_among (map (λ (declared : Identifier). declared.name) (declared_by item.subject)) name
+    then Some (scalar_of_type item.item_type) else None
+
+abbrev pub scalar_in_elements : List ElementTree → List ℕ → Option ScalarType
+scalar_in_elements [] name = None
+scalar_in_elements (element ∷ others) name =
+    option_or (scalar_in_element element name) (scalar_in_elements others name)
+
+abbrev pub scalar_in_declaration : DeclarationTree → List ℕ → Option ScalarType
+scalar_in_declaration (DeclareTree elements) name = scalar_in_elements elements name
+scalar_in_declaration (ProcedureTree heading declared body end_name) name = None
+
+abbrev pub scalar_in_block : DeclarationTrees → List ℕ → Option ScalarType
+scalar_in_block NoDeclarations name = None
+scalar_in_block (MoreDeclarations first others) name =
+    option_or (scalar_in_declaration first name) (scalar_in_block others name)
+
+-- the types of parameters; one that is not declared is refused later
+abbrev pub parameter_types : DeclarationTrees → List Identifier → List ScalarType
+parameter_types declared parameters =
+    map (λ (parameter : Identifier). unwrap_or (scalar_in_block declared parameter.name) Byte) parameters
+
+-- what a procedure is as its heading says, and what becomes known of it later
+abbrev pub procedure_with :
+    HeadingTree → List ScalarType → (parameters : List ℕ) → (frame_bytes : ℕ) → TypedList → TypedProcedure
+procedure_with heading types parameters frame_bytes body = record {
+  name = heading.name.name;
+  visibility = visibility_of heading.linkage;
+  result = heading.result;
+  is_reentrant = is_some heading.reentrant;
+  parameter_types = types;
+  parameters = parameters;
+  frame_bytes = frame_bytes;
+  body = body;
+}
+
+abbrev pub empty_list : TypedList
+empty_list = ListOf 0 [] NoTyped
+
+-- A heading, up to where its body begins. The procedure is known from there on, in itself too. A REENTRANT
+-- procedure and an EXTERNAL one contain none.
+abbrev pub with_heading : HeadingTree → List ScalarType → Here → Progress → Progress
+with_heading heading types here progress = record progress {
+  known = record progress.known {
+    here = here;
+    procedures = progress.known.procedures ++ procedure_with heading types [] 0 empty_list ∷ [];
+  };
+  globals = with_global heading.linkage (GlobalProcedure (length progress.known.procedures)) progress.globals;
+  frame = 0;
+}
+
+abbrev pub open_procedure : Block → HeadingTree → DeclarationTrees → Progress → Checked Progress
+open_procedure block heading declared progress = do
+  _ ← require (not (is_declared_again progress.known.here heading.name.name)) DeclaredTwice
+      (line_of heading.name)
+  _ ← require (not (is_reentrant block.owner || is_external block.owner)) MisplacedAttribute
+      (line_of heading.name)
+  here ← declare_parameters (take PARAMETER_LIMIT heading.parameters)
+      (into_body (with_procedure heading.name.name progress.known.here))
+  _ ← no_more_parameters (drop PARAMETER_LIMIT heading.parameters)
+  _ ← check_visibility block heading.linkage
+  _ ← check_reentrant heading.linkage heading.reentrant
+  Ok (with_heading heading (parameter_types declared heading.parameters) here progress)
+
+-- the block of the procedure whose heading comes next
+abbrev pub own_block : HeadingTree → Progress → Block
+own_block heading progress = record {
+  owner = OfProcedure (length progress.known.procedures) heading;
+  is_own = true;
+}
+
+-- the objects of the parameters, each of which the procedure's own block declares
+abbrev pub parameter_object : Identifier → Option Entity → Checked ℕ
+parameter_object parameter (Some (Object number)) = Ok number
+parameter_object parameter entity = refuse WrongUse (line_of parameter)
+
+abbrev pub parameter_objects : Here → List Identifier → Checked (List ℕ)
+parameter_objects here [] = Ok []
+parameter_objects here (parameter ∷ others) = do
+  object ← parameter_object parameter (lookup (bytes_eq parameter.name) here.body.block)
+  rest ← parameter_objects here others
+  Ok (object ∷ rest)
+
+-- an EXTERNAL procedure does nothing here
+abbrev pub check_body : HeadingTree → StatementTrees → Checked (Unit {0})
+check_body heading NoStatements = Ok tt
+check_body heading (MoreStatements first others) =
+    require (not (is_external_linkage heading.linkage)) MisplacedAttribute (line_of_statement first)
+
+-- out of a procedure: it is now known whole
+abbrev pub close_procedure :
+    HeadingTree → DeclarationTrees → (number : ℕ) → (parameters : List ℕ) → TypedList → Progress → Progress
+close_procedure heading declared number parameters body progress = record progress {
+  known = record progress.known {
+    here = out_of_body progress.known.here;
+    procedures = slice_set progress.known.procedures number
+        (procedure_with heading (parameter_types declared heading.parameters) parameters progress.frame body);
+  };
+  frame = 0;
+}

@@ -1,0 +1,205 @@
+-- What references to objects mean: values, locations and targets (PL/M-80 Programming Manual, "Subscripted
+-- variables", "Structures", "Based variables").
+use Rattle.std.specs.Prelude.{ℕ, zero, suc, Bool, true, false, not, ◌==◌, List, [], ◌∷◌, Option, Some, None, Ok, nat_le, slice_get}
+use Rattle.trees.specs.declared.declaration.ScalarType.{ScalarType}
+use Rattle.trees.specs.declared.declaration.ScalarType.TheVariants.{Address}
+use Rattle.trees.specs.declared.identifier.Identifier.{Identifier}
+use Rattle.trees.specs.Trees.{NumberConstant, StringConstant, ConstantLeaf, ArgumentTrees, NoArguments, MoreArguments}
+use Rattle.names.specs.declared.entity.Binding.{Binding}
+use Rattle.names.specs.declared.entity.Binding.TheVariants.{Declared, BuiltInName}
+use Rattle.names.specs.declared.entity.BuiltIn.TheVariants.{Output}
+use Rattle.names.specs.declared.entity.Entity.TheVariants.{Object, Procedure}
+use Rattle.names.specs.Environment.{Here}
+use Rattle.names.specs.BuiltIns.{binding_of}
+use Rattle.typing.specs.declared.fault.Cause.TheVariants.{UnknownName, WrongUse, WrongConstant, ConstantWritten, NoLocation}
+use Rattle.typed_trees.specs.declared.parts.TypedMember.{TypedMember}
+use Rattle.typed_trees.specs.TypedTrees.{TypedExpression, LocationNode, TypedReference, PartOf, Subscript, NoSubscript, At, TypedArguments, NoArguments as NoTyped, MoreArguments as MoreTyped, ObjectType, ScalarObject, StructureObject, Home, InConstants, InFrame, TypedObject, TypedProcedure, Constants}
+use Rattle.typed_trees.specs.declared.members.FoundMember.{FoundMember}
+use Rattle.typed_trees.specs.Sizes.{size_of_scalar, size_of_element, member_named}
+use Rattle.typing.specs.Checks.{Checked, ◌>>=◌, refuse, require, found}
+use Rattle.typing.specs.Nodes.{as_type, Destination, Variable, Port}
+
+-- what is known where an expression stands: what names stand for, and the objects and procedures so far
+pub record Known : Type 0 where
+  pub here : Here
+  pub objects : List TypedObject
+  pub procedures : List TypedProcedure
+
+-- Arguments or subscripts as they stand in the text, with their typing. Constant lists in them are numbered
+-- on.
+pub record Given : Type 0 where
+  pub trees : ArgumentTrees
+  pub typed : Constants → Checked (TypedArguments × Constants)
+
+-- a member in a reference, or none
+pub data GivenMember : Type 0 where
+  WithoutMember : GivenMember
+  WithMember : Identifier → Given → GivenMember
+
+pub record GivenReference : Type 0 where
+  pub name : Identifier
+  pub arguments : Given
+  pub member : GivenMember
+
+abbrev pub line_of : Identifier → ℕ
+line_of name = name.place.line
+
+abbrev pub number_of_arguments : ArgumentTrees → ℕ
+number_of_arguments NoArguments = zero
+number_of_arguments (MoreArguments first others) = suc (number_of_arguments others)
+
+abbrev pub count_of_given : Given → ℕ
+count_of_given given = number_of_arguments given.trees
+
+-- what a name is bound to
+abbrev pub bound : Known → Identifier → Checked Binding
+bound known name = found (binding_of known.here name.name) UnknownName (line_of name)
+
+-- an object, or a procedure, by its number; every number that a name stands for is one of the table
+abbrev pub object_of : Known → Identifier → (number : ℕ) → Checked TypedObject
+object_of known name number = found (slice_get known.objects number) WrongUse (line_of name)
+
+abbrev pub procedure_of : Known → Identifier → (number : ℕ) → Checked TypedProcedure
+procedure_of known name number = found (slice_get known.procedures number) WrongUse (line_of name)
+
+-- How much of an array a reference means: an element alone, or also the whole, where it has no subscript.
+pub data Extent : Type 0 where
+  AnElement : Extent
+  AlsoTheWhole : Extent
+
+-- Whether so many subscripts go with a dimension: one with an array, none with anything else, and none with
+-- an array that may be meant as a whole.
+abbrev pub takes_subscripts : Extent → Option ℕ → (count : ℕ) → Bool
+takes_subscripts extent None count = count == 0
+takes_subscripts AnElement (Some dimension) count = count == 1
+takes_subscripts AlsoTheWhole (Some dimension) count = nat_le count 1
+
+-- the subscript of an array, as an ADDRESS; what has none has no subscript
+abbrev pub subscript_of : (stride : ℕ) → Option ℕ → TypedArguments → Subscript
+subscript_of stride (Some count) (MoreTyped index NoTyped) = At stride count (as_type Address index)
+subscript_of stride dimension indices = NoSubscript
+
+-- the members of a structure; a scalar has none
+abbrev pub members_of : ObjectType → Option (List TypedMember)
+members_of (ScalarObject scalar) = None
+members_of (StructureObject members) = Some members
+
+-- the type of a scalar; a structure has none
+abbrev pub scalar_of : ObjectType → Option ScalarType
+scalar_of (ScalarObject scalar) = Some scalar
+scalar_of (StructureObject members) = None
+
+-- a part of an object that is found, with its type where it is a scalar or an array of scalars
+pub record FoundPart : Type 0 where
+  pub reference : TypedReference
+  pub scalar : Option ScalarType
+
+-- an object, or an element of it
+abbrev pub whole_part : (object : ℕ) → Subscript → ObjectType → FoundPart
+whole_part object subscript object_type =
+    record { reference = PartOf object subscript None 0 NoSubscript; scalar = scalar_of object_type }
+
+-- what a reference means once the subscript of its object is known: the element, or a member of it
+abbrev pub part_with_member :
+    (object : ℕ) → ObjectType → Subscript → Extent → GivenMember → Constants → Checked (FoundPart × Constants)
+part_with_member object object_type subscript extent WithoutMember constants =
+    Ok (whole_part object subscript object_type, constants)
+part_with_member object object_type subscript extent (WithMember name given) constants = do
+  members ← found (members_of object_type) WrongUse (line_of name)
+  place ← found (member_named members name.name) UnknownName (line_of name)
+  _ ← require (takes_subscripts extent place.member.dimension (count_of_given given)) WrongUse (line_of name)
+  typed ← given.typed constants
+  Ok (part_of_member object subscript place typed.0, typed.1)
+  where
+    part_of_member : ℕ → Subscript → FoundMember → TypedArguments → FoundPart
+    part_of_member object subscript place indices = record {
+      reference = PartOf object subscript (Some place.position) place.offset
+          (subscript_of (size_of_scalar place.member.scalar) place.member.dimension indices);
+      scalar = Some place.member.scalar;
+    }
+
+-- what a reference to an object means
+abbrev pub part_of :
+    (number : ℕ) → TypedObject → Extent → GivenReference → Constants → Checked (FoundPart × Constants)
+part_of number object extent given constants = do
+  _ ← require (takes_subscripts extent object.dimension (count_of_given given.arguments)) WrongUse
+      (line_of given.name)
+  typed ← given.arguments.typed constants
+  part_with_member number object.object_type
+      (subscript_of (size_of_element object.object_type) object.dimension typed.0)
+      extent given.member typed.1
+
+-- a reference to a scalar: an array without a subscript and a structure are none
+abbrev pub scalar_part :
+    (number : ℕ) → TypedObject → GivenReference → Constants
+    → Checked (TypedReference × ScalarType × Constants)
+scalar_part number object given constants = do
+  part ← part_of number object AnElement given constants
+  scalar ← found part.0.scalar WrongUse (line_of given.name)
+  Ok (part.0.reference, scalar, part.1)
+
+-- Where an object lies. What is in the frame of a call has no location.
+abbrev pub has_location : Home → Bool
+has_location (InFrame procedure) = false
+has_location home = true
+
+-- where what a name is bound to lies: an object or a part of it, and of an array or a structure its beginning
+abbrev pub location_of_bound :
+    Known → Binding → GivenReference → Constants → Checked (TypedExpression × Constants)
+location_of_bound known (Declared (Object number)) given constants = do
+  object ← object_of known given.name number
+  _ ← require (has_location object.home) NoLocation (line_of given.name)
+  part ← part_of number object AlsoTheWhole given constants
+  Ok (LocationNode part.0.reference, part.1)
+location_of_bound known (Declared (Procedure number)) given constants = refuse NoLocation (line_of given.name)
+location_of_bound known binding given constants = refuse WrongUse (line_of given.name)
+
+abbrev pub location_of : Known → GivenReference → Constants → Checked (TypedExpression × Constants)
+location_of known given constants = do
+  binding ← bound known given.name
+  location_of_bound known binding given constants
+
+-- a port: a number up to 255, or a string of one character
+abbrev pub port_of_character : (line : ℕ) → List ℕ → Checked ℕ
+port_of_character line (character ∷ []) = Ok character
+port_of_character line characters = refuse WrongUse line
+
+abbrev pub port_of : (line : ℕ) → ArgumentTrees → Checked ℕ
+port_of line (MoreArguments (ConstantLeaf (NumberConstant number)) NoArguments) = do
+  _ ← require (nat_le number.value 255) WrongConstant number.place.line
+  Ok number.value
+port_of line (MoreArguments (ConstantLeaf (StringConstant string)) NoArguments) =
+    port_of_character line string.characters
+port_of line trees = refuse WrongUse line
+
+-- what a procedure gives has no members
+abbrev pub without_member : GivenMember → Checked (Unit {0})
+without_member WithoutMember = Ok tt
+without_member (WithMember name given) = refuse WrongUse (line_of name)
+
+-- objects with DATA are not written to by their names
+abbrev pub is_constant : Home → Bool
+is_constant (InConstants values) = true
+is_constant home = false
+
+abbrev pub is_writable : TypedObject → Identifier → Checked (Unit {0})
+is_writable object name = require (not (is_constant object.home)) ConstantWritten (line_of name)
+
+-- what a value can be assigned to: a scalar, or OUTPUT
+abbrev pub destination_of_bound :
+    Known → Binding → GivenReference → Constants → Checked (Destination × Constants)
+destination_of_bound known (Declared (Object number)) given constants = do
+  object ← object_of known given.name number
+  _ ← is_writable object given.name
+  part ← scalar_part number object given constants
+  Ok (Variable part.1 part.0, part.2)
+destination_of_bound known (BuiltInName Output) given constants = do
+  port ← port_of (line_of given.name) given.arguments.trees
+  _ ← without_member given.member
+  Ok (Port port, constants)
+destination_of_bound known binding given constants = refuse WrongUse (line_of given.name)
+
+abbrev pub destination_of : Known → GivenReference → Constants → Checked (Destination × Constants)
+destination_of known given constants = do
+  binding ← bound known given.name
+  destination_of_bound known binding given constants

@@ -1,0 +1,208 @@
+-- What statements need beside the statements in them (PL/M-80 Programming Manual, "Statements").
+use Rattle.std.specs.Prelude.{ℕ, ◌+◌, ◌==◌, not, ◌&&◌, List, [], ◌∷◌, ◌++◌, length, map, Option, Some, None, is_none, Ok}
+use Rattle.trees.specs.declared.declaration.ScalarType.{ScalarType}
+use Rattle.trees.specs.declared.declaration.ScalarType.TheVariants.{Address}
+use Rattle.trees.specs.declared.identifier.Identifier.{Identifier}
+use Rattle.trees.specs.Trees.{ExpressionTree, ReferenceTree, ReferenceTo, IterationTree, StatementTree, LabelledStatement, StatementKindTree, NullStatement, AssignmentStatement, CallStatement, ReturnStatement, HaltStatement, GotoStatement, IfStatement, DoStatement, WhileStatement, IterateStatement, CaseStatement, StatementTrees, NoStatements, MoreStatements}
+use Rattle.names.specs.declared.entity.Binding.{Binding}
+use Rattle.names.specs.declared.entity.Binding.TheVariants.{Declared, BuiltInName}
+use Rattle.names.specs.declared.entity.BuiltIn.TheVariants.{Move}
+use Rattle.names.specs.declared.entity.Entity.TheVariants.{Object, Procedure, Label}
+use Rattle.names.specs.Environment.{Here, into_list, out_of_list, with_label, is_label_again}
+use Rattle.names.specs.BuiltIns.{jump_of}
+use Rattle.names.specs.Events.{labels_of}
+use Rattle.typing.specs.declared.fault.Cause.TheVariants.{DeclaredTwice, WrongUse, MisplacedLabel, UnknownLabel}
+use Rattle.typed_trees.specs.TypedTrees.{TypedExpression, TypedArguments, NoArguments as NoTyped, MoreArguments as MoreTyped, TypedIteration, TypedStatement, LabelStatement, AssignmentStatement as TypedAssignment, CallStatement as TypedCall, MoveStatement, ReturnStatement as TypedReturn, GotoStatement as TypedGoto, TypedStatements, MoreStatements as MoreTypedStatements, TypedList, ListOf, Constants}
+use Rattle.typing.specs.Checks.{Checked, ◌>>=◌, refuse, require, found}
+use Rattle.typed_trees.specs.ExpressionTypes.{type_of}
+use Rattle.typing.specs.Nodes.{as_type, Destination, target_of}
+use Rattle.typing.specs.References.{Known, Given, line_of, count_of_given, bound, object_of, procedure_of, scalar_of, is_writable, destination_of}
+use Rattle.typing.specs.Functions.{call_arguments}
+use Rattle.typing.specs.Expressions.{expression, given_reference}
+use Rattle.typing.specs.Blocks.{Owner, TheModule, OfProcedure, Progress}
+use Rattle.typing.specs.Items.{is_not_based}
+
+-- a text that is typed as far as before, but for what names stand for, or but for the constants
+abbrev pub with_here : Here → Progress → Progress
+with_here here progress = record progress { known = record progress.known { here = here } }
+
+abbrev pub with_constants : Constants → Progress → Progress
+with_constants constants progress = record progress { constants = constants }
+
+-- an expression in a statement
+abbrev pub value : ExpressionTree → Progress → Checked (TypedExpression × Progress)
+value tree progress = do
+  typed ← expression progress.known tree progress.constants
+  Ok (typed.0, with_constants typed.1 progress)
+
+-- targets from left to right, and then the value that all of them get
+abbrev pub destinations : Known → List ReferenceTree → Constants → Checked (List Destination × Constants)
+destinations known [] constants = Ok ([], constants)
+destinations known (first ∷ others) constants = do
+  destination ← destination_of known (given_reference known first) constants
+  rest ← destinations known others destination.1
+  Ok (destination.0 ∷ rest.0, rest.1)
+
+abbrev pub assigned : List Destination → TypedExpression → TypedStatement
+assigned places source =
+    TypedAssignment (map (λ (place : Destination). target_of place (type_of source)) places) source
+
+abbrev pub assignment : List ReferenceTree → ExpressionTree → Progress → Checked (TypedStatement × Progress)
+assignment targets source progress = do
+  places ← destinations progress.known targets progress.constants
+  typed ← value source (with_constants places.1 progress)
+  Ok (assigned places.0 typed.0, typed.1)
+
+-- CALL of an untyped procedure, or of MOVE, whose arguments are ADDRESSes
+abbrev pub moved : (line : ℕ) → TypedArguments → Checked TypedStatement
+moved line (MoreTyped count (MoreTyped source (MoreTyped destination NoTyped))) =
+    Ok (MoveStatement (as_type Address count) (as_type Address source) (as_type Address destination))
+moved line values = refuse WrongUse line
+
+abbrev pub call_bound :
+    Known → Binding → Identifier → Given → Constants → Checked (TypedStatement × Constants)
+call_bound known (Declared (Procedure number)) name given constants = do
+  procedure ← procedure_of known name number
+  _ ← require (is_none procedure.result) WrongUse (line_of name)
+  typed ← call_arguments procedure (line_of name) given constants
+  Ok (TypedCall number typed.0, typed.1)
+call_bound known (BuiltInName Move) name given constants = do
+  _ ← require (count_of_given given == 3) WrongUse (line_of name)
+  typed ← given.typed constants
+  moving ← moved (line_of name) typed.0
+  Ok (moving, typed.1)
+call_bound known binding name given constants = refuse WrongUse (line_of name)
+
+abbrev pub call : Identifier → Given → Progress → Checked (TypedStatement × Progress)
+call name given progress = do
+  binding ← bound progress.known name
+  typed ← call_bound progress.known binding name given progress.constants
+  Ok (typed.0, with_constants typed.1 progress)
+
+-- RETURN stands in procedures, with a value exactly in typed ones
+abbrev pub return_with :
+    (line : ℕ) → Option ScalarType → Option ExpressionTree → Progress → Checked (TypedStatement × Progress)
+return_with line None None progress = Ok (TypedReturn None, progress)
+return_with line (Some scalar) (Some tree) progress = do
+  typed ← value tree progress
+  Ok (TypedReturn (Some (as_type scalar typed.0)), typed.1)
+return_with line result tree progress = refuse WrongUse line
+
+abbrev pub return_from :
+    (line : ℕ) → Owner → Option ExpressionTree → Progress → Checked (TypedStatement × Progress)
+return_from line TheModule tree progress = refuse WrongUse line
+return_from line (OfProcedure number heading) tree progress = return_with line heading.result tree progress
+
+-- GOTO goes to a label that is known there
+abbrev pub goto_bound : (line : ℕ) → Binding → Checked TypedStatement
+goto_bound line (Declared (Label label)) = Ok (TypedGoto label)
+goto_bound line binding = refuse UnknownLabel line
+
+abbrev pub goto : Identifier → Progress → Checked (TypedStatement × Progress)
+goto label progress = do
+  typed ← goto_bound (line_of label) (jump_of progress.known.here label.name)
+  Ok (typed, progress)
+
+-- the variable of an iterative DO: a scalar without a subscript, neither BASED nor DATA
+pub record Counter : Type 0 where
+  pub object : ℕ
+  pub scalar : ScalarType
+
+abbrev pub counter_bound : Known → Binding → Identifier → Checked Counter
+counter_bound known (Declared (Object number)) name = do
+  object ← object_of known name number
+  _ ← is_writable object name
+  _ ← require (is_none object.dimension && is_not_based object.home) WrongUse (line_of name)
+  scalar ← found (scalar_of object.object_type) WrongUse (line_of name)
+  Ok (record { object = number; scalar = scalar })
+counter_bound known binding name = refuse WrongUse (line_of name)
+
+abbrev pub step : Option ExpressionTree → Progress → Checked (Option TypedExpression × Progress)
+step None progress = Ok (None, progress)
+step (Some tree) progress = do
+  typed ← value tree progress
+  Ok (Some typed.0, typed.1)
+
+abbrev pub iteration_with :
+    Counter → TypedExpression → TypedExpression → Option TypedExpression → TypedIteration
+iteration_with counter first last by =
+    record { variable = counter.object; scalar = counter.scalar; first = first; last = last; step = by }
+
+abbrev pub iteration : IterationTree → Progress → Checked (TypedIteration × Progress)
+iteration tree progress = do
+  binding ← bound progress.known tree.variable
+  counter ← counter_bound progress.known binding tree.variable
+  first ← value tree.first progress
+  last ← value tree.last first.1
+  by ← step tree.step last.1
+  Ok (iteration_with counter first.0 last.0 by.0, by.1)
+
+-- the labels before a statement
+abbrev pub labels_before : StatementTree → List Identifier
+labels_before (LabelledStatement labels kind) = labels
+
+-- labels differ from each other and from what their body declares
+abbrev pub declare_labels : List Identifier → Here → Checked Here
+declare_labels [] here = Ok here
+declare_labels (label ∷ others) here = do
+  _ ← require (not (is_label_again here label.name)) DeclaredTwice (line_of label)
+  declare_labels others (with_label label.name here)
+
+-- a statement after THEN or ELSE or of a DO CASE has no label
+abbrev pub without_label : List Identifier → Checked (Unit {0})
+without_label [] = Ok tt
+without_label (label ∷ others) = refuse MisplacedLabel (line_of label)
+
+-- the places from one on
+abbrev pub places_of : (place : ℕ) → List Identifier → List ℕ
+places_of place [] = []
+places_of place (label ∷ others) = place ∷ places_of (place + 1) others
+
+-- Where the labels of a list stand, each a statement of its own before the one that it names.
+abbrev pub places_from : (place : ℕ) → StatementTrees → List ℕ
+places_from place NoStatements = []
+places_from place (MoreStatements first others) =
+    places_of place (labels_before first) ++ places_from (place + length (labels_before first) + 1) others
+
+-- statements after labels, which are numbered from one on
+abbrev pub after_labels : (label : ℕ) → List Identifier → TypedStatements → TypedStatements
+after_labels label [] statements = statements
+after_labels label (first ∷ others) statements =
+    MoreTypedStatements (LabelStatement label) (after_labels (label + 1) others statements)
+
+-- A list of statements, in the whole of which its labels are known. They are numbered when the list is
+-- entered.
+abbrev pub list_of :
+    StatementTrees
+    → (ℕ → Progress → Checked (TypedStatements × Progress))
+    → Progress
+    → Checked (TypedList × Progress)
+list_of trees typed_from progress = do
+  typed ← typed_from progress.known.here.labels
+      (with_here (into_list (labels_of trees) progress.known.here) progress)
+  Ok (
+    ListOf progress.known.here.labels (places_from 0 trees) typed.0,
+    with_here (out_of_list typed.1.known.here) typed.1,
+  )
+
+-- where a statement begins
+abbrev pub line_of_targets : List ReferenceTree → ℕ
+line_of_targets [] = 0
+line_of_targets (ReferenceTo name subscripts part ∷ others) = line_of name
+
+abbrev pub line_of_kind : StatementKindTree → ℕ
+line_of_kind (NullStatement place) = place.line
+line_of_kind (AssignmentStatement targets source) = line_of_targets targets
+line_of_kind (CallStatement place name trees) = place.line
+line_of_kind (ReturnStatement place result) = place.line
+line_of_kind (HaltStatement place) = place.line
+line_of_kind (GotoStatement place label) = place.line
+line_of_kind (IfStatement place condition body otherwise) = place.line
+line_of_kind (DoStatement place declared body) = place.line
+line_of_kind (WhileStatement place condition body) = place.line
+line_of_kind (IterateStatement place head body) = place.line
+line_of_kind (CaseStatement place choice body) = place.line
+
+abbrev pub line_of_statement : StatementTree → ℕ
+line_of_statement (LabelledStatement [] kind) = line_of_kind kind
+line_of_statement (LabelledStatement (label ∷ others) kind) = line_of label
