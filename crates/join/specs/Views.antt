@@ -1,13 +1,10 @@
--- Faults and placements of the code in the words of programs.
-use Rattle.std.specs.Prelude.{ℕ, List, map, codes}
+-- Faults of the code in the words of programs.
+use Rattle.std.specs.Prelude.{ℕ, List, codes}
 use Rattle.join.specs.declared.fault.Fault.{Fault}
 use Rattle.join.specs.declared.fault.Fault.TheVariants as faults
 use Rattle.join.specs.declared.joined.Joined.{Joined}
-use Rattle.join.specs.declared.placement.ModulePlacement.{ModulePlacement as CodeModulePlacement}
-use Rattle.join.specs.declared.placement.Placement.{Placement as CodePlacement}
 use Rattle.typed_trees.specs.declared.module.Typed.{Typed}
 use Rattle.layout.specs.Joined.{JoinRefusal, NoPublic, PublicTwice, DeclarationsDiffer, NotOneMain}
-use Rattle.layout.specs.Placement.{ModulePlacement, Placement}
 
 -- the number of a fault
 abbrev pub number_of : Fault → List ℕ
@@ -26,13 +23,3 @@ refusal_of faults.NotOneMain = NotOneMain
 -- the modules of a program
 abbrev pub modules_of : Joined → List Typed
 modules_of joined = joined.modules.items
-
-abbrev pub module_placement_view : CodeModulePlacement → ModulePlacement
-module_placement_view placed = record { objects = placed.objects.items; lists = placed.lists.items }
-
-abbrev pub placement_view : CodePlacement → Placement
-placement_view placement = record {
-  modules = map module_placement_view placement.modules.items;
-  code = placement.code;
-  stack = placement.stack;
-}

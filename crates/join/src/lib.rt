@@ -1,13 +1,11 @@
-//! PL/M-80 modules joined into a program, and where programs lie in memory.
+//! PL/M-80 modules joined into a program.
 #![tactic(auto)]
 
 mod agreement;
 mod fault;
 mod joined;
-mod placement;
 mod publics;
 mod shared;
 
 pub use fault::Fault;
 pub use joined::{Joined, join};
-pub use placement::{ModulePlacement, Placement};

@@ -6,3 +6,4 @@ pub mod Weight
 pub mod Jumps
 pub mod Views
 pub mod internal
+pub mod Storable
