@@ -1,5 +1,5 @@
 -- What each byte of memory is to a program.
-use Rattle.std.specs.Prelude.{◌≡◌, ℕ, ◌<◌, List, length, filter, slice_index}
+use Rattle.std.specs.Prelude.{◌≡◌, ℕ, ◌<◌, List, length, filter, slice_index_or}
 use Rattle.mem80.specs.declared.memory.TheConstants.{MEMORY_SIZE}
 use Rattle.layout.specs.Placement.{PlacedPiece, IsOneOf, is_constant_piece}
 use Rattle.placing.specs.declared.placement.ByteKind.{ByteKind}
@@ -15,4 +15,4 @@ IsKind pieces address Constant = IsOneOf (filter is_constant_piece pieces) addre
 -- a table says of each byte of memory what it is where these pieces lie
 abbrev pub IsTableOf : List PlacedPiece → List ByteKind → Type 0
 IsTableOf pieces kinds =
-    (address : ℕ) → address < MEMORY_SIZE → IsKind pieces address (slice_index kinds address)
+    (address : ℕ) → address < MEMORY_SIZE → IsKind pieces address (slice_index_or kinds address Undeclared)

@@ -1,6 +1,6 @@
 //! Where a program lies in memory.
 
-ghost use Rattle.std.specs.Prelude.{◌≡◌, map, slice_index, IfOk};
+ghost use Rattle.std.specs.Prelude.{◌≡◌, map, slice_index_or, IfOk};
 ghost use Rattle.typed_trees.specs.Views.{module_view};
 ghost use Rattle.layout.specs.Placement.{pieces_of};
 ghost use Rattle.join.specs.Views.{modules_of};
@@ -52,7 +52,7 @@ impl Placement {
         ensures placed { IfOk result (λ placement. placement_view placement
             ≡ record { modules = map module_placement_view modules.items; code = code; stack = stack }) }
         ensures table { IfOk result (λ placement.
-            IsTableOf (pieces_of (map module_view (modules_of joined.now)) (placement_view placement)) placement.kinds) }
+            IsTableOf (pieces_of (map module_view (modules_of joined.now)) (placement_view placement)) placement.kinds.value) }
     {
         Err(AllocError)
     }
@@ -80,7 +80,7 @@ impl Placement {
 
     /// What the byte at an address is to the program.
     pub fn kind_at(&self, address: u16) -> ByteKind
-        ensures { result ≡ slice_index (self.now).kinds address }
+        ensures { result ≡ slice_index_or (self.now).kinds.value address ByteKind.Undeclared }
     {
         self.kinds[address as usize]
     }

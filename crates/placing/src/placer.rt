@@ -36,7 +36,7 @@ pub fn place(
     ensures placed { IfOk result (λ placement. placement_view placement
         ≡ placement_by (plan_view plan.now) (map module_view (modules_of joined.now)) code_lengths.now) }
     ensures table { IfOk result (λ placement.
-        IsTableOf (pieces_of (map module_view (modules_of joined.now)) (placement_view placement)) placement.kinds) }
+        IsTableOf (pieces_of (map module_view (modules_of joined.now)) (placement_view placement)) placement.kinds.value) }
     ensures fault { IfFault result (λ fault.
         placing_refusal (plan_view plan.now) (map module_view (modules_of joined.now)) code_lengths.now
         ≡ Some (refusal_of fault)) }
