@@ -2,13 +2,11 @@
 #![tactic(auto)]
 
 mod fault;
-mod lawfulness;
 mod placement;
 mod placer;
 mod plan;
 
 pub use fault::Fault;
-pub use lawfulness::lawful;
 pub use placement::{ByteKind, ModulePlacement, Placement};
 pub use placer::place;
 pub use plan::Plan;

@@ -2,4 +2,5 @@ pub mod CodeLemmas
 pub mod Standing
 pub mod BuiltLemmas
 pub mod ExecutionLemmas
+pub mod CompiledLemmas
 pub mod SourcesLemmas
