@@ -1,12 +1,21 @@
 //! Where joined PL/M-80 programs lie in memory.
 #![tactic(auto)]
 
+mod addresses;
+mod at_objects;
+mod claims;
 mod fault;
+mod lawfulness;
+mod misplaced;
 mod placement;
 mod placer;
 mod plan;
+mod ranges;
+mod reaches;
+mod table;
 
 pub use fault::Fault;
+pub use lawfulness::lawful;
 pub use placement::{ByteKind, ModulePlacement, Placement};
 pub use placer::place;
 pub use plan::Plan;

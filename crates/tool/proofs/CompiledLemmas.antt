@@ -1,5 +1,5 @@
 -- Sources that are compiled, one by one.
-use Rattle.std.proofs.Common.{◌≡◌, ℕ, suc, ◌+◌, ◌<◌, ◌≤◌, ◌⊎◌, Bool, true, false, List, [], ◌∷◌, ◌++◌, length, drop, get_or, flat_map, map, Option, Some, None, is_some, All, slice_get, absurd, arith, refl, sym, ap, ◌∙◌, subst, add-one, append-nil, append_assoc, ⊎_elim}
+use Rattle.std.proofs.Common.{◌≡◌, ℕ, suc, ◌+◌, ◌<◌, ◌≤◌, ◌⊎◌, Bool, true, false, List, [], ◌∷◌, ◌++◌, length, drop, get_or, flat_map, map, Option, Some, None, is_some, All, slice_get, arith, refl, sym, ap, ◌∙◌, subst, add-one, append-nil, append_assoc, ⊎_elim}
 use Rattle.std.proofs.Math.ListN.{drop_of_length-le}
 use Rattle.std.proofs.Math.Seq.{drop-cons}
 use Rattle.std.proofs.lemmas.Bool.{cases_lt}

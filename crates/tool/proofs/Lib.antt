@@ -4,3 +4,5 @@ pub mod BuiltLemmas
 pub mod ExecutionLemmas
 pub mod CompiledLemmas
 pub mod SourcesLemmas
+pub mod ServedLemmas
+pub mod PlacedLemmas

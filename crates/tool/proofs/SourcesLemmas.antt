@@ -1,5 +1,5 @@
 -- Programs of sources that are compiled.
-use Rattle.std.proofs.Common.{◌≡◌, ℕ, zero, suc, ◌+◌, ◌<◌, ◌≤◌, ◌⊎◌, inl, inr, Bool, true, false, List, [], ◌∷◌, ◌++◌, length, flat_map, map, Option, Some, None, is_some, All, slice_get, absurd, arith, refl, sym, ap, ◌∙◌, subst, ⊎_elim}
+use Rattle.std.proofs.Common.{◌≡◌, ℕ, zero, suc, ◌+◌, ◌<◌, ◌≤◌, ◌⊎◌, inl, inr, Bool, true, false, List, [], ◌∷◌, ◌++◌, length, flat_map, map, Option, Some, None, is_some, All, slice_get, arith, refl, sym, ap, ◌∙◌, subst, ⊎_elim}
 use Rattle.std.proofs.lemmas.Bool.{cases_lt}
 use Rattle.std.proofs.lemmas.List.{length-map}
 use Rattle.std.proofs.lemmas.List.Elements.{All-from_recursion, recursion_from_All}
@@ -21,7 +21,7 @@ use Rattle.tool.specs.declared.code.TheConstants.{MOST_CODE}
 use Rattle.tool.specs.declared.compiled.Compiled.{Compiled}
 use Rattle.tool.specs.declared.fault.ToolFault.{ToolFault}
 use Rattle.tool.specs.declared.fault.ToolFault.TheVariants.{TooManySources, Source, CodeTooLong, NotServed, Join, Placement}
-use Rattle.tool.specs.Code.{code_lengths, program_code}
+use Rattle.tool.specs.Code.{code_lengths, module_code, program_code}
 use Rattle.tool.specs.Construction.{Construction, program_modules}
 use Rattle.tool.specs.Refusals.{IsRefusal}
 use Rattle.tool.specs.Sources.{AreSourcesOf, AreWithoutFault, HasCause, IsInOrder, IsNotServed, IsProgramOf, IsServed, IsWithoutFault, sources_before, text_of, texts_of}
@@ -52,14 +52,18 @@ module _ (plan : Plan) where
   lengths_are [] [] are = refl
   lengths_are [] (one ∷ others) are = absurd are
   lengths_are (text ∷ texts) [] are = absurd are
-  lengths_are (text ∷ texts) (one ∷ others) are = rw are.0.code (ap (λ rest. _ ∷ rest) (lengths_are texts others are.1))
+  lengths_are (text ∷ texts) (one ∷ others) are =
+      ap (λ (bytes : List ℕ). length bytes ∷ map (λ (other : Compiled). length other.code.items) others) are.0.code
+      ∙ ap (λ rest. length (module_code plan (module_in one)) ∷ rest) (lengths_are texts others are.1)
 
   code_is : (texts : List (List ℕ)) (compiled : List Compiled) → AreCompiled plan texts compiled
       → flat_map (λ (one : Compiled). one.code.items) compiled ≡ program_code plan (modules_in compiled)
   code_is [] [] are = refl
   code_is [] (one ∷ others) are = absurd are
   code_is (text ∷ texts) [] are = absurd are
-  code_is (text ∷ texts) (one ∷ others) are = rw are.0.code (ap (λ rest. _ ++ rest) (code_is texts others are.1))
+  code_is (text ∷ texts) (one ∷ others) are =
+      ap (λ (bytes : List ℕ). bytes ++ flat_map (λ (other : Compiled). other.code.items) others) are.0.code
+      ∙ ap (λ rest. module_code plan (module_in one) ++ rest) (code_is texts others are.1)
 
   fits_each : (texts : List (List ℕ)) (compiled : List Compiled) → AreCompiled plan texts compiled → AllByRecursion (λ (one : Compiled). length one.code.items ≤ MOST_CODE) compiled
   fits_each [] [] are = tt

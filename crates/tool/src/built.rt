@@ -2,6 +2,7 @@
 
 ghost use Rattle.std.specs.Prelude.{◌≡◌, All, None};
 ghost use Rattle.layout.specs.Joined.{IsJoined};
+ghost use Rattle.layout.specs.Lawful.{IsLawful};
 ghost use Rattle.layout.specs.Placing.{placement_by, placing_refusal};
 ghost use Rattle.placing.specs.Views.{placement_view, plan_view};
 ghost use Rattle.tool.specs.Code.{code_lengths, program_code};
@@ -35,6 +36,11 @@ impl Model for Built {
     ghost use Rattle.tool.specs.Construction.{Construction};
 
     ghost Value = { Construction };
+
+    ghost use Rattle.join.specs.contracts.joined.Joined as joined;
+    ghost use Rattle.std.specs.Coded.{codes};
+
+    ghost coded = { Prim.hlevel (codes, joined.the_row.coded) };
 
     ghost use Rattle.tool.specs.internal.Inside.{construction_of, IsConstructionInside};
 
@@ -84,6 +90,7 @@ pub fn assemble(program: Joined, plan: Plan, placement: Placement, code: Vec<u8>
         (code_lengths plan (program_modules program)) ≡ None }
     requires placed { placement_view placement ≡ placement_by (plan_view plan) (program_modules program)
         (code_lengths plan (program_modules program)) }
+    requires lawful { IsLawful (program_modules program) (placement_view placement) }
     requires code { code.items ≡ program_code plan (program_modules program) }
     ensures program { result.program ≡ program }
     ensures plan { result.plan ≡ plan }

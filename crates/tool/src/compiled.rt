@@ -25,7 +25,7 @@ pub struct Compiled {
 }
 
 /// Reads each source and makes its code, in the order given.
-#[tactic(auto, using(crate::proofs::CompiledLemmas::all_compiled, crate::proofs::CompiledLemmas::all_without_fault))]
+#[tactic(auto, using(crate::proofs::CompiledLemmas::none_without_fault, crate::proofs::CompiledLemmas::one_more_without_fault, crate::proofs::CompiledLemmas::goes_on, crate::proofs::CompiledLemmas::all_compiled, crate::proofs::CompiledLemmas::cause_of_one, crate::proofs::CompiledLemmas::order_of_one, crate::proofs::CompiledLemmas::text_at, crate::proofs::CompiledLemmas::within_texts))]
 pub fn compile_all(
     alloc: Global,
     sources: &[Source],
@@ -38,7 +38,8 @@ pub fn compile_all(
 {
     let mut compiled = Vec::new(alloc);
     for (file, source) in sources.iter().enumerate() {
-        compiled.push(compile(alloc, file, source.text, plan)?)?;
+        let one = compile(alloc, file, source.text, plan)?;
+        compiled.push(one)?;
     }
     Ok(compiled)
 }
@@ -84,10 +85,8 @@ pub fn first_unserved(compiled: &[Compiled]) -> Option<Unserved>
 {
     for (file, one) in compiled.iter().enumerate() {
         if !one.is_served {
-            return Some(Unserved {
-                file,
-                line: one.source.unserved_line,
-            });
+            let line = one.source.unserved_line;
+            return Some(Unserved { file, line });
         }
     }
     None
@@ -115,10 +114,20 @@ pub fn parts_of(alloc: Global, compiled: Vec<Compiled>) -> Result<Parts, AllocEr
     let mut lengths = Vec::with_capacity(alloc, compiled.len())?;
     let mut code = Vec::new(alloc);
     for one in compiled {
-        lengths.push(one.code.len() as u32)?;
-        code.extend_from_slice(one.code.as_slice())?;
-        modules.push(one.source.typed)?;
-        storages.push(one.source.storage)?;
+        let Compiled {
+            source,
+            is_served: _,
+            code: bytes,
+        } = one;
+        let SourceModule {
+            typed,
+            storage,
+            unserved_line: _,
+        } = source;
+        lengths.push(bytes.len() as u32)?;
+        code.extend_from_slice(bytes.as_slice())?;
+        modules.push(typed)?;
+        storages.push(storage)?;
     }
     Ok(Parts {
         modules,

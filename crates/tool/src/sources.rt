@@ -54,7 +54,7 @@ pub fn build(alloc: Global, sources: &[Source], plan: &Plan) -> Result<Built, Fa
 }
 
 // Builds the program of at most as many sources as there may be.
-#[tactic(auto, using(crate::proofs::SourcesLemmas::unserved_cause, crate::proofs::SourcesLemmas::parts_fit, crate::proofs::SourcesLemmas::program_built, crate::proofs::SourcesLemmas::program_cause, crate::proofs::SourcesLemmas::program_order))]
+#[tactic(auto, using(crate::proofs::SourcesLemmas::unserved_cause, crate::proofs::SourcesLemmas::parts_fit, crate::proofs::SourcesLemmas::storages_fit, crate::proofs::SourcesLemmas::lengths_fit, crate::proofs::SourcesLemmas::code_fits, crate::proofs::SourcesLemmas::served_all, crate::proofs::SourcesLemmas::program_built, crate::proofs::SourcesLemmas::program_cause, crate::proofs::SourcesLemmas::program_order))]
 fn build_few(alloc: Global, sources: &[Source], plan: &Plan) -> Result<Built, Failure<ToolFault>>
     ensures program { IfOk result (λ built. IsProgramOf (texts_of sources.now) (program_modules built.program)) }
     ensures plan { IfOk result (λ built. built.plan ≡ plan.now) }
@@ -74,6 +74,7 @@ fn build_few(alloc: Global, sources: &[Source], plan: &Plan) -> Result<Built, Fa
 }
 
 // Joins modules that are served, and places the program with their code.
+#[tactic(auto, using(crate::proofs::ServedLemmas::have_storage))]
 fn build_program(alloc: Global, parts: Parts, plan: &Plan) -> Result<Built, Failure<ToolFault>>
     requires storages { map layout_view parts.storages.items
         ≡ map (λ typed. storage_with (module_view typed)) parts.modules.items }
