@@ -35,6 +35,20 @@ fn assignments_that_are_no_outputs_of_constants(rt: HostRuntime) -> Result<(), F
     check_refusals(&rt, &ASSIGNMENTS_THAT_ARE_NO_OUTPUTS_OF_CONSTANTS)
 }
 
+// A constant in parentheses is served.
+static STATEMENTS_AFTER_CONSTANTS_IN_PARENTHESES: [(&str, &str); 2] = [
+    ("M: DO; OUTPUT(0) = (1);\nHALT; END M;", "N1 a.plm 2\n"),
+    (
+        "M: DO;\nOUTPUT(0) = ((1));\nOUTPUT(0) = (1) + 1; END M;",
+        "N1 a.plm 3\n",
+    ),
+];
+
+#[test]
+fn statements_after_constants_in_parentheses(rt: HostRuntime) -> Result<(), Fail> {
+    check_refusals(&rt, &STATEMENTS_AFTER_CONSTANTS_IN_PARENTHESES)
+}
+
 // What is declared is the first thing that is not served.
 static ASSIGNMENTS_WITH_VARIABLES: [(&str, &str); 7] = [
     (
