@@ -69,8 +69,17 @@ fn is_output(statement: &Statement) -> bool {
             statement.labels.is_empty()
                 && assignment.others.is_empty()
                 && is_port(&assignment.target)
-                && matches!(assignment.value, Expression::Constant(_))
+                && is_constant(&assignment.value)
         }
+        _ => false,
+    }
+}
+
+// Whether an expression is a constant, in any number of parentheses.
+fn is_constant(value: &Expression) -> bool {
+    match value {
+        Expression::Constant(_) => true,
+        Expression::Parenthesized(inner) => is_constant(inner),
         _ => false,
     }
 }
