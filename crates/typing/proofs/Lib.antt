@@ -15,4 +15,5 @@ pub mod DeclarationsBack
 pub mod SimpleStatementsBack
 pub mod StatementsBack
 pub mod Loops
+pub mod Storable
 pub mod TypedLaws
