@@ -16,4 +16,5 @@ pub mod SimpleStatementsBack
 pub mod StatementsBack
 pub mod Loops
 pub mod Storable
+pub mod StorableExpressions
 pub mod TypedLaws
