@@ -17,4 +17,5 @@ pub mod StatementsBack
 pub mod Loops
 pub mod Storable
 pub mod StorableExpressions
+pub mod StorableObjects
 pub mod TypedLaws
