@@ -18,4 +18,5 @@ pub mod Loops
 pub mod Storable
 pub mod StorableExpressions
 pub mod StorableObjects
+pub mod StorableStatements
 pub mod TypedLaws

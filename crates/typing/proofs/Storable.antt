@@ -42,7 +42,7 @@ list_more {objects} {constants} list are =
     let new : List ConstantItem = ConstantList (length constants.lists) ∷ [] in
     let bytes : List (List ℕ) = bytes_of_constants list ∷ [] in
     let count_after : suc (length constants.lists) ≡ length (constants.lists ++ bytes) =
-        omega (arith, length-append constants.lists bytes) in
+    omega (arith, length-append constants.lists bytes) in
     record {
       objects_stand = filter_map-append object_in constants.items new
           ∙ append-nil (filter_map object_in constants.items) ∙ are.objects_stand;

@@ -1,6 +1,6 @@
 -- Objects that are declared stand among the constants where they have DATA, and AT looks back.
 use Rattle.std.proofs.Common.{◌≡◌, ℕ, ◌+◌, ◌<◌, Bool, true, false, List, [], ◌∷◌, ◌++◌, length, take, drop, slice_get, Option, Some, None, refl, subst, length-append, cond, arith}
-use Rattle.std.specs.Prelude.{IfOk, IfSome, is_some, is_none, nat_le, not, ◌||◌, ◌&&◌}
+use Rattle.std.specs.Prelude.{IfOk, IfSome, is_some, nat_le, not, ◌||◌}
 use Rattle.std.specs.Option.{option_map_or}
 use Rattle.std.proofs.lemmas.Option.{slice_get_within}
 use Rattle.trees.specs.declared.identifier.Identifier.{Identifier}
@@ -12,9 +12,8 @@ use Rattle.names.specs.Environment.{Here, into_body, with_procedure, is_declared
 use Rattle.names.specs.Uses.{declared_by}
 use Rattle.typed_trees.specs.declared.limits.TheConstants.{OBJECT_LIMIT, FRAME_LIMIT, PARAMETER_LIMIT}
 use Rattle.typed_trees.specs.declared.parts.AtAddress.{AtAddress}
-use Rattle.typed_trees.specs.declared.parts.AtAddress.TheVariants.{AtNumber, AtObject}
 use Rattle.typed_trees.specs.declared.parts.InitialValue.{InitialValue}
-use Rattle.typed_trees.specs.TypedTrees.{Home, InData, InConstants, Placed, BasedOn, Elsewhere, Nowhere, InFrame, TypedObject}
+use Rattle.typed_trees.specs.TypedTrees.{Home, InData, Placed, BasedOn, Elsewhere, Nowhere, InFrame, TypedObject}
 use Rattle.typed_trees.specs.Storable.{LooksBack}
 use Rattle.typing.specs.declared.fault.Cause.{Cause}
 use Rattle.typing.specs.declared.fault.Cause.TheVariants.{DeclaredTwice, MisplacedAttribute, TooLarge}
@@ -154,7 +153,7 @@ with_objects_is block item (name ∷ others) progress back so_far =
     let object : TypedObject = object_named block item name.name in
     let after : Progress = with_typed_object item.linkage object progress in
     let longer : length objects + 1 ≡ length (objects ++ object ∷ []) =
-        omega (arith, length-append objects (object ∷ [])) in
+    omega (arith, length-append objects (object ∷ [])) in
     then_any _ (require (nat_le after.frame FRAME_LIMIT) TooLarge (line_of name)) _ (λ fits.
     with_objects_is block item others after
     (subst (λ (count : ℕ). LooksBack count item.home) longer (back_later item.home (length objects) back))
