@@ -19,4 +19,5 @@ pub mod Storable
 pub mod StorableExpressions
 pub mod StorableObjects
 pub mod StorableStatements
+pub mod StorableExamples
 pub mod TypedLaws
