@@ -16,7 +16,6 @@ ghost use Rattle.types.specs.internal.Walking.{inside_view, list_left, listing, 
 
 use crate::blocks::{Block, Owner};
 use crate::checker::Checker;
-use typing::Fault;
 use crate::lists::{Listed, declare_labels, name_failure, without_label};
 use crate::procedures::{check_body, next_procedure, parameter_objects};
 use crate::statement_nodes;
@@ -27,6 +26,7 @@ use trees::{
     Procedure, Statement, StatementKind,
 };
 use typed_trees::{Typed, TypedList, TypedProcedure, TypedStatement, Visibility};
+use typing::Fault;
 
 // The objects of a procedure's parameters, and what it does.
 #[derive(Drop)]
