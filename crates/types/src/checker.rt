@@ -2,12 +2,12 @@
 
 ghost use Rattle.std.specs.Prelude.{◌≡◌};
 
-use typing::Fault;
-use typed_expressions::{Constants, Known};
 use failure::Failure;
 use names::Scopes;
 use std::alloc::Global;
+use typed_expressions::{Constants, Known};
 use typed_trees::GlobalItem;
+use typing::Fault;
 
 /// Goes through a module from its start: what is known at a place, the constants and the globals so far, and the bytes so
 /// far of the variables of the REENTRANT procedure that the place is in.

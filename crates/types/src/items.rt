@@ -22,9 +22,6 @@ ghost use Rattle.types.specs.internal.Views.{block_view, owner_view, progress_vi
 
 use crate::blocks::{Block, Owner};
 use crate::checker::Checker;
-use typing::{Cause, Fault};
-use typed_expressions::{Contents, Extents};
-use typed_expressions::{Constants, Known, refuse, require};
 use failure::Failure;
 use names::{Binding, Entity};
 use std::alloc::Global;
@@ -33,10 +30,12 @@ use trees::{
     Dimension, Element, Identifier, Item, ItemType, Linkage, Member, Name, Place, ScalarType,
     Storage, Subject, ValueList,
 };
+use typed_expressions::{Constants, Contents, Extents, Known, refuse, require};
 use typed_trees::{
     AtAddress, ConstantItem, FRAME_LIMIT, GlobalItem, Home, InitialValue, Members, OBJECT_LIMIT,
     ObjectType, TypedMember, TypedObject,
 };
+use typing::{Cause, Fault};
 
 /// An item, all but its names.
 #[derive(Drop)]
@@ -48,7 +47,11 @@ pub(crate) struct TypedItem {
 }
 
 // What an item is based on. Parameters are not BASED.
-fn typed_base(known: &Known, block: Block<'_>, subject: &Subject) -> Result<Option<u32>, Failure<Fault>>
+fn typed_base(
+    known: &Known,
+    block: Block<'_>,
+    subject: &Subject,
+) -> Result<Option<u32>, Failure<Fault>>
     ensures { Answers (λ base. base) result
         (items.typed_base (known_view known.now) (block_view block.entry) (subject_tree subject.now)
         (items.base_of (subject_tree subject.now))) }
@@ -72,7 +75,11 @@ fn typed_base(known: &Known, block: Block<'_>, subject: &Subject) -> Result<Opti
 }
 
 // Where AT puts an item.
-fn typed_at(known: &Known, block: Block<'_>, item: &Item) -> Result<Option<AtAddress>, Failure<Fault>>
+fn typed_at(
+    known: &Known,
+    block: Block<'_>,
+    item: &Item,
+) -> Result<Option<AtAddress>, Failure<Fault>>
     ensures { Answers (λ at. at) result (items.typed_at (known_view known.now) (block_view block.entry)
         (item_tree item.now) (item_tree item.now).at) }
 {

@@ -7,12 +7,12 @@ ghost use Rattle.typing.specs.Results.{Answers, Leaves, fault_in};
 ghost use Rattle.types.specs.internal.Walking.{label_declared, name_fault_in};
 ghost use Rattle.types.specs.internal.Lists.{listed_view, with_label, with_labels, with_statement};
 
-use typing::{Cause, Fault};
-use typed_expressions::refuse;
 use failure::Failure;
 use names::Scopes;
 use trees::Identifier;
+use typed_expressions::refuse;
 use typed_trees::TypedStatement;
+use typing::{Cause, Fault};
 
 /// The failure of a declaration of a name, as one of the typing.
 pub(crate) fn name_failure(failure: Failure<names::Fault>) -> Failure<Fault>

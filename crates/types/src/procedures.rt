@@ -16,8 +16,6 @@ ghost use Rattle.types.specs.internal.Walking.{heading_opened, names_among, para
 
 use crate::blocks::{Block, Owner};
 use crate::checker::Checker;
-use typing::{Cause, Fault};
-use typed_expressions::{refuse, require};
 use crate::lists::name_failure;
 use failure::Failure;
 use names::{Entity, Scopes};
@@ -26,7 +24,9 @@ use trees::{
     Declaration, Element, Heading, Identifier, ItemType, Linkage, Name, Place, Reference,
     ScalarType, Statement, StatementKind, Subject,
 };
+use typed_expressions::{refuse, require};
 use typed_trees::{GlobalItem, PARAMETER_LIMIT, TypedList, TypedProcedure, Visibility};
+use typing::{Cause, Fault};
 
 /// The number of the next procedure.
 pub(crate) fn next_procedure(procedures: &[TypedProcedure]) -> Result<u32, Failure<Fault>>

@@ -17,17 +17,16 @@ ghost use Rattle.types.specs.internal.Views.{owner_view, progress_view};
 
 use crate::blocks::Owner;
 use crate::checker::Checker;
-use typed_expressions::as_type;
-use typing::{Cause, Fault};
-use typed_expressions::{Constants, Destination, Known, refuse, require};
 use crate::statement_nodes;
 use failure::Failure;
 use names::{Binding, BuiltIn, Entity};
 use std::alloc::{AllocError, Global};
 use trees::{Assignment, Expression, Identifier, Iteration, Reference, ScalarType, Selector};
+use typed_expressions::{Constants, Destination, Known, as_type, refuse, require};
 use typed_trees::{
     Home, ObjectType, TypedExpression, TypedIteration, TypedObject, TypedStatement, TypedTarget,
 };
+use typing::{Cause, Fault};
 
 impl Checker {
     /// An expression in a statement.
@@ -290,7 +289,11 @@ fn counter_object(known: &Known, number: u32, name: Identifier) -> Result<Counte
 }
 
 // The variable of an iterative DO, from what its name is bound to.
-fn counter_bound(known: &Known, binding: Binding, name: Identifier) -> Result<Counter, Failure<Fault>>
+fn counter_bound(
+    known: &Known,
+    binding: Binding,
+    name: Identifier,
+) -> Result<Counter, Failure<Fault>>
     ensures { Answers counter_view result (counter_bound (known_view known.now) binding name) }
 {
     match binding {
