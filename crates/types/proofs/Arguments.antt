@@ -9,10 +9,6 @@ use Rattle.typing.specs.Checks.{refuse}
 use Rattle.typing.specs.References.{number_of_arguments}
 use Rattle.typing.specs.Statements.{moved}
 
-pub number_of_trees : (trees : List Expression) → number_of_arguments (argument_trees trees) ≡ length trees
-number_of_trees [] = refl
-number_of_trees (first ∷ others) = ap suc (number_of_trees others)
-
 -- MOVE has three arguments
 pub not_moved : (line : ℕ) (values : List TypedExpression) → (length values ≡ 3 → ⊥) → moved line (arguments_view values) ≡ refuse WrongUse line
 not_moved line [] not_three = refl

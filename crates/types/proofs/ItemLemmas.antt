@@ -16,11 +16,6 @@ use Rattle.typing.specs.References.{line_of}
 use Rattle.typing.specs.Statements.{with_here}
 use Rattle.types.specs.internal.Items.{item_in_turn, with_names}
 
--- a test of what a function makes of the items of a list
-pub any_of_map : {A B : Type 0} (test : B → Bool) (f : A → B) (all : List A) → list_any test (map f all) ≡ list_any (λ a. test (f a)) all
-any_of_map test f [] = refl
-any_of_map test f (first ∷ others) = ap (λ rest. test (f first) || rest) (any_of_map test f others)
-
 -- one name, and then the others
 names_then : {A B : Type 0} (first : Checked A) (second : Checked B) (block : Block) (others : List Identifier) (here : Here) (progress : Progress)
     → (first >>= λ _. second >>= λ _. declare_names block others here) >>= (λ after. Ok (with_here after progress))

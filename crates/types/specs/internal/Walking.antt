@@ -67,12 +67,6 @@ counter_type object name = do
 abbrev pub counter_view : CodeCounter → Counter
 counter_view counter = record { object = counter.object; scalar = counter.scalar }
 
--- the fault of a declaration of a name
-abbrev pub name_fault_in : Failure NameFault → Option Fault
-name_fault_in (failures.Fault (name_faults.Unknown line)) = Some (record { cause = UnknownName; line = line })
-name_fault_in (failures.Fault (name_faults.DeclaredTwice line)) = Some (record { cause = DeclaredTwice; line = line })
-name_fault_in failures.Memory = None
-
 -- one label of a body, one parameter of a heading
 abbrev pub label_declared : Identifier → Here → Checked Here
 label_declared label here = do
