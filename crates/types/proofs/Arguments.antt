@@ -1,12 +1,9 @@
 -- Lists of arguments.
-use Rattle.std.proofs.Common.{◌≡◌, ℕ, suc, List, [], ◌∷◌, length, ap, refl}
-use Rattle.trees.specs.declared.expression.Expression.{Expression}
-use Rattle.trees.specs.Views.{argument_trees}
+use Rattle.std.proofs.Common.{◌≡◌, ℕ, List, [], ◌∷◌, length, refl}
 use Rattle.typed_trees.specs.declared.expression.TypedExpression.{TypedExpression}
 use Rattle.typed_trees.specs.Views.{arguments_view}
 use Rattle.typing.specs.declared.fault.Cause.TheVariants.{WrongUse}
 use Rattle.typing.specs.Checks.{refuse}
-use Rattle.typing.specs.References.{number_of_arguments}
 use Rattle.typing.specs.Statements.{moved}
 
 -- MOVE has three arguments

@@ -1,8 +1,7 @@
 -- Items of a DECLARE.
-use Rattle.std.proofs.Common.{◌≡◌, ℕ, ◌<◌, ◌≤◌, min, nat_le, true, arith, le-leb, leb-true, sym, ◌∙◌, List, [], ◌∷◌, map, Bool, ◌||◌, not, Ok, Err, ap, refl}
+use Rattle.std.proofs.Common.{◌≡◌, ℕ, ◌<◌, ◌≤◌, min, nat_le, true, arith, le-leb, leb-true, sym, ◌∙◌, List, [], ◌∷◌, ◌||◌, not, Ok, Err, refl}
 use Rattle.std.proofs.lemmas.Bool.{lt-leb}
 use Rattle.std.proofs.Math.Decide.{dec_le}
-use Rattle.std.specs.List.{list_any}
 use Rattle.names.specs.Environment.{Here, with_object, is_declared_again}
 use Rattle.trees.specs.declared.identifier.Identifier.{Identifier}
 use Rattle.trees.specs.Trees.{ItemTree}

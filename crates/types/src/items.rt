@@ -2,7 +2,7 @@
 
 ghost use Rattle.std.specs.Prelude.{◌≡◌, [], ◌∷◌, length, map, min, nat_le, is_some, Ok};
 ghost use Rattle.std.specs.Option.{option_map};
-ghost use Rattle.trees.specs.Views.{element_tree, item_tree, item_type_tree, at_tree, subject_tree, value_list_tree};
+ghost use Rattle.trees.specs.Views.{element_tree, item_tree, subject_tree, value_list_tree};
 ghost use Rattle.std.specs.List.{list_any};
 ghost use Rattle.trees.specs.declared.identifier.Identifier.{Identifier as TheIdentifier};
 ghost use Rattle.trees.specs.declared.identifier.Number.{Number as TheNumber};

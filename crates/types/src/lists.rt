@@ -1,8 +1,8 @@
 //! Labels, and the lists of statements that hold them.
 
-ghost use Rattle.std.specs.Prelude.{◌≡◌, ◌+◌, ◌++◌, Ok, OnOk, IfOk, length};
+ghost use Rattle.std.specs.Prelude.{◌≡◌, ◌+◌, Ok, OnOk, IfOk, length};
 ghost use Rattle.failure.specs.Failure.{IfFault};
-ghost use Rattle.typing.specs.Statements.{declare_labels, places_of, without_label};
+ghost use Rattle.typing.specs.Statements.{declare_labels, without_label};
 ghost use Rattle.typing.specs.Results.{Answers, Leaves};
 ghost use Rattle.types.specs.internal.Walking.{label_declared};
 ghost use Rattle.types.specs.internal.Lists.{listed_view, with_label, with_labels, with_statement};

@@ -1,6 +1,6 @@
 //! Headings of procedures and their parameters.
 
-ghost use Rattle.std.specs.Prelude.{◌≡◌, not, ◌||◌, [], ◌∷◌, drop, length, map, slice_set, take, IfOk, OnOk};
+ghost use Rattle.std.specs.Prelude.{◌≡◌, not, ◌||◌, [], ◌∷◌, drop, map, slice_set, take, IfOk, OnOk};
 ghost use Rattle.failure.specs.Failure.{IfFault};
 ghost use Rattle.trees.specs.Views.{declaration_tree, declaration_trees, element_tree, heading_tree, item_type_tree, kind_tree, reference_tree, statement_tree, statement_trees, subject_tree};
 ghost use Rattle.names.specs.Environment.{into_body};

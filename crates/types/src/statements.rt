@@ -2,15 +2,15 @@
 
 ghost use Rattle.std.specs.Prelude.{◌≡◌, map, Some, IfOk};
 ghost use Rattle.std.specs.Option.{option_map};
-ghost use Rattle.trees.specs.Views.{argument_trees, expression_tree, iteration_tree, reference_tree, target_trees};
+ghost use Rattle.trees.specs.Views.{argument_trees, expression_tree, iteration_tree, target_trees};
 ghost use Rattle.names.specs.declared.entity.Binding.TheVariants.{Declared};
 ghost use Rattle.names.specs.declared.entity.Entity.TheVariants.{Object};
 ghost use Rattle.typed_trees.specs.Views.{arguments_view, expression_view, iteration_view, object_view, statement_view, target_view};
 ghost use Rattle.typing.specs.Expressions.{arguments};
-ghost use Rattle.typing.specs.Statements.{assigned, assignment, call, call_bound, counter_bound, destinations, goto, goto_bound, iteration, moved, return_from, return_with, step, value};
+ghost use Rattle.typing.specs.Statements.{assignment, call, call_bound, counter_bound, destinations, goto, goto_bound, iteration, moved, return_from, return_with, step, value};
 ghost use Rattle.typing.specs.Results.{Answers, Gives};
 ghost use Rattle.types.specs.internal.Walking.{call_of_bound, call_of_move, call_of_procedure, call_statement, counter_type, counter_view, targets_for};
-ghost use Rattle.typed_expressions.specs.Views.{constants_view, destination_view, known_view};
+ghost use Rattle.typed_expressions.specs.Views.{destination_view, known_view};
 ghost use Rattle.types.specs.internal.Views.{owner_view, progress_view};
 
 use crate::blocks::Owner;
@@ -19,7 +19,7 @@ use crate::statement_nodes;
 use failure::Failure;
 use names::{Binding, BuiltIn, Entity};
 use std::alloc::{AllocError, Global};
-use trees::{Assignment, Expression, Identifier, Iteration, Reference, ScalarType, Selector};
+use trees::{Assignment, Expression, Identifier, Iteration, ScalarType, Selector};
 use typed_expressions::{
     Destination, Known, as_type, refuse, require, require_writable, target_of,
 };
