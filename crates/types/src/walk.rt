@@ -15,9 +15,9 @@ ghost use Rattle.types.specs.internal.Views.{block_view, progress_view};
 ghost use Rattle.types.specs.internal.Walking.{inside_view, list_left, listing, module_body, procedure_inside, statement_with_labels};
 
 use crate::blocks::{Block, Owner};
-use crate::checker::Checker;
-use crate::lists::{Listed, declare_labels, name_failure, without_label};
-use crate::procedures::{check_body, next_procedure, parameter_objects};
+use crate::checker::{Checker, answer_of_scopes};
+use crate::lists::{Listed, declare_labels, length_of, without_label};
+use crate::procedures::{check_body, parameter_objects};
 use crate::statement_nodes;
 use failure::Failure;
 use std::alloc::Global;
@@ -41,10 +41,7 @@ impl Checker {
         ensures ok { OnOk result (progress_view self.new ≡ entered (progress_view self.old)) }
         ensures err { IfFault result (λ _. ⊥) }
     {
-        match self.known.scopes.open_block() {
-            Ok(()) => Ok(()),
-            Err(failure) => Err(name_failure(failure)),
-        }
+        answer_of_scopes(self.known.scopes.open_block())
     }
 
     // Goes out of a simple DO.
@@ -60,10 +57,7 @@ impl Checker {
             (progress_view self.new ≡ listing (statement_trees trees.now) (progress_view self.old)) }
         ensures err { IfFault result (λ _. ⊥) }
     {
-        match self.known.scopes.open_list(trees) {
-            Ok(()) => Ok(()),
-            Err(failure) => Err(name_failure(failure)),
-        }
+        answer_of_scopes(self.known.scopes.open_list(trees))
     }
 
     // Goes out of a list of statements.
@@ -336,7 +330,7 @@ impl Checker {
             (progress_view self.old)) }
     {
         let heading = &procedure.heading;
-        let number = next_procedure(self.known.procedures.as_slice())?;
+        let number = length_of(self.known.procedures.as_slice())?;
         self.open_procedure(block, heading, procedure.body.declarations.as_slice())?;
         let inside = self.procedure_inside(number, procedure)?;
         self.close_procedure(
