@@ -1,0 +1,3 @@
+pub mod LawLists
+pub mod LawStorage
+pub mod LawSlots
