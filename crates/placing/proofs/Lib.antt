@@ -1,3 +1,5 @@
 pub mod LawLists
 pub mod LawStorage
 pub mod LawSlots
+pub mod LawPieces
+pub mod LawModule
