@@ -35,7 +35,7 @@ addresses_of bases before (object ∷ others) =
     address_by_home bases before object.1 (object.0).home
     ∷ addresses_of bases (before ++ address_by_home bases before object.1 (object.0).home ∷ []) others
 
-split_addresses :
+pub split_addresses :
     (bases : Bases) (before : List ℕ) (objects : List (TypedObject × Option Slot))
     → addresses_after bases before objects ≡ before ++ addresses_of bases before objects
 split_addresses bases before [] = sym (append-nil before)
@@ -56,7 +56,7 @@ placed_from typed bases before number in_data objects =
     zip objects (addresses_from typed bases before number in_data objects)
 
 -- the address of the object that stands first
-abbrev address_here : TypedModule → Bases → (before : List ℕ) → (number in_data : ℕ) → TypedObject → Home → ℕ
+abbrev pub address_here : TypedModule → Bases → (before : List ℕ) → (number in_data : ℕ) → TypedObject → Home → ℕ
 address_here typed bases before number in_data object home =
     address_by_home bases before (slot_at in_data (constants_before typed (is_object number)) object home) home
 
@@ -97,7 +97,7 @@ own_objects typed bases before number in_data (object ∷ others) =
     (own_objects typed bases (before ++ address_here typed bases before number in_data object object.home ∷ [])
     (number + 1) (in_data + bytes_in_data object.home object) others)
 
-list_pieces :
+pub list_pieces :
     (typed : TypedModule) (bases : Bases) (number : ℕ) (lists : List (List ℕ))
     → map list_piece (zip lists (map (address_of_slot bases) (list_slots_of typed number lists)))
     ≡ map (slot_piece bases) (list_slots_of typed number lists)
@@ -127,7 +127,7 @@ placed_by_slots bases typed = record {
   lists = map (address_of_slot bases) (list_slots_of typed 0 typed.constants.lists);
 }
 
-own_pieces_are :
+pub own_pieces_are :
     (bases : Bases) (typed : TypedModule)
     → filter has_own_place (pieces_of_module (typed, placed_by_slots bases typed))
     ≡ map (slot_piece bases) (own_slots typed)

@@ -3,3 +3,5 @@ pub mod LawStorage
 pub mod LawSlots
 pub mod LawPieces
 pub mod LawModule
+pub mod LawAt
+pub mod LawPlacement
