@@ -31,7 +31,7 @@ pub record Lies (code_part data_part code stack : Range) (placed : TypedModule �
   pub in_place : AllByRecursion (InPlace code_part data_part code stack) (pieces_of_module placed)
   pub disjoint : EachPair AreDisjoint (filter has_own_place (pieces_of_module placed))
 
-NotMisplaced : (code stack : Range) → TypedObject × ℕ → Type 0
+abbrev pub NotMisplaced : (code stack : Range) → TypedObject × ℕ → Type 0
 NotMisplaced code stack placed = is_misplaced code stack placed ≡ false
 
 -- one module
@@ -45,7 +45,6 @@ lies_by_slots :
     → AllByRecursion (NotMisplaced code stack) (zip typed.objects (placed_by_slots bases typed).objects)
     → Lies (range_of bases.code_base code_length) (range_of bases.data_base (data_bytes typed.objects)) code stack
     (typed, placed_by_slots bases typed)
-unfolding NotMisplaced
 lies_by_slots code_length code stack bases typed storable holds code_within data_within apart fine =
     let code_part : Range = range_of bases.code_base code_length in
     let data_part : Range = range_of bases.data_base (data_bytes typed.objects) in
@@ -110,7 +109,7 @@ placed_is bases typed =
         (record { objects = objects'; lists = lists' })
     same objects objects' lists lists' first second = rw first (rw second refl)
 
-module_lies :
+pub module_lies :
     (code_length : ℕ) (code stack : Range) (bases : Bases) (typed : TypedModule)
     → IsStorable typed
     → constant_bytes typed ≤ code_length

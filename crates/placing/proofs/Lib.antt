@@ -5,3 +5,5 @@ pub mod LawPieces
 pub mod LawModule
 pub mod LawAt
 pub mod LawPlacement
+pub mod LawPrograms
+pub mod LawPlaced
