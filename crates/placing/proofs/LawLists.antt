@@ -1,6 +1,6 @@
 -- What holds of each element of a list and of each pair, by recursion on the list.
-use Rattle.std.proofs.Common.{◌≡◌, Bool, true, false, List, [], ◌∷◌, ◌++◌, map, refl, sym, ap, subst, cond}
-use Rattle.std.specs.Prelude.{◌<◌, length, AllPairs, filter, find, Option, Some, None}
+use Rattle.std.proofs.Common.{◌≡◌, Bool, true, false, List, [], ◌∷◌, ◌++◌, map, refl, sym, cond}
+use Rattle.std.specs.Prelude.{AllPairs, filter, find, Some, None}
 use Rattle.std.specs.List.{AllByRecursion}
 use Rattle.std.proofs.lemmas.Option.{none-some}
 use Rattle.std.proofs.lemmas.List.Elements.{All-from_recursion}

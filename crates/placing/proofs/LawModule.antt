@@ -1,32 +1,20 @@
 -- What a module has lies as its storage and AT say.
-use Rattle.std.proofs.Common.{◌≡◌, ℕ, ◌+◌, ◌%◌, ◌<◌, ◌≤◌, Bool, true, false, List, [], ◌∷◌, ◌++◌, length, map, refl, sym, ap, subst, ◌∙◌, append-nil, arith}
-use Rattle.std.specs.Prelude.{Option, Some, None, option_map, ◌&&◌, ◌||◌, zip, filter, filter_map, slice_index, ◌↔◌, IsTrue}
-use Rattle.std.specs.List.{AllByRecursion, cons_option, enumerate_from}
-use Rattle.std.proofs.lemmas.Bool.{ltb-false, false≢true, true≢false}
-use Rattle.std.proofs.lemmas.List.{append_assoc, length-append, get_or_append_left, length-map}
+use Rattle.std.proofs.Common.{◌≡◌, ℕ, ◌+◌, List, [], ◌∷◌, ◌++◌, map, refl, sym, ap, ◌∙◌, append-nil}
+use Rattle.std.specs.Prelude.{Option, option_map, zip, filter, filter_map}
+use Rattle.std.specs.List.{cons_option}
+use Rattle.std.proofs.lemmas.List.{append_assoc}
 use Rattle.std.proofs.lemmas.List.Elements.{filter-append}
-use Rattle.mem80.specs.declared.range.Range.{Range}
-use Rattle.mem80.specs.Range.{IsIn, Meets}
-use Rattle.typed_trees.specs.declared.parts.AtAddress.TheVariants.{AtNumber, AtObject}
-use Rattle.typed_trees.specs.declared.parts.AtAddress.{AtAddress}
 use Rattle.typed_trees.specs.TypedTrees.{Home, InData, InConstants, Placed, BasedOn, Elsewhere, Nowhere, InFrame, TypedObject, TypedModule}
 use Rattle.typed_trees.specs.Sizes.{size_of_object}
-use Rattle.typed_trees.specs.Storable.{LooksBack, IsStorable}
-use Rattle.typed_trees.specs.Weight.{constant_bytes}
-use Rattle.layout.specs.declared.slot.Segment.{Segment}
 use Rattle.layout.specs.declared.slot.Segment.TheVariants.{Code, Data}
 use Rattle.layout.specs.declared.slot.Slot.{Slot}
-use Rattle.layout.specs.Storage.{bytes_in_data, data_bytes, is_object, constants_before, slot_of_list, storage_with}
+use Rattle.layout.specs.Storage.{bytes_in_data, is_object, constants_before, slot_of_list}
 use Rattle.layout.specs.internal.Offsets.{slot_at}
-use Rattle.layout.specs.Placement.{ModulePlacement, PieceKind, StaticPiece, ConstantPiece, AtPiece, PlacedPiece, range_of, EndsInMemory, address_at, kind_of, piece_of, object_piece, list_piece, pieces_of_module, has_own_place}
-use Rattle.layout.specs.Lawful.{HasAddresses, LiesByHome, LiesWhereAtSays, AreDisjoint}
+use Rattle.layout.specs.Placement.{ModulePlacement, PlacedPiece, kind_of, piece_of, object_piece, list_piece, pieces_of_module, has_own_place}
 use Rattle.layout.specs.Following.{Bases, address_of_slot}
-use Rattle.layout.specs.Placing.{passes_memory, overlaps, has_at, may_not_lie, is_misplaced, address_by_home, addresses_after, module_placement_by}
-use Rattle.layout.proofs.Ranges.{overlaps_meets}
-use Rattle.placing.proofs.LawLists.{EachPair, each_append, each_map, pairs_map}
-use Rattle.placing.proofs.LawStorage.{Apart, slots_of, slots_are, list_slots_of, list_slots_are, Fits, all_slots, own_slots, slots_fit}
-use Rattle.placing.proofs.LawSlots.{SlotsApart, slots_apart}
-use Rattle.placing.proofs.LawPieces.{InPlace, slot_piece, slot_in_place, slots_disjoint}
+use Rattle.layout.specs.Placing.{address_by_home, addresses_after}
+use Rattle.placing.proofs.LawStorage.{slots_of, list_slots_of, all_slots, own_slots}
+use Rattle.placing.proofs.LawPieces.{slot_piece}
 
 -- the addresses of objects that are still to come
 abbrev pub addresses_of : Bases → (before : List ℕ) → List (TypedObject × Option Slot) → List ℕ

@@ -1,28 +1,18 @@
 -- What a module has lies in its segments, where these lie in memory.
-use Rattle.std.proofs.Common.{◌≡◌, ℕ, ◌+◌, ◌-◌, ◌%◌, ◌<◌, ◌≤◌, Bool, true, false, List, [], ◌∷◌, ◌++◌, length, map, refl, sym, ap, subst, ◌∙◌, append-nil, arith}
-use Rattle.std.specs.Prelude.{Option, Some, None, option_map, ◌&&◌, ◌||◌, zip, filter, filter_map, IsTrue}
-use Rattle.std.specs.List.{AllByRecursion, cons_option}
+use Rattle.std.proofs.Common.{◌≡◌, ℕ, ◌+◌, ◌-◌, ◌%◌, ◌<◌, ◌≤◌, length, arith}
 use Rattle.std.proofs.Math.Nat.{mod-le, mod-eq_of_lt}
-use Rattle.std.proofs.lemmas.Bool.{ltb-false, false≢true}
-use Rattle.std.proofs.lemmas.List.{append_assoc}
 use Rattle.mem80.specs.declared.range.Range.{Range}
 use Rattle.mem80.specs.Range.{IsIn, Meets}
-use Rattle.typed_trees.specs.declared.parts.AtAddress.{AtAddress}
-use Rattle.typed_trees.specs.TypedTrees.{Home, InData, InConstants, Placed, BasedOn, Elsewhere, Nowhere, InFrame, TypedObject, TypedModule}
-use Rattle.typed_trees.specs.Sizes.{size_of_object}
+use Rattle.typed_trees.specs.TypedTrees.{TypedModule}
 use Rattle.typed_trees.specs.Weight.{constant_bytes}
 use Rattle.layout.specs.declared.slot.Segment.{Segment}
 use Rattle.layout.specs.declared.slot.Segment.TheVariants.{Code, Data}
 use Rattle.layout.specs.declared.slot.Slot.{Slot}
-use Rattle.layout.specs.Storage.{bytes_in_data, data_bytes, is_object, constants_before}
-use Rattle.layout.specs.internal.Offsets.{slot_at}
-use Rattle.layout.specs.Placement.{PieceKind, StaticPiece, ConstantPiece, AtPiece, PlacedPiece, range_of, EndsInMemory, kind_of, piece_of, object_piece, list_piece, has_own_place}
+use Rattle.layout.specs.Storage.{data_bytes}
+use Rattle.layout.specs.Placement.{PieceKind, StaticPiece, ConstantPiece, AtPiece, PlacedPiece, range_of, EndsInMemory}
 use Rattle.layout.specs.Lawful.{AreDisjoint}
 use Rattle.layout.specs.Following.{Bases, address_of_slot}
-use Rattle.layout.specs.Placing.{passes_memory, overlaps, may_not_lie, is_misplaced, address_by_home, addresses_after}
-use Rattle.layout.proofs.Ranges.{overlaps_meets}
-use Rattle.placing.proofs.LawLists.{each_append, each_map}
-use Rattle.placing.proofs.LawStorage.{Apart, apart_swap, slots_of, list_slots_of, FitsIn, Fits, all_slots}
+use Rattle.placing.proofs.LawStorage.{Apart, apart_swap, FitsIn, Fits}
 use Rattle.placing.proofs.LawSlots.{ApartIn, SlotsApart}
 
 -- each byte of a range lies in another

@@ -1,6 +1,6 @@
 -- The placement that a plan gives is lawful where the plan is not refused.
-use Rattle.std.proofs.Common.{◌≡◌, ℕ, zero, suc, ◌+◌, ◌<◌, ◌≤◌, Bool, true, false, List, [], ◌∷◌, length, map, if◌then◌else◌, refl, sym, ap, subst, ◌∙◌, cond, arith}
-use Rattle.std.specs.Prelude.{Option, Some, None, option_map, ◌||◌, zip, filter, flat_map, find, sum, slice_index_or, All, AllPairs, Any}
+use Rattle.std.proofs.Common.{◌≡◌, ℕ, zero, suc, ◌+◌, ◌<◌, Bool, true, false, List, [], ◌∷◌, length, map, if◌then◌else◌, refl, sym, ap, subst, ◌∙◌, cond, arith}
+use Rattle.std.specs.Prelude.{Option, Some, None, option_map, ◌||◌, zip, filter, flat_map, find, slice_index_or, All, Any}
 use Rattle.std.specs.List.{AllByRecursion}
 use Rattle.std.specs.Option.{option_or}
 use Rattle.std.proofs.lemmas.Bool.{true≢false}
@@ -9,20 +9,22 @@ use Rattle.std.proofs.lemmas.List.{length-map}
 use Rattle.std.proofs.lemmas.List.Elements.{recursion_from_All, All-from_recursion}
 use Rattle.mem80.specs.declared.range.Range.{Range}
 use Rattle.mem80.specs.Range.{IsIn, Meets}
+use Rattle.typed_trees.specs.declared.module.Typed.{Typed}
+use Rattle.typed_trees.specs.Views.{module_view}
 use Rattle.typed_trees.specs.TypedTrees.{TypedObject, TypedModule}
 use Rattle.typed_trees.specs.Storable.{IsStorable}
-use Rattle.typed_trees.specs.Weight.{constant_bytes}
-use Rattle.layout.specs.Storage.{data_bytes, storage_with}
-use Rattle.layout.specs.Placement.{ModulePlacement, Placement, PieceKind, StaticPiece, ConstantPiece, AtPiece, PlacedPiece, range_of, EndsInMemory, pieces_of, pieces_of_module, own_pieces, constant_pieces, is_constant_piece, has_own_place, IsWritable}
+use Rattle.layout.specs.Storage.{data_bytes}
+use Rattle.layout.specs.Placement.{ModulePlacement, Placement, PieceKind, StaticPiece, ConstantPiece, AtPiece, PlacedPiece, EndsInMemory, pieces_of_module, is_constant_piece, has_own_place}
 use Rattle.layout.specs.Lawful.{HasAddresses, LiesWhereAtSays, LiesIn, AreDisjoint, IsLawful}
-use Rattle.layout.specs.Following.{Bases}
-use Rattle.layout.specs.Placing.{Plan, PlacingRefusal, SegmentTooLarge, PassesMemory, RangesOverlap, ObjectMisplaced, code_range, data_range, stack_range, bases_from, placement_by, passes_memory, overlaps, segment_too_large, past_memory, overlapping, is_misplaced, placed_objects, first_misplaced, placing_refusal}
-use Rattle.placing.proofs.LawLists.{each_weaker, each_filter, none_found, pairs_all}
-use Rattle.placing.proofs.LawStorage.{Apart}
+use Rattle.layout.specs.Placing.{Plan, PassesMemory, RangesOverlap, ObjectMisplaced, code_range, data_range, stack_range, bases_from, placement_by, passes_memory, overlaps, segment_too_large, past_memory, overlapping, is_misplaced, placed_objects, first_misplaced, placing_refusal}
+use Rattle.placing.specs.declared.plan.Plan.{Plan as CodePlan}
+use Rattle.placing.specs.Segments.{HoldsConstants, HaveStorage}
+use Rattle.placing.specs.Views.{plan_view}
+use Rattle.placing.proofs.LawLists.{each_filter, none_found, pairs_all}
 use Rattle.placing.proofs.LawPieces.{LiesWithin, LiesByKind, InPlace}
 use Rattle.placing.proofs.LawAt.{no_overlap, ends_in_memory, three_false}
 use Rattle.placing.proofs.LawPlacement.{NotMisplaced}
-use Rattle.placing.proofs.LawPrograms.{AllLie, HoldsConstants, module_by, all_data, modules_lie}
+use Rattle.placing.proofs.LawPrograms.{AllLie, module_by, modules_lie}
 
 -- what is not refused
 both_none : {A : Type 0} (first second : Option A) → option_or first second ≡ None → (first ≡ None) × (second ≡ None)
@@ -190,7 +192,7 @@ writable_apart code variables stack pieces address code_data data_stack lie foun
     (kept_at (λ (piece : PlacedPiece). IsIn address piece.range) is_constant_piece pieces found.0 piece found.2
     found.3 found.4 constant))
 
--- Where no plan is refused, and each code segment holds the constants of its module, the placement is lawful.
+-- Where the plan is not refused, and each code segment holds the constants of its module, the placement is lawful.
 pub placed_is_lawful :
     (plan : Plan) (modules : List TypedModule) (code_lengths : List ℕ)
     → length code_lengths ≡ length modules
@@ -231,3 +233,16 @@ placed_is_lawful plan modules code_lengths same storable hold none =
           (writable_apart code variables stack pieces address fine.code_data fine.data_stack all writable.declared
           writable.variable).1;
     }
+
+-- the placement of the code, by what is known of it
+pub lawful_placement :
+    (plan : CodePlan) (modules : List Typed) (code_lengths : List ℕ) (placement : Placement)
+    → length code_lengths ≡ length modules
+    → placing_refusal (plan_view plan) (map module_view modules) code_lengths ≡ None
+    → placement ≡ placement_by (plan_view plan) (map module_view modules) code_lengths
+    → HaveStorage (map module_view modules) code_lengths
+    → IsLawful (map module_view modules) placement
+lawful_placement plan modules code_lengths placement same none is have =
+    subst (IsLawful (map module_view modules)) (sym is)
+    (placed_is_lawful (plan_view plan) (map module_view modules) code_lengths
+    (same ∙ sym (length-map modules module_view)) have.storable have.constants none)

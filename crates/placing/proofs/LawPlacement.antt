@@ -1,27 +1,23 @@
 -- The modules of a program lie apart from each other.
-use Rattle.std.proofs.Common.{◌≡◌, ℕ, ◌+◌, ◌<◌, ◌≤◌, Bool, true, false, List, [], ◌∷◌, ◌++◌, length, map, refl, sym, ap, subst, ◌∙◌, arith}
-use Rattle.std.specs.Prelude.{zip, filter, filter_map, flat_map, sum, sum_by, All, AllPairs}
+use Rattle.std.proofs.Common.{◌≡◌, ℕ, ◌+◌, ◌≤◌, false, List, [], map, refl, sym, ap, subst, ◌∙◌}
+use Rattle.std.specs.Prelude.{zip, filter, filter_map}
 use Rattle.std.specs.List.{AllByRecursion, enumerate_from}
-use Rattle.std.proofs.lemmas.Bool.{false≢true}
 use Rattle.std.proofs.lemmas.List.{length-map}
-use Rattle.std.proofs.lemmas.List.Sums.{sum_by-cons}
-use Rattle.std.proofs.lemmas.List.Elements.{filter-append, recursion_from_All, All-from_recursion}
+use Rattle.std.proofs.lemmas.List.Elements.{recursion_from_All, All-from_recursion}
 use Rattle.mem80.specs.declared.range.Range.{Range}
-use Rattle.mem80.specs.Range.{IsIn, Meets}
 use Rattle.typed_trees.specs.TypedTrees.{TypedObject, TypedModule}
 use Rattle.typed_trees.specs.Storable.{LooksBack, IsStorable}
 use Rattle.typed_trees.specs.Weight.{constant_bytes}
-use Rattle.layout.specs.declared.slot.Slot.{Slot}
 use Rattle.layout.specs.Storage.{data_bytes, storage_with}
-use Rattle.layout.specs.Placement.{ModulePlacement, PieceKind, StaticPiece, ConstantPiece, AtPiece, PlacedPiece, range_of, object_piece, list_piece, pieces_of_module, has_own_place}
+use Rattle.layout.specs.Placement.{ModulePlacement, range_of, object_piece, list_piece, pieces_of_module, has_own_place}
 use Rattle.layout.specs.Lawful.{HasAddresses, LiesByHome, LiesWhereAtSays, AreDisjoint}
 use Rattle.layout.specs.Following.{Bases, address_of_slot}
-use Rattle.layout.specs.Placing.{is_misplaced, addresses_after, bases_from, module_placement_by, placed_objects}
-use Rattle.placing.proofs.LawLists.{EachPair, each_append, each_map, each_weaker, each_filter, each_between, each_first, each_second, pairs_map, pairs_append}
-use Rattle.placing.proofs.LawStorage.{Apart, apart_swap, slots_of, slots_are, list_slots_of, list_slots_are, Fits, all_slots, own_slots, slots_fit}
+use Rattle.layout.specs.Placing.{is_misplaced, addresses_after, module_placement_by}
+use Rattle.placing.proofs.LawLists.{EachPair, each_append, each_map, each_weaker, each_first, each_second, pairs_map}
+use Rattle.placing.proofs.LawStorage.{Apart, slots_of, slots_are, list_slots_of, list_slots_are, Fits, all_slots, own_slots, slots_fit}
 use Rattle.placing.proofs.LawSlots.{SlotsApart, slots_apart}
-use Rattle.placing.proofs.LawPieces.{LiesWithin, LiesByKind, InPlace, never_meet, slot_piece, slot_in_place, slots_disjoint}
-use Rattle.placing.proofs.LawModule.{addresses_of, split_addresses, addresses_from, placed_from, placed_by_slots, list_pieces, own_pieces_are}
+use Rattle.placing.proofs.LawPieces.{InPlace, slot_piece, slot_in_place, slots_disjoint}
+use Rattle.placing.proofs.LawModule.{addresses_of, split_addresses, placed_from, placed_by_slots, list_pieces, own_pieces_are}
 use Rattle.placing.proofs.LawAt.{objects_in_place, objects_where_at_says, length_addresses, length_lists}
 
 -- what holds of modules with their placements, in parts of CODE and of DATA

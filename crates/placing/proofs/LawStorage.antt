@@ -1,6 +1,6 @@
 -- In the storage of a module, no two slots of a segment have a byte in common, and each lies in its segment.
-use Rattle.std.proofs.Common.{◌≡◌, ℕ, zero, suc, ◌+◌, ◌-◌, ◌<◌, ◌≤◌, Bool, true, false, List, [], ◌∷◌, ◌++◌, length, take, map, cond, refl, sym, ap, subst, ◌∙◌, arith}
-use Rattle.std.specs.Prelude.{not, ◌||◌, ◌==◌, sum_by, take_while, filter_map, slice_get, Option, Some, None}
+use Rattle.std.proofs.Common.{◌≡◌, ℕ, ◌+◌, ◌-◌, ◌<◌, ◌≤◌, Bool, true, false, List, [], ◌∷◌, ◌++◌, length, take, map, cond, refl, sym, ap, subst, ◌∙◌, arith}
+use Rattle.std.specs.Prelude.{not, ◌||◌, ◌==◌, sum_by, take_while, filter_map, slice_get, Option, Some}
 use Rattle.std.specs.List.{AllByRecursion, cons_option, enumerate_from, list_any}
 use Rattle.std.specs.Option.{option_map_or}
 use Rattle.std.proofs.lemmas.Bool.{false≢true, eq-eqb, eqb-true}
@@ -18,7 +18,7 @@ use Rattle.layout.specs.declared.slot.Segment.TheVariants.{Code, Data}
 use Rattle.layout.specs.declared.slot.Slot.{Slot}
 use Rattle.layout.specs.Storage.{bytes_in_data, data_bytes, is_object, is_list, constants_before, slot_of_object, slot_of_list, storage_with}
 use Rattle.layout.specs.internal.Offsets.{slot_at}
-use Rattle.placing.proofs.LawLists.{EachPair, each_append, each_weaker, pairs_append}
+use Rattle.placing.proofs.LawLists.{each_append, each_weaker}
 
 -- so many numbers from one on, and so many from another on, have none in common
 abbrev pub Apart : (a m b n : ℕ) → Type 0

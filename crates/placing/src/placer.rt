@@ -3,11 +3,13 @@
 ghost use Rattle.std.specs.Prelude.{◌≡◌, None, Some, map, length, All, IfOk};
 ghost use Rattle.failure.specs.Failure.{IfFault};
 ghost use Rattle.typed_trees.specs.Views.{module_view};
+ghost use Rattle.layout.specs.Lawful.{IsLawful};
 ghost use Rattle.layout.specs.Placement.{pieces_of};
 ghost use Rattle.layout.specs.Placing.{placement_by, placing_refusal};
 ghost use Rattle.layout.specs.Storage.{storage_with};
 ghost use Rattle.layout.specs.Views.{layout_view};
 ghost use Rattle.join.specs.Views.{modules_of};
+ghost use Rattle.placing.specs.Segments.{HaveStorage};
 ghost use Rattle.placing.specs.Tables.{IsTableOf};
 ghost use Rattle.placing.specs.Views.{placement_view, plan_view, refusal_of};
 
@@ -37,6 +39,8 @@ pub fn place(
         ≡ placement_by (plan_view plan.now) (map module_view (modules_of joined.now)) code_lengths.now) }
     ensures table { IfOk result (λ placement.
         IsTableOf (pieces_of (map module_view (modules_of joined.now)) (placement_view placement)) placement.kinds.value) }
+    ensures lawful { HaveStorage (map module_view (modules_of joined.now)) code_lengths.now → IfOk result (λ placement.
+        IsLawful (map module_view (modules_of joined.now)) (placement_view placement)) }
     ensures fault { IfFault result (λ fault.
         placing_refusal (plan_view plan.now) (map module_view (modules_of joined.now)) code_lengths.now
         ≡ Some (refusal_of fault)) }
