@@ -7,3 +7,8 @@ pub mod LawAt
 pub mod LawPlacement
 pub mod LawPrograms
 pub mod LawPlaced
+pub mod Sums
+pub mod RangeTests
+pub mod Passes
+pub mod MisplacedLoops
+pub mod Placings

@@ -13,9 +13,12 @@ ghost use Rattle.placing.specs.Segments.{HaveStorage};
 ghost use Rattle.placing.specs.Tables.{IsTableOf};
 ghost use Rattle.placing.specs.Views.{placement_view, plan_view, refusal_of};
 
+use crate::addresses::{Bases, module_placements};
 use crate::fault::Fault;
+use crate::misplaced::first_misplaced;
 use crate::placement::Placement;
 use crate::plan::Plan;
+use crate::ranges::{range_fault, ranges_by};
 use failure::Failure;
 use join::Joined;
 use layout::Layout;
@@ -45,5 +48,19 @@ pub fn place(
         placing_refusal (plan_view plan.now) (map module_view (modules_of joined.now)) code_lengths.now
         ≡ Some (refusal_of fault)) }
 {
-    Err(Failure::Memory)
+    let modules = joined.modules();
+    let ranges = ranges_by(layouts, code_lengths, plan);
+    if let Some(fault) = range_fault(ranges) {
+        return Err(Failure::Fault(fault));
+    }
+    let first = Bases {
+        code_base: plan.code as u32,
+        data_base: plan.data_base as u32,
+    };
+    let placements = module_placements(alloc, first, modules, layouts, code_lengths)?;
+    if let Some(name) = first_misplaced(ranges, modules, placements.as_slice()) {
+        return Err(Failure::Fault(Fault::ObjectMisplaced { name }));
+    }
+    let placement = Placement::new(alloc, joined, placements, ranges.code, ranges.stack)?;
+    Ok(placement)
 }
