@@ -1,0 +1,14 @@
+pub mod LawLists
+pub mod LawStorage
+pub mod LawSlots
+pub mod LawPieces
+pub mod LawModule
+pub mod LawAt
+pub mod LawPlacement
+pub mod LawPrograms
+pub mod LawPlaced
+pub mod Sums
+pub mod RangeTests
+pub mod Passes
+pub mod MisplacedLoops
+pub mod Placings

@@ -1,2 +1,4 @@
 pub mod Views
 pub mod Tables
+pub mod Segments
+pub mod internal

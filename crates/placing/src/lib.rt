@@ -1,10 +1,14 @@
 //! Where joined PL/M-80 programs lie in memory.
 #![tactic(auto)]
 
+mod addresses;
 mod fault;
+mod lawfulness;
+mod misplaced;
 mod placement;
 mod placer;
 mod plan;
+mod ranges;
 
 pub use fault::Fault;
 pub use placement::{ByteKind, ModulePlacement, Placement};

@@ -3,17 +3,22 @@
 ghost use Rattle.std.specs.Prelude.{◌≡◌, None, Some, map, length, All, IfOk};
 ghost use Rattle.failure.specs.Failure.{IfFault};
 ghost use Rattle.typed_trees.specs.Views.{module_view};
+ghost use Rattle.layout.specs.Lawful.{IsLawful};
 ghost use Rattle.layout.specs.Placement.{pieces_of};
 ghost use Rattle.layout.specs.Placing.{placement_by, placing_refusal};
 ghost use Rattle.layout.specs.Storage.{storage_with};
 ghost use Rattle.layout.specs.Views.{layout_view};
 ghost use Rattle.join.specs.Views.{modules_of};
+ghost use Rattle.placing.specs.Segments.{HaveStorage};
 ghost use Rattle.placing.specs.Tables.{IsTableOf};
 ghost use Rattle.placing.specs.Views.{placement_view, plan_view, refusal_of};
 
+use crate::addresses::{Bases, module_placements};
 use crate::fault::Fault;
+use crate::misplaced::first_misplaced;
 use crate::placement::Placement;
 use crate::plan::Plan;
+use crate::ranges::{range_fault, ranges_by};
 use failure::Failure;
 use join::Joined;
 use layout::Layout;
@@ -37,9 +42,25 @@ pub fn place(
         ≡ placement_by (plan_view plan.now) (map module_view (modules_of joined.now)) code_lengths.now) }
     ensures table { IfOk result (λ placement.
         IsTableOf (pieces_of (map module_view (modules_of joined.now)) (placement_view placement)) placement.kinds.value) }
+    ensures lawful { HaveStorage (map module_view (modules_of joined.now)) code_lengths.now → IfOk result (λ placement.
+        IsLawful (map module_view (modules_of joined.now)) (placement_view placement)) }
     ensures fault { IfFault result (λ fault.
         placing_refusal (plan_view plan.now) (map module_view (modules_of joined.now)) code_lengths.now
         ≡ Some (refusal_of fault)) }
 {
-    Err(Failure::Memory)
+    let modules = joined.modules();
+    let ranges = ranges_by(layouts, code_lengths, plan);
+    if let Some(fault) = range_fault(ranges) {
+        return Err(Failure::Fault(fault));
+    }
+    let first = Bases {
+        code_base: plan.code as u32,
+        data_base: plan.data_base as u32,
+    };
+    let placements = module_placements(alloc, first, modules, layouts, code_lengths)?;
+    if let Some(name) = first_misplaced(ranges, modules, placements.as_slice()) {
+        return Err(Failure::Fault(Fault::ObjectMisplaced { name }));
+    }
+    let placement = Placement::new(alloc, joined, placements, ranges.code, ranges.stack)?;
+    Ok(placement)
 }

@@ -1,0 +1,154 @@
+-- The first misplaced object: among those of a module, and of all modules.
+use Rattle.std.proofs.Common.{◌≡◌, ℕ, ◌+◌, ◌<◌, ◌≤◌, Bool, true, false, List, ◌∷◌, ◌++◌, length, drop, get_or, map, Option, None, Some, option_map, if◌then◌else◌, refl, ap, sym, ◌∙◌}
+use Rattle.std.specs.Prelude.{flat_map, slice_get, zip}
+use Rattle.std.specs.List.{find}
+use Rattle.std.specs.Option.{option_or}
+use Rattle.std.proofs.Math.ListN.{drop_of_length-le}
+use Rattle.std.proofs.lemmas.List.Concat.{flat_map-cons}
+use Rattle.std.proofs.lemmas.List.Folds.{find-append}
+use Rattle.mem80.specs.declared.range.Range.{Range}
+use Rattle.typed_trees.specs.declared.module.Typed.{Typed}
+use Rattle.typed_trees.specs.declared.module.TypedObject.{TypedObject as Object}
+use Rattle.typed_trees.specs.TypedTrees.{TypedObject, TypedModule}
+use Rattle.typed_trees.specs.Views.{module_view, object_view}
+use Rattle.layout.specs.Placement.{ModulePlacement}
+use Rattle.layout.specs.Placing.{is_misplaced, placed_objects}
+use Rattle.layout.proofs.Sums.{view_first}
+use Rattle.placing.specs.declared.placement.ModulePlacement.{ModulePlacement as CodeModulePlacement}
+use Rattle.placing.specs.Views.{module_placement_view}
+use Rattle.placing.specs.internal.Placings.{name_of_misplaced}
+use Rattle.placing.proofs.Passes.{found_first, found_none, zip_nothing}
+
+abbrev name_of : TypedObject × ℕ → List ℕ
+name_of placed = (placed.0).name
+
+named_first :
+    (code stack : Range) (placed : TypedObject × ℕ) (others : List (TypedObject × ℕ)) (misplaced : Bool)
+    → is_misplaced code stack placed ≡ misplaced
+    → name_of_misplaced code stack (placed ∷ others)
+    ≡ (if misplaced then Some (name_of placed) else name_of_misplaced code stack others)
+named_first code stack placed others true does =
+    ap (λ b. option_map name_of (if b then Some placed else find (is_misplaced code stack) others)) does
+named_first code stack placed others false does =
+    ap (λ b. option_map name_of (if b then Some placed else find (is_misplaced code stack) others)) does
+
+abbrev pub name_left : (code stack : Range) → List Object → (addresses : List ℕ) → (index number : ℕ) → Option (List ℕ)
+name_left code stack objects addresses index number =
+    name_of_misplaced code stack (zip (map object_view (drop index objects)) (drop number addresses))
+
+module _ (code stack : Range) (objects : List Object) (addresses : List ℕ) (index number : ℕ) (total : Option (List ℕ))
+    (rest : name_left code stack objects addresses index number ≡ total) where
+  object_step :
+      (misplaced : Bool) (object : Object) (address : ℕ)
+      → index < length objects
+      → object ≡ get_or objects index object
+      → slice_get addresses number ≡ Some address
+      → is_misplaced code stack (object_view object, address) ≡ misplaced
+      → (if misplaced then Some object.name else name_left code stack objects addresses (index + 1) (number + 1)) ≡ total
+  object_step misplaced object address within is found does =
+      sym (named_first code stack (object_view object, address) (zip (map object_view (drop (index + 1) objects)) (drop (number + 1) addresses)) misplaced does)
+      ∙ sym (λ i. name_of_misplaced code stack (zip (view_first object_view objects index object within is i) (found_first addresses number address found i)))
+      ∙ rest
+
+  pub object_found :
+      (object : Object) (address : ℕ)
+      → index < length objects
+      → object ≡ get_or objects index object
+      → slice_get addresses number ≡ Some address
+      → is_misplaced code stack (object_view object, address) ≡ true
+      → Some object.name ≡ total
+  object_found object address within is found does = object_step true object address within is found does
+
+  pub object_passed :
+      (object : Object) (address : ℕ)
+      → index < length objects
+      → object ≡ get_or objects index object
+      → slice_get addresses number ≡ Some address
+      → is_misplaced code stack (object_view object, address) ≡ false
+      → name_left code stack objects addresses (index + 1) (number + 1) ≡ total
+  object_passed object address within is found does = object_step false object address within is found does
+
+  pub objects_ended : length objects ≤ index → None ≡ total
+  objects_ended past =
+      sym (ap (λ left. name_of_misplaced code stack (zip (map object_view left) (drop number addresses))) (drop_of_length-le objects past))
+      ∙ rest
+
+  pub addresses_ended : slice_get addresses number ≡ None → None ≡ total
+  addresses_ended none =
+      sym (ap (name_of_misplaced code stack)
+      (ap (zip (map object_view (drop index objects))) (found_none addresses number none)
+      ∙ zip_nothing (map object_view (drop index objects))))
+      ∙ rest
+
+-- of objects and others, the first of the objects if there is one
+map_or : {A B : Type 0} (f : A → B) (left right : Option A) → option_map f (option_or left right) ≡ option_or (option_map f left) (option_map f right)
+map_or f None right = refl
+map_or f (Some value) right = refl
+
+named_append :
+    (code stack : Range) (left right : List (TypedObject × ℕ))
+    → name_of_misplaced code stack (left ++ right)
+    ≡ option_or (name_of_misplaced code stack left) (name_of_misplaced code stack right)
+named_append code stack left right =
+    ap (option_map name_of) (find-append (is_misplaced code stack) left right)
+    ∙ map_or name_of (find (is_misplaced code stack) left) (find (is_misplaced code stack) right)
+
+abbrev objects_of : TypedModule × ModulePlacement → List (TypedObject × ℕ)
+objects_of placed = zip (placed.0).objects (placed.1).objects
+
+abbrev pub first_left : (code stack : Range) → List Typed → List CodeModulePlacement → (index number : ℕ) → Option (List ℕ)
+first_left code stack modules placements index number =
+    name_of_misplaced code stack
+    (placed_objects (map module_view (drop index modules)) (map module_placement_view (drop number placements)))
+
+module _ (code stack : Range) (modules : List Typed) (placements : List CodeModulePlacement) (index number : ℕ) (total : Option (List ℕ))
+    (rest : first_left code stack modules placements index number ≡ total) where
+  module_step :
+      (found : Option (List ℕ)) (typed : Typed) (placed : CodeModulePlacement)
+      → index < length modules
+      → typed ≡ get_or modules index typed
+      → slice_get placements number ≡ Some placed
+      → found ≡ name_of_misplaced code stack (zip (map object_view typed.objects.items) placed.objects.items)
+      → option_or found (first_left code stack modules placements (index + 1) (number + 1)) ≡ total
+  module_step found typed placed within is there given =
+      ap (λ one. option_or one (first_left code stack modules placements (index + 1) (number + 1))) given
+      ∙ sym (named_append code stack (zip (map object_view typed.objects.items) placed.objects.items)
+      (placed_objects (map module_view (drop (index + 1) modules)) (map module_placement_view (drop (number + 1) placements))))
+      ∙ sym (ap (name_of_misplaced code stack) (flat_map-cons objects_of (module_view typed, module_placement_view placed)
+      (zip (map module_view (drop (index + 1) modules)) (map module_placement_view (drop (number + 1) placements)))))
+      ∙ sym (λ i. name_of_misplaced code stack (placed_objects (view_first module_view modules index typed within is i) (ap (map module_placement_view) (found_first placements number placed there) i)))
+      ∙ rest
+
+  pub module_found :
+      (found : Option (List ℕ)) (name : List ℕ) (typed : Typed) (placed : CodeModulePlacement)
+      → index < length modules
+      → typed ≡ get_or modules index typed
+      → slice_get placements number ≡ Some placed
+      → found ≡ name_of_misplaced code stack (zip (map object_view typed.objects.items) placed.objects.items)
+      → found ≡ Some name
+      → Some name ≡ total
+  module_found found name typed placed within is there given some =
+      module_step (Some name) typed placed within is there (sym some ∙ given)
+
+  pub module_passed :
+      (found : Option (List ℕ)) (typed : Typed) (placed : CodeModulePlacement)
+      → index < length modules
+      → typed ≡ get_or modules index typed
+      → slice_get placements number ≡ Some placed
+      → found ≡ name_of_misplaced code stack (zip (map object_view typed.objects.items) placed.objects.items)
+      → found ≡ None
+      → first_left code stack modules placements (index + 1) (number + 1) ≡ total
+  module_passed found typed placed within is there given none =
+      module_step None typed placed within is there (sym none ∙ given)
+
+  pub modules_ended : length modules ≤ index → None ≡ total
+  modules_ended past =
+      sym (ap (λ left. name_of_misplaced code stack (placed_objects (map module_view left) (map module_placement_view (drop number placements)))) (drop_of_length-le modules past))
+      ∙ rest
+
+  pub placements_ended : slice_get placements number ≡ None → None ≡ total
+  placements_ended none =
+      sym (ap (λ left. name_of_misplaced code stack (flat_map objects_of left))
+      (ap (λ left. zip (map module_view (drop index modules)) (map module_placement_view left)) (found_none placements number none)
+      ∙ zip_nothing (map module_view (drop index modules))))
+      ∙ rest

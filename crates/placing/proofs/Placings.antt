@@ -1,0 +1,248 @@
+-- The placement by a plan, and its refusal, by what is found in turn.
+use Rattle.std.proofs.Common.{◌≡◌, ℕ, ◌+◌, ◌<◌, ◌≤◌, Bool, true, false, List, [], ◌∷◌, map, min, Option, None, Some, option_map, if◌then◌else◌, refl, ap, sym, ◌∙◌, arith}
+use Rattle.std.specs.Prelude.{◌||◌, find, sum, sum_by, zip, nat_lt}
+use Rattle.std.specs.Option.{option_or}
+use Rattle.std.proofs.Math.Decide.{dec_le}
+use Rattle.std.proofs.lemmas.Bool.{lt-ltb, ltb-false}
+use Rattle.std.proofs.lemmas.List.Sums.{sum_by-cons}
+use Rattle.std.proofs.lemmas.Option.{none-some}
+use Rattle.mem80.specs.declared.range.Range.{Range}
+use Rattle.typed_trees.specs.declared.module.Typed.{Typed}
+use Rattle.typed_trees.specs.TypedTrees.{TypedObject, TypedModule}
+use Rattle.typed_trees.specs.Views.{module_view}
+use Rattle.layout.specs.declared.slot.Layout.{Layout}
+use Rattle.layout.specs.Following.{Bases}
+use Rattle.layout.specs.Placement.{ModulePlacement, Placement, range_of}
+use Rattle.layout.specs.Placing.{Plan, SegmentTooLarge, PassesMemory, ObjectMisplaced, code_range, data_range, stack_range, bases_from, module_placement_by, placement_by, placing_refusal, passes_memory, segment_too_large, past_memory, overlapping, is_misplaced, placed_objects, first_misplaced}
+use Rattle.layout.specs.Storage.{Storage, data_bytes, storage_with}
+use Rattle.layout.specs.Views.{layout_view}
+use Rattle.placing.specs.declared.fault.Fault.{Fault}
+use Rattle.placing.specs.declared.placement.ModulePlacement.{ModulePlacement as CodeModulePlacement}
+use Rattle.placing.specs.declared.plan.Plan.{Plan as CodePlan}
+use Rattle.placing.specs.declared.ranges.Ranges.{Ranges}
+use Rattle.placing.specs.Views.{module_placement_view, plan_view, refusal_of}
+use Rattle.placing.specs.internal.Placings.{placements_from, code_placements, data_sizes, layout_sizes, range_refusal, name_of_misplaced}
+
+-- the placements of modules whose storage is theirs
+based : TypedModule × Bases → ModulePlacement
+based placed = module_placement_by placed.1 placed.0 (storage_with placed.0)
+
+from_is :
+    (code_base data_base : ℕ) (modules : List TypedModule) (lengths : List ℕ)
+    → placements_from (record { code_base = code_base; data_base = data_base }) modules (map storage_with modules) lengths
+    ≡ map based (zip modules (bases_from code_base data_base modules lengths))
+unfolding based
+from_is code_base data_base [] lengths = refl
+from_is code_base data_base (typed ∷ others) [] = refl
+from_is code_base data_base (typed ∷ others) (length ∷ lengths) =
+    ap (λ rest. module_placement_by (record { code_base = code_base; data_base = data_base }) typed (storage_with typed) ∷ rest)
+    (from_is (code_base + length) (data_base + data_bytes typed.objects) others lengths)
+
+sizes_are : (modules : List TypedModule) → data_sizes (map storage_with modules) ≡ sum_by (λ (typed : TypedModule). data_bytes typed.objects) modules
+sizes_are [] = refl
+sizes_are (typed ∷ others) =
+    sum_by-cons (λ (storage : Storage). storage.data_size) (storage_with typed) (map storage_with others)
+    ∙ ap (λ rest. data_bytes typed.objects + rest) (sizes_are others)
+    ∙ sym (sum_by-cons (λ (typed : TypedModule). data_bytes typed.objects) typed others)
+
+storages_are : (modules : List Typed) → map (λ (typed : Typed). storage_with (module_view typed)) modules ≡ map storage_with (map module_view modules)
+storages_are [] = refl
+storages_are (typed ∷ others) = ap (λ rest. storage_with (module_view typed) ∷ rest) (storages_are others)
+
+-- ranges without a refusal
+both_none : {A : Type 0} (first second : Option A) → option_or first second ≡ None → (first ≡ None) × (second ≡ None)
+both_none None second none = (refl, none)
+both_none (Some value) second none = absurd (none-some value (sym none))
+
+small_of : (code variables : Bool) → (if code || variables then Some SegmentTooLarge else None) ≡ None → (code ≡ false) × (variables ≡ false)
+small_of false false none = (refl, refl)
+small_of true variables none = absurd (none-some SegmentTooLarge (sym none))
+small_of false true none = absurd (none-some SegmentTooLarge (sym none))
+
+inside_of : (code variables stack : Bool) → (if code || variables || stack then Some PassesMemory else None) ≡ None → (code ≡ false) × (variables ≡ false)
+inside_of false false stack none = (refl, refl)
+inside_of true variables stack none = absurd (none-some PassesMemory (sym none))
+inside_of false true stack none = absurd (none-some PassesMemory (sym none))
+
+not_capped : (len capped : ℕ) → capped ≡ min len 4294967295 → capped ≤ 65535 → capped ≡ len
+not_capped len capped is small = omega arith
+
+-- lengths that stop at the greatest of 32 bits
+module _ (code_base data_base code_len data_len : ℕ) (stack : Range) where
+  abbrev capped_code : Range
+  capped_code = range_of code_base (min code_len 4294967295)
+
+  abbrev capped_data : Range
+  capped_data = range_of data_base (min data_len 4294967295)
+
+  too_large : (code variables : Range) → (nat_lt 65535 code.len || nat_lt 65535 variables.len) ≡ true → range_refusal code variables stack ≡ Some SegmentTooLarge
+  too_large code variables is = ap (λ b. option_or (if b then Some SegmentTooLarge else None) (option_or (past_memory code variables stack) (overlapping code variables stack))) is
+
+  large_code : (code variables : Range) → 65535 < code.len → range_refusal code variables stack ≡ Some SegmentTooLarge
+  large_code code variables large = too_large code variables (ap (λ b. b || nat_lt 65535 variables.len) (lt-ltb 65535 code.len large))
+
+  large_data : (code variables : Range) → 65535 < variables.len → range_refusal code variables stack ≡ Some SegmentTooLarge
+  large_data code variables large = too_large code variables (ap (λ b. nat_lt 65535 code.len || b) (lt-ltb 65535 variables.len large) ∙ any_or (nat_lt 65535 code.len))
+    where
+      any_or : (b : Bool) → (b || true) ≡ true
+      any_or true = refl
+      any_or false = refl
+
+  pub capped_refusal : range_refusal capped_code capped_data stack ≡ range_refusal (range_of code_base code_len) (range_of data_base data_len) stack
+  capped_refusal = elim (dec_le code_len 65535) [
+    | no large ↦ large_code capped_code capped_data (omega (arith, large)) ∙ sym (large_code (range_of code_base code_len) (range_of data_base data_len) (omega (arith, large)))
+    | yes small ↦ elim (dec_le data_len 65535) [
+      | no large ↦ large_data capped_code capped_data (omega (arith, large)) ∙ sym (large_data (range_of code_base code_len) (range_of data_base data_len) (omega (arith, large)))
+      | yes little ↦
+          let code_is : min code_len 4294967295 ≡ code_len = omega (arith, small) in
+          let data_is : min data_len 4294967295 ≡ data_len = omega (arith, little) in
+          (λ i. range_refusal (range_of code_base (code_is i)) (range_of data_base (data_is i)) stack)
+    ]
+  ]
+
+  -- what is not refused
+  pub record Fits : Type 0 where
+    pub code : code_base + code_len ≤ 65536
+    pub variables : data_base + data_len ≤ 65536
+    pub code_is : min code_len 4294967295 ≡ code_len
+
+  pub fits : range_refusal capped_code capped_data stack ≡ None → Fits
+  fits none =
+      let real : range_refusal (range_of code_base code_len) (range_of data_base data_len) stack ≡ None = sym capped_refusal ∙ none in
+      let parts : (segment_too_large (range_of code_base code_len) (range_of data_base data_len) ≡ None)
+      × (option_or (past_memory (range_of code_base code_len) (range_of data_base data_len) stack)
+      (overlapping (range_of code_base code_len) (range_of data_base data_len) stack) ≡ None) =
+      both_none (segment_too_large (range_of code_base code_len) (range_of data_base data_len))
+      (option_or (past_memory (range_of code_base code_len) (range_of data_base data_len) stack)
+      (overlapping (range_of code_base code_len) (range_of data_base data_len) stack)) real in
+      let short : (nat_lt 65535 code_len ≡ false) × (nat_lt 65535 data_len ≡ false) =
+      small_of (nat_lt 65535 code_len) (nat_lt 65535 data_len) parts.0 in
+      let ends : (passes_memory (range_of code_base code_len) ≡ false) × (passes_memory (range_of data_base data_len) ≡ false) =
+      inside_of (passes_memory (range_of code_base code_len)) (passes_memory (range_of data_base data_len)) (passes_memory stack)
+      (both_none (past_memory (range_of code_base code_len) (range_of data_base data_len) stack)
+      (overlapping (range_of code_base code_len) (range_of data_base data_len) stack) parts.1).0 in
+      let small : code_len ≤ 65535 = ltb-false 65535 code_len short.0 in
+      record {
+        code = ltb-false 65536 (code_base + code_len) ends.0;
+        variables = ltb-false 65536 (data_base + data_len) ends.1;
+        code_is = omega (arith, small);
+      }
+
+-- the refusal, by that of the ranges and by the first misplaced object
+or_three : {A : Type 0} (one other third last : Option A) → option_or one (option_or other (option_or third last)) ≡ option_or (option_or one (option_or other third)) last
+or_three (Some value) other third last = refl
+or_three None (Some value) third last = refl
+or_three None None third last = refl
+
+refusal_split :
+    (plan : Plan) (modules : List TypedModule) (lengths : List ℕ)
+    → placing_refusal plan modules lengths
+    ≡ option_or (range_refusal (code_range plan lengths) (data_range plan modules) (stack_range plan))
+    (first_misplaced modules (placement_by plan modules lengths))
+unfolding placing_refusal
+refusal_split plan modules lengths =
+    or_three (segment_too_large (code_range plan lengths) (data_range plan modules))
+    (past_memory (code_range plan lengths) (data_range plan modules) (stack_range plan))
+    (overlapping (code_range plan lengths) (data_range plan modules) (stack_range plan))
+    (first_misplaced modules (placement_by plan modules lengths))
+
+by_name :
+    (found : Option (TypedObject × ℕ))
+    → option_map (λ (placed : TypedObject × ℕ). ObjectMisplaced (placed.0).name) found
+    ≡ option_map ObjectMisplaced (option_map (λ (placed : TypedObject × ℕ). (placed.0).name) found)
+by_name None = refl
+by_name (Some placed) = refl
+
+misplaced_by_name :
+    (modules : List TypedModule) (placement : Placement)
+    → first_misplaced modules placement
+    ≡ option_map ObjectMisplaced (name_of_misplaced placement.code placement.stack (placed_objects modules placement.modules))
+misplaced_by_name modules placement =
+    by_name (find (is_misplaced placement.code placement.stack) (placed_objects modules placement.modules))
+
+module _ (modules slice : List Typed) (layouts : List Layout) (lengths : List ℕ) (plan : CodePlan) (ranges : Ranges)
+    (storage : map layout_view layouts ≡ map (λ (typed : Typed). storage_with (module_view typed)) modules)
+    (same : slice ≡ modules)
+    (code_is : ranges.code ≡ range_of plan.code (min (sum lengths) 4294967295))
+    (variables_is : ranges.variables ≡ range_of plan.data_base (min (layout_sizes layouts) 4294967295))
+    (stack_is : ranges.stack ≡ stack_range (plan_view plan)) where
+  abbrev views : List TypedModule
+  views = map module_view modules
+
+  storages : map layout_view layouts ≡ map storage_with views
+  storages = storage ∙ storages_are modules
+
+  sizes : layout_sizes layouts ≡ sum_by (λ (typed : TypedModule). data_bytes typed.objects) views
+  sizes = ap data_sizes storages ∙ sizes_are views
+
+  ranges_are : range_refusal ranges.code ranges.variables ranges.stack
+      ≡ range_refusal (code_range (plan_view plan) lengths) (data_range (plan_view plan) views) (stack_range (plan_view plan))
+  ranges_are =
+      (λ i. range_refusal (code_is i) (variables_is i) (stack_is i))
+      ∙ capped_refusal plan.code plan.data_base (sum lengths) (layout_sizes layouts) (stack_range (plan_view plan))
+      ∙ ap (λ len. range_refusal (code_range (plan_view plan) lengths) (range_of plan.data_base len) (stack_range (plan_view plan))) sizes
+
+  refusal_is : placing_refusal (plan_view plan) views lengths
+      ≡ option_or (range_refusal ranges.code ranges.variables ranges.stack)
+      (first_misplaced views (placement_by (plan_view plan) views lengths))
+  refusal_is =
+      refusal_split (plan_view plan) views lengths
+      ∙ ap (λ refused. option_or refused (first_misplaced views (placement_by (plan_view plan) views lengths))) (sym ranges_are)
+
+  -- a fault of the ranges
+  pub range_found :
+      (found : Option Fault) (fault : Fault)
+      → option_map refusal_of found ≡ range_refusal ranges.code ranges.variables ranges.stack
+      → found ≡ Some fault
+      → placing_refusal (plan_view plan) views lengths ≡ Some (refusal_of fault)
+  range_found found fault given some =
+      refusal_is
+      ∙ ap (λ refused. option_or refused (first_misplaced views (placement_by (plan_view plan) views lengths)))
+      (sym given ∙ ap (option_map refusal_of) some)
+
+  -- no fault of the ranges
+  module _ (found : Option Fault) (given : option_map refusal_of found ≡ range_refusal ranges.code ranges.variables ranges.stack) (none : found ≡ None) where
+    ranges_pass : range_refusal ranges.code ranges.variables ranges.stack ≡ None
+    ranges_pass = sym given ∙ ap (option_map refusal_of) none
+
+    facts : Fits plan.code plan.data_base (sum lengths) (layout_sizes layouts) (stack_range (plan_view plan))
+    facts =
+        fits plan.code plan.data_base (sum lengths) (layout_sizes layouts) (stack_range (plan_view plan))
+        (sym (λ i. range_refusal (code_is i) (variables_is i) (stack_is i)) ∙ ranges_pass)
+
+    pub code_fits : plan.code + sum lengths ≤ 65536
+    code_fits = facts.code
+
+    pub variables_fit : plan.data_base + layout_sizes layouts ≤ 65536
+    variables_fit = facts.variables
+
+    -- the modules lie there
+    module _ (placements : List CodeModulePlacement) (made_is : map module_placement_view placements ≡ code_placements (record { code_base = plan.code; data_base = plan.data_base }) slice layouts lengths) where
+      abbrev made : List ModulePlacement
+      made = map module_placement_view placements
+
+      made_by : made ≡ map based (zip views (bases_from plan.code plan.data_base views lengths))
+      made_by =
+          made_is
+          ∙ (λ i. placements_from (record { code_base = plan.code; data_base = plan.data_base }) (map module_view (same i)) (storages i) lengths)
+          ∙ from_is plan.code plan.data_base views lengths
+
+      pub placed_is : ◌≡◌ {A = Placement} (record { modules = made; code = ranges.code; stack = ranges.stack }) (placement_by (plan_view plan) views lengths)
+      unfolding placement_by based
+      placed_is =
+          (λ i. record { modules = made_by i; code = code_is i; stack = stack_is i })
+          ∙ ap (λ len. record { modules = map based (zip views (bases_from plan.code plan.data_base views lengths)); code = range_of plan.code len; stack = stack_range (plan_view plan) }) facts.code_is
+
+      pub refused_by :
+          (name : Option (List ℕ)) (seen : List CodeModulePlacement)
+          → seen ≡ placements
+          → name ≡ name_of_misplaced ranges.code ranges.stack (placed_objects (map module_view slice) (map module_placement_view seen))
+          → placing_refusal (plan_view plan) views lengths ≡ option_map ObjectMisplaced name
+      refused_by name seen seen_is is =
+          refusal_is
+          ∙ ap (λ refused. option_or refused (first_misplaced views (placement_by (plan_view plan) views lengths))) ranges_pass
+          ∙ sym (ap (first_misplaced views) placed_is)
+          ∙ misplaced_by_name views (record { modules = made; code = ranges.code; stack = ranges.stack })
+          ∙ sym (ap (λ these. option_map ObjectMisplaced (name_of_misplaced ranges.code ranges.stack (placed_objects (map module_view these) made))) same)
+          ∙ sym (ap (λ items. option_map ObjectMisplaced (name_of_misplaced ranges.code ranges.stack (placed_objects (map module_view slice) (map module_placement_view items)))) seen_is)
+          ∙ sym (ap (option_map ObjectMisplaced) is)

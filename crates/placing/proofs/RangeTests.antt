@@ -1,0 +1,35 @@
+-- Tests of ranges, where a length stops at the greatest of 32 bits.
+use Rattle.std.proofs.Common.{◌≡◌, ℕ, ◌+◌, ◌<◌, Bool, true, false, min, refl, ap, sym, ◌∙◌, arith}
+use Rattle.std.specs.Prelude.{◌↔◌, ◌||◌, IsTrue}
+use Rattle.std.proofs.Math.Decide.{dec_le}
+use Rattle.std.proofs.lemmas.Bool.{lt-ltb}
+use Rattle.mem80.specs.declared.range.Range.{Range}
+use Rattle.mem80.specs.Range.{Meets}
+use Rattle.layout.specs.Placement.{range_of}
+use Rattle.layout.specs.Placing.{overlaps, passes_memory, may_not_lie}
+use Rattle.layout.proofs.Ranges.{overlaps_meets}
+
+-- two tests of one thing
+same_test : {P : Type 0} (a b : Bool) → IsTrue a ↔ P → IsTrue b ↔ P → a ≡ b
+same_test true true one other = refl
+same_test false false one other = refl
+same_test true false one other = sym (other.1 (one.0 refl))
+same_test false true one other = one.1 (other.0 refl)
+
+pub overlap_is : (result : Bool) (left right : Range) → IsTrue result ↔ Meets left right → result ≡ overlaps left right
+overlap_is result left right meets = same_test result (overlaps left right) meets (overlaps_meets left right)
+
+-- what is larger than a capped length passes the end of memory with both
+passes : (start len : ℕ) → 65536 < len → passes_memory (range_of start len) ≡ true
+passes start len large = lt-ltb 65536 (start + len) (omega arith)
+
+pub capped_object :
+    (code stack : Range) (start size len : ℕ)
+    → len ≡ min size 4294967295
+    → may_not_lie code stack (range_of start len) ≡ may_not_lie code stack (range_of start size)
+capped_object code stack start size len is = elim (dec_le size 4294967295) [
+  | yes small ↦ ap (λ n. may_not_lie code stack (range_of start n)) (let e : len ≡ size = omega (arith, small) in e)
+  | no large ↦
+      ap (λ b. b || overlaps (range_of start len) code || overlaps (range_of start len) stack) (passes start len (omega (arith, large)))
+      ∙ sym (ap (λ b. b || overlaps (range_of start size) code || overlaps (range_of start size) stack) (passes start size (omega (arith, large))))
+]
