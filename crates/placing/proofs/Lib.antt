@@ -1,0 +1,2 @@
+pub mod PieceLoops
+pub mod Coverage

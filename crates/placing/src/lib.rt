@@ -6,6 +6,8 @@ mod lawfulness;
 mod placement;
 mod placer;
 mod plan;
+mod reaches;
+mod table;
 
 pub use fault::Fault;
 pub use lawfulness::lawful;
