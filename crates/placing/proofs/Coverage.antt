@@ -18,7 +18,9 @@ use Rattle.placing.specs.Tables.{IsKind, IsTableOf}
 use Rattle.placing.specs.internal.Reaches.{ReachTables, no_ends, no_reaches, end_of, raised, with_end, with_piece, with_pieces, reach_below, is_covered, byte_kind, kind_in}
 
 -- a greatest number with one more
-fold_with : (first more : ℕ) (numbers : List ℕ) → fold max (max first more) numbers ≡ max (fold max first numbers) more
+fold_with :
+    (first more : ℕ) (numbers : List ℕ)
+    → fold max (max first more) numbers ≡ max (fold max first numbers) more
 fold_with first more [] = refl
 fold_with first more (number ∷ others) =
     ap (λ n. fold max n others) (swapped first more number) ∙ fold_with (max first number) more others
@@ -62,10 +64,16 @@ lt_min a e m within = grind (arith, nat_tests)
 abbrev has : (address : ℕ) → Range → Bool
 has address range = nat_lt range.start (address + 1) && nat_lt address (range.start + range.len)
 
-has_started : (address start end : ℕ) → start < address + 1 → (nat_lt start (address + 1) && nat_lt address end) ≡ nat_lt address end
+has_started :
+    (address start end : ℕ)
+    → start < address + 1
+    → (nat_lt start (address + 1) && nat_lt address end) ≡ nat_lt address end
 has_started address start end below = grind (arith, nat_tests)
 
-has_not_started : (address start end : ℕ) (before : Bool) → address + 1 ≤ start → before ≡ (before || (nat_lt start (address + 1) && nat_lt address end))
+has_not_started :
+    (address start end : ℕ) (before : Bool)
+    → address + 1 ≤ start
+    → before ≡ (before || (nat_lt start (address + 1) && nat_lt address end))
 has_not_started address start end true from = refl
 has_not_started address start end false from = grind (arith, nat_tests)
 
@@ -94,14 +102,17 @@ covered_raised :
 covered_raised ends range address within in_memory =
     elim (dec_le (suc range.start) (address + 1)) [
       | yes below ↦
-          ap (nat_lt address) (raised_below 0 ends range.start (end_of range) (address + 1) (omega (arith, below)) (omega (arith, within)))
+          ap (nat_lt address) (raised_below 0 ends range.start (end_of range) (address + 1)
+          (omega (arith, below)) (omega (arith, within)))
           ∙ lt_max address (reach_below ends (address + 1)) (end_of range)
           ∙ ap (λ is. is_covered ends address || is)
           (lt_min address (range.start + range.len) MEMORY_SIZE in_memory
           ∙ sym (has_started address range.start (range.start + range.len) (omega (arith, below))))
       | no above ↦
-          ap (nat_lt address) (raised_from 0 ends range.start (end_of range) (address + 1) (omega (arith, above)))
-          ∙ has_not_started address range.start (range.start + range.len) (is_covered ends address) (omega (arith, above))
+          ap (nat_lt address) (raised_from 0 ends range.start (end_of range) (address + 1)
+          (omega (arith, above)))
+          ∙ has_not_started address range.start (range.start + range.len) (is_covered ends address)
+          (omega (arith, above))
     ]
 
 -- and with many
@@ -122,7 +133,8 @@ covered_with tables [] address within in_memory = or_false (is_covered tables.al
 covered_with tables (piece ∷ others) address within in_memory =
     covered_with (with_piece tables piece) others address
     (subst (λ n. address < n) (sym (length-set tables.all piece.range.start _)) within) in_memory
-    ∙ ap (λ is. is || list_any (has_piece address) others) (covered_raised tables.all piece.range address within in_memory)
+    ∙ ap (λ is. is || list_any (has_piece address) others)
+    (covered_raised tables.all piece.range address within in_memory)
     ∙ or_assoc (is_covered tables.all address) (has_piece address piece) (list_any (has_piece address) others)
 
 constant_with :
@@ -134,7 +146,8 @@ constant_with :
 constant_with tables [] address within in_memory = or_false (is_covered tables.constants address)
 constant_with tables (piece ∷ others) address within in_memory =
     step (is_constant_piece piece) (λ is_constant now_within.
-    constant_with (with_end tables piece.range.start (end_of piece.range) is_constant) others address now_within in_memory)
+    constant_with (with_end tables piece.range.start (end_of piece.range) is_constant) others address
+    now_within in_memory)
   where
     step :
         (is_constant : Bool)
@@ -158,7 +171,9 @@ constant_with tables (piece ∷ others) address within in_memory =
     step false next = next false within
 
 -- what the test over pieces decides
-Decides-one_of : (pieces : List PlacedPiece) (address : ℕ) → Decides (list_any (has_piece address) pieces) (IsOneOf pieces address)
+Decides-one_of :
+    (pieces : List PlacedPiece) (address : ℕ)
+    → Decides (list_any (has_piece address) pieces) (IsOneOf pieces address)
 Decides-one_of pieces address = (
   λ is.
       let found = Any-from_list_any (has_piece address) pieces is in
@@ -181,7 +196,8 @@ not_past_nothing address reach is = grind (arith, nat_tests)
 none_covered : (address : ℕ) → is_covered no_ends address ≡ false
 unfolding no_ends
 none_covered address =
-    not_past_nothing address (reach_below (replicate MEMORY_SIZE 0) (address + 1)) (none_below MEMORY_SIZE (address + 1))
+    not_past_nothing address (reach_below (replicate MEMORY_SIZE 0) (address + 1))
+    (none_below MEMORY_SIZE (address + 1))
 
 within_no_ends : (address : ℕ) → address < MEMORY_SIZE → address < length no_ends
 unfolding no_ends
@@ -222,5 +238,6 @@ table_told pieces first tables kinds new given told address in_memory =
     subst (IsKind pieces address)
     (sym (told address in_memory ∙ ap (λ is. byte_kind is (is_covered tables.constants address)) declared
     ∙ ap (byte_kind (list_any (has_piece address) pieces)) constant))
-    (kind_told pieces address (list_any (has_piece address) pieces) (list_any (has_piece address) constants)
+    (kind_told pieces address
+    (list_any (has_piece address) pieces) (list_any (has_piece address) constants)
     (Decides-one_of pieces address) (Decides-one_of constants address))

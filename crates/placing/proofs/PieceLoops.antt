@@ -17,7 +17,8 @@ zip_nothing (item ∷ others) = refl
 
 -- no pair is left where the shorter list ends
 pairs_ended :
-    {A B C D : Type 0} (items : List A) (others : List B) (i : ℕ) (view : A → C) (view_others : List B → List D)
+    {A B C D : Type 0} (items : List A) (others : List B) (i : ℕ)
+    (view : A → C) (view_others : List B → List D)
     → view_others [] ≡ []
     → i ≡ min (length items) (length others)
     → zip (map view (drop i items)) (view_others (drop i others)) ≡ []
@@ -36,7 +37,8 @@ pairs_ended items others i view view_others none ended =
 -- objects at addresses
 pub objects_ended :
     (objects : List Object) (addresses : List ℕ) (i : ℕ) (tables total : ReachTables)
-    → with_pieces tables (filter_map object_piece (zip (map object_view (drop i objects)) (drop i addresses))) ≡ total
+    → with_pieces tables (filter_map object_piece (zip (map object_view (drop i objects)) (drop i addresses)))
+    ≡ total
     → i ≡ min (length objects) (length addresses)
     → tables ≡ total
 objects_ended objects addresses i tables total rest ended =

@@ -6,8 +6,8 @@ use Rattle.layout.specs.Placement.{PlacedPiece, is_constant_piece}
 use Rattle.placing.specs.declared.placement.ByteKind.{ByteKind}
 use Rattle.placing.specs.declared.placement.ByteKind.TheVariants.{Undeclared, Writable, Constant}
 
--- for each address the greatest end of the pieces that start there, 0 where none starts: of all pieces, and of
--- the constants
+-- for each address the greatest end of the pieces that start there, 0 where none starts: of all pieces, and
+-- of the constants
 pub record ReachTables : Type 0 where
   pub all : List ℕ
   pub constants : List ℕ
