@@ -12,3 +12,5 @@ pub mod RangeTests
 pub mod Passes
 pub mod MisplacedLoops
 pub mod Placings
+pub mod PieceLoops
+pub mod Coverage

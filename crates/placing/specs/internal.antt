@@ -1,1 +1,2 @@
 pub mod Placings
+pub mod Reaches

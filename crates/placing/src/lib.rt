@@ -9,6 +9,8 @@ mod placement;
 mod placer;
 mod plan;
 mod ranges;
+mod reaches;
+mod table;
 
 pub use fault::Fault;
 pub use placement::{ByteKind, ModulePlacement, Placement};

@@ -7,6 +7,7 @@ ghost use Rattle.join.specs.Views.{modules_of};
 ghost use Rattle.placing.specs.Tables.{IsTableOf};
 ghost use Rattle.placing.specs.Views.{module_placement_view, placement_view};
 
+use crate::table::kinds_of;
 use join::Joined;
 use mem80::Range;
 use std::alloc::{AllocError, Global};
@@ -54,7 +55,13 @@ impl Placement {
         ensures table { IfOk result (λ placement.
             IsTableOf (pieces_of (map module_view (modules_of joined.now)) (placement_view placement)) placement.kinds.value) }
     {
-        Err(AllocError)
+        let kinds = kinds_of(alloc, joined.modules(), modules.as_slice())?;
+        Ok(Placement {
+            modules,
+            code,
+            stack,
+            kinds,
+        })
     }
 
     /// Where its modules lie.

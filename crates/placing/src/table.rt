@@ -1,0 +1,59 @@
+//! What each byte of memory is to a program.
+
+ghost use Rattle.std.specs.Prelude.{◌≡◌, ◌<◌, ℕ, flat_map, map, slice_index_or, zip, IfOk};
+ghost use Rattle.mem80.specs.declared.memory.TheConstants.{MEMORY_SIZE};
+ghost use Rattle.typed_trees.specs.Views.{module_view};
+ghost use Rattle.layout.specs.Placement.{pieces_of_module};
+ghost use Rattle.placing.specs.Tables.{IsTableOf};
+ghost use Rattle.placing.specs.Views.{module_placement_view};
+ghost use Rattle.placing.specs.internal.Reaches.{byte_kind, kind_in};
+
+use crate::placement::{ByteKind, ModulePlacement};
+use crate::reaches::Reaches;
+use mem80::MEMORY_SIZE;
+use std::alloc::{AllocError, Global};
+use typed_trees::Typed;
+
+// What a byte is that something has, and that a constant has.
+fn byte_kind(is_declared: bool, is_constant: bool) -> ByteKind
+    ensures { result ≡ byte_kind is_declared is_constant }
+{
+    if is_constant {
+        ByteKind::Constant
+    } else if is_declared {
+        ByteKind::Writable
+    } else {
+        ByteKind::Undeclared
+    }
+}
+
+// Says what each byte is, in one pass over memory: a piece has a byte where one that starts there or below reaches past it.
+fn fill(kinds: &mut [ByteKind; MEMORY_SIZE], reaches: &Reaches)
+    ensures { (address : ℕ) → address < MEMORY_SIZE
+        → slice_index_or kinds.new address ByteKind.Undeclared ≡ kind_in reaches.now address }
+{
+    let mut declared: u32 = 0;
+    let mut constant: u32 = 0;
+    for address in 0..MEMORY_SIZE {
+        declared = declared.max(reaches.end_of_all(address));
+        constant = constant.max(reaches.end_of_constants(address));
+        kinds[address] = byte_kind(address < declared as usize, address < constant as usize);
+    }
+}
+
+/// What each byte of memory is where modules lie at addresses.
+pub(crate) fn kinds_of(
+    alloc: Global,
+    modules: &[Typed],
+    placed: &[ModulePlacement],
+) -> Result<Box<[ByteKind; MEMORY_SIZE]>, AllocError>
+    ensures { IfOk result (λ kinds. IsTableOf
+        (flat_map pieces_of_module (zip (map module_view modules.now) (map module_placement_view placed.now)))
+        kinds.value) }
+{
+    let mut reaches = Reaches::new(alloc)?;
+    reaches.add_modules(modules, placed);
+    let mut kinds = Box::new(alloc, [ByteKind::Undeclared; MEMORY_SIZE])?;
+    fill(&mut *kinds, &reaches);
+    Ok(kinds)
+}
