@@ -7,7 +7,7 @@ use Rattle.std.proofs.lemmas.Bool.Decides.{same_from_decides}
 use Rattle.mem80.specs.declared.range.Range.{Range}
 use Rattle.mem80.specs.Range.{IsIn, Meets}
 use Rattle.layout.specs.Placement.{PieceKind, StaticPiece, ConstantPiece, EndsInMemory, range_of}
-use Rattle.placing.specs.internal.Claims.{claim_bytes, claim_between, are_claimed, claimed_between, ends_in_memory, ranges_meet, claim_by_kind}
+use Rattle.placing.specs.internal.Claims.{claim_bytes, claim_between, are_claimed, claimed_between, ends_in_memory, ranges_meet, claim_by_kind, may_lie_at, ranges_fit}
 
 one_more : (address end : ℕ) → address < end → end - address ≡ suc (end - suc address)
 one_more address end below = omega arith
@@ -129,3 +129,40 @@ capped_constants code stack start size table =
           long_list code stack start (min size 4294967295) table (omega (arith, large))
           ∙ sym (long_list code stack start size table (omega (arith, large)))
     ]
+
+past_at :
+    (code stack : Range) (start size : ℕ) (table : List Bool)
+    → 65536 < size
+    → may_lie_at code stack table (range_of start size) ≡ false
+unfolding may_lie_at
+past_at code stack start size table long = rw (past (range_of start size) (omega arith)) refl
+
+pub capped_at :
+    (code stack : Range) (start size : ℕ) (table : List Bool)
+    → may_lie_at code stack table (range_of start (min size 4294967295))
+    ≡ may_lie_at code stack table (range_of start size)
+capped_at code stack start size table =
+    elim (dec_le size 4294967295) [
+      | yes small ↦ ap (λ n. may_lie_at code stack table (range_of start n)) (let e : min size 4294967295 ≡ size = omega (arith, small) in e)
+      | no large ↦
+          past_at code stack start (min size 4294967295) table (omega (arith, large))
+          ∙ sym (past_at code stack start size table (omega (arith, large)))
+    ]
+
+pub three : (a b c : Bool) → a && b && c ≡ true → (a ≡ true) × (b ≡ true) × (c ≡ true)
+three true true true all = (refl, refl, refl)
+three false b c all = absurd (cc)
+three true false c all = absurd (cc)
+three true true false all = absurd (cc)
+
+pub all_three : (a b c : Bool) → a ≡ true → b ≡ true → c ≡ true → a && b && c ≡ true
+all_three a b c first second third = rw (first, second, third) refl
+
+pub not_true : (a : Bool) → not a ≡ true → a ≡ false
+not_true true is = absurd (cc)
+not_true false is = refl
+
+pub code_ends : (code stack : Range) → ranges_fit code stack ≡ true → code.start + code.len ≤ 65536
+unfolding ranges_fit
+code_ends code stack fit =
+    ends code (three (ends_in_memory code) (ends_in_memory stack) (not (ranges_meet code stack)) fit).0

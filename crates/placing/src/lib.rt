@@ -1,6 +1,7 @@
 //! Where joined PL/M-80 programs lie in memory.
 #![tactic(auto)]
 
+mod at_objects;
 mod claims;
 mod fault;
 mod lawfulness;

@@ -149,9 +149,13 @@ ranges_fit code stack = ends_in_memory code && ends_in_memory stack && not (rang
 unfoldable pub unclaimed : List Bool
 unclaimed = replicate 65536 false
 
+unfoldable pub all_fit : (code stack : Range) → List TypedModule → List ModulePlacement → Bool
+all_fit code stack modules placements =
+    option_map_or (λ table. modules_fit code stack table modules placements)
+    (claim_modules code stack modules placements unclaimed) false
+
 unfoldable pub is_lawful : List TypedModule → Placement → Bool
 is_lawful modules placement =
     nat_eq (length placement.modules) (length modules)
     && ranges_fit placement.code placement.stack
-    && option_map_or (λ table. modules_fit placement.code placement.stack table modules placement.modules)
-    (claim_modules placement.code placement.stack modules placement.modules unclaimed) false
+    && all_fit placement.code placement.stack modules placement.modules
