@@ -1,1 +1,4 @@
 pub mod Claiming
+pub mod ClaimedBytes
+pub mod SomePieces
+pub mod PieceClaims
