@@ -2,3 +2,4 @@ pub mod Claiming
 pub mod ClaimedBytes
 pub mod SomePieces
 pub mod PieceClaims
+pub mod PieceOrder
