@@ -180,7 +180,7 @@ no_byte_of piece [] apart a inside have = absurd have
 no_byte_of piece (other ∷ others) apart a inside (inl has) = apart.0 has.0 (a, inside, has.1)
 no_byte_of piece (other ∷ others) apart a inside (inr have) = no_byte_of piece others apart.1 a inside have
 
-false_true : (b : Bool) → b ≡ false → b ≡ true → ⊥
+pub false_true : (b : Bool) → b ≡ false → b ≡ true → ⊥
 false_true true is_false is_true = true≢false is_false
 false_true false is_false is_true = true≢false (sym is_true)
 
