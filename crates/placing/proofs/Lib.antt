@@ -14,3 +14,11 @@ pub mod MisplacedLoops
 pub mod Placings
 pub mod PieceLoops
 pub mod Coverage
+pub mod Claiming
+pub mod ClaimedBytes
+pub mod SomePieces
+pub mod PieceClaims
+pub mod PieceOrder
+pub mod PiecesLawful
+pub mod ClaimsSucceed
+pub mod TestDecides

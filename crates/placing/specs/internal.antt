@@ -1,2 +1,3 @@
 pub mod Placings
 pub mod Reaches
+pub mod Claims

@@ -2,6 +2,8 @@
 #![tactic(auto)]
 
 mod addresses;
+mod at_objects;
+mod claims;
 mod fault;
 mod lawfulness;
 mod misplaced;

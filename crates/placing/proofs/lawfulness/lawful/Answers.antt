@@ -1,0 +1,11 @@
+use Rattle.typed_trees.specs.Views.{module_view}
+use Rattle.std.proofs.Common.{map}
+use Rattle.join.specs.Views.{modules_of}
+use Rattle.placing.specs.Views.{placement_view}
+use Rattle.placing.proofs.TestDecides.{decides}
+use Rattle.placing.proofs.lawfulness.lawful.Goals as goal
+
+pub returns : goal.returns
+returns c =
+    decides (map module_view (modules_of c.args.joined.now)) (placement_view c.args.placement.now) c.is_lawful.result
+    c.is_lawful.ensures
