@@ -15,6 +15,7 @@ mod reaches;
 mod table;
 
 pub use fault::Fault;
+pub use lawfulness::lawful;
 pub use placement::{ByteKind, ModulePlacement, Placement};
 pub use placer::place;
 pub use plan::Plan;
