@@ -1,6 +1,6 @@
 //! The scalars of an object, one after another.
 
-ghost use Rattle.std.specs.Prelude.{◌≡◌, ◌<◌, IfSome, IsTrue, [], ◌∷◌, ◌++◌, flat_map, drop, length, slice_get, true, false};
+ghost use Rattle.std.specs.Prelude.{◌≡◌, ◌<◌, IfSome, [], length, slice_get, true, false};
 ghost use Rattle.typed_trees.specs.Sizes.{scalars_of_element, scalars_of_elements};
 ghost use Rattle.typed_trees.specs.Views.{type_view};
 ghost use Rattle.typed_expressions.specs.internal.Fillings.{Takes, first_of, left_of, run_of_member, runs_from, runs_of};
