@@ -1,7 +1,6 @@
 -- What a claim of bytes one after another says of the table.
-use Rattle.std.proofs.Common.{◌≡◌, ℕ, zero, suc, ◌+◌, ◌-◌, ◌<◌, ◌≤◌, Bool, true, false, ◌&&◌, List, length, get_or, set, Option, Some, None, if◌then◌else◌, refl, ap, sym, subst, ◌∙◌, arith}
-use Rattle.std.specs.Prelude.{◌⊎◌}
-use mathlib.Core.Logic.{inl, inr, ⊎_elim}
+use Rattle.std.proofs.Common.{◌≡◌, ℕ, zero, suc, ◌+◌, ◌-◌, ◌<◌, ◌≤◌, Bool, true, false, ◌&&◌, List, length, get_or, set, Some, None, if◌then◌else◌, refl, ap, sym, subst, ◌∙◌, arith}
+use mathlib.Core.Logic.{⊎_elim}
 use Rattle.std.proofs.lemmas.Bool.{cases_eq}
 use Rattle.std.proofs.lemmas.List.{length-set, get_or-set_same, get_or-set_other}
 use Rattle.placing.specs.internal.Claims.{claim_bytes, claim_between, are_claimed, claimed_between}
@@ -35,7 +34,7 @@ first_claim :
     → BytesClaimed start end before after
 first_claim start end before after within some free rest =
     let other : (a : ℕ) → (a ≡ start → ⊥) → get_or (set before start true) a false ≡ get_or before a false =
-        λ (a : ℕ) (apart : a ≡ start → ⊥). get_or-set_other before start a true false apart in
+    λ (a : ℕ) (apart : a ≡ start → ⊥). get_or-set_other before start a true false apart in
     record {
       same_length = rest.same_length ∙ length-set before start true;
       free = λ a low high. ⊎_elim
@@ -89,8 +88,8 @@ bytes_can zero start before within free = (before, refl)
 bytes_can (suc count) start before within free =
     let here : get_or before start false ≡ false = free start (omega arith) (omega arith) in
     let rest = bytes_can count (suc start) (set before start true)
-        (omega (arith, length-set before start true))
-        (λ a low high. get_or-set_other before start a true false (λ at. omega (arith, at)) ∙ free a (omega arith) (omega arith)) in
+    (omega (arith, length-set before start true))
+    (λ a low high. get_or-set_other before start a true false (λ at. omega (arith, at)) ∙ free a (omega arith) (omega arith)) in
     (rest.0, ap (λ (taken : Bool). if taken then None else claim_bytes count (suc start) (set before start true)) here ∙ rest.1)
 
 pub between_claimed :
@@ -103,7 +102,7 @@ unfolding claim_between
 between_claimed start end before after some within is =
     let whole : start + (end - start) ≡ end = omega arith in
     let claimed : BytesClaimed start (start + (end - start)) before after =
-        bytes_claimed (end - start) start before after (omega arith) is in
+    bytes_claimed (end - start) start before after (omega arith) is in
     rw whole at claimed
 
 pub between_can :

@@ -1,5 +1,5 @@
 -- What the claims of pieces say: each may lie where it does, no two share a byte, and the table has their bytes.
-use Rattle.std.proofs.Common.{◌≡◌, ℕ, ◌+◌, ◌<◌, ◌≤◌, Bool, true, false, not, ◌&&◌, List, [], ◌∷◌, length, get_or, Option, Some, None, if◌then◌else◌, refl, ap, sym, subst, ◌∙◌, arith}
+use Rattle.std.proofs.Common.{◌≡◌, ℕ, ◌+◌, ◌<◌, ◌≤◌, Bool, true, false, not, List, [], ◌∷◌, length, get_or, Option, Some, None, refl, ap, sym, ◌∙◌, arith}
 use Rattle.std.specs.Prelude.{◌⊎◌, option_and_then}
 use Rattle.std.specs.List.{AllByRecursion}
 use mathlib.Core.Bool.{true≢false}
@@ -52,16 +52,16 @@ from_bytes code stack piece before after own may claimed = record {
   came = λ a marked. ⊎_elim
       (λ (low : a < piece.range.start). inl (sym (claimed.below a low) ∙ marked))
       (λ (high : piece.range.start ≤ a). ⊎_elim
-          (λ (short : a < piece.range.start + piece.range.len). inr (own, (high, short)))
-          (λ (past : piece.range.start + piece.range.len ≤ a). inl (sym (claimed.above a past) ∙ marked))
-          (cases_lt a (piece.range.start + piece.range.len)))
+      (λ (short : a < piece.range.start + piece.range.len). inr (own, (high, short)))
+      (λ (past : piece.range.start + piece.range.len ≤ a). inl (sym (claimed.above a past) ∙ marked))
+      (cases_lt a (piece.range.start + piece.range.len)))
       (cases_lt a piece.range.start);
   still = λ a marked. ⊎_elim
       (λ (low : a < piece.range.start). claimed.below a low ∙ marked)
       (λ (high : piece.range.start ≤ a). ⊎_elim
-          (λ (short : a < piece.range.start + piece.range.len). claimed.marked a high short)
-          (λ (past : piece.range.start + piece.range.len ≤ a). claimed.above a past ∙ marked)
-          (cases_lt a (piece.range.start + piece.range.len)))
+      (λ (short : a < piece.range.start + piece.range.len). claimed.marked a high short)
+      (λ (past : piece.range.start + piece.range.len ≤ a). claimed.above a past ∙ marked)
+      (cases_lt a (piece.range.start + piece.range.len)))
       (cases_lt a piece.range.start);
 }
 
@@ -192,9 +192,9 @@ claimed_first :
 claimed_first code stack piece others before between after one rest = record {
   may = (one.may, rest.may);
   apart = (
-      (λ own. apart_from piece others
-      (λ a inside have. false_true (get_or between a false) (rest.free a have) (one.marked a (own, inside)))),
-      rest.apart,
+    (λ own. apart_from piece others
+        (λ a inside have. false_true (get_or between a false) (rest.free a have) (one.marked a (own, inside)))),
+    rest.apart,
   );
   free = λ a (have : HaveByte a (piece ∷ others)). ⊎_elim (one.free a)
       (λ (have : HaveByte a others). was_free (get_or before a false) refl (one.still a) (rest.free a have)) have;
@@ -247,11 +247,11 @@ pieces_can code stack (piece ∷ others) before long may apart free =
     let first = piece_can code stack piece before long may.0 (λ a has. free a (inl has)) in
     let one = piece_claimed code stack piece before first.0 long first.1 in
     let rest = pieces_can code stack others first.0 (one.same_length ∙ long) may.1 apart.1
-        (λ a have. still_free (get_or first.0 a false)
-        (λ marked. ⊎_elim
-        (λ (earlier : get_or before a false ≡ true). false_true (get_or before a false) (free a (inr have)) earlier)
-        (λ (has : HasByte a piece). no_byte_of piece others (apart.0 has.0) a has.1 have)
-        (one.came a marked))) in
+    (λ a have. still_free (get_or first.0 a false)
+    (λ marked. ⊎_elim
+    (λ (earlier : get_or before a false ≡ true). false_true (get_or before a false) (free a (inr have)) earlier)
+    (λ (has : HasByte a piece). no_byte_of piece others (apart.0 has.0) a has.1 have)
+    (one.came a marked))) in
     (rest.0, ap (option_and_then (claim_pieces code stack others)) first.1 ∙ rest.1)
   where
     still_free : (b : Bool) → (b ≡ true → ⊥) → b ≡ false

@@ -1,6 +1,6 @@
 -- The claims of modules are those of the pieces of a program, in their order; and what is tested of objects with AT is
 -- tested of those pieces.
-use Rattle.std.proofs.Common.{◌≡◌, ℕ, Bool, true, false, ◌&&◌, List, [], ◌∷◌, ◌++◌, length, map, nat_eq, Option, Some, None, refl, ap, sym, subst, ◌∙◌}
+use Rattle.std.proofs.Common.{◌≡◌, ℕ, Bool, true, ◌&&◌, List, [], ◌∷◌, ◌++◌, length, map, nat_eq, Option, Some, None, refl, ap, sym, ◌∙◌}
 use Rattle.std.specs.Prelude.{option_and_then, option_map, filter_map, flat_map, zip}
 use Rattle.std.specs.List.{AllByRecursion, cons_option}
 use Rattle.std.proofs.lemmas.Bool.{and_parts, eqb-true, eq-eqb}
@@ -155,9 +155,11 @@ module _ (code stack : Range) where
         (placed : ModulePlacement) (object : TypedObject) (address : ℕ) (home : Home)
         → home_fits code stack table placed.objects object address home ≡ true
         → AllByRecursion AtMayLie (cons_option (piece_by object address home) [])
-    home_may placed object address (Placed at) fits =
-        ((and_parts (nat_eq address (address_at placed.objects at))
-        (may_lie_at code stack table (range_of address (size_of_object object))) fits).1, tt)
+    home_may placed object address (Placed at) fits = (
+      (and_parts (nat_eq address (address_at placed.objects at))
+          (may_lie_at code stack table (range_of address (size_of_object object))) fits).1,
+      tt,
+    )
     home_may placed object address (InData values) fits = (tt, tt)
     home_may placed object address (InConstants values) fits = (tt, tt)
     home_may placed object address (BasedOn base) fits = tt
@@ -194,7 +196,7 @@ module _ (code stack : Range) where
     objects_lie placed (object ∷ objects) [] fit = tt
     objects_lie placed (object ∷ objects) (address ∷ addresses) fit =
         let both = and_parts (home_fits code stack table placed.objects object address object.home)
-            (objects_fit code stack table placed.objects objects addresses) fit in
+        (objects_fit code stack table placed.objects objects addresses) fit in
         (home_lies placed object address object.home both.0, objects_lie placed objects addresses both.1)
 
     objects_may :
@@ -206,7 +208,7 @@ module _ (code stack : Range) where
     objects_may placed (object ∷ objects) [] fit = tt
     objects_may placed (object ∷ objects) (address ∷ addresses) fit =
         let both = and_parts (home_fits code stack table placed.objects object address object.home)
-            (objects_fit code stack table placed.objects objects addresses) fit in
+        (objects_fit code stack table placed.objects objects addresses) fit in
         others_onto (object_piece (object, address)) (placed_objects objects addresses)
         (home_may placed object address object.home both.0) (objects_may placed objects addresses both.1)
 
@@ -305,7 +307,7 @@ module _ (code stack : Range) where
     modules_parts (typed ∷ modules) [] fit = record { has = tt; lie = tt; may = tt }
     modules_parts (typed ∷ modules) (placed ∷ placements) fit =
         let both = and_parts (module_fits code stack table typed placed)
-            (modules_fit code stack table modules placements) fit in
+        (modules_fit code stack table modules placements) fit in
         let first = module_parts typed placed both.0 in
         let rest = modules_parts modules placements both.1 in
         record {

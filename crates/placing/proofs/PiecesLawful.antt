@@ -1,21 +1,21 @@
 -- Pieces lie lawfully just where their bytes can be claimed and those with AT may lie where they do.
-use Rattle.std.proofs.Common.{◌≡◌, ℕ, zero, suc, ◌+◌, ◌-◌, ◌<◌, ◌≤◌, min, max, Bool, true, false, not, ◌&&◌, ◌||◌, nat_eq, nat_le, List, [], ◌∷◌, length, get_or, replicate, Some, refl, ap, sym, subst, ◌∙◌, arith}
-use Rattle.std.specs.Prelude.{◌⊎◌, All, AllPairs, Any, filter}
+use Rattle.std.proofs.Common.{◌≡◌, ℕ, zero, suc, ◌+◌, ◌-◌, ◌<◌, ◌≤◌, min, max, Bool, true, false, not, ◌&&◌, ◌||◌, nat_eq, nat_le, List, [], ◌∷◌, length, get_or, replicate, Some, refl, ap, sym, ◌∙◌, arith}
+use Rattle.std.specs.Prelude.{◌⊎◌, All, AllPairs, filter}
 use Rattle.std.specs.List.{AllByRecursion}
 use mathlib.Core.Bool.{true≢false}
 use mathlib.Core.Logic.{inl, inr, ⊎_elim}
 use Rattle.std.proofs.lemmas.Bool.{and_parts, and_from, le-leb, leb-true, eqb-true, eqb-false}
-use Rattle.std.proofs.lemmas.List.{get_or_default, length-replicate}
-use Rattle.std.proofs.lemmas.List.Elements.{All-from_recursion, recursion_from_All}
+use Rattle.std.proofs.lemmas.List.{length-replicate}
+use Rattle.std.proofs.lemmas.List.Elements.{All-from_recursion}
 use Rattle.mem80.specs.declared.range.Range.{Range}
 use Rattle.mem80.specs.Range.{IsIn, Meets}
 use Rattle.layout.specs.Placement.{PieceKind, StaticPiece, ConstantPiece, AtPiece, PlacedPiece, EndsInMemory, IsOneOf, has_own_place, is_constant_piece}
 use Rattle.layout.specs.Lawful.{AreDisjoint, LiesIn}
-use Rattle.placing.specs.internal.Claims.{claim_pieces, claimed_between, ends_in_memory, ranges_meet, is_within, may_hold_variables, may_hold_constants, may_lie_at, unclaimed}
-use Rattle.placing.proofs.Claiming.{ends, ends_true, meets_decides, three, all_three, not_true}
-use Rattle.placing.proofs.ClaimedBytes.{between_all, between_each}
-use Rattle.placing.proofs.SomePieces.{Some_of, some_at, some_from_any, any_from_some, some_weaker, any_of_filter, any_in_filter, all_of_filter, all_in_filter, all_weaker, all_both, Pairs_of, pairs_of_filter, pairs_in_filter}
-use Rattle.placing.proofs.PieceClaims.{HasByte, HaveByte, allowed, MayLie, PiecesClaimed, variables_end, constants_end, no_byte_of, false_true, pieces_claimed, pieces_can}
+use Rattle.placing.specs.internal.Claims.{claim_pieces, claimed_between, ends_in_memory, ranges_meet, is_within, may_hold_variables, may_lie_at, unclaimed}
+use Rattle.placing.proofs.Claiming.{ends, meets_decides, three, not_true}
+use Rattle.placing.proofs.ClaimedBytes.{between_all}
+use Rattle.placing.proofs.SomePieces.{Some_of, some_from_any, any_in_filter, all_in_filter, all_weaker, all_both, pairs_in_filter}
+use Rattle.placing.proofs.PieceClaims.{HasByte, HaveByte, allowed, MayLie, PiecesClaimed, variables_end, constants_end, false_true, pieces_claimed}
 use Rattle.placing.proofs.PieceOrder.{at_allowed, AtMayLie}
 
 -- what a lawful placement says of its pieces
@@ -67,7 +67,7 @@ within_either code range false empty is a inside =
     let both = and_parts (nat_le code.start range.start) (nat_le (range.start + range.len) (code.start + code.len)) is in
     let first : code.start ≤ range.start = leb-true code.start range.start both.0 in
     let last : range.start + range.len ≤ code.start + code.len =
-        leb-true (range.start + range.len) (code.start + code.len) both.1 in
+    leb-true (range.start + range.len) (code.start + code.len) both.1 in
     let low : range.start ≤ a = inside.0 in
     let high : a < range.start + range.len = inside.1 in
     (omega arith, omega arith)
@@ -86,7 +86,7 @@ within_from code range false some lies =
     let any : 0 < range.len = some refl in
     let first : IsIn range.start code = lies range.start (omega arith, omega arith) in
     let last : IsIn (range.start + (range.len - 1)) code =
-        lies (range.start + (range.len - 1)) (omega arith, omega arith) in
+    lies (range.start + (range.len - 1)) (omega arith, omega arith) in
     let low : code.start ≤ range.start = first.0 in
     let high : range.start + (range.len - 1) < code.start + code.len = last.1 in
     and_from (nat_le code.start range.start) (nat_le (range.start + range.len) (code.start + code.len))
@@ -252,7 +252,7 @@ lie_lawfully code stack pieces table is at =
           (λ piece may. one_in_code code stack table piece.kind piece.range may) pieces claimed.may);
       not_in_code = λ a one variable in_code.
           let known : Some_of (ConstantByte a) pieces → ⊥ =
-              λ (constant : Some_of (ConstantByte a) pieces). variable (any_in_filter is_constant_piece (λ (piece : PlacedPiece). IsIn a piece.range) pieces constant) in
+          λ (constant : Some_of (ConstantByte a) pieces). variable (any_in_filter is_constant_piece (λ (piece : PlacedPiece). IsIn a piece.range) pieces constant) in
           ⊎_elim known
           (λ (taken : get_or table a false ≡ true). ⊎_elim
           (λ (before : get_or unclaimed a false ≡ true). false_true (get_or unclaimed a false) (unclaimed_free a) before)

@@ -1,17 +1,15 @@
 -- The test of a placement decides whether it is lawful.
-use Rattle.std.proofs.Common.{◌≡◌, ℕ, ◌≤◌, Bool, true, false, not, ◌&&◌, List, length, nat_eq, Option, None, Some, refl, ap, sym, ◌∙◌}
-use Rattle.std.specs.Prelude.{◌↔◌, IsTrue, All, zip, flat_map}
-use Rattle.std.specs.List.{AllByRecursion}
+use Rattle.std.proofs.Common.{◌≡◌, Bool, true, false, not, List, length, nat_eq, Option, None, Some, refl, ap, sym, ◌∙◌}
+use Rattle.std.specs.Prelude.{◌↔◌, IsTrue, zip}
 use Rattle.std.specs.Option.{option_map_or}
 use Rattle.std.proofs.lemmas.Bool.{eqb-true, eq-eqb}
 use Rattle.std.proofs.lemmas.List.Elements.{All-from_recursion, recursion_from_All}
-use Rattle.mem80.specs.declared.range.Range.{Range}
 use Rattle.typed_trees.specs.TypedTrees.{TypedModule}
-use Rattle.layout.specs.Placement.{ModulePlacement, Placement, pieces_of, pieces_of_module}
+use Rattle.layout.specs.Placement.{Placement, pieces_of}
 use Rattle.layout.specs.Lawful.{HasAddresses, LiesWhereAtSays, IsLawful}
 use Rattle.placing.specs.internal.Claims.{claim_modules, modules_fit, unclaimed, ends_in_memory, ranges_meet, ranges_fit, all_fit, is_lawful}
 use Rattle.placing.proofs.Claiming.{ends, ends_true, three, all_three}
-use Rattle.placing.proofs.PieceOrder.{AtMayLie, modules_order, ModulesFit, modules_parts, modules_from}
+use Rattle.placing.proofs.PieceOrder.{modules_order, ModulesFit, modules_parts, modules_from}
 use Rattle.placing.proofs.PiecesLawful.{LieLawfully, lie_lawfully, apart, apart_true}
 use Rattle.placing.proofs.ClaimsSucceed.{Succeed, succeed}
 
@@ -62,10 +60,10 @@ module _ (modules : List TypedModule) (placement : Placement) where
       let ranges = range_parts all.1 in
       let found = fit_parts all.2 in
       let fit : ModulesFit placement.code placement.stack found.0 modules placement.modules =
-          modules_parts placement.code placement.stack found.0 modules placement.modules found.2 in
+      modules_parts placement.code placement.stack found.0 modules placement.modules found.2 in
       let lie : LieLawfully placement.code placement.stack (pieces_of modules placement) =
-          lie_lawfully placement.code placement.stack (pieces_of modules placement) found.0
-          (sym (modules_order placement.code placement.stack modules placement.modules unclaimed) ∙ found.1) fit.may in
+      lie_lawfully placement.code placement.stack (pieces_of modules placement) found.0
+      (sym (modules_order placement.code placement.stack modules placement.modules unclaimed) ∙ found.1) fit.may in
       record {
         for_each_module = eqb-true (length placement.modules) (length modules) all.0;
         complete = All-from_recursion HasAddresses (zip modules placement.modules) fit.has;
@@ -112,7 +110,7 @@ module _ (modules : List TypedModule) (placement : Placement) where
   all_from : IsLawful modules placement → all_fit placement.code placement.stack modules placement.modules ≡ true
   all_from lawful =
       let found : Succeed placement.code placement.stack (pieces_of modules placement) =
-          succeed placement.code placement.stack (pieces_of modules placement) lawful.code_apart_from_stack (lies lawful) in
+      succeed placement.code placement.stack (pieces_of modules placement) lawful.code_apart_from_stack (lies lawful) in
       let fit : ModulesFit placement.code placement.stack found.table modules placement.modules = record {
         has = recursion_from_All HasAddresses (zip modules placement.modules) lawful.complete;
         lie = recursion_from_All LiesWhereAtSays (zip modules placement.modules) lawful.where_at_says;
