@@ -143,16 +143,28 @@ all_claimed (suc count) start table is a low high =
     (λ others apart. all_claimed count (suc start) table others a (omega (arith, apart)) (omega arith))
     (get_or table start false) refl is
 
-each_claimed : (count start : ℕ) (table : List Bool) → ((a : ℕ) → start ≤ a → a < start + count → get_or table a false ≡ true) → are_claimed count start table ≡ true
+each_claimed :
+    (count start : ℕ) (table : List Bool)
+    → ((a : ℕ) → start ≤ a → a < start + count → get_or table a false ≡ true)
+    → are_claimed count start table ≡ true
 each_claimed zero start table each = refl
 each_claimed (suc count) start table each =
     ap (λ (taken : Bool). taken && are_claimed count (suc start) table) (each start (omega arith) (omega arith))
     ∙ each_claimed count (suc start) table (λ a low high. each a (omega arith) (omega arith))
 
-pub between_all : (start end : ℕ) (table : List Bool) → claimed_between start end table ≡ true → (a : ℕ) → start ≤ a → a < end → get_or table a false ≡ true
+pub between_all :
+    (start end : ℕ) (table : List Bool)
+    → claimed_between start end table ≡ true
+    → (a : ℕ)
+    → start ≤ a
+    → a < end
+    → get_or table a false ≡ true
 unfolding claimed_between
 between_all start end table is a low high = all_claimed (end - start) start table is a low (omega arith)
 
-pub between_each : (start end : ℕ) (table : List Bool) → ((a : ℕ) → start ≤ a → a < end → get_or table a false ≡ true) → claimed_between start end table ≡ true
+pub between_each :
+    (start end : ℕ) (table : List Bool)
+    → ((a : ℕ) → start ≤ a → a < end → get_or table a false ≡ true)
+    → claimed_between start end table ≡ true
 unfolding claimed_between
 between_each start end table each = each_claimed (end - start) start table (λ a low high. each a low (omega arith))

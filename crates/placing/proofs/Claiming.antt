@@ -13,7 +13,11 @@ one_more : (address end : ℕ) → address < end → end - address ≡ suc (end 
 one_more address end below = omega arith
 
 module _ (address end : ℕ) (table : List Bool) (all : Option (List Bool)) where
-  step : (taken : Bool) → get_or table address false ≡ taken → address < end → claim_between address end table ≡ (if taken then None else claim_between (suc address) end (set table address true))
+  step :
+      (taken : Bool)
+      → get_or table address false ≡ taken
+      → address < end
+      → claim_between address end table ≡ (if taken then None else claim_between (suc address) end (set table address true))
   unfolding claim_between
   step taken is below =
       ap (λ n. claim_bytes n address table) (one_more address end below)
@@ -39,7 +43,11 @@ module _ (address end : ℕ) (table : List Bool) (all : Option (List Bool)) wher
       ap (λ n. claim_bytes n address table) none ∙ so_far
 
 module _ (address end : ℕ) (table : List Bool) (all : Bool) where
-  next_claimed : (taken : Bool) → get_or table address false ≡ taken → address < end → claimed_between address end table ≡ (taken && claimed_between (suc address) end table)
+  next_claimed :
+      (taken : Bool)
+      → get_or table address false ≡ taken
+      → address < end
+      → claimed_between address end table ≡ (taken && claimed_between (suc address) end table)
   unfolding claimed_between
   next_claimed taken is below =
       ap (λ n. are_claimed n address table) (one_more address end below)
@@ -54,7 +62,11 @@ module _ (address end : ℕ) (table : List Bool) (all : Bool) where
       let next : address + 1 ≡ suc address = omega arith in
       ap (λ n. claimed_between n end table) next ∙ sym (next_claimed true taken below) ∙ so_far
 
-  pub claimed_gap : claimed_between address end table ≡ all → address < end → get_or table address false ≡ false → false ≡ all
+  pub claimed_gap :
+      claimed_between address end table ≡ all
+      → address < end
+      → get_or table address false ≡ false
+      → false ≡ all
   claimed_gap so_far below free = sym (next_claimed false free below) ∙ so_far
 
   pub claimed_end : claimed_between address end table ≡ all → end ≤ address → true ≡ all

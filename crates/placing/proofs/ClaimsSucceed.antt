@@ -19,7 +19,10 @@ use Rattle.placing.proofs.PieceClaims.{HasByte, HaveByte, allowed, MayLie, Piece
 use Rattle.placing.proofs.PieceOrder.{at_allowed, AtMayLie}
 use Rattle.placing.proofs.PiecesLawful.{LieLawfully, ConstantByte, StaticByte, apart, apart_true, within, within_true, unclaimed_free, unclaimed_long}
 
-kind_own : (kind : PieceKind) (range : Range) → is_constant_piece (record { kind = kind; range = range }) ≡ true → has_own_place (record { kind = kind; range = range }) ≡ true
+kind_own :
+    (kind : PieceKind) (range : Range)
+    → is_constant_piece (record { kind = kind; range = range }) ≡ true
+    → has_own_place (record { kind = kind; range = range }) ≡ true
 kind_own StaticPiece range constant = refl
 kind_own ConstantPiece range constant = refl
 kind_own AtPiece range constant = constant
@@ -160,11 +163,23 @@ module _ (code stack : Range) (code_apart : ¬ Meets code stack) where
           (λ (have : HaveByte a pieces). own_in_stack a pieces may_lie have in_stack)
           (claimed.came a taken)
 
-      one_not_in_stack : (a : ℕ) → IsOneOf pieces a → IsIn a stack → (taken : Bool) → get_or table a false ≡ taken → ⊥
+      one_not_in_stack :
+          (a : ℕ)
+          → IsOneOf pieces a
+          → IsIn a stack
+          → (taken : Bool)
+          → get_or table a false ≡ taken
+          → ⊥
       one_not_in_stack a one in_stack true taken = taken_not_in_stack a taken in_stack
       one_not_in_stack a one in_stack false free = lawful.not_in_stack a one (free_variable a free) in_stack
 
-      one_in_code_taken : (a : ℕ) → IsOneOf pieces a → IsIn a code → (taken : Bool) → get_or table a false ≡ taken → get_or table a false ≡ true
+      one_in_code_taken :
+          (a : ℕ)
+          → IsOneOf pieces a
+          → IsIn a code
+          → (taken : Bool)
+          → get_or table a false ≡ taken
+          → get_or table a false ≡ true
       one_in_code_taken a one in_code true taken = taken
       one_in_code_taken a one in_code false free =
           absurd (lawful.not_in_code a one (free_variable a free) in_code)

@@ -86,7 +86,10 @@ own_claimed code stack piece before after long own then_ends is =
     (between_claimed piece.range.start (piece.range.start + piece.range.len) before after
     (omega arith) (omega (arith, within, long)) both.1)
 
-pub variables_end : (code stack range : Range) → may_hold_variables code stack range ≡ true → EndsInMemory range
+pub variables_end :
+    (code stack range : Range)
+    → may_hold_variables code stack range ≡ true
+    → EndsInMemory range
 variables_end code stack range may = ends range (three (ends_in_memory range) (not (ranges_meet range code)) (not (ranges_meet range stack)) may).0
 
 pub constants_end : (code range : Range) → may_hold_constants code range ≡ true → EndsInMemory range

@@ -227,7 +227,9 @@ module _ (code stack : Range) where
         ∙ objects_from placed objects addresses lie.1
         (others_of (object_piece (object, address)) (placed_objects objects addresses) may)
 
-    lists_may : (lists : List (List ℕ)) (addresses : List ℕ) → AllByRecursion AtMayLie (placed_lists lists addresses)
+    lists_may :
+        (lists : List (List ℕ)) (addresses : List ℕ)
+        → AllByRecursion AtMayLie (placed_lists lists addresses)
     lists_may [] addresses = tt
     lists_may (bytes ∷ lists) [] = tt
     lists_may (bytes ∷ lists) (address ∷ addresses) = (tt, lists_may lists addresses)

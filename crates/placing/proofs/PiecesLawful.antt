@@ -38,7 +38,13 @@ pub record StaticByte (a : ℕ) (piece : PlacedPiece) : Type 0 where
   pub inside : IsIn a piece.range
 
 -- tests on ranges
-pub apart : (left right : Range) → not (ranges_meet left right) ≡ true → (a : ℕ) → IsIn a left → IsIn a right → ⊥
+pub apart :
+    (left right : Range)
+    → not (ranges_meet left right) ≡ true
+    → (a : ℕ)
+    → IsIn a left
+    → IsIn a right
+    → ⊥
 apart left right is a first second =
     false_true (ranges_meet left right) (not_true (ranges_meet left right) is) ((meets_decides left right).1 (a, first, second))
 
@@ -46,7 +52,10 @@ never : (b : Bool) → (b ≡ true → ⊥) → not b ≡ true
 never true none = absurd (none refl)
 never false none = refl
 
-pub apart_true : (left right : Range) → ((a : ℕ) → IsIn a left → IsIn a right → ⊥) → not (ranges_meet left right) ≡ true
+pub apart_true :
+    (left right : Range)
+    → ((a : ℕ) → IsIn a left → IsIn a right → ⊥)
+    → not (ranges_meet left right) ≡ true
 apart_true left right none =
     never (ranges_meet left right)
     (λ is. let meets : Meets left right = (meets_decides left right).0 is in none meets.0 meets.1 meets.2)
@@ -102,7 +111,11 @@ within_true code range lies = within_from code range (nat_eq range.len 0) (some_
 
 -- pieces whose bytes are claimed
 module _ (code stack : Range) (table : List Bool) where
-  one_ends : (kind : PieceKind) (range : Range) → allowed code stack kind range ≡ true → at_allowed code stack table kind range → EndsInMemory range
+  one_ends :
+      (kind : PieceKind) (range : Range)
+      → allowed code stack kind range ≡ true
+      → at_allowed code stack table kind range
+      → EndsInMemory range
   unfolding may_lie_at
   one_ends StaticPiece range may at = variables_end code stack range may
   one_ends ConstantPiece range may at = constants_end code range may
@@ -110,18 +123,36 @@ module _ (code stack : Range) (table : List Bool) where
       ends range (three (ends_in_memory range) (not (ranges_meet range stack))
       (claimed_between (max range.start code.start) (min (range.start + range.len) (code.start + code.len)) table) at).0
 
-  one_in_code : (kind : PieceKind) (range : Range) → allowed code stack kind range ≡ true → is_constant_piece (record { kind = kind; range = range }) ≡ true → (a : ℕ) → IsIn a range → IsIn a code
+  one_in_code :
+      (kind : PieceKind) (range : Range)
+      → allowed code stack kind range ≡ true
+      → is_constant_piece (record { kind = kind; range = range }) ≡ true
+      → (a : ℕ)
+      → IsIn a range
+      → IsIn a code
   one_in_code StaticPiece range may constant = absurd (true≢false (sym constant))
   one_in_code ConstantPiece range may constant =
       within code range (and_parts (ends_in_memory range) (is_within code range) may).1
   one_in_code AtPiece range may constant = absurd (true≢false (sym constant))
 
-  static_apart_code : (range : Range) → may_hold_variables code stack range ≡ true → (a : ℕ) → IsIn a range → IsIn a code → ⊥
+  static_apart_code :
+      (range : Range)
+      → may_hold_variables code stack range ≡ true
+      → (a : ℕ)
+      → IsIn a range
+      → IsIn a code
+      → ⊥
   static_apart_code range may =
       apart range code
       (three (ends_in_memory range) (not (ranges_meet range code)) (not (ranges_meet range stack)) may).1
 
-  static_apart_stack : (range : Range) → may_hold_variables code stack range ≡ true → (a : ℕ) → IsIn a range → IsIn a stack → ⊥
+  static_apart_stack :
+      (range : Range)
+      → may_hold_variables code stack range ≡ true
+      → (a : ℕ)
+      → IsIn a range
+      → IsIn a stack
+      → ⊥
   static_apart_stack range may =
       apart range stack
       (three (ends_in_memory range) (not (ranges_meet range code)) (not (ranges_meet range stack)) may).2

@@ -11,7 +11,12 @@ module _ {X : Type 0} where
   Some_of P [] = ⊥
   Some_of P (x ∷ xs) = P x ⊎ Some_of P xs
 
-  pub some_at : (P : X → Type 0) (xs : List X) (k : ℕ) (x : X) → k < length xs → get_or xs k x ≡ x → P x → Some_of P xs
+  pub some_at :
+      (P : X → Type 0) (xs : List X) (k : ℕ) (x : X)
+      → k < length xs
+      → get_or xs k x ≡ x
+      → P x
+      → Some_of P xs
   some_at P [] k x within at holds = absurd (omega arith)
   some_at P (first ∷ xs) zero x within at holds = inl (subst P (sym at) holds)
   some_at P (first ∷ xs) (suc k) x within at holds = inr (some_at P xs k x (omega arith) at holds)
@@ -96,15 +101,28 @@ module _ {X : Type 0} where
     all_in_filter xs h = All-from_recursion P (filter q xs) (all_in xs h)
 
   -- all elements, by recursion
-  pub all_weaker : (P Q : X → Type 0) → ((x : X) → P x → Q x) → (xs : List X) → AllByRecursion P xs → AllByRecursion Q xs
+  pub all_weaker :
+      (P Q : X → Type 0)
+      → ((x : X) → P x → Q x)
+      → (xs : List X)
+      → AllByRecursion P xs
+      → AllByRecursion Q xs
   all_weaker P Q f [] h = tt
   all_weaker P Q f (x ∷ xs) h = (f x h.0, all_weaker P Q f xs h.1)
 
-  pub all_both : (P Q : X → Type 0) (xs : List X) → AllByRecursion P xs → AllByRecursion Q xs → AllByRecursion (λ x. P x × Q x) xs
+  pub all_both :
+      (P Q : X → Type 0) (xs : List X)
+      → AllByRecursion P xs
+      → AllByRecursion Q xs
+      → AllByRecursion (λ x. P x × Q x) xs
   all_both P Q [] h k = tt
   all_both P Q (x ∷ xs) h k = ((h.0, k.0), all_both P Q xs h.1 k.1)
 
-  pub all_join : (P : X → Type 0) (xs ys : List X) → AllByRecursion P xs → AllByRecursion P ys → AllByRecursion P (xs ++ ys)
+  pub all_join :
+      (P : X → Type 0) (xs ys : List X)
+      → AllByRecursion P xs
+      → AllByRecursion P ys
+      → AllByRecursion P (xs ++ ys)
   all_join P [] ys h k = k
   all_join P (x ∷ xs) ys h k = (h.0, all_join P xs ys h.1 k)
 

@@ -107,7 +107,9 @@ module _ (modules : List TypedModule) (placement : Placement) where
     not_in_stack = λ a one variable. lawful.not_in_stack a (record { declared = one; variable = variable });
   }
 
-  all_from : IsLawful modules placement → all_fit placement.code placement.stack modules placement.modules ≡ true
+  all_from :
+      IsLawful modules placement
+      → all_fit placement.code placement.stack modules placement.modules ≡ true
   all_from lawful =
       let found : Succeed placement.code placement.stack (pieces_of modules placement) =
       succeed placement.code placement.stack (pieces_of modules placement) lawful.code_apart_from_stack (lies lawful) in
@@ -128,5 +130,8 @@ module _ (modules : List TypedModule) (placement : Placement) where
       (eq-eqb (length placement.modules) (length modules) lawful.for_each_module)
       (ranges_from lawful) (all_from lawful)
 
-  pub decides : (result : Bool) → result ≡ is_lawful modules placement → IsTrue result ↔ IsLawful modules placement
+  pub decides :
+      (result : Bool)
+      → result ≡ is_lawful modules placement
+      → IsTrue result ↔ IsLawful modules placement
   decides result is = ((λ accepted. sound (sym is ∙ accepted)), (λ lawful. is ∙ complete lawful))

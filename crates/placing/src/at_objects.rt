@@ -1,8 +1,9 @@
 //! Whether the objects with AT may lie where they do, and have their addresses.
 
 ghost use Rattle.std.specs.Prelude.{◌≡◌, ◌+◌, ◌≤◌, length, map, max, min};
+ghost use Rattle.mem80.specs.declared.memory.TheConstants.{MEMORY_SIZE};
 ghost use Rattle.typed_trees.specs.Views.{module_view, object_view};
-ghost use Rattle.layout.specs.Placement.{address_at};
+ghost use Rattle.layout.specs.Placement.{EndsInMemory, address_at};
 ghost use Rattle.placing.specs.Views.{module_placement_view};
 ghost use Rattle.placing.specs.internal.Claims.{claimed_between, may_lie_at, module_fits, modules_fit, object_fits, objects_fit};
 
@@ -14,7 +15,7 @@ use typed_trees::{AtAddress, Home, Typed, TypedObject};
 // Whether all bytes from an address up to another are claimed.
 #[tactic(auto, using(crate::proofs::Claiming::claimed_next, crate::proofs::Claiming::claimed_gap, crate::proofs::Claiming::claimed_end))]
 fn claimed_between(table: &[bool; 65536], start: u32, end: u32) -> bool
-    requires { end ≤ 65536 }
+    requires { end ≤ MEMORY_SIZE }
     ensures { result ≡ claimed_between start end table.now }
 {
     for address in start as usize..end as usize {
@@ -27,8 +28,8 @@ fn claimed_between(table: &[bool; 65536], start: u32, end: u32) -> bool
 
 // Whether the part of a range that lies in the code is claimed.
 fn is_claimed_in(table: &[bool; 65536], code: Range, range: Range) -> bool
-    requires range { range.start + range.len ≤ 65536 }
-    requires code { code.start + code.len ≤ 65536 }
+    requires range { EndsInMemory range }
+    requires code { EndsInMemory code }
     ensures { result ≡ claimed_between (max range.start code.start)
         (min (range.start + range.len) (code.start + code.len)) table.now }
 {
@@ -50,7 +51,7 @@ fn is_claimed_in(table: &[bool; 65536], code: Range, range: Range) -> bool
 // Whether an object with AT may lie in a range.
 #[tactic(auto, using(crate::proofs::Claiming::ends), unfolding(crate::specs::internal::Claims::may_lie_at))]
 fn may_lie_at(table: &[bool; 65536], code: Range, stack: Range, range: Range) -> bool
-    requires { code.start + code.len ≤ 65536 }
+    requires { EndsInMemory code }
     ensures { result ≡ may_lie_at code stack table.now range }
 {
     ends_in_memory(range) && !ranges_meet(range, stack) && is_claimed_in(table, code, range)
@@ -79,7 +80,7 @@ fn object_fits(
     object: &TypedObject,
     address: u16,
 ) -> bool
-    requires { code.start + code.len ≤ 65536 }
+    requires { EndsInMemory code }
     ensures { result ≡ object_fits code stack table.now all.now (object_view object.now) address }
 {
     match object.home {
@@ -102,7 +103,7 @@ fn objects_fit(
     objects: &[TypedObject],
     addresses: &[u16],
 ) -> bool
-    requires { code.start + code.len ≤ 65536 }
+    requires { EndsInMemory code }
     ensures { result
         ≡ objects_fit code stack table.now addresses.now (map object_view objects.now) addresses.now }
 {
@@ -130,7 +131,7 @@ fn module_fits(
     typed: &Typed,
     placed: &ModulePlacement,
 ) -> bool
-    requires { code.start + code.len ≤ 65536 }
+    requires { EndsInMemory code }
     ensures { result
         ≡ module_fits code stack table.now (module_view typed.now) (module_placement_view placed.now) }
 {
@@ -154,7 +155,7 @@ pub(crate) fn modules_fit(
     modules: &[Typed],
     placements: &[ModulePlacement],
 ) -> bool
-    requires { code.start + code.len ≤ 65536 }
+    requires { EndsInMemory code }
     ensures { result ≡ modules_fit code stack table.now (map module_view modules.now)
         (map module_placement_view placements.now) }
 {

@@ -1,8 +1,9 @@
 //! Whether a program can run where it lies.
 
-ghost use Rattle.std.specs.Prelude.{◌≡◌, ◌↔◌, ◌≤◌, ◌+◌, map, IsTrue};
+ghost use Rattle.std.specs.Prelude.{◌≡◌, ◌↔◌, map, IsTrue};
 ghost use Rattle.typed_trees.specs.Views.{module_view};
 ghost use Rattle.layout.specs.Lawful.{IsLawful};
+ghost use Rattle.layout.specs.Placement.{EndsInMemory};
 ghost use Rattle.join.specs.Views.{modules_of};
 ghost use Rattle.placing.specs.Views.{module_placement_view, placement_view};
 ghost use Rattle.placing.specs.internal.Claims.{all_fit, is_lawful, ranges_fit};
@@ -25,7 +26,7 @@ fn ranges_fit(code: Range, stack: Range) -> bool
 // Whether all that is placed may lie where it does.
 #[tactic(auto, unfolding(crate::specs::internal::Claims::all_fit, crate::specs::internal::Claims::unclaimed))]
 fn all_fit(code: Range, stack: Range, modules: &[Typed], placements: &[ModulePlacement]) -> bool
-    requires { code.start + code.len ≤ 65536 }
+    requires { EndsInMemory code }
     ensures { result ≡ all_fit code stack (map module_view modules.now)
         (map module_placement_view placements.now) }
 {

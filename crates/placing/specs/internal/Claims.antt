@@ -1,6 +1,7 @@
 -- The test of a placement: the bytes of memory are claimed one after another, in a table.
 use Rattle.std.specs.Prelude.{ℕ, zero, suc, ◌+◌, ◌-◌, min, max, Bool, true, false, not, ◌&&◌, ◌||◌, nat_eq, nat_le, nat_lt, List, [], ◌∷◌, length, replicate, slice_index_or, set, Option, Some, None, option_and_then, if◌then◌else◌}
 use Rattle.std.specs.Option.{option_map_or}
+use Rattle.mem80.specs.declared.memory.TheConstants.{MEMORY_SIZE}
 use Rattle.mem80.specs.declared.range.Range.{Range}
 use Rattle.typed_trees.specs.TypedTrees.{Home, Placed, TypedObject, TypedModule}
 use Rattle.typed_trees.specs.Sizes.{size_of_object}
@@ -31,7 +32,7 @@ unfoldable pub claimed_between : (address end : ℕ) → List Bool → Bool
 claimed_between address end table = are_claimed (end - address) address table
 
 unfoldable pub ends_in_memory : Range → Bool
-ends_in_memory range = nat_le (range.start + range.len) 65536
+ends_in_memory range = nat_le (range.start + range.len) MEMORY_SIZE
 
 -- whether two ranges have an address in common
 unfoldable pub ranges_meet : (left right : Range) → Bool
@@ -146,7 +147,7 @@ unfoldable pub ranges_fit : (code stack : Range) → Bool
 ranges_fit code stack = ends_in_memory code && ends_in_memory stack && not (ranges_meet code stack)
 
 unfoldable pub unclaimed : List Bool
-unclaimed = replicate 65536 false
+unclaimed = replicate MEMORY_SIZE false
 
 unfoldable pub all_fit : (code stack : Range) → List TypedModule → List ModulePlacement → Bool
 all_fit code stack modules placements =
