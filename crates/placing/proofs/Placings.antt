@@ -13,7 +13,7 @@ use Rattle.typed_trees.specs.Views.{module_view}
 use Rattle.layout.specs.declared.slot.Layout.{Layout}
 use Rattle.layout.specs.Following.{Bases}
 use Rattle.layout.specs.Placement.{ModulePlacement, Placement, range_of}
-use Rattle.layout.specs.Placing.{Plan, SegmentTooLarge, PassesMemory, ObjectMisplaced, code_range, data_range, stack_range, bases_from, module_placement_by, placement_by, placing_refusal, passes_memory, segment_too_large, past_memory, overlapping, is_misplaced, placed_objects, first_misplaced}
+use Rattle.layout.specs.Placing.{Plan, SegmentTooLarge, ObjectMisplaced, code_range, data_range, stack_range, bases_from, module_placement_by, placement_by, placing_refusal, segment_too_large, past_memory, overlapping, is_misplaced, placed_objects, first_misplaced}
 use Rattle.layout.specs.Storage.{Storage, data_bytes, storage_with}
 use Rattle.layout.specs.Views.{layout_view}
 use Rattle.placing.specs.declared.fault.Fault.{Fault}
@@ -59,14 +59,6 @@ small_of false false none = (refl, refl)
 small_of true variables none = absurd (none-some SegmentTooLarge (sym none))
 small_of false true none = absurd (none-some SegmentTooLarge (sym none))
 
-inside_of : (code variables stack : Bool) → (if code || variables || stack then Some PassesMemory else None) ≡ None → (code ≡ false) × (variables ≡ false)
-inside_of false false stack none = (refl, refl)
-inside_of true variables stack none = absurd (none-some PassesMemory (sym none))
-inside_of false true stack none = absurd (none-some PassesMemory (sym none))
-
-not_capped : (len capped : ℕ) → capped ≡ min len 4294967295 → capped ≤ 65535 → capped ≡ len
-not_capped len capped is small = omega arith
-
 -- lengths that stop at the greatest of 32 bits
 module _ (code_base data_base code_len data_len : ℕ) (stack : Range) where
   abbrev capped_code : Range
@@ -100,33 +92,15 @@ module _ (code_base data_base code_len data_len : ℕ) (stack : Range) where
     ]
   ]
 
-  -- what is not refused
-  pub record Fits : Type 0 where
-    pub code : code_base + code_len ≤ 65536
-    pub variables : data_base + data_len ≤ 65536
-    pub code_is : min code_len 4294967295 ≡ code_len
-
-  pub fits : range_refusal capped_code capped_data stack ≡ None → Fits
-  fits none =
-      let real : range_refusal (range_of code_base code_len) (range_of data_base data_len) stack ≡ None = sym capped_refusal ∙ none in
-      let parts : (segment_too_large (range_of code_base code_len) (range_of data_base data_len) ≡ None)
-      × (option_or (past_memory (range_of code_base code_len) (range_of data_base data_len) stack)
-      (overlapping (range_of code_base code_len) (range_of data_base data_len) stack) ≡ None) =
-      both_none (segment_too_large (range_of code_base code_len) (range_of data_base data_len))
-      (option_or (past_memory (range_of code_base code_len) (range_of data_base data_len) stack)
-      (overlapping (range_of code_base code_len) (range_of data_base data_len) stack)) real in
-      let short : (nat_lt 65535 code_len ≡ false) × (nat_lt 65535 data_len ≡ false) =
-      small_of (nat_lt 65535 code_len) (nat_lt 65535 data_len) parts.0 in
-      let ends : (passes_memory (range_of code_base code_len) ≡ false) × (passes_memory (range_of data_base data_len) ≡ false) =
-      inside_of (passes_memory (range_of code_base code_len)) (passes_memory (range_of data_base data_len)) (passes_memory stack)
-      (both_none (past_memory (range_of code_base code_len) (range_of data_base data_len) stack)
-      (overlapping (range_of code_base code_len) (range_of data_base data_len) stack) parts.1).0 in
-      let small : code_len ≤ 65535 = ltb-false 65535 code_len short.0 in
-      record {
-        code = ltb-false 65536 (code_base + code_len) ends.0;
-        variables = ltb-false 65536 (data_base + data_len) ends.1;
-        code_is = omega (arith, small);
-      }
+  -- what is not refused is not capped
+  pub uncapped : range_refusal capped_code capped_data stack ≡ None → min code_len 4294967295 ≡ code_len
+  uncapped none =
+      let small : min code_len 4294967295 ≤ 65535 =
+      ltb-false 65535 (min code_len 4294967295)
+      (small_of (nat_lt 65535 (min code_len 4294967295)) (nat_lt 65535 (min data_len 4294967295))
+      (both_none (segment_too_large capped_code capped_data)
+      (option_or (past_memory capped_code capped_data stack) (overlapping capped_code capped_data stack)) none).0).0 in
+      omega (arith, small)
 
 -- the refusal, by that of the ranges and by the first misplaced object
 or_three : {A : Type 0} (one other third last : Option A) → option_or one (option_or other (option_or third last)) ≡ option_or (option_or one (option_or other third)) last
@@ -205,16 +179,10 @@ module _ (modules slice : List Typed) (layouts : List Layout) (lengths : List �
     ranges_pass : range_refusal ranges.code ranges.variables ranges.stack ≡ None
     ranges_pass = sym given ∙ ap (option_map refusal_of) none
 
-    facts : Fits plan.code plan.data_base (sum lengths) (layout_sizes layouts) (stack_range (plan_view plan))
-    facts =
-        fits plan.code plan.data_base (sum lengths) (layout_sizes layouts) (stack_range (plan_view plan))
+    code_len_is : min (sum lengths) 4294967295 ≡ sum lengths
+    code_len_is =
+        uncapped plan.code plan.data_base (sum lengths) (layout_sizes layouts) (stack_range (plan_view plan))
         (sym (λ i. range_refusal (code_is i) (variables_is i) (stack_is i)) ∙ ranges_pass)
-
-    pub code_fits : plan.code + sum lengths ≤ 65536
-    code_fits = facts.code
-
-    pub variables_fit : plan.data_base + layout_sizes layouts ≤ 65536
-    variables_fit = facts.variables
 
     -- the modules lie there
     module _ (placements : List CodeModulePlacement) (made_is : map module_placement_view placements ≡ code_placements (record { code_base = plan.code; data_base = plan.data_base }) slice layouts lengths) where
@@ -231,7 +199,7 @@ module _ (modules slice : List Typed) (layouts : List Layout) (lengths : List �
       unfolding placement_by based
       placed_is =
           (λ i. record { modules = made_by i; code = code_is i; stack = stack_is i })
-          ∙ ap (λ len. record { modules = map based (zip views (bases_from plan.code plan.data_base views lengths)); code = range_of plan.code len; stack = stack_range (plan_view plan) }) facts.code_is
+          ∙ ap (λ len. record { modules = map based (zip views (bases_from plan.code plan.data_base views lengths)); code = range_of plan.code len; stack = stack_range (plan_view plan) }) code_len_is
 
       pub refused_by :
           (name : Option (List ℕ)) (seen : List CodeModulePlacement)

@@ -96,7 +96,8 @@ fn object_addresses(
 
 // The addresses of constant lists that have those slots.
 fn list_addresses(alloc: Global, bases: Bases, slots: &[Slot]) -> Result<Vec<u16>, Failure<Fault>>
-    ensures ok { IfOk result (λ addresses. addresses.items ≡ map (address_of_slot (bases_view bases)) slots.now) }
+    ensures ok { IfOk result (λ addresses.
+        addresses.items ≡ map (address_of_slot (bases_view bases)) slots.now) }
     ensures err { IfFault result (λ _. ⊥) }
 {
     let mut addresses = Vec::with_capacity(alloc, slots.len())?;

@@ -46,7 +46,8 @@ fn data_total(layouts: &[Layout]) -> u32
 /// Where code, data and stack lie by a plan. A length stops at 4,294,967,295.
 pub(crate) fn ranges_by(layouts: &[Layout], code_lengths: &[u32], plan: &Plan) -> Ranges
     ensures code { result.code ≡ range_of plan.now.code (min (sum code_lengths.now) 4294967295) }
-    ensures variables { result.variables ≡ range_of plan.now.data_base (min (layout_sizes layouts.now) 4294967295) }
+    ensures variables { result.variables
+        ≡ range_of plan.now.data_base (min (layout_sizes layouts.now) 4294967295) }
     ensures stack { result.stack ≡ stack_range (plan_view plan.now) }
 {
     Ranges {

@@ -34,7 +34,8 @@ abbrev pub data_sizes : List Storage → ℕ
 data_sizes storages = sum_by (λ (storage : Storage). storage.data_size) storages
 
 -- the same over the code's lists
-abbrev pub code_placements : CodeBases → List Typed → List Layout → (code_lengths : List ℕ) → List ModulePlacement
+abbrev pub code_placements :
+    CodeBases → List Typed → List Layout → (code_lengths : List ℕ) → List ModulePlacement
 code_placements bases modules layouts code_lengths =
     placements_from (bases_view bases) (map module_view modules) (map layout_view layouts) code_lengths
 
