@@ -1,1 +1,2 @@
+pub mod ServedLemmas
 pub mod ReadLemmas

@@ -1,8 +1,8 @@
-//! From a source text to its typed module.
+//! From a source text to the statements of its module.
 #![tactic(auto)]
 
 mod read;
-mod unserved;
+mod served;
 
-pub use read::{ReadFault, SourceModule, read_source};
+pub use read::{ReadFault, read_source};
 pub use words::LONGEST_SOURCE;

@@ -34,14 +34,16 @@ pub fn place(
     code_lengths: &[u32],
     plan: &Plan,
 ) -> Result<Placement, Failure<Fault>>
-    requires storage { map layout_view layouts.now ≡ map (λ typed. storage_with (module_view typed)) (modules_of joined.now) }
+    requires storage { map layout_view layouts.now
+        ≡ map (λ typed. storage_with (module_view typed)) (modules_of joined.now) }
     requires lengths { length code_lengths.now ≡ length (modules_of joined.now) }
     ensures ok { IfOk result (λ _.
         placing_refusal (plan_view plan.now) (map module_view (modules_of joined.now)) code_lengths.now ≡ None) }
     ensures placed { IfOk result (λ placement. placement_view placement
         ≡ placement_by (plan_view plan.now) (map module_view (modules_of joined.now)) code_lengths.now) }
     ensures table { IfOk result (λ placement.
-        IsTableOf (pieces_of (map module_view (modules_of joined.now)) (placement_view placement)) placement.kinds.value) }
+        IsTableOf (pieces_of (map module_view (modules_of joined.now)) (placement_view placement))
+        placement.kinds.value) }
     ensures lawful { HaveStorage (map module_view (modules_of joined.now)) code_lengths.now → IfOk result (λ placement.
         IsLawful (map module_view (modules_of joined.now)) (placement_view placement)) }
     ensures fault { IfFault result (λ fault.

@@ -1,2 +1,1 @@
-pub mod OutputLemmas
 pub mod RunLemmas

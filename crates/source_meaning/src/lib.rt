@@ -1,8 +1,8 @@
-//! What a PL/M-80 program means: its runs. Programs whose statements are outputs of numbers are served so far.
+//! What a PL/M-80 program means: the program, where its parts lie, and its runs.
 #![tactic(auto)]
 
-mod outputs;
-mod reason;
+pub mod program;
 
-pub use outputs::{Output, outputs_of};
-pub use reason::Reason;
+pub use program::{
+    Expression, JoinFault, Joined, Placement, Reason, Statement, Statements, Target, join,
+};

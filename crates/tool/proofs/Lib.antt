@@ -2,5 +2,4 @@ pub mod CodeLemmas
 pub mod Standing
 pub mod BuiltLemmas
 pub mod ExecutionLemmas
-pub mod CompiledLemmas
 pub mod SourcesLemmas
