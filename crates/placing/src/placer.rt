@@ -44,7 +44,8 @@ pub fn place(
     ensures table { IfOk result (λ placement.
         IsTableOf (pieces_of (map module_view (modules_of joined.now)) (placement_view placement))
         placement.kinds.value) }
-    ensures lawful { HaveStorage (map module_view (modules_of joined.now)) code_lengths.now → IfOk result (λ placement.
+    ensures lawful { HaveStorage (map module_view (modules_of joined.now)) code_lengths.now
+        → IfOk result (λ placement.
         IsLawful (map module_view (modules_of joined.now)) (placement_view placement)) }
     ensures fault { IfFault result (λ fault.
         placing_refusal (plan_view plan.now) (map module_view (modules_of joined.now)) code_lengths.now
