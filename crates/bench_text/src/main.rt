@@ -1,15 +1,24 @@
 //! Reads a source of a kind up to a phase, and prints how many microseconds each phase took and how much memory the program had at
-//! most: `bench_text page|statements|names|semicolons|labels|literally|nesting read|scan|expand|parse|all`, where `parse` leaves expansion
-//! out. `bench/text` prints ratios of these.
+//! most: `bench_text KIND LENGTH PHASE`. The phases are `read`, `scan`, `expand`, `parse`, `bind`, `check` and `layout`; those after
+//! `expand` leave expansion out, but for the kind `literally`. `keep` makes the typed module several times and keeps all.
+//! `bench/text` prints ratios of these.
 #![tactic(auto)]
 
 mod sources;
+
+ghost use Rattle.std.specs.Prelude.{◌≤◌, length};
+ghost use Rattle.words.specs.declared.limits.TheConstants.{LONGEST_SOURCE};
 
 use anyhow::{Context, Result, bail};
 use sources::source_of;
 use std::time::Instant;
 use std::{env, fs};
+use trees::Module;
+use typed_trees::Typed;
 use words::{LONGEST_SOURCE, Word};
+
+// How many typed modules `keep` makes.
+const KEPT: usize = 5;
 
 // A plain reading: how many lines end, and the sum of all bytes.
 fn plain_reading(source: &[u8]) -> (usize, u32) {
@@ -39,7 +48,7 @@ fn report(rt: &HostRuntime, phase: &str, begun: Instant) -> Result<()> {
 }
 
 // Reads a source up to a phase.
-fn read_up_to(rt: &HostRuntime, source: &[u8], phase: &str) -> Result<()> {
+fn read_up_to(rt: &HostRuntime, source: &[u8], expands: bool, phase: &str) -> Result<()> {
     let begun = Instant::now(rt)?;
     let (lines, sum) = plain_reading(source);
     report(rt, "read", begun)?;
@@ -50,14 +59,17 @@ fn read_up_to(rt: &HostRuntime, source: &[u8], phase: &str) -> Result<()> {
     if source.len() > LONGEST_SOURCE {
         bail!("the source is too long");
     }
+    if phase == "keep" {
+        return keep(rt, source);
+    }
     let begun = Instant::now(rt)?;
     let words = words::scan(rt.alloc(), source)?;
     report(rt, "scan", begun)?;
     if phase == "scan" {
         return Ok(());
     }
-    if phase == "parse" {
-        return parse(rt, words.as_slice());
+    if phase != "expand" && !expands {
+        return parse_up_to(rt, words.as_slice(), phase);
     }
     let begun = Instant::now(rt)?;
     let output = literally::expand(rt.alloc(), words.as_slice())?;
@@ -66,26 +78,83 @@ fn read_up_to(rt: &HostRuntime, source: &[u8], phase: &str) -> Result<()> {
     if phase == "expand" {
         return Ok(());
     }
-    parse(rt, output.as_slice())
+    parse_up_to(rt, output.as_slice(), phase)
 }
 
-// Parses words.
-fn parse(rt: &HostRuntime, words: &[Word]) -> Result<()> {
+// Parses words, and goes on up to a phase.
+fn parse_up_to(rt: &HostRuntime, words: &[Word], phase: &str) -> Result<()> {
     let begun = Instant::now(rt)?;
     let module = syntax::parse(rt.alloc(), words)?;
     report(rt, "parse", begun)?;
     println!(rt; "module {}", module.name.name)?;
+    if phase == "parse" {
+        return Ok(());
+    }
+    if phase == "bind" {
+        return bind(rt, module);
+    }
+    let begun = Instant::now(rt)?;
+    let typed = types::check(rt.alloc(), module)?;
+    report(rt, "check", begun)?;
+    println!(rt; "objects {}", typed.objects.len())?;
+    if phase == "check" {
+        return Ok(());
+    }
+    lay_out(rt, &typed)
+}
+
+// Binds the names of a module.
+fn bind(rt: &HostRuntime, module: Module) -> Result<()> {
+    let begun = Instant::now(rt)?;
+    let bound = names::bind(rt.alloc(), module)?;
+    report(rt, "bind", begun)?;
+    println!(rt; "uses {}", bound.bindings.len())?;
+    Ok(())
+}
+
+// Gives the objects of a module their places.
+fn lay_out(rt: &HostRuntime, typed: &Typed) -> Result<()> {
+    let begun = Instant::now(rt)?;
+    let storage = layout::layout(rt.alloc(), typed)?;
+    report(rt, "layout", begun)?;
+    println!(rt;
+        "data {} constants {}",
+        storage.data_size, storage.constant_size
+    )?;
+    Ok(())
+}
+
+// The typed module of a source.
+fn typed(rt: &HostRuntime, source: &[u8]) -> Result<Typed>
+    requires { length source.now ≤ LONGEST_SOURCE }
+{
+    let words = words::scan(rt.alloc(), source)?;
+    let module = syntax::parse(rt.alloc(), words.as_slice())?;
+    Ok(types::check(rt.alloc(), module)?)
+}
+
+// Makes the typed module of a source several times, and keeps all.
+fn keep(rt: &HostRuntime, source: &[u8]) -> Result<()>
+    requires { length source.now ≤ LONGEST_SOURCE }
+{
+    let mut kept = Vec::new(rt.alloc());
+    for _ in 0..KEPT {
+        kept.push(typed(rt, source)?)?;
+    }
+    println!(rt; "kept {}", kept.len())?;
     Ok(())
 }
 
 fn main(rt: HostRuntime) -> Result<()> {
     let args: Vec<String> = env::args(&rt)?.collect(rt.alloc())?;
-    let (Some(kind), Some(phase)) = (args.get(1), args.get(2)) else {
-        println!(rt; "bench_text KIND PHASE")?;
+    let (Some(kind), Some(length), Some(phase)) = (args.get(1), args.get(2), args.get(3)) else {
+        println!(rt; "bench_text KIND LENGTH PHASE")?;
         return Ok(());
     };
-    let source = source_of(rt.alloc(), kind.as_str())?.context("no such kind of source")?;
-    read_up_to(&rt, source.as_slice(), phase.as_str())?;
+    let length = length.parse::<usize>()?;
+    let source = source_of(rt.alloc(), kind.as_str(), length)?.context("no such kind of source")?;
+    let expands = kind.as_str() == "literally";
+    read_up_to(&rt, source.as_slice(), expands, phase.as_str())?;
     println!(rt; "{}", greatest_memory(&rt)?)?;
     Ok(())
 }

@@ -3,10 +3,19 @@
 use std::alloc::{AllocError, Global};
 use words::LONGEST_SOURCE;
 
-// A monitor's routine, with comments and indentation as they are usual.
+// What stands in front of the pages: a procedure that they call.
+const FRONT_OF_PAGES: &[u8] = b"\
+PRINT$CHARACTER: PROCEDURE (CHARACTER);
+    DECLARE CHARACTER BYTE;
+    OUTPUT(1) = CHARACTER;
+END PRINT$CHARACTER;
+
+";
+
+// Two of a monitor's routines, with comments and indentation as they are usual. `#` stands for a number.
 const PAGE: &[u8] = b"\
 /* Prints a number from 0 to 65535 in decimal, without zeros in front. */
-PRINT$NUMBER: PROCEDURE (VALUE) PUBLIC;
+PRINT$NUMBER$#: PROCEDURE (VALUE) PUBLIC;
     DECLARE VALUE ADDRESS;
     DECLARE (DIGIT, PLACE) BYTE, POWERS (5) ADDRESS DATA (10000, 1000, 100, 10, 1);
 
@@ -19,26 +28,68 @@ PRINT$NUMBER: PROCEDURE (VALUE) PUBLIC;
         VALUE = VALUE MOD POWERS(PLACE);
         CALL PRINT$CHARACTER('0' + DIGIT);
     END;
-END PRINT$NUMBER;
+END PRINT$NUMBER$#;
+
+/* Gives the value of the symbol of six letters at TEXT, or 0 where there is none. */
+VALUE$OF$#: PROCEDURE (TEXT) ADDRESS;
+    DECLARE TEXT ADDRESS, LETTERS BASED TEXT (6) BYTE;
+    DECLARE SYMBOLS (4) STRUCTURE (LETTERS (6) BYTE, VALUE ADDRESS) INITIAL ('SYSTEM', 100H, 'PRINT ', 120H);
+    DECLARE (I, PLACE) BYTE, SEEN ADDRESS INITIAL (0);
+
+    SEEN = SEEN + 1;
+    DO I = 0 TO LAST(SYMBOLS);
+        PLACE = 0;
+        DO WHILE PLACE < 6 AND SYMBOLS(I).LETTERS(PLACE) = LETTERS(PLACE);
+            PLACE = PLACE + 1;
+        END;
+        IF PLACE = 6 THEN RETURN SYMBOLS(I).VALUE;    /* all letters are the same */
+        ELSE CALL PRINT$NUMBER$#(SHL(DOUBLE(PLACE), 8) OR I);
+    END;
+    RETURN 0;
+END VALUE$OF$#;
 
 ";
 
-// Appends a text as often as it fits before a length.
-fn repeat(source: &mut Vec<u8>, text: &[u8], most: usize) -> Result<(), AllocError> {
-    for _ in 0..LONGEST_SOURCE {
-        if source.len() >= most || most - source.len() < text.len() {
-            return Ok(());
+// Appends a text with the digits of a number for each `#`.
+fn push_numbered(source: &mut Vec<u8>, text: &[u8], number: usize) -> Result<(), AllocError> {
+    for character in text {
+        if *character == b'#' {
+            for place in [1000, 100, 10, 1] {
+                source.push(b'0' + (number / place % 10) as u8)?;
+            }
+        } else {
+            source.push(*character)?;
         }
-        source.extend_from_slice(text)?;
     }
     Ok(())
 }
 
-// A module whose inside is a text again and again, and at last another, up to a length.
-fn module_of(alloc: Global, text: &[u8], last: &[u8]) -> Result<Vec<u8>, AllocError> {
-    let mut source = Vec::with_capacity(alloc, LONGEST_SOURCE)?;
+// Appends a text, with another number each time, as often as it fits before a length.
+fn repeat(alloc: Global, source: &mut Vec<u8>, text: &[u8], most: usize) -> Result<(), AllocError> {
+    let mut piece = Vec::new(alloc);
+    for number in 0..LONGEST_SOURCE {
+        piece.clear();
+        push_numbered(&mut piece, text, number)?;
+        if source.len() >= most || most - source.len() < piece.len() {
+            return Ok(());
+        }
+        source.extend_from_slice(piece.as_slice())?;
+    }
+    Ok(())
+}
+
+// A module of at most a length: a text, another again and again, and at last one more.
+fn module_of(
+    alloc: Global,
+    first: &[u8],
+    text: &[u8],
+    last: &[u8],
+    length: usize,
+) -> Result<Vec<u8>, AllocError> {
+    let mut source = Vec::with_capacity(alloc, length)?;
     source.extend_from_slice(b"M: DO;\n")?;
-    repeat(&mut source, text, LONGEST_SOURCE - 16)?;
+    source.extend_from_slice(first)?;
+    repeat(alloc, &mut source, text, length.saturating_sub(32))?;
     source.extend_from_slice(last)?;
     source.extend_from_slice(b"END M;\n")?;
     Ok(source)
@@ -65,29 +116,104 @@ fn definitions(alloc: Global) -> Result<Vec<u8>, AllocError> {
     Ok(source)
 }
 
-// Blocks that are nested 64 deep, again and again.
-fn nesting(alloc: Global) -> Result<Vec<u8>, AllocError> {
+// So many blocks within one another, each begun by a text, around statements.
+fn blocks(
+    alloc: Global,
+    count: usize,
+    begin: &[u8],
+    statements: &[u8],
+) -> Result<Vec<u8>, AllocError> {
     let mut deep = Vec::new(alloc);
-    for _ in 0..63_usize {
-        deep.extend_from_slice(b"DO;")?;
+    for _ in 0..count {
+        deep.extend_from_slice(begin)?;
     }
-    deep.push(b';')?;
-    for _ in 0..63_usize {
+    deep.extend_from_slice(statements)?;
+    for _ in 0..count {
         deep.extend_from_slice(b"END;")?;
     }
-    module_of(alloc, deep.as_slice(), b"")
+    Ok(deep)
 }
 
-/// The source of a kind, if there is one.
-pub fn source_of(alloc: Global, kind: &str) -> Result<Option<Vec<u8>>, AllocError> {
+// Appends the name of a number: a letter, two letters or digits, and a digit, so that it is no reserved word.
+fn push_name(source: &mut Vec<u8>, number: usize) -> Result<(), AllocError> {
+    let characters = b"ABCDEFGHIJKLMNOPQRSTUVWXYZ0123456789";
+    source.push(characters[number / 12960 % 26])?;
+    source.push(characters[number / 360 % 36])?;
+    source.push(characters[number / 10 % 36])?;
+    source.push(characters[26 + number % 10])?;
+    Ok(())
+}
+
+// As many names as fit in a length, declared in one scope. They take no storage.
+fn scope(alloc: Global, length: usize) -> Result<Vec<u8>, AllocError> {
+    let mut source = Vec::with_capacity(alloc, length)?;
+    source.extend_from_slice(b"M: DO; DECLARE (A")?;
+    for number in 0..LONGEST_SOURCE {
+        if source.len() + 40 > length {
+            break;
+        }
+        source.push(b',')?;
+        push_name(&mut source, number)?;
+    }
+    source.extend_from_slice(b") BYTE EXTERNAL; END M;\n")?;
+    Ok(source)
+}
+
+// Uses of a name of the module within scopes that are as deep as they may be.
+fn uses(alloc: Global, length: usize) -> Result<Vec<u8>, AllocError> {
+    let mut begin = Vec::new(alloc);
+    begin.extend_from_slice(b"DECLARE A BYTE;")?;
+    let mut end = Vec::new(alloc);
+    for _ in 0..62_usize {
+        begin.extend_from_slice(b"DO;DECLARE X BYTE;")?;
+        end.extend_from_slice(b"END;")?;
+    }
+    let inside = length.saturating_sub(end.len());
+    let mut source = module_of(alloc, begin.as_slice(), b"A=A;", b"", inside)?;
+    source.truncate(source.len().saturating_sub(7));
+    source.extend_from_slice(end.as_slice())?;
+    source.extend_from_slice(b"END M;\n")?;
+    Ok(source)
+}
+
+/// The source of a kind, of about so many bytes, if there is one.
+pub fn source_of(alloc: Global, kind: &str, length: usize) -> Result<Option<Vec<u8>>, AllocError> {
     let source = match kind {
-        "page" => module_of(alloc, PAGE, b"")?,
-        "statements" => module_of(alloc, b"X=A+1;Y(I)=X*2-Z;", b"")?,
-        "names" => module_of(alloc, b"COUNTER,LIMIT,TOTAL$SUM,", b"X=1;")?,
-        "semicolons" => module_of(alloc, b";", b"")?,
-        "labels" => module_of(alloc, b"L:;", b"")?,
+        "page" => module_of(alloc, FRONT_OF_PAGES, PAGE, b"", length)?,
+        "statements" => module_of(
+            alloc,
+            b"DECLARE(A,X,Z,I)BYTE,Y(9)BYTE;",
+            b"X=A+1;Y(I)=X*2-Z;",
+            b"",
+            length,
+        )?,
+        "names" => module_of(
+            alloc,
+            b"DECLARE(COUNTER,LIMIT,TOTAL$SUM,X)BYTE;",
+            b"COUNTER,LIMIT,TOTAL$SUM,",
+            b"X=1;",
+            length,
+        )?,
+        "semicolons" => module_of(alloc, b"", b";", b"", length)?,
+        "labels" => module_of(alloc, b"", b"L:;", b"", length)?,
+        "expressions" => module_of(
+            alloc,
+            b"DECLARE(A,B,C)BYTE,W ADDRESS,T(9)ADDRESS;",
+            b"W=(A+B)*C-T(A)/3 MOD W XOR NOT(A<B)AND SHL(W,2)OR-HIGH(T(C+1));",
+            b"",
+            length,
+        )?,
         "literally" => definitions(alloc)?,
-        "nesting" => nesting(alloc)?,
+        "nesting" => {
+            let deep = blocks(alloc, 63, b"DO;", b";")?;
+            module_of(alloc, b"", deep.as_slice(), b"", length)?
+        }
+        "scope" => scope(alloc, length)?,
+        "scopes" => {
+            let deep = blocks(alloc, 62, b"DO;DECLARE X BYTE;", b"A=X;")?;
+            module_of(alloc, b"DECLARE A BYTE;", deep.as_slice(), b"", length)?
+        }
+        "uses" => uses(alloc, length)?,
         _ => return Ok(None),
     };
     Ok(Some(source))

@@ -1,17 +1,17 @@
 -- Arguments that are typed one after another.
-use Rattle.std.proofs.Common.{◌≡◌, ℕ, suc, ◌+◌, ◌<◌, ◌≤◌, List, [], ◌∷◌, ◌++◌, length, drop, get_or, slice_get, zero, Ok, Err, refl, ap, sym, ◌∙◌, add-one, arith}
+use Rattle.std.proofs.Common.{◌≡◌, ℕ, suc, ◌+◌, ◌<◌, ◌≤◌, List, [], ◌∷◌, ◌++◌, length, drop, get_or, slice_get, zero, Ok, refl, ap, sym, ◌∙◌, add-one, arith}
 use Rattle.std.proofs.lemmas.List.{length-append}
-use Rattle.std.proofs.Math.ListN.{drop_of_length-le}
-use Rattle.std.proofs.Math.Seq.{drop-cons}
 use Rattle.trees.specs.declared.expression.Expression.{Expression}
 use Rattle.trees.specs.Views.{argument_trees, expression_tree}
 use Rattle.typed_trees.specs.declared.expression.TypedExpression.{TypedExpression as Typed}
 use Rattle.typed_trees.specs.TypedTrees.{TypedExpression, TypedArguments, NoArguments, MoreArguments as More, Constants}
 use Rattle.typed_trees.specs.Views.{arguments_view, expression_view}
-use Rattle.typing.specs.Checks.{Checked, ◌>>=◌}
+use Rattle.typing.specs.Checks.{Checked}
 use Rattle.typing.specs.References.{Known}
 use Rattle.typing.specs.Expressions.{arguments, expression}
 use Rattle.typing.specs.Nodes.{arguments_as}
+use Rattle.typing.specs.Results.{in_front as put_in_front}
+use Rattle.typing.proofs.Loops.{made_goes_on, made_ended}
 use Rattle.typed_expressions.specs.internal.Fronts.{in_front}
 use Rattle.typed_expressions.specs.internal.Given.{as_given}
 use Rattle.trees.specs.declared.declaration.ScalarType.{ScalarType}
@@ -25,57 +25,32 @@ in_front_more [] next others = refl
 in_front_more (first ∷ rest) next others = ap (More (expression_view first)) (in_front_more rest next others)
 
 -- the arguments of trees, after those that are made
-abbrev pub after_made : Known → List Expression → List Typed → Constants → Checked (TypedArguments × Constants)
-after_made known trees made constants =
-    arguments known (argument_trees trees) constants >>= λ rest. Ok (in_front made rest.0, rest.1)
+abbrev after_made : List Typed → TypedArguments × Constants → TypedArguments × Constants
+after_made made rest = (in_front made rest.0, rest.1)
 
-abbrev first_then : Typed → TypedArguments × Constants → Checked (TypedArguments × Constants)
-first_then next rest = Ok (More (expression_view next) rest.0, rest.1)
+module _ (known : Known) where
+  abbrev first_typed : Expression → Constants → Checked (TypedExpression × Constants)
+  first_typed tree constants = expression known (expression_tree tree) constants
 
-abbrev all_then : List Typed → TypedArguments × Constants → Checked (TypedArguments × Constants)
-all_then made rest = Ok (in_front made rest.0, rest.1)
+  abbrev all_typed : List Expression → Constants → Checked (TypedArguments × Constants)
+  all_typed trees constants = arguments known (argument_trees trees) constants
 
-put_in_front : (made : List Typed) (next : Typed) (given : Checked (TypedArguments × Constants))
-    → ((given >>= first_then next) >>= all_then made) ≡ (given >>= all_then (made ++ next ∷ []))
-put_in_front made next (Ok rest) =
-    let same : in_front made (More (expression_view next) rest.0) ≡ in_front (made ++ next ∷ []) rest.0 = sym (in_front_more made next rest.0) in
-    ap (all_with rest.1) same
-  where
-    all_with : Constants → TypedArguments → Checked (TypedArguments × Constants)
-    all_with constants all = Ok (all, constants)
-put_in_front made next (Err fault) = refl
+  abbrev grown : TypedExpression → TypedArguments × Constants → TypedArguments × Constants
+  grown typed rest = (More typed rest.0, rest.1)
 
-abbrev then_rest : Known → List Expression → List Typed → TypedExpression × Constants → Checked (TypedArguments × Constants)
-then_rest known others made typed =
-    (arguments known (argument_trees others) typed.1 >>= λ rest. Ok (More typed.0 rest.0, rest.1)) >>= all_then made
+  pub goes_on : (trees : List Expression) (i : ℕ) (tree : Expression) (made : List Typed) (before : Constants) (total : Checked (TypedArguments × Constants))
+      → i < length trees → tree ≡ get_or trees i tree → total ≡ put_in_front (after_made made) (all_typed (drop i trees) before)
+      → (next : Typed) (after : Constants) → expression known (expression_tree tree) before ≡ Ok (expression_view next, after)
+      → total ≡ put_in_front (after_made (made ++ next ∷ [])) (all_typed (drop (i + 1) trees) after)
+  goes_on trees i tree made before total within is left next after given =
+      sym (made_goes_on first_typed all_typed grown (λ first others state. refl) trees i tree before after (expression_view next) (after_made made) (after_made (made ++ next ∷ [])) total
+      within is (sym left) given (λ rest. ap (λ all. (all, rest.1)) (in_front_more made next rest.0)))
 
-module _ (known : Known) (trees : List Expression) (i : ℕ) (tree : Expression) (made : List Typed) (before : Constants) (total : Checked (TypedArguments × Constants))
-    (within : i < length trees) (is : tree ≡ get_or trees i tree) (left : total ≡ after_made known (drop i trees) made before) where
-  from_here : total ≡ after_made known (tree ∷ drop (i + 1) trees) made before
-  from_here =
-      left
-      ∙ ap (λ rest. after_made known rest made before) (drop-cons trees i tree within)
-      ∙ ap (λ first. after_made known (first ∷ drop (suc i) trees) made before) (sym is)
-      ∙ ap (λ n. after_made known (tree ∷ drop n trees) made before) (sym (add-one i))
-
-  split : (given : Checked (TypedExpression × Constants))
-      → ((given >>= λ typed. arguments known (argument_trees (drop (i + 1) trees)) typed.1 >>= λ rest. Ok (More typed.0 rest.0, rest.1)) >>= all_then made)
-      ≡ (given >>= then_rest known (drop (i + 1) trees) made)
-  split (Ok typed) = refl
-  split (Err fault) = refl
-
-  pub goes_on : (next : Typed) (after : Constants) → expression known (expression_tree tree) before ≡ Ok (expression_view next, after)
-      → total ≡ after_made known (drop (i + 1) trees) (made ++ next ∷ []) after
-  goes_on next after given =
-      from_here
-      ∙ split (expression known (expression_tree tree) before)
-      ∙ ap (λ first. first >>= then_rest known (drop (i + 1) trees) made) given
-      ∙ put_in_front made next (arguments known (argument_trees (drop (i + 1) trees)) after)
-
-pub ended : (known : Known) (trees : List Expression) (i : ℕ) (made : List Typed) (now : Constants) (total : Checked (TypedArguments × Constants)) → length trees ≤ i → total ≡ after_made known (drop i trees) made now
-    → total ≡ Ok (arguments_view made, now)
-ended known trees i made now total past left =
-    left ∙ ap (λ rest. after_made known rest made now) (drop_of_length-le trees past) ∙ ap (λ all. Ok (all, now)) (in_front_end made)
+  pub ended : (trees : List Expression) (i : ℕ) (made : List Typed) (now : Constants) (total : Checked (TypedArguments × Constants))
+      → length trees ≤ i → total ≡ put_in_front (after_made made) (all_typed (drop i trees) now) → total ≡ Ok (arguments_view made, now)
+  ended trees i made now total past left =
+      made_ended first_typed all_typed grown (λ first others state. refl) trees i now (after_made made) total (NoArguments, now) (arguments_view made, now)
+      past (sym left) refl (ap (λ all. (all, now)) (in_front_end made))
 
 -- converting the next of several values
 converted_next : (scalars : List ScalarType) (n : ℕ) (value : TypedExpression) (others : TypedArguments)

@@ -10,7 +10,7 @@ use Rattle.typed_expressions.specs.declared.known.Known.{Known as CodeKnown}
 use Rattle.typing.specs.References.{number_of_arguments}
 use Rattle.typing.specs.Expressions.{given_reference}
 use Rattle.typed_expressions.specs.internal.Given.{given, selector_tree, plain_tree, is_plain}
-use Rattle.typed_expressions.specs.internal.Views.{known_view}
+use Rattle.typed_expressions.specs.Views.{known_view}
 
 -- how many arguments there are
 pub count_of_arguments : (arguments : List Expression) → number_of_arguments (argument_trees arguments) ≡ length arguments

@@ -1,4 +1,3 @@
-pub mod Views
 pub mod Given
 pub mod Fronts
 pub mod Fillings

@@ -9,11 +9,10 @@ ghost use Rattle.typing.specs.Functions.{shift_function, unary_function};
 ghost use Rattle.typing.specs.Nodes.{arguments_as as converted};
 ghost use Rattle.typed_expressions.specs.internal.Given.{as_given, given};
 ghost use Rattle.typing.specs.Results.{Gives};
-ghost use Rattle.typed_expressions.specs.internal.Views.{constants_view, known_view};
+ghost use Rattle.typed_expressions.specs.Views.{constants_view, known_view};
 
 use crate::expression_nodes;
 use crate::expression_nodes::as_type;
-use typing::{Cause, Fault};
 use crate::functions::{function_of, shift_of};
 use crate::known::{Constants, Known, refuse, require};
 use crate::references::port_of;
@@ -22,6 +21,7 @@ use names::BuiltIn;
 use std::alloc::{AllocError, Global};
 use trees::{Expression, Reference, ScalarType};
 use typed_trees::{Measure, ShiftFunction, TypedExpression, TypedProcedure, UnaryFunction};
+use typing::{Cause, Fault};
 
 // A value as one of a type, if one is given.
 fn as_optional(
@@ -48,7 +48,7 @@ fn scalar_at(scalars: &[ScalarType], number: usize) -> Option<ScalarType>
     }
 }
 
-/// Arguments as values of types, one for each.
+// Arguments as values of types, one for each.
 fn arguments_as(
     alloc: Global,
     scalars: &[ScalarType],
@@ -66,7 +66,8 @@ fn arguments_as(
 }
 
 impl Known {
-    /// The arguments of a call, as many as there are parameters, and of their types.
+    /// The arguments of a call, as many as there are parameters, and as values of their types. Another number of arguments
+    /// is refused as a wrong use, on the line of the call.
     #[cycle(expression)]
     #[tactic(auto, using(crate::proofs::GivenParts::count_of_arguments))]
     pub fn call_arguments(
@@ -91,7 +92,7 @@ impl Known {
 
     /// A call of a typed procedure.
     #[cycle(expression)]
-    pub fn call_of(
+    pub(crate) fn call_of(
         &self,
         reference: &Reference,
         number: u32,
@@ -116,7 +117,7 @@ impl Known {
         Ok(expression_nodes::call(number, scalar, typed))
     }
 
-    /// LOW, HIGH and DOUBLE of one value.
+    // LOW, HIGH and DOUBLE of one value.
     #[cycle(expression)]
     #[tactic(auto, using(crate::proofs::GivenParts::count_of_arguments))]
     fn unary_function(
@@ -135,7 +136,7 @@ impl Known {
         function_of(self.alloc, function, line, typed)
     }
 
-    /// SHL, SHR, ROL and ROR of a value and a count.
+    // SHL, SHR, ROL and ROR of a value and a count.
     #[cycle(expression)]
     #[tactic(auto, using(crate::proofs::GivenParts::count_of_arguments))]
     fn shift_function(
@@ -154,7 +155,7 @@ impl Known {
         shift_of(self.alloc, function, line, typed)
     }
 
-    /// INPUT of a port.
+    // INPUT of a port.
     fn input_value(
         &self,
         reference: &Reference,
@@ -168,7 +169,7 @@ impl Known {
         Ok(expression_nodes::input(port))
     }
 
-    /// LENGTH, LAST or SIZE of a variable.
+    // LENGTH, LAST or SIZE of a variable.
     fn number_of_variable(
         &self,
         reference: &Reference,
@@ -187,7 +188,7 @@ impl Known {
 
     /// A built-in function. OUTPUT and MOVE give no value.
     #[cycle(expression)]
-    pub fn built_in_value(
+    pub(crate) fn built_in_value(
         &self,
         reference: &Reference,
         built_in: BuiltIn,

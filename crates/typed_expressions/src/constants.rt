@@ -6,14 +6,14 @@ ghost use Rattle.typing.specs.Constants.{line_of_constant as line_in_constant, m
 ghost use Rattle.typing.specs.Constants.{bytes_of_constant, bytes_of_constants as list_bytes, bytes_of_number};
 ghost use Rattle.typing.specs.Results.{Answers};
 
-use typing::{Cause, Fault};
 use crate::known::refuse;
 use failure::Failure;
 use std::alloc::{AllocError, Global};
 use trees::{Constant, Offset, Sign};
+use typing::{Cause, Fault};
 
 /// The number that a string of one or two characters stands for, the first character high.
-pub fn number_of_characters(characters: &[u8]) -> Option<u16>
+pub(crate) fn number_of_characters(characters: &[u8]) -> Option<u16>
     ensures { result ≡ characters_number characters.now }
 {
     match characters {
@@ -24,7 +24,7 @@ pub fn number_of_characters(characters: &[u8]) -> Option<u16>
 }
 
 /// The number that a constant is. A string of none or of more than two characters is none.
-pub fn number_of_constant(constant: &Constant) -> Result<u16, Failure<Fault>>
+pub(crate) fn number_of_constant(constant: &Constant) -> Result<u16, Failure<Fault>>
     ensures { Answers (λ number. number) result (constant_number (constant_tree constant.now)) }
 {
     match constant {
@@ -36,7 +36,7 @@ pub fn number_of_constant(constant: &Constant) -> Result<u16, Failure<Fault>>
     }
 }
 
-/// A number added to a sum, or subtracted from it, modulo 65536.
+// A number added to a sum, or subtracted from it, modulo 65536.
 fn moved_by(sum: u16, sign: Sign, number: u16) -> u16
     ensures { result ≡ sum_moved_by sum sign number }
 {
@@ -47,7 +47,7 @@ fn moved_by(sum: u16, sign: Sign, number: u16) -> u16
 }
 
 /// A number with constants added to it and subtracted from it, from the left.
-pub fn with_offsets(sum: u16, offsets: &[Offset]) -> Result<u16, Failure<Fault>>
+pub(crate) fn with_offsets(sum: u16, offsets: &[Offset]) -> Result<u16, Failure<Fault>>
     ensures { Answers (λ number. number) result (sum_with_offsets sum (map offset_tree offsets.now)) }
 {
     let mut sum = sum;
@@ -59,7 +59,7 @@ pub fn with_offsets(sum: u16, offsets: &[Offset]) -> Result<u16, Failure<Fault>>
 }
 
 /// The line of a constant.
-pub fn line_of_constant(constant: &Constant) -> u32
+pub(crate) fn line_of_constant(constant: &Constant) -> u32
     ensures { result ≡ line_in_constant (constant_tree constant.now) }
 {
     match constant {
@@ -96,7 +96,7 @@ fn push_constant(bytes: &mut Vec<u8>, constant: &Constant) -> Result<(), AllocEr
 }
 
 /// The bytes of the constants of a list.
-pub fn bytes_of_constants(alloc: Global, list: &[Constant]) -> Result<Vec<u8>, AllocError>
+pub(crate) fn bytes_of_constants(alloc: Global, list: &[Constant]) -> Result<Vec<u8>, AllocError>
     ensures { IfOk result (λ made. made.items ≡ list_bytes (map constant_tree list.now)) }
 {
     let mut bytes = Vec::new(alloc);

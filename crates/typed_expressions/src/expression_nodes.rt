@@ -6,9 +6,8 @@ ghost use Rattle.typed_trees.specs.TypedTrees.{FunctionNode, InputNode};
 ghost use Rattle.typing.specs.Nodes.{as_type as converted_to, unary_node, binary_node, shift_node};
 ghost use Rattle.typed_trees.specs.Views.{Makes, expression_view, reference_view, target_view, arguments_view};
 ghost use Rattle.typing.specs.Constants.{type_of_number as number_type};
-ghost use Rattle.typed_trees.specs.ExpressionTypes.{type_of};
 ghost use Rattle.typing.specs.Nodes.{target_of as target_for};
-ghost use Rattle.typed_expressions.specs.internal.Views.{destination_view};
+ghost use Rattle.typed_expressions.specs.Views.{destination_view};
 ghost use Rattle.typing.specs.Nodes.{common_type as common, type_of_operands as operand_type, type_of_shift as shift_type};
 
 use crate::known::Destination;
@@ -19,7 +18,7 @@ use typed_trees::{
 };
 
 /// The type of a number.
-pub fn type_of_number(value: u16) -> ScalarType
+pub(crate) fn type_of_number(value: u16) -> ScalarType
     ensures { result ≡ number_type value }
 {
     if value <= 255 {
@@ -29,7 +28,7 @@ pub fn type_of_number(value: u16) -> ScalarType
     }
 }
 
-/// What two types are extended to.
+// What two types are extended to.
 fn common_type(left: ScalarType, right: ScalarType) -> ScalarType
     ensures { result ≡ common left right }
 {
@@ -39,7 +38,7 @@ fn common_type(left: ScalarType, right: ScalarType) -> ScalarType
     }
 }
 
-/// What the operands of an operator are extended to.
+// What the operands of an operator are extended to.
 fn type_of_operands(operator: BinaryOperator, left: ScalarType, right: ScalarType) -> ScalarType
     ensures { result ≡ operand_type operator left right }
 {
@@ -51,7 +50,7 @@ fn type_of_operands(operator: BinaryOperator, left: ScalarType, right: ScalarTyp
     }
 }
 
-/// The type of a shift or a rotation of a value of a type.
+// The type of a shift or a rotation of a value of a type.
 fn type_of_shift(function: ShiftFunction, value: ScalarType) -> ScalarType
     ensures { result ≡ shift_type function value }
 {
@@ -62,7 +61,7 @@ fn type_of_shift(function: ShiftFunction, value: ScalarType) -> ScalarType
 }
 
 /// A number.
-pub fn number(scalar: ScalarType, value: u16, origin: NumberOrigin) -> TypedExpression
+pub(crate) fn number(scalar: ScalarType, value: u16, origin: NumberOrigin) -> TypedExpression
     ensures view { expression_view result ≡ NumberNode scalar value origin }
 {
     TypedExpression::Number {
@@ -73,7 +72,7 @@ pub fn number(scalar: ScalarType, value: u16, origin: NumberOrigin) -> TypedExpr
 }
 
 /// The value of a scalar.
-pub fn value(
+pub(crate) fn value(
     alloc: Global,
     scalar: ScalarType,
     reference: TypedReference,
@@ -85,7 +84,7 @@ pub fn value(
 }
 
 /// Where something lies.
-pub fn location(
+pub(crate) fn location(
     alloc: Global,
     reference: TypedReference,
 ) -> Result<TypedExpression, AllocError>
@@ -95,13 +94,13 @@ pub fn location(
 }
 
 /// Where a constant list lies.
-pub fn list(number: u32) -> TypedExpression
+pub(crate) fn list(number: u32) -> TypedExpression
     ensures view { expression_view result ≡ ListNode number }
 {
     TypedExpression::List(number)
 }
 
-/// The same value as one of a type.
+/// The same value as one of a type: with a conversion where it has the other.
 pub fn as_type(
     alloc: Global,
     expression: TypedExpression,
@@ -120,7 +119,7 @@ pub fn as_type(
 }
 
 /// `(target := value)`
-pub fn assignment(
+pub(crate) fn assignment(
     alloc: Global,
     target: TypedTarget,
     value: TypedExpression,
@@ -133,7 +132,7 @@ pub fn assignment(
 }
 
 /// An operator with one operand.
-pub fn unary(
+pub(crate) fn unary(
     alloc: Global,
     operator: UnaryOperator,
     operand: TypedExpression,
@@ -150,7 +149,7 @@ pub fn unary(
 }
 
 /// An operator with two operands, which are extended as it needs them.
-pub fn binary(
+pub(crate) fn binary(
     alloc: Global,
     operator: BinaryOperator,
     left: TypedExpression,
@@ -173,7 +172,7 @@ pub fn binary(
 
 /// A call of a procedure with a result of a type. The arguments are of the types of its parameters.
 #[tactic(auto, using(typed_trees::specs::declared::expression::TypedExpression::the_lemmas, typed_trees::proofs::Views::argument_rows_are))]
-pub fn call(
+pub(crate) fn call(
     procedure: u32,
     scalar: ScalarType,
     arguments: Vec<TypedExpression>,
@@ -188,7 +187,7 @@ pub fn call(
 }
 
 /// LOW, HIGH or DOUBLE.
-pub fn function(
+pub(crate) fn function(
     alloc: Global,
     function: UnaryFunction,
     operand: TypedExpression,
@@ -200,7 +199,7 @@ pub fn function(
 }
 
 /// A shift or a rotation of a value by a count.
-pub fn shift(
+pub(crate) fn shift(
     alloc: Global,
     function: ShiftFunction,
     value: TypedExpression,
@@ -222,22 +221,23 @@ pub fn shift(
 }
 
 /// INPUT of a port.
-pub fn input(port: u8) -> TypedExpression
+pub(crate) fn input(port: u8) -> TypedExpression
     ensures view { expression_view result ≡ InputNode port }
 {
     TypedExpression::Input(port)
 }
 
-/// Where a value goes, once its type is known.
-pub fn target_of(destination: Destination, value: &TypedExpression) -> TypedTarget
-    ensures view { target_view result
-        ≡ target_for (destination_view destination) (type_of (expression_view value.now)) }
+/// Where a value of a type goes: to a scalar, as a value of its type, or to a port.
+pub fn target_of(destination: Destination, from: ScalarType) -> TypedTarget
+    ensures view { target_view result ≡ target_for (destination_view destination) from }
 {
-    let from = value.scalar();
     match destination {
-        Destination::Variable { scalar, reference } => TypedTarget::Stored {
+        Destination::Variable {
+            scalar: to,
+            reference,
+        } => TypedTarget::Stored {
             from,
-            to: scalar,
+            to,
             reference,
         },
         Destination::Port(port) => TypedTarget::Sent { from, port },

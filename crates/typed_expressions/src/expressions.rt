@@ -10,12 +10,11 @@ ghost use Rattle.typing.specs.Functions.{value_of};
 ghost use Rattle.typing.specs.Statements.{destinations};
 ghost use Rattle.typed_expressions.specs.internal.Given.{GivesScalar, extent_view, given, part_view};
 ghost use Rattle.typing.specs.Results.{Answers, Gives};
-ghost use Rattle.typed_expressions.specs.internal.Views.{constants_view, destination_view, known_view};
+ghost use Rattle.typed_expressions.specs.Views.{constants_view, destination_view, known_view};
 
 use crate::constants::{bytes_of_constants, number_of_constant};
 use crate::expression_nodes;
 use crate::expression_nodes::{target_of, type_of_number};
-use typing::{Cause, Fault};
 use crate::known::{Constants, Destination, Known, refuse, require};
 use crate::members::{element_size, member_place};
 use crate::references::{
@@ -28,8 +27,9 @@ use trees::{Constant, Expression, Reference};
 use typed_trees::{
     ConstantItem, NumberOrigin, ObjectType, TypedExpression, TypedObject, TypedSubscript,
 };
+use typing::{Cause, Fault};
 
-/// A number, or a string that stands for one.
+// A number, or a string that stands for one.
 fn number_node(constant: &Constant) -> Result<TypedExpression, Failure<Fault>>
     ensures { Answers expression_view result (number_node (constant_tree constant.now)) }
 {
@@ -42,7 +42,7 @@ fn number_node(constant: &Constant) -> Result<TypedExpression, Failure<Fault>>
 }
 
 impl Known {
-    /// A constant list, which gets the next number and stands after the constants so far.
+    // A constant list, which gets the next number and stands after the constants so far.
     fn list_node(
         &self,
         list: &[Constant],
@@ -61,7 +61,8 @@ impl Known {
         Ok(expression_nodes::list(number))
     }
 
-    /// An expression. Constant lists in it are numbered on.
+    /// An expression with its types and conversions. The constant lists in it get the next numbers. Refused with its first
+    /// fault.
     #[cycle(expression)]
     #[tactic(auto, using(crate::proofs::GivenParts::given_is))]
     pub fn expression(
@@ -81,7 +82,7 @@ impl Known {
             Expression::Assignment { target, value } => {
                 let destination = self.destination(target, constants)?;
                 let value = self.expression(value, constants)?;
-                let target = target_of(destination, &value);
+                let target = target_of(destination, value.scalar());
                 Ok(expression_nodes::assignment(self.alloc, target, value)?)
             }
             Expression::Unary(operator, operand) => {
@@ -96,7 +97,7 @@ impl Known {
         }
     }
 
-    /// Arguments or subscripts, from left to right.
+    /// Arguments or subscripts, from left to right, each with the type that it has by itself.
     #[cycle(expression)]
     pub fn arguments(
         &self,
@@ -114,7 +115,7 @@ impl Known {
         Ok(made)
     }
 
-    /// A part of an object, once the subscript of the object is known: the element, or a member of it.
+    // A part of an object, once the subscript of the object is known: the element, or a member of it.
     #[cycle(expression)]
     #[tactic(auto, using(crate::proofs::GivenParts::count_of_arguments))]
     fn part_with_member(
@@ -145,7 +146,7 @@ impl Known {
         Ok(part_of_member(self.alloc, object, subscript, place, indices)?)
     }
 
-    /// What a reference to an object means.
+    // What a reference to an object means.
     #[cycle(expression)]
     #[tactic(auto, using(crate::proofs::GivenParts::count_of_arguments))]
     fn part_of(
@@ -180,7 +181,7 @@ impl Known {
         )
     }
 
-    /// A reference to a scalar: an array without a subscript and a structure are none.
+    // A reference to a scalar: an array without a subscript and a structure are none.
     #[cycle(expression)]
     fn scalar_part(
         &self,
@@ -207,7 +208,7 @@ impl Known {
         }
     }
 
-    /// Where an object lies, or a part of it, and of an array or a structure its beginning.
+    // Where an object lies, or a part of it, and of an array or a structure its beginning.
     #[cycle(expression)]
     fn location_of(
         &self,
@@ -236,10 +237,10 @@ impl Known {
         }
     }
 
-    /// What a value can be assigned to: a scalar, or OUTPUT.
+    // What a value can be assigned to: a scalar, or OUTPUT.
     #[cycle(expression)]
     #[tactic(auto, using(crate::proofs::GivenParts::given_is))]
-    pub fn destination(
+    fn destination(
         &self,
         target: &Reference,
         constants: &mut Constants,
@@ -267,7 +268,7 @@ impl Known {
         }
     }
 
-    /// The value of a scalar, a typed procedure or a built-in function.
+    // The value of a scalar, a typed procedure or a built-in function.
     #[cycle(expression)]
     fn value_of(
         &self,
@@ -294,7 +295,7 @@ impl Known {
 }
 
 impl Known {
-    /// The targets of an assignment, from left to right.
+    /// The targets of an assignment, from left to right: scalars without DATA, and OUTPUT of ports.
     pub fn destinations(
         &self,
         first: &Reference,

@@ -9,10 +9,9 @@ ghost use Rattle.names.specs.declared.entity.Entity.TheVariants.{Object};
 ghost use Rattle.typing.specs.Filling.{AsListed, at_address, contents, enough_elements as elements_enough, fill_characters as characters_filled, fill_scalar as scalar_filled, fill_string as string_filled, fill_value as value_filled, line_of_origin as origin_line, restricted_value, scalars_at_most as most_scalars, static_bound, static_object, with_address as home_address};
 ghost use Rattle.typed_expressions.specs.internal.Fillings.{elements_listed, filled_view, left_of, onto, reach_view, value_view, values_filled};
 ghost use Rattle.typing.specs.Results.{Answers, Leaves};
-ghost use Rattle.typed_expressions.specs.internal.Views.{contents_view, extents_view, known_view};
+ghost use Rattle.typed_expressions.specs.Views.{contents_view, extents_view, known_view};
 
 use crate::constants::{line_of_constant, number_of_characters, number_of_constant, with_offsets};
-use typing::{Cause, Fault};
 use crate::known::{Known, refuse};
 use crate::scalars::{Scalars, scalars_in_element};
 use failure::Failure;
@@ -20,37 +19,43 @@ use names::{Binding, Entity};
 use std::alloc::Global;
 use trees::{Constant, Identifier, Offset, Origin, Restricted, ScalarType, StringLiteral};
 use typed_trees::{AtAddress, Home, InitialValue, ObjectType};
+use typing::{Cause, Fault};
 
-/// How many elements an object is declared with: it is no array, there are so many, or as many as its list needs.
+/// How many elements an object is declared with.
 #[derive(Clone, Copy)]
 pub enum Extents {
+    /// It is no array.
     NoArray,
+    /// So many.
     Elements(u16),
+    /// As many as the values of its list need: `(*)`.
     AsListed,
 }
 
-/// An object's dimension, and what it is filled with. A dimension that a list gives may be too great for an object.
+/// An object's dimension, and what it is filled with.
 #[derive(Drop)]
 pub struct Contents {
+    /// The number of elements of an array. One that a list gives may be too great for an object.
     pub dimension: Option<u32>,
+    /// The values of its scalars, from the first on.
     pub values: Vec<InitialValue>,
 }
 
-/// Whether the objects of other modules may be located.
+// Whether the objects of other modules may be located.
 #[derive(Clone, Copy)]
 enum Reach {
     ThisModule,
     OtherModulesToo,
 }
 
-/// The value of a restricted expression: a number, or a distance from where an object begins.
+// The value of a restricted expression: a number, or a distance from where an object begins.
 #[derive(Clone, Copy)]
 enum RestrictedValue {
     Number(u16),
     FromObject { object: u32, offset: u16 },
 }
 
-/// The values that fill the first scalars of an object, and the scalars after those.
+// The values that fill the first scalars of an object, and the scalars after those.
 #[derive(Drop)]
 struct Filling {
     scalars: Scalars,
@@ -183,7 +188,8 @@ impl Known {
         }
     }
 
-    /// Where AT puts an object.
+    /// Where AT puts an object: at a number, or so far from where an object of this module begins. Refused is what has no
+    /// address before the program runs.
     pub fn at_address(&self, restricted: &Restricted) -> Result<AtAddress, Failure<Fault>>
         ensures { Answers (λ address. address) result
             (at_address (known_view self.now) (restricted_tree restricted.now)) }
@@ -265,8 +271,8 @@ impl Known {
         })
     }
 
-    /// The dimension of an object, and its values, which fill its scalars from the first on. The line is that of the
-    /// item.
+    /// The dimension of an object, and its values, which fill its scalars from the first on. Refused are values that do
+    /// not go with their scalars, more values than scalars, and `(*)` without values, the last on the line of the item.
     pub fn contents(
         &self,
         line: u32,

@@ -6,11 +6,10 @@ ghost use Rattle.typed_trees.specs.Views.{arguments_view, expression_view, objec
 ghost use Rattle.typing.specs.Functions.{function_of, measure_node as node_of_measure, measure_of, measured_member, measured_object, measurement, shift_of};
 ghost use Rattle.typed_expressions.specs.internal.Given.{is_plain, measured_view, plain_tree, selector_tree};
 ghost use Rattle.typing.specs.Results.{Answers};
-ghost use Rattle.typed_expressions.specs.internal.Views.{known_view};
+ghost use Rattle.typed_expressions.specs.Views.{known_view};
 
 use crate::expression_nodes;
 use crate::expression_nodes::type_of_number;
-use typing::{Cause, Fault};
 use crate::known::{Known, refuse};
 use crate::members::{member_place, object_size};
 use crate::references::only;
@@ -21,17 +20,18 @@ use trees::{Expression, Identifier, Reference, Selector};
 use typed_trees::{
     Measure, NumberOrigin, ShiftFunction, TypedExpression, TypedObject, UnaryFunction,
 };
+use typing::{Cause, Fault};
 
-/// What LENGTH, LAST and SIZE measure: an object, or a member of it.
+// What LENGTH, LAST and SIZE measure: an object, or a member of it.
 #[derive(Clone, Copy)]
-pub struct Measured {
-    pub object: u32,
-    pub member: Option<u32>,
-    pub dimension: Option<u16>,
-    pub size: u32,
+struct Measured {
+    object: u32,
+    member: Option<u32>,
+    dimension: Option<u16>,
+    size: u32,
 }
 
-/// An object that is measured, or a member of it, which stands there without subscripts.
+// An object that is measured, or a member of it, which stands there without subscripts.
 #[tactic(auto, using(crate::proofs::GivenParts::no_arguments, crate::proofs::Operands::member_with_arguments))]
 fn measured_member(
     number: u32,
@@ -61,7 +61,7 @@ fn measured_member(
     })
 }
 
-/// The number that a measure is: LENGTH and LAST of an array alone.
+// The number that a measure is: LENGTH and LAST of an array alone.
 fn measure_of(measure: Measure, measured: Measured, line: u32) -> Result<u32, Failure<Fault>>
     ensures { Answers (λ value. value) result (measure_of measure (measured_view measured) line) }
 {
@@ -73,8 +73,8 @@ fn measure_of(measure: Measure, measured: Measured, line: u32) -> Result<u32, Fa
     }
 }
 
-/// The number that a measure is, as an expression. Objects have at most 65535 bytes; a greater number would be answered
-/// with out of memory.
+// The number that a measure is, as an expression. Objects have at most 65535 bytes; a greater number would be answered
+// with out of memory.
 fn measure_node(
     measure: Measure,
     measured: Measured,
@@ -94,7 +94,7 @@ fn measure_node(
     Ok(expression_nodes::number(type_of_number(value), value, origin))
 }
 
-/// A variable without subscripts that stands alone, or a member of one.
+// A variable without subscripts that stands alone, or a member of one.
 #[tactic(auto, using(crate::proofs::GivenParts::plain_is, crate::proofs::GivenParts::not_plain))]
 fn plain(arguments: &[Expression]) -> Option<&Reference>
     ensures one { IfSome result (λ reference. argument_trees arguments.now ≡ plain_tree reference.now) }
@@ -114,7 +114,7 @@ fn plain(arguments: &[Expression]) -> Option<&Reference>
 
 /// LOW, HIGH or DOUBLE of one value.
 #[tactic(auto, using(crate::proofs::Operands::no_operand, crate::proofs::Operands::one_operand))]
-pub fn function_of(
+pub(crate) fn function_of(
     alloc: Global,
     function: UnaryFunction,
     line: u32,
@@ -134,7 +134,7 @@ pub fn function_of(
 
 /// SHL, SHR, ROL or ROR of a value and a count.
 #[tactic(auto, using(crate::proofs::Operands::no_pair, crate::proofs::Operands::two_operands))]
-pub fn shift_of(
+pub(crate) fn shift_of(
     alloc: Global,
     function: ShiftFunction,
     line: u32,
@@ -156,7 +156,7 @@ pub fn shift_of(
 }
 
 impl Known {
-    /// What a name that is measured stands for: an object, or a member of it.
+    // What a name that is measured stands for: an object, or a member of it.
     fn measured_object(
         &self,
         binding: Binding,
@@ -176,7 +176,7 @@ impl Known {
 
     /// LENGTH, LAST or SIZE of a variable, which stands there alone, without subscripts.
     #[tactic(auto, using(crate::proofs::Operands::no_measurement))]
-    pub fn measurement(
+    pub(crate) fn measurement(
         &self,
         measure: Measure,
         line: u32,

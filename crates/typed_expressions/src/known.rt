@@ -5,50 +5,57 @@ ghost use Rattle.typed_trees.specs.Views.{object_view, procedure_view};
 ghost use Rattle.typing.specs.Checks.{require};
 ghost use Rattle.typing.specs.References.{bound, object_of, procedure_of};
 ghost use Rattle.typing.specs.Results.{Answers, fault_in};
-ghost use Rattle.typed_expressions.specs.internal.Views.{known_view};
+ghost use Rattle.typed_expressions.specs.Views.{known_view};
 
-use typing::{Cause, Fault};
 use failure::Failure;
 use names::{Binding, Scopes};
 use std::alloc::Global;
 use trees::{Identifier, ScalarType};
 use typed_trees::{ConstantItem, TypedObject, TypedProcedure, TypedReference};
+use typing::{Cause, Fault};
 
 /// What names stand for at a place, and the objects and procedures so far.
 #[derive(Drop)]
 pub struct Known {
+    /// Where what is typed is made.
     pub alloc: Global,
+    /// What the names stand for that are visible at the place.
     pub scopes: Scopes,
+    /// The objects so far, by their numbers.
     pub objects: Vec<TypedObject>,
+    /// The procedures so far, by their numbers.
     pub procedures: Vec<TypedProcedure>,
 }
 
-/// The constants so far: the bytes of each constant list, and the objects with DATA and the constant lists in the order
-/// of the text.
+/// The constants so far.
 #[derive(Drop)]
 pub struct Constants {
+    /// The bytes of each constant list, by its number.
     pub lists: Vec<Vec<u8>>,
+    /// The objects with DATA and the constant lists, in the order of the text.
     pub items: Vec<ConstantItem>,
 }
 
 /// Where a value goes, before its type is known.
 #[derive(Drop)]
 pub enum Destination {
+    /// A scalar, with its type.
     Variable {
         scalar: ScalarType,
         reference: TypedReference,
     },
+    /// OUTPUT of a port.
     Port(u8),
 }
 
-/// A fault of a cause on a line.
+/// A fault of a cause on a line, as a failure.
 pub fn refuse(cause: Cause, line: u32) -> Failure<Fault>
     ensures { fault_in result ≡ Some (record { cause = cause; line = line }) }
 {
     Failure::Fault(Fault { cause, line })
 }
 
-/// A condition holds, or it is refused.
+/// Checks a condition. Where it does not hold it is refused, by the cause on the line.
 pub fn require(holds: bool, cause: Cause, line: u32) -> Result<(), Failure<Fault>>
     ensures { Answers (λ _. tt) result (require holds cause line) }
 {
@@ -60,7 +67,7 @@ pub fn require(holds: bool, cause: Cause, line: u32) -> Result<(), Failure<Fault
 }
 
 impl Known {
-    /// What a name is bound to.
+    /// What a name is bound to. A name that nothing declares is refused as unknown.
     pub fn bound(&self, name: Identifier) -> Result<Binding, Failure<Fault>>
         ensures { Answers (λ binding. binding) result (bound (known_view self.now) name) }
     {
@@ -70,12 +77,8 @@ impl Known {
         }
     }
 
-    /// The object of a number that a name stands for.
-    pub fn object(
-        &self,
-        name: Identifier,
-        number: u32,
-    ) -> Result<&TypedObject, Failure<Fault>>
+    /// The object of a number that a name stands for. A number that no object has is refused as a wrong use of the name.
+    pub fn object(&self, name: Identifier, number: u32) -> Result<&TypedObject, Failure<Fault>>
         ensures { Answers (λ found. object_view found.now) result
             (object_of (known_view self.now) name number) }
     {
@@ -85,7 +88,8 @@ impl Known {
         }
     }
 
-    /// The procedure of a number that a name stands for.
+    /// The procedure of a number that a name stands for. A number that no procedure has is refused as a wrong use of the
+    /// name.
     pub fn procedure(
         &self,
         name: Identifier,

@@ -15,3 +15,4 @@ mod scalars;
 pub use expression_nodes::{as_type, target_of};
 pub use filling::{Contents, Extents};
 pub use known::{Constants, Destination, Known, refuse, require};
+pub use references::require_writable;

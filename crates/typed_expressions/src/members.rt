@@ -7,23 +7,23 @@ ghost use Rattle.typed_trees.specs.Views.{object_view, type_view};
 ghost use Rattle.typed_expressions.specs.internal.Given.{member_place as place_of, place_view};
 ghost use Rattle.typing.specs.Results.{Answers};
 
-use typing::{Cause, Fault};
 use crate::known::refuse;
 use failure::Failure;
 use trees::Identifier;
 use typed_trees::{ObjectType, TypedMember, TypedObject};
+use typing::{Cause, Fault};
 
 /// A member that a structure has: its position, and where it begins in an element.
 #[derive(Clone, Copy)]
-pub struct MemberPlace {
-    pub position: u32,
-    pub offset: u32,
-    pub member: TypedMember,
+pub(crate) struct MemberPlace {
+    pub(crate) position: u32,
+    pub(crate) offset: u32,
+    pub(crate) member: TypedMember,
 }
 
 /// The member of a name.
 #[tactic(auto, using(crate::proofs::MemberPlaces::uncapped, crate::proofs::MemberPlaces::unknown))]
-pub fn member_place(
+pub(crate) fn member_place(
     object_type: &ObjectType,
     name: Identifier,
 ) -> Result<MemberPlace, Failure<Fault>>
@@ -46,7 +46,7 @@ pub fn member_place(
 }
 
 /// The size of an element of an object.
-pub fn element_size(object: &TypedObject) -> Result<u32, Failure<Fault>>
+pub(crate) fn element_size(object: &TypedObject) -> Result<u32, Failure<Fault>>
     ensures { Answers (λ size. size) result (Ok (size_of_element (type_view object.now.object_type))) }
 {
     let size = object.element_size();
@@ -57,7 +57,7 @@ pub fn element_size(object: &TypedObject) -> Result<u32, Failure<Fault>>
 }
 
 /// The size of an object.
-pub fn object_size(object: &TypedObject) -> Result<u32, Failure<Fault>>
+pub(crate) fn object_size(object: &TypedObject) -> Result<u32, Failure<Fault>>
     ensures { Answers (λ size. size) result (Ok (size_of_object (object_view object.now))) }
 {
     let size = object.size();

@@ -11,37 +11,37 @@ ghost use Rattle.typed_expressions.specs.internal.Given.{extent_view, given_sele
 ghost use Rattle.typing.specs.Results.{Answers};
 
 use crate::expression_nodes::as_type;
-use typing::{Cause, Fault};
 use crate::known::{Known, refuse, require};
 use crate::members::MemberPlace;
 use failure::Failure;
 use std::alloc::{AllocError, Global};
 use trees::{Constant, Expression, Identifier, ScalarType, Selector};
 use typed_trees::{Home, ObjectType, TypedExpression, TypedObject, TypedReference, TypedSubscript};
+use typing::{Cause, Fault};
 
 /// How much of an array a reference means: an element alone, or also the whole, where it has no subscript.
 #[derive(Clone, Copy)]
-pub enum Extent {
+pub(crate) enum Extent {
     AnElement,
     AlsoTheWhole,
 }
 
 /// A part of an object, with its type where it is a scalar or an array of scalars.
 #[derive(Drop)]
-pub struct FoundPart {
-    pub reference: TypedReference,
-    pub scalar: Option<ScalarType>,
+pub(crate) struct FoundPart {
+    pub(crate) reference: TypedReference,
+    pub(crate) scalar: Option<ScalarType>,
 }
 
 /// A scalar, with its type.
 #[derive(Drop)]
-pub struct FoundScalar {
-    pub reference: TypedReference,
-    pub scalar: ScalarType,
+pub(crate) struct FoundScalar {
+    pub(crate) reference: TypedReference,
+    pub(crate) scalar: ScalarType,
 }
 
 /// Whether so many subscripts go with a dimension.
-pub fn takes_subscripts(extent: Extent, dimension: Option<u16>, count: usize) -> bool
+pub(crate) fn takes_subscripts(extent: Extent, dimension: Option<u16>, count: usize) -> bool
     ensures { result ≡ do_take (extent_view extent) dimension count }
 {
     match (dimension, extent) {
@@ -53,7 +53,7 @@ pub fn takes_subscripts(extent: Extent, dimension: Option<u16>, count: usize) ->
 
 /// The subscript of an array, as an ADDRESS; what has none has no subscript.
 #[tactic(auto, using(crate::proofs::Subscripts::several_indices))]
-pub fn subscript_of(
+pub(crate) fn subscript_of(
     alloc: Global,
     stride: u32,
     dimension: Option<u16>,
@@ -80,8 +80,8 @@ pub fn subscript_of(
     })
 }
 
-/// The type of a scalar; a structure has none.
-pub fn scalar_of(object_type: &ObjectType) -> Option<ScalarType>
+// The type of a scalar; a structure has none.
+fn scalar_of(object_type: &ObjectType) -> Option<ScalarType>
     ensures { result ≡ scalar_in (type_view object_type.now) }
 {
     match object_type {
@@ -91,7 +91,7 @@ pub fn scalar_of(object_type: &ObjectType) -> Option<ScalarType>
 }
 
 /// An object, or an element of it.
-pub fn whole_part(
+pub(crate) fn whole_part(
     object: u32,
     subscript: TypedSubscript,
     object_type: &ObjectType,
@@ -111,7 +111,7 @@ pub fn whole_part(
 }
 
 /// A member of an object, or of an element of it.
-pub fn part_of_member(
+pub(crate) fn part_of_member(
     alloc: Global,
     object: u32,
     subscript: TypedSubscript,
@@ -139,20 +139,20 @@ pub fn part_of_member(
 }
 
 /// Whether an object lies at an address of its own.
-pub fn has_location(home: &Home) -> bool
+pub(crate) fn has_location(home: &Home) -> bool
     ensures { result ≡ located (home_view home.now) }
 {
     !matches!(home, Home::Frame(_))
 }
 
-/// Whether an object has DATA.
-pub fn is_constant(home: &Home) -> bool
+// Whether an object has DATA.
+fn is_constant(home: &Home) -> bool
     ensures { result ≡ constant (home_view home.now) }
 {
     matches!(home, Home::Constant(_))
 }
 
-/// Objects with DATA are not written to by their names.
+/// Checks that an object may be written to by its name: it has no DATA.
 pub fn require_writable(object: &TypedObject, name: Identifier) -> Result<(), Failure<Fault>>
     ensures { Answers (λ _. tt) result (is_writable (object_view object.now) name) }
 {
@@ -165,7 +165,7 @@ pub fn require_writable(object: &TypedObject, name: Identifier) -> Result<(), Fa
 
 impl Known {
     /// What a procedure gives has no members.
-    pub fn no_member(&self, member: &Option<Box<Selector>>) -> Result<(), Failure<Fault>>
+    pub(crate) fn no_member(&self, member: &Option<Box<Selector>>) -> Result<(), Failure<Fault>>
         ensures { Answers (λ _. tt) result (without_member (given_selector self.now member.now)) }
     {
         match member {
@@ -175,7 +175,7 @@ impl Known {
     }
 }
 
-/// The port that a string of one character tells.
+// The port that a string of one character tells.
 fn port_of_character(line: u32, characters: &[u8]) -> Result<u8, Failure<Fault>>
     ensures { Answers (λ port. port) result (character_port line characters.now) }
 {
@@ -187,7 +187,7 @@ fn port_of_character(line: u32, characters: &[u8]) -> Result<u8, Failure<Fault>>
 
 /// An argument that stands alone.
 #[tactic(auto, using(crate::proofs::Subscripts::one_argument, crate::proofs::Subscripts::no_only))]
-pub fn only(arguments: &[Expression]) -> Option<&Expression>
+pub(crate) fn only(arguments: &[Expression]) -> Option<&Expression>
     ensures one { IfSome result (λ argument. argument_trees arguments.now
         ≡ MoreArguments (expression_tree argument.now) NoArguments) }
     ensures other { IfNone result (only_tree (argument_trees arguments.now) ≡ None) }
@@ -201,7 +201,7 @@ pub fn only(arguments: &[Expression]) -> Option<&Expression>
 
 /// The port that arguments tell: a number up to 255, or a string of one character.
 #[tactic(auto, using(crate::proofs::Subscripts::no_port))]
-pub fn port_of(line: u32, arguments: &[Expression]) -> Result<u8, Failure<Fault>>
+pub(crate) fn port_of(line: u32, arguments: &[Expression]) -> Result<u8, Failure<Fault>>
     ensures { Answers (λ port. port) result (port_of line (argument_trees arguments.now)) }
 {
     match only(arguments) {

@@ -1,6 +1,6 @@
 //! The scalars of an object, one after another.
 
-ghost use Rattle.std.specs.Prelude.{◌≡◌, ◌<◌, IfSome, IsTrue, [], ◌∷◌, ◌++◌, flat_map, drop, length, slice_get, true, false};
+ghost use Rattle.std.specs.Prelude.{◌≡◌, ◌<◌, IfSome, [], length, slice_get, true, false};
 ghost use Rattle.typed_trees.specs.Sizes.{scalars_of_element, scalars_of_elements};
 ghost use Rattle.typed_trees.specs.Views.{type_view};
 ghost use Rattle.typed_expressions.specs.internal.Fillings.{Takes, first_of, left_of, run_of_member, runs_from, runs_of};
@@ -8,17 +8,17 @@ ghost use Rattle.typed_expressions.specs.internal.Fillings.{Takes, first_of, lef
 use trees::ScalarType;
 use typed_trees::{ObjectType, TypedMember};
 
-/// So many scalars of a type.
+// So many scalars of a type.
 #[derive(Clone, Copy)]
-pub struct Run {
-    pub scalar: ScalarType,
-    pub count: u16,
+struct Run {
+    scalar: ScalarType,
+    count: u16,
 }
 
 /// The scalars that are left of an object, in the order of their addresses: those of a run, those of the members of the
 /// element from a position on, and those of so many elements.
 #[derive(Clone, Copy)]
-pub struct Scalars {
+pub(crate) struct Scalars {
     run: Run,
     position: usize,
     elements: usize,
@@ -62,7 +62,7 @@ fn number_of_runs(object_type: &ObjectType) -> usize
 }
 
 /// How many scalars an element has, if the number is no greater than numbers can be.
-pub fn scalars_in_element(object_type: &ObjectType) -> Option<usize>
+pub(crate) fn scalars_in_element(object_type: &ObjectType) -> Option<usize>
     ensures { IfSome result (λ count. count ≡ length (scalars_of_element (type_view object_type.now))) }
 {
     let mut count = 0_usize;
@@ -74,7 +74,7 @@ pub fn scalars_in_element(object_type: &ObjectType) -> Option<usize>
 
 impl Scalars {
     /// The scalars of so many elements.
-    pub fn new(object_type: &ObjectType, elements: usize) -> Scalars
+    pub(crate) fn new(object_type: &ObjectType, elements: usize) -> Scalars
         ensures { left_of (type_view object_type.now) result
             ≡ scalars_of_elements elements (type_view object_type.now) }
     {
@@ -138,7 +138,7 @@ impl Scalars {
 
     /// Takes the first scalar.
     #[tactic(auto, using(crate::proofs::LeftScalars::left_taken))]
-    pub fn next(&mut self, object_type: &ObjectType) -> Option<ScalarType>
+    pub(crate) fn next(&mut self, object_type: &ObjectType) -> Option<ScalarType>
         ensures { Takes (left_of (type_view object_type.now) self.old) result
             (left_of (type_view object_type.now) self.new) }
     {
@@ -151,7 +151,7 @@ impl Scalars {
     }
 
     /// The first scalar.
-    pub fn first(&self, object_type: &ObjectType) -> Option<ScalarType>
+    pub(crate) fn first(&self, object_type: &ObjectType) -> Option<ScalarType>
         ensures { result ≡ first_of (left_of (type_view object_type.now) self.now) }
     {
         let mut ahead = *self;

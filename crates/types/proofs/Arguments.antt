@@ -1,17 +1,10 @@
 -- Lists of arguments.
-use Rattle.std.proofs.Common.{◌≡◌, ℕ, suc, List, [], ◌∷◌, length, ap, refl}
-use Rattle.trees.specs.declared.expression.Expression.{Expression}
-use Rattle.trees.specs.Views.{argument_trees}
+use Rattle.std.proofs.Common.{◌≡◌, ℕ, List, [], ◌∷◌, length, refl}
 use Rattle.typed_trees.specs.declared.expression.TypedExpression.{TypedExpression}
 use Rattle.typed_trees.specs.Views.{arguments_view}
 use Rattle.typing.specs.declared.fault.Cause.TheVariants.{WrongUse}
 use Rattle.typing.specs.Checks.{refuse}
-use Rattle.typing.specs.References.{number_of_arguments}
 use Rattle.typing.specs.Statements.{moved}
-
-pub number_of_trees : (trees : List Expression) → number_of_arguments (argument_trees trees) ≡ length trees
-number_of_trees [] = refl
-number_of_trees (first ∷ others) = ap suc (number_of_trees others)
 
 -- MOVE has three arguments
 pub not_moved : (line : ℕ) (values : List TypedExpression) → (length values ≡ 3 → ⊥) → moved line (arguments_view values) ≡ refuse WrongUse line

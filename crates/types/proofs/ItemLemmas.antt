@@ -1,8 +1,7 @@
 -- Items of a DECLARE.
-use Rattle.std.proofs.Common.{◌≡◌, ℕ, ◌<◌, ◌≤◌, min, nat_le, true, arith, le-leb, leb-true, sym, ◌∙◌, List, [], ◌∷◌, map, Bool, ◌||◌, not, Ok, Err, ap, refl}
+use Rattle.std.proofs.Common.{◌≡◌, ℕ, ◌<◌, ◌≤◌, min, nat_le, true, arith, le-leb, leb-true, sym, ◌∙◌, List, [], ◌∷◌, ◌||◌, not, Ok, Err, refl}
 use Rattle.std.proofs.lemmas.Bool.{lt-leb}
 use Rattle.std.proofs.Math.Decide.{dec_le}
-use Rattle.std.specs.List.{list_any}
 use Rattle.names.specs.Environment.{Here, with_object, is_declared_again}
 use Rattle.trees.specs.declared.identifier.Identifier.{Identifier}
 use Rattle.trees.specs.Trees.{ItemTree}
@@ -15,11 +14,6 @@ use Rattle.typing.specs.Items.{TypedItem, declare_names, declare_item, line_of_i
 use Rattle.typing.specs.References.{line_of}
 use Rattle.typing.specs.Statements.{with_here}
 use Rattle.types.specs.internal.Items.{item_in_turn, with_names}
-
--- a test of what a function makes of the items of a list
-pub any_of_map : {A B : Type 0} (test : B → Bool) (f : A → B) (all : List A) → list_any test (map f all) ≡ list_any (λ a. test (f a)) all
-any_of_map test f [] = refl
-any_of_map test f (first ∷ others) = ap (λ rest. test (f first) || rest) (any_of_map test f others)
 
 -- one name, and then the others
 names_then : {A B : Type 0} (first : Checked A) (second : Checked B) (block : Block) (others : List Identifier) (here : Here) (progress : Progress)

@@ -1,6 +1,7 @@
 //! Where declarations and statements stand.
 
-use trees::{Heading, Linkage};
+use crate::linkages::is_external_linkage;
+use trees::Heading;
 
 /// What a block belongs to: the module, or a procedure, by its number and its heading.
 #[derive(Clone, Copy)]
@@ -36,10 +37,7 @@ impl<'a> Owner<'a> {
         ensures { result ≡ is_external (owner_view self.entry) }
     {
         match self {
-            Owner::Procedure { heading, .. } => matches!(
-                heading.linkage,
-                Some(Linkage::External(_))
-            ),
+            Owner::Procedure { heading, .. } => is_external_linkage(heading.linkage),
             Owner::Module => false,
         }
     }

@@ -1,13 +1,14 @@
 //! How far a text is typed.
 
 ghost use Rattle.std.specs.Prelude.{◌≡◌};
+ghost use Rattle.typing.specs.Results.{as_fault};
 
-use typing::Fault;
-use typed_expressions::{Constants, Known};
 use failure::Failure;
 use names::Scopes;
 use std::alloc::Global;
+use typed_expressions::{Constants, Known, refuse};
 use typed_trees::GlobalItem;
+use typing::{Cause, Fault};
 
 /// Goes through a module from its start: what is known at a place, the constants and the globals so far, and the bytes so
 /// far of the variables of the REENTRANT procedure that the place is in.
@@ -43,5 +44,18 @@ impl Checker {
             globals: Vec::new(alloc),
             frame: 0,
         }
+    }
+}
+
+/// What the scopes answer to a declaration, as the checker answers it.
+pub(crate) fn answer_of_scopes(
+    declared: Result<(), Failure<names::Fault>>,
+) -> Result<(), Failure<Fault>>
+    ensures { result ≡ as_fault declared }
+{
+    match declared {
+        Ok(()) => Ok(()),
+        Err(Failure::Memory) => Err(Failure::Memory),
+        Err(Failure::Fault(fault)) => Err(refuse(Cause::DeclaredTwice, fault.line())),
     }
 }

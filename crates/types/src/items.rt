@@ -2,13 +2,11 @@
 
 ghost use Rattle.std.specs.Prelude.{◌≡◌, [], ◌∷◌, length, map, min, nat_le, is_some, Ok};
 ghost use Rattle.std.specs.Option.{option_map};
-ghost use Rattle.trees.specs.Views.{element_tree, item_tree, item_type_tree, at_tree, subject_tree, value_list_tree};
+ghost use Rattle.trees.specs.Views.{element_tree, item_tree, subject_tree, value_list_tree};
 ghost use Rattle.std.specs.List.{list_any};
-ghost use Rattle.std.specs.Str.{bytes_eq};
 ghost use Rattle.trees.specs.declared.identifier.Identifier.{Identifier as TheIdentifier};
 ghost use Rattle.trees.specs.declared.identifier.Number.{Number as TheNumber};
-ghost use Rattle.names.specs.Environment.{is_among as name_among};
-ghost use Rattle.typing.specs.Blocks.{declares_parameter as parameter_in, is_external_linkage, is_public_linkage, line_of_linkage as linkage_line, with_global};
+ghost use Rattle.typing.specs.Blocks.{declares_parameter as parameter_in};
 ghost use Rattle.typed_trees.specs.declared.limits.TheConstants.{OBJECT_LIMIT as object_limit};
 ghost use Rattle.typing.specs.declared.fault.Cause.TheVariants.{TooLarge};
 ghost use Rattle.typing.specs.Checks.{require as required};
@@ -16,15 +14,15 @@ ghost use Rattle.typed_trees.specs.Views.{home_view, object_view, type_view};
 ghost use Rattle.names.specs.Uses.{declared_by};
 ghost use Rattle.typing.specs.Items as items;
 ghost use Rattle.types.specs.internal.Items.{bytes_with, with_last_object, with_names};
-ghost use Rattle.typing.specs.Results.{Answers, Leaves, as_fault};
-ghost use Rattle.typed_expressions.specs.internal.Views.{constants_view, contents_view, extents_view, known_view};
+ghost use Rattle.typing.specs.Results.{Answers, Leaves};
+ghost use Rattle.typed_expressions.specs.Views.{constants_view, contents_view, extents_view, known_view};
 ghost use Rattle.types.specs.internal.Views.{block_view, owner_view, progress_view, typed_item_view};
 
 use crate::blocks::{Block, Owner};
-use crate::checker::Checker;
-use typing::{Cause, Fault};
-use typed_expressions::{Contents, Extents};
-use typed_expressions::{Constants, Known, refuse, require};
+use crate::checker::{Checker, answer_of_scopes};
+use crate::identifiers::is_among;
+use crate::linkages::{add_global, is_external_linkage, is_public_linkage, line_of_linkage};
+use crate::lists::length_of;
 use failure::Failure;
 use names::{Binding, Entity};
 use std::alloc::Global;
@@ -33,10 +31,12 @@ use trees::{
     Dimension, Element, Identifier, Item, ItemType, Linkage, Member, Name, Place, ScalarType,
     Storage, Subject, ValueList,
 };
+use typed_expressions::{Constants, Contents, Extents, Known, refuse, require};
 use typed_trees::{
     AtAddress, ConstantItem, FRAME_LIMIT, GlobalItem, Home, InitialValue, Members, OBJECT_LIMIT,
     ObjectType, TypedMember, TypedObject,
 };
+use typing::{Cause, Fault};
 
 /// An item, all but its names.
 #[derive(Drop)]
@@ -48,7 +48,11 @@ pub(crate) struct TypedItem {
 }
 
 // What an item is based on. Parameters are not BASED.
-fn typed_base(known: &Known, block: Block<'_>, subject: &Subject) -> Result<Option<u32>, Failure<Fault>>
+fn typed_base(
+    known: &Known,
+    block: Block<'_>,
+    subject: &Subject,
+) -> Result<Option<u32>, Failure<Fault>>
     ensures { Answers (λ base. base) result
         (items.typed_base (known_view known.now) (block_view block.entry) (subject_tree subject.now)
         (items.base_of (subject_tree subject.now))) }
@@ -72,7 +76,11 @@ fn typed_base(known: &Known, block: Block<'_>, subject: &Subject) -> Result<Opti
 }
 
 // Where AT puts an item.
-fn typed_at(known: &Known, block: Block<'_>, item: &Item) -> Result<Option<AtAddress>, Failure<Fault>>
+fn typed_at(
+    known: &Known,
+    block: Block<'_>,
+    item: &Item,
+) -> Result<Option<AtAddress>, Failure<Fault>>
     ensures { Answers (λ at. at) result (items.typed_at (known_view known.now) (block_view block.entry)
         (item_tree item.now) (item_tree item.now).at) }
 {
@@ -156,10 +164,7 @@ fn typed_type(known: &Known, block: Block<'_>, item: &Item) -> Result<ObjectType
 fn next_object(known: &Known) -> Result<u32, Failure<Fault>>
     ensures { Answers (λ number. number) result (Ok (length (known_view known.now).objects)) }
 {
-    match u32::try_from(known.objects.len()) {
-        Ok(number) => Ok(number),
-        Err(_) => Err(Failure::Memory),
-    }
+    length_of(known.objects.as_slice())
 }
 
 // One more object at the end of the table.
@@ -242,20 +247,6 @@ fn add_constant(constants: &mut Constants, home: &Home, number: u32) -> Result<(
     Ok(())
 }
 
-// One more global, where there is a linkage.
-fn add_global(
-    globals: &mut Vec<GlobalItem>,
-    linkage: Option<Linkage>,
-    item: GlobalItem,
-) -> Result<(), Failure<Fault>>
-    ensures { Leaves result globals.new.items (Ok (with_global linkage item globals.old.items)) }
-{
-    if linkage.is_some() {
-        globals.push(item)?;
-    }
-    Ok(())
-}
-
 // The object of a name of an item.
 fn object_named(
     block: Block<'_>,
@@ -266,7 +257,7 @@ fn object_named(
         (Ok (items.object_named (block_view block.entry) (typed_item_view item) name)) }
 {
     let dimension = fitting(item.dimension)?;
-    let is_public = is_public(item.linkage);
+    let is_public = is_public_linkage(item.linkage);
     let is_parameter = declares_parameter(block, name);
     Ok(TypedObject {
         name,
@@ -289,13 +280,6 @@ fn fitting(dimension: Option<u32>) -> Result<Option<u16>, Failure<Fault>>
         },
         None => Ok(None),
     }
-}
-
-// Whether a linkage is PUBLIC.
-fn is_public(linkage: Option<Linkage>) -> bool
-    ensures { result ≡ is_public_linkage linkage }
-{
-    matches!(linkage, Some(Linkage::Public(_)))
 }
 
 // How many bytes an object takes in the frame of a call (4,294,967,295 where it takes more).
@@ -329,29 +313,6 @@ fn declares_parameter(block: Block<'_>, name: Name) -> bool
         }
         Owner::Module => false,
     }
-}
-
-// Whether two names are the same.
-#[tactic(auto, using(trees::proofs::Keys::names_equal))]
-fn same_name(left: Name, right: Name) -> bool
-    ensures { result ≡ bytes_eq left right }
-{
-    left == right
-}
-
-// Whether a name is one of these.
-#[tactic(auto, using(crate::proofs::ItemLemmas::any_of_map))]
-fn is_among(names: &[Identifier], name: Name) -> bool
-    ensures { result ≡ name_among (map (λ (one : TheIdentifier). one.name) names.now) name }
-{
-    any_named(names, name)
-}
-
-// Whether one of these has a name.
-fn any_named(names: &[Identifier], name: Name) -> bool
-    ensures { result ≡ list_any (λ (one : TheIdentifier). bytes_eq name one.name) names.now }
-{
-    names.iter().any(|one| same_name(name, one.name))
 }
 
 // Whether an item declares a parameter.
@@ -458,15 +419,6 @@ fn check_linkage(block: Block<'_>, item: &Item) -> Result<(), Failure<Fault>>
     }
 }
 
-// The line of PUBLIC or EXTERNAL.
-fn line_of_linkage(linkage: Linkage) -> u32
-    ensures { result ≡ linkage_line linkage }
-{
-    match linkage {
-        Linkage::Public(place) | Linkage::External(place) => place.line,
-    }
-}
-
 // Whether an item may have a place or values of its own: one name, not BASED, not EXTERNAL, no parameter, and no
 // variable of a REENTRANT procedure.
 fn is_plain(block: Block<'_>, item: &Item) -> bool
@@ -474,16 +426,9 @@ fn is_plain(block: Block<'_>, item: &Item) -> bool
 {
     !is_group(&item.subject)
         && !is_based(&item.subject)
-        && !is_external(item.linkage)
+        && !is_external_linkage(item.linkage)
         && !names_parameter(block, &item.subject)
         && !block.owner.is_reentrant()
-}
-
-// Whether a linkage is EXTERNAL.
-fn is_external(linkage: Option<Linkage>) -> bool
-    ensures { result ≡ is_external_linkage linkage }
-{
-    matches!(linkage, Some(Linkage::External(_)))
 }
 
 // Where INITIAL or DATA stands.
@@ -512,7 +457,7 @@ fn home_in(owner: Owner<'_>, values: Vec<InitialValue>) -> Home
     match owner {
         Owner::Module => Home::Data(values),
         Owner::Procedure { number, heading } => {
-            if is_external(heading.linkage) {
+            if is_external_linkage(heading.linkage) {
                 Home::Absent
             } else if heading.reentrant.is_some() {
                 Home::Frame(number)
@@ -537,7 +482,7 @@ fn home_of(
     if let Some(number) = base {
         return Home::Based(number);
     }
-    if is_external(item.linkage) {
+    if is_external_linkage(item.linkage) {
         return Home::External;
     }
     match at {
@@ -630,8 +575,7 @@ impl Checker {
         let line = name.place.line;
         let owner = block.owner;
         let is_external = owner.is_external();
-        let declared = self.known.scopes.declare_definition(name);
-        twice(declared)?;
+        answer_of_scopes(self.known.scopes.declare_definition(name))?;
         require(!is_external, Cause::MisplacedAttribute, line)
     }
 
@@ -640,8 +584,7 @@ impl Checker {
         ensures { Leaves result (progress_view self.new)
             (with_names (block_view block.entry) (name ∷ []) (progress_view self.old)) }
     {
-        let declared = self.known.scopes.declare_object(name);
-        twice(declared)?;
+        answer_of_scopes(self.known.scopes.declare_object(name))?;
         let owner = block.owner;
         let is_external = owner.is_external();
         let is_parameter = declares_parameter(block, name.name);
@@ -757,16 +700,5 @@ impl Checker {
         let typed = typed?;
         typed.check_size(line_of_item(item))?;
         self.add_objects(block, typed, &item.subject)
-    }
-}
-
-// What the scopes answer to a declaration, as the checker answers it.
-fn twice(declared: Result<(), Failure<names::Fault>>) -> Result<(), Failure<Fault>>
-    ensures { result ≡ as_fault declared }
-{
-    match declared {
-        Ok(()) => Ok(()),
-        Err(Failure::Memory) => Err(Failure::Memory),
-        Err(Failure::Fault(fault)) => Err(refuse(Cause::DeclaredTwice, fault.line())),
     }
 }

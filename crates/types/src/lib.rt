@@ -3,7 +3,9 @@
 
 mod blocks;
 mod checker;
+mod identifiers;
 mod items;
+mod linkages;
 mod lists;
 mod procedures;
 mod statement_nodes;

@@ -1,38 +1,25 @@
 //! Labels, and the lists of statements that hold them.
 
-ghost use Rattle.std.specs.Prelude.{◌≡◌, ◌+◌, ◌++◌, Ok, OnOk, IfOk, length};
+ghost use Rattle.std.specs.Prelude.{◌≡◌, ◌+◌, Ok, OnOk, IfOk, length};
 ghost use Rattle.failure.specs.Failure.{IfFault};
-ghost use Rattle.typing.specs.Statements.{declare_labels, places_of, without_label};
-ghost use Rattle.typing.specs.Results.{Answers, Leaves, fault_in};
-ghost use Rattle.types.specs.internal.Walking.{label_declared, name_fault_in};
+ghost use Rattle.typing.specs.Statements.{declare_labels, without_label};
+ghost use Rattle.typing.specs.Results.{Answers, Leaves};
+ghost use Rattle.types.specs.internal.Walking.{label_declared};
 ghost use Rattle.types.specs.internal.Lists.{listed_view, with_label, with_labels, with_statement};
 
-use typing::{Cause, Fault};
-use typed_expressions::refuse;
+use crate::checker::answer_of_scopes;
 use failure::Failure;
 use names::Scopes;
 use trees::Identifier;
+use typed_expressions::refuse;
 use typed_trees::TypedStatement;
-
-/// The failure of a declaration of a name, as one of the typing.
-pub(crate) fn name_failure(failure: Failure<names::Fault>) -> Failure<Fault>
-    ensures { fault_in result ≡ name_fault_in failure }
-{
-    match failure {
-        Failure::Fault(names::Fault::Unknown { line }) => refuse(Cause::UnknownName, line),
-        Failure::Fault(names::Fault::DeclaredTwice { line }) => refuse(Cause::DeclaredTwice, line),
-        Failure::Memory => Failure::Memory,
-    }
-}
+use typing::{Cause, Fault};
 
 // Takes in a label.
 fn declare_label(scopes: &mut Scopes, label: Identifier) -> Result<(), Failure<Fault>>
     ensures { Leaves result scopes.new (label_declared label scopes.old) }
 {
-    match scopes.declare_label(label) {
-        Ok(()) => Ok(()),
-        Err(failure) => Err(name_failure(failure)),
-    }
+    answer_of_scopes(scopes.declare_label(label))
 }
 
 /// Takes in the labels before a statement.
@@ -69,13 +56,13 @@ fn next_number(number: u32) -> Result<u32, Failure<Fault>>
     }
 }
 
-// A place in a list.
-fn place_after(statements: &[TypedStatement]) -> Result<u32, Failure<Fault>>
-    ensures ok { IfOk result (λ place. place ≡ length statements.now) }
+/// How many items there are, which is the number of the next.
+pub(crate) fn length_of<T>(items: &[T]) -> Result<u32, Failure<Fault>>
+    ensures ok { IfOk result (λ number. number ≡ length items.now) }
     ensures err { IfFault result (λ _. ⊥) }
 {
-    match u32::try_from(statements.len()) {
-        Ok(place) => Ok(place),
+    match u32::try_from(items.len()) {
+        Ok(number) => Ok(number),
         Err(_) => Err(Failure::Memory),
     }
 }
@@ -95,7 +82,7 @@ impl Listed {
         ensures err { IfFault result (λ _. ⊥) }
     {
         let label = self.label;
-        self.places.push(place_after(self.statements.as_slice())?)?;
+        self.places.push(length_of(self.statements.as_slice())?)?;
         self.statements.push(TypedStatement::Label(label))?;
         self.label = next_number(label)?;
         Ok(())

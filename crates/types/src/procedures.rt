@@ -1,13 +1,12 @@
 //! Headings of procedures and their parameters.
 
-ghost use Rattle.std.specs.Prelude.{◌≡◌, not, ◌||◌, [], ◌∷◌, drop, length, map, slice_set, take, IfOk, OnOk};
-ghost use Rattle.std.specs.Str.{bytes_eq};
+ghost use Rattle.std.specs.Prelude.{◌≡◌, not, ◌||◌, [], ◌∷◌, drop, map, slice_set, take, IfOk, OnOk};
 ghost use Rattle.failure.specs.Failure.{IfFault};
 ghost use Rattle.trees.specs.Views.{declaration_tree, declaration_trees, element_tree, heading_tree, item_type_tree, kind_tree, reference_tree, statement_tree, statement_trees, subject_tree};
 ghost use Rattle.names.specs.Environment.{into_body};
 ghost use Rattle.names.specs.Uses.{declared_by};
 ghost use Rattle.typed_trees.specs.Views.{list_view, procedure_view};
-ghost use Rattle.typing.specs.Blocks.{is_external, is_external_linkage, is_reentrant, with_global};
+ghost use Rattle.typing.specs.Blocks.{is_external, is_reentrant};
 ghost use Rattle.typing.specs.Statements.{line_of_kind, line_of_statement, line_of_targets};
 ghost use Rattle.typing.specs.Procedures.{check_body, check_reentrant, check_visibility, declare_parameters, empty_list, no_more_parameters, open_procedure, parameter_object, parameter_objects, parameter_types, procedure_with, scalar_in_block, scalar_in_declaration, scalar_in_element, scalar_in_elements, scalar_of_type, visibility_of};
 ghost use Rattle.typing.specs.Results.{Answers, Leaves};
@@ -15,10 +14,10 @@ ghost use Rattle.types.specs.internal.Views.{block_view, owner_view, progress_vi
 ghost use Rattle.types.specs.internal.Walking.{heading_opened, names_among, parameter_declared, procedure_closed, procedure_declared};
 
 use crate::blocks::{Block, Owner};
-use crate::checker::Checker;
-use typing::{Cause, Fault};
-use typed_expressions::{refuse, require};
-use crate::lists::name_failure;
+use crate::checker::{Checker, answer_of_scopes};
+use crate::identifiers::{is_among, is_same};
+use crate::linkages::{add_global, is_external_linkage, line_of_linkage};
+use crate::lists::length_of;
 use failure::Failure;
 use names::{Entity, Scopes};
 use std::alloc::{AllocError, Global};
@@ -26,18 +25,9 @@ use trees::{
     Declaration, Element, Heading, Identifier, ItemType, Linkage, Name, Place, Reference,
     ScalarType, Statement, StatementKind, Subject,
 };
+use typed_expressions::{refuse, require};
 use typed_trees::{GlobalItem, PARAMETER_LIMIT, TypedList, TypedProcedure, Visibility};
-
-/// The number of the next procedure.
-pub(crate) fn next_procedure(procedures: &[TypedProcedure]) -> Result<u32, Failure<Fault>>
-    ensures ok { IfOk result (λ number. number ≡ length procedures.now) }
-    ensures err { IfFault result (λ _. ⊥) }
-{
-    match u32::try_from(procedures.len()) {
-        Ok(number) => Ok(number),
-        Err(_) => Err(Failure::Memory),
-    }
-}
+use typing::{Cause, Fault};
 
 // The object that a parameter is declared as.
 fn parameter_object(parameter: Identifier, declared: Option<Entity>) -> Result<u32, Failure<Fault>>
@@ -63,13 +53,6 @@ pub(crate) fn parameter_objects(
         made.push(object)?;
     }
     Ok(made)
-}
-
-// Whether something is EXTERNAL.
-fn is_external_linkage(linkage: Option<Linkage>) -> bool
-    ensures { result ≡ is_external_linkage linkage }
-{
-    matches!(linkage, Some(Linkage::External(_)))
 }
 
 // Where a reference begins.
@@ -123,25 +106,6 @@ pub(crate) fn check_body(heading: &Heading, body: &[Statement]) -> Result<(), Fa
             line_of_statement(first),
         ),
     }
-}
-
-// Whether two names are the same.
-fn is_same(name: Name, other: Name) -> bool
-    ensures { result ≡ bytes_eq name other }
-{
-    name.as_slice() == other.as_slice()
-}
-
-// Whether a name is among those that are declared together.
-fn is_among(declared: &[Identifier], name: Name) -> bool
-    ensures { result ≡ names_among declared.now name }
-{
-    for one in declared {
-        if is_same(name, one.name) {
-            return true;
-        }
-    }
-    false
 }
 
 // Whether an item declares a name.
@@ -239,20 +203,14 @@ fn parameter_types(
 fn declare_procedure(scopes: &mut Scopes, name: Identifier) -> Result<(), Failure<Fault>>
     ensures { Leaves result scopes.new (procedure_declared name scopes.old) }
 {
-    match scopes.declare_procedure(name) {
-        Ok(()) => Ok(()),
-        Err(failure) => Err(name_failure(failure)),
-    }
+    answer_of_scopes(scopes.declare_procedure(name))
 }
 
 // Takes in a parameter.
 fn declare_parameter(scopes: &mut Scopes, name: Identifier) -> Result<(), Failure<Fault>>
     ensures { Leaves result scopes.new (parameter_declared name scopes.old) }
 {
-    match scopes.declare_parameter(name) {
-        Ok(()) => Ok(()),
-        Err(failure) => Err(name_failure(failure)),
-    }
+    answer_of_scopes(scopes.declare_parameter(name))
 }
 
 // Takes in the parameters of a heading.
@@ -270,22 +228,14 @@ fn open_body(scopes: &mut Scopes) -> Result<(), Failure<Fault>>
     ensures ok { OnOk result (scopes.new ≡ into_body scopes.old) }
     ensures err { IfFault result (λ _. ⊥) }
 {
-    match scopes.open_body() {
-        Ok(()) => Ok(()),
-        Err(failure) => Err(name_failure(failure)),
-    }
+    answer_of_scopes(scopes.open_body())
 }
 
 // Whether procedures may stand in this.
 fn holds_procedures(owner: Owner<'_>) -> bool
     ensures { result ≡ not (is_reentrant (owner_view owner.entry) || is_external (owner_view owner.entry)) }
 {
-    match owner {
-        Owner::Module => true,
-        Owner::Procedure { heading, .. } => {
-            heading.reentrant.is_none() && !is_external_linkage(heading.linkage)
-        }
-    }
+    !(owner.is_reentrant() || owner.is_external())
 }
 
 // The parameters of a heading that it may have, and those that are too many.
@@ -314,12 +264,13 @@ fn no_more_parameters(parameters: &[Identifier]) -> Result<(), Failure<Fault>>
 fn check_visibility(block: Block<'_>, linkage: Option<Linkage>) -> Result<(), Failure<Fault>>
     ensures { Answers (λ _. tt) result (check_visibility (block_view block.entry) linkage) }
 {
-    let is_module_level = block.is_own && matches!(block.owner, Owner::Module);
     match linkage {
         None => Ok(()),
-        Some(Linkage::Public(place) | Linkage::External(place)) => {
-            require(is_module_level, Cause::MisplacedAttribute, place.line)
-        }
+        Some(linkage) => require(
+            block.is_module_level(),
+            Cause::MisplacedAttribute,
+            line_of_linkage(linkage),
+        ),
     }
 }
 
@@ -407,20 +358,6 @@ fn headed(alloc: Global, heading: &Heading, parameter_types: Vec<ScalarType>) ->
     procedure_with(heading, parameter_types, Vec::new(alloc), 0, body)
 }
 
-// One more global, where there is a linkage.
-fn push_global(
-    globals: &mut Vec<GlobalItem>,
-    linkage: Option<Linkage>,
-    item: GlobalItem,
-) -> Result<(), AllocError>
-    ensures { OnOk result (globals.new.items ≡ with_global linkage item globals.old.items) }
-{
-    if linkage.is_some() {
-        globals.push(item)?;
-    }
-    Ok(())
-}
-
 // Puts a procedure in the place of the one of this number.
 fn replace(procedures: &mut Vec<TypedProcedure>, number: u32, procedure: TypedProcedure)
     ensures { procedures.new.items ≡ slice_set procedures.old.items number procedure }
@@ -442,14 +379,15 @@ impl Checker {
             (open_procedure (block_view block.entry) (heading_tree heading.now)
             (declaration_trees declared.now) (progress_view self.old)) }
     {
-        let types = parameter_types(self.alloc, declared, heading.parameters.as_slice())?;
-        let number = next_procedure(self.known.procedures.as_slice())?;
+        let number = length_of(self.known.procedures.as_slice())?;
         open_heading(&mut self.known.scopes, block, heading)?;
+        // A heading with too many parameters is refused by now.
+        let types = parameter_types(self.alloc, declared, heading.parameters.as_slice())?;
         self.known
             .procedures
             .push(headed(self.alloc, heading, types))?;
         let item = GlobalItem::GlobalProcedure(number);
-        push_global(&mut self.globals, heading.linkage, item)?;
+        add_global(&mut self.globals, heading.linkage, item)?;
         self.frame = 0;
         Ok(())
     }

@@ -2,32 +2,31 @@
 
 ghost use Rattle.std.specs.Prelude.{◌≡◌, map, Some, IfOk};
 ghost use Rattle.std.specs.Option.{option_map};
-ghost use Rattle.trees.specs.Views.{argument_trees, expression_tree, iteration_tree, reference_tree, target_trees};
+ghost use Rattle.trees.specs.Views.{argument_trees, expression_tree, iteration_tree, target_trees};
 ghost use Rattle.names.specs.declared.entity.Binding.TheVariants.{Declared};
 ghost use Rattle.names.specs.declared.entity.Entity.TheVariants.{Object};
 ghost use Rattle.typed_trees.specs.Views.{arguments_view, expression_view, iteration_view, object_view, statement_view, target_view};
 ghost use Rattle.typing.specs.Expressions.{arguments};
-ghost use Rattle.typing.specs.Nodes.{target_of};
-ghost use Rattle.typing.specs.References.{is_writable};
-ghost use Rattle.typing.specs.Statements.{assigned, assignment, call, call_bound, counter_bound, destinations, goto, goto_bound, iteration, moved, return_from, return_with, step, value};
+ghost use Rattle.typing.specs.Statements.{assignment, call, call_bound, counter_bound, destinations, goto, goto_bound, iteration, moved, return_from, return_with, step, value};
 ghost use Rattle.typing.specs.Results.{Answers, Gives};
 ghost use Rattle.types.specs.internal.Walking.{call_of_bound, call_of_move, call_of_procedure, call_statement, counter_type, counter_view, targets_for};
-ghost use Rattle.typed_expressions.specs.internal.Views.{constants_view, destination_view, known_view};
+ghost use Rattle.typed_expressions.specs.Views.{destination_view, known_view};
 ghost use Rattle.types.specs.internal.Views.{owner_view, progress_view};
 
 use crate::blocks::Owner;
 use crate::checker::Checker;
-use typed_expressions::as_type;
-use typing::{Cause, Fault};
-use typed_expressions::{Constants, Destination, Known, refuse, require};
 use crate::statement_nodes;
 use failure::Failure;
 use names::{Binding, BuiltIn, Entity};
 use std::alloc::{AllocError, Global};
-use trees::{Assignment, Expression, Identifier, Iteration, Reference, ScalarType, Selector};
+use trees::{Assignment, Expression, Identifier, Iteration, ScalarType, Selector};
+use typed_expressions::{
+    Destination, Known, as_type, refuse, require, require_writable, target_of,
+};
 use typed_trees::{
     Home, ObjectType, TypedExpression, TypedIteration, TypedObject, TypedStatement, TypedTarget,
 };
+use typing::{Cause, Fault};
 
 impl Checker {
     /// An expression in a statement.
@@ -36,23 +35,6 @@ impl Checker {
             (value (expression_tree tree.now) (progress_view self.old)) }
     {
         self.known.expression(tree, &mut self.constants)
-    }
-}
-
-// What goes to a target, of a type.
-fn target_of(place: Destination, from: ScalarType) -> TypedTarget
-    ensures { target_view result ≡ target_of (destination_view place) from }
-{
-    match place {
-        Destination::Variable {
-            scalar: to,
-            reference,
-        } => TypedTarget::Stored {
-            from,
-            to,
-            reference,
-        },
-        Destination::Port(port) => TypedTarget::Sent { from, port },
     }
 }
 
@@ -114,7 +96,7 @@ fn moved(
 
 impl Checker {
     // CALL of MOVE.
-    #[tactic(auto, using(crate::proofs::Arguments::number_of_trees))]
+    #[tactic(auto, using(typed_expressions::proofs::GivenParts::count_of_arguments))]
     fn call_of_move(
         &mut self,
         name: Identifier,
@@ -252,11 +234,7 @@ impl Checker {
 fn counter_type(object: &TypedObject, name: Identifier) -> Result<ScalarType, Failure<Fault>>
     ensures { Answers (λ scalar. scalar) result (counter_type (object_view object.now) name) }
 {
-    require(
-        !matches!(object.home, Home::Constant(_)),
-        Cause::ConstantWritten,
-        name.place.line,
-    )?;
+    require_writable(object, name)?;
     require(
         object.dimension.is_none() && !matches!(object.home, Home::Based(_)),
         Cause::WrongUse,
@@ -290,7 +268,11 @@ fn counter_object(known: &Known, number: u32, name: Identifier) -> Result<Counte
 }
 
 // The variable of an iterative DO, from what its name is bound to.
-fn counter_bound(known: &Known, binding: Binding, name: Identifier) -> Result<Counter, Failure<Fault>>
+fn counter_bound(
+    known: &Known,
+    binding: Binding,
+    name: Identifier,
+) -> Result<Counter, Failure<Fault>>
     ensures { Answers counter_view result (counter_bound (known_view known.now) binding name) }
 {
     match binding {

@@ -7,6 +7,7 @@ ghost use Rattle.names.specs.internal.Parts.{case_tree, do_tree, if_tree, iterat
 ghost use Rattle.typed_trees.specs.Views.{else_view, list_view, module_view, procedure_view, statement_view, statements_view};
 ghost use Rattle.typing.specs.Statements.{list_of, places_from};
 ghost use Rattle.typed_trees.specs.Jumps.{JumpsAreSound};
+ghost use Rattle.typed_trees.specs.Storable.{IsStorable};
 ghost use Rattle.typing.specs.Untyped.{GivesBack};
 ghost use Rattle.typing.specs.Typing.{alone, cases, declaration, declarations, else_part, entered, kind, left, main_procedure, module_with, statements, typing_of};
 ghost use Rattle.typing.specs.Results.{Answers, Gives, Leaves};
@@ -14,10 +15,9 @@ ghost use Rattle.types.specs.internal.Views.{block_view, progress_view};
 ghost use Rattle.types.specs.internal.Walking.{inside_view, list_left, listing, module_body, procedure_inside, statement_with_labels};
 
 use crate::blocks::{Block, Owner};
-use crate::checker::Checker;
-use typing::Fault;
-use crate::lists::{Listed, declare_labels, name_failure, without_label};
-use crate::procedures::{check_body, next_procedure, parameter_objects};
+use crate::checker::{Checker, answer_of_scopes};
+use crate::lists::{Listed, declare_labels, length_of, without_label};
+use crate::procedures::{check_body, parameter_objects};
 use crate::statement_nodes;
 use failure::Failure;
 use std::alloc::Global;
@@ -26,6 +26,7 @@ use trees::{
     Procedure, Statement, StatementKind,
 };
 use typed_trees::{Typed, TypedList, TypedProcedure, TypedStatement, Visibility};
+use typing::Fault;
 
 // The objects of a procedure's parameters, and what it does.
 #[derive(Drop)]
@@ -40,10 +41,7 @@ impl Checker {
         ensures ok { OnOk result (progress_view self.new ≡ entered (progress_view self.old)) }
         ensures err { IfFault result (λ _. ⊥) }
     {
-        match self.known.scopes.open_block() {
-            Ok(()) => Ok(()),
-            Err(failure) => Err(name_failure(failure)),
-        }
+        answer_of_scopes(self.known.scopes.open_block())
     }
 
     // Goes out of a simple DO.
@@ -59,10 +57,7 @@ impl Checker {
             (progress_view self.new ≡ listing (statement_trees trees.now) (progress_view self.old)) }
         ensures err { IfFault result (λ _. ⊥) }
     {
-        match self.known.scopes.open_list(trees) {
-            Ok(()) => Ok(()),
-            Err(failure) => Err(name_failure(failure)),
-        }
+        answer_of_scopes(self.known.scopes.open_list(trees))
     }
 
     // Goes out of a list of statements.
@@ -335,7 +330,7 @@ impl Checker {
             (progress_view self.old)) }
     {
         let heading = &procedure.heading;
-        let number = next_procedure(self.known.procedures.as_slice())?;
+        let number = length_of(self.known.procedures.as_slice())?;
         self.open_procedure(block, heading, procedure.body.declarations.as_slice())?;
         let inside = self.procedure_inside(number, procedure)?;
         self.close_procedure(
@@ -444,6 +439,7 @@ pub fn check(alloc: Global, parsed: Module) -> Result<Typed, Failure<Fault>>
     ensures fault { IfFault result (λ fault. typing_of (module_tree parsed) ≡ Err fault) }
     ensures given_back { IfOk result (λ typed. GivesBack (module_tree parsed) (module_view typed)) }
     ensures jumps { IfOk result (λ typed. JumpsAreSound (module_view typed)) }
+    ensures storable { IfOk result (λ typed. IsStorable (module_view typed)) }
 {
     typed(alloc, &parsed)
 }

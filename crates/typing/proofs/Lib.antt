@@ -15,4 +15,9 @@ pub mod DeclarationsBack
 pub mod SimpleStatementsBack
 pub mod StatementsBack
 pub mod Loops
+pub mod Storable
+pub mod StorableExpressions
+pub mod StorableObjects
+pub mod StorableStatements
+pub mod StorableExamples
 pub mod TypedLaws

@@ -7,7 +7,7 @@ use Rattle.names.specs.Environment.{Here, out_of_block, into_list, out_of_list, 
 use Rattle.names.specs.Events.{labels_of}
 use Rattle.typing.specs.declared.fault.Cause.TheVariants.{DeclaredTwice}
 use Rattle.typed_trees.specs.TypedTrees as typed
-use Rattle.typed_trees.specs.TypedTrees.{TypedStatement, LabelStatement, TypedElse, TypedStatements, NoStatements as NoTyped, MoreStatements as MoreTyped, TypedList, TypedProcedure, TypedModule}
+use Rattle.typed_trees.specs.TypedTrees.{TypedStatement, LabelStatement, TypedElse, TypedStatements, MoreStatements as MoreTyped, TypedList, TypedModule}
 use Rattle.typing.specs.Checks.{Checked, require}
 use Rattle.typing.specs.References.{line_of}
 use Rattle.typing.specs.Blocks.{Block, Progress}

@@ -28,7 +28,7 @@ use Rattle.typing.specs.References.{Given, GivenMember, WithoutMember, WithMembe
 use Rattle.typing.specs.Nodes.{as_type}
 use Rattle.typing.specs.Expressions.{arguments}
 use Rattle.typing.specs.Functions.{Measured}
-use Rattle.typed_expressions.specs.internal.Views.{known_view}
+use Rattle.typed_expressions.specs.Views.{known_view}
 
 abbrev pub extent_view : CodeExtent → Extent
 extent_view extents.AnElement = AnElement

@@ -1,7 +1,5 @@
 -- Parts of the definitions of statements and procedures, by the functions that go through them.
-use Rattle.std.specs.Prelude.{ℕ, Bool, true, ◌||◌, take, drop, not, ◌&&◌, List, ◌++◌, map, Option, Some, None, is_none, Ok}
-use Rattle.failure.specs.declared.Failure.{Failure}
-use Rattle.failure.specs.declared.Failure.TheVariants as failures
+use Rattle.std.specs.Prelude.{ℕ, Bool, true, ◌||◌, take, drop, not, ◌&&◌, List, map, is_none, Ok}
 use Rattle.trees.specs.declared.declaration.ScalarType.{ScalarType}
 use Rattle.trees.specs.declared.identifier.Identifier.{Identifier}
 use Rattle.trees.specs.declared.statement.Procedure.{Procedure, out-Procedure}
@@ -11,15 +9,12 @@ use Rattle.names.specs.declared.entity.Binding.{Binding}
 use Rattle.names.specs.declared.entity.Binding.TheVariants.{Declared, BuiltInName}
 use Rattle.names.specs.declared.entity.BuiltIn.TheVariants.{Move}
 use Rattle.names.specs.declared.entity.Entity.TheVariants as entities
-use Rattle.names.specs.declared.fault.Fault.{Fault as NameFault}
-use Rattle.names.specs.declared.fault.Fault.TheVariants as name_faults
 use Rattle.names.specs.Environment.{Here, is_among, into_body, with_procedure, is_declared_again, into_list, out_of_list, with_label, with_parameter, is_label_again, is_parameter_again}
 use Rattle.names.specs.Events.{labels_of}
 use Rattle.typed_trees.specs.declared.limits.TheConstants.{PARAMETER_LIMIT}
 use Rattle.typed_trees.specs.TypedTrees.{TypedTarget, TypedStatement, TypedList, TypedObject}
 use Rattle.typed_trees.specs.Views.{list_view}
-use Rattle.typing.specs.declared.fault.Cause.TheVariants.{UnknownName, DeclaredTwice, WrongUse, MisplacedAttribute}
-use Rattle.typing.specs.declared.fault.Fault.{Fault}
+use Rattle.typing.specs.declared.fault.Cause.TheVariants.{DeclaredTwice, WrongUse, MisplacedAttribute}
 use Rattle.types.specs.declared.statements.Counter.{Counter as CodeCounter}
 use Rattle.types.specs.declared.walk.Inside.{Inside}
 use Rattle.typing.specs.Checks.{Checked, ◌>>=◌, require, found}
@@ -66,12 +61,6 @@ counter_type object name = do
 
 abbrev pub counter_view : CodeCounter → Counter
 counter_view counter = record { object = counter.object; scalar = counter.scalar }
-
--- the fault of a declaration of a name
-abbrev pub name_fault_in : Failure NameFault → Option Fault
-name_fault_in (failures.Fault (name_faults.Unknown line)) = Some (record { cause = UnknownName; line = line })
-name_fault_in (failures.Fault (name_faults.DeclaredTwice line)) = Some (record { cause = DeclaredTwice; line = line })
-name_fault_in failures.Memory = None
 
 -- one label of a body, one parameter of a heading
 abbrev pub label_declared : Identifier → Here → Checked Here

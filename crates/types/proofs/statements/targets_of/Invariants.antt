@@ -1,6 +1,6 @@
 use Rattle.std.proofs.Common.{◌≡◌, map}
 use Rattle.typed_trees.specs.Views.{target_view}
-use Rattle.typed_expressions.specs.internal.Views.{destination_view}
+use Rattle.typed_expressions.specs.Views.{destination_view}
 use Rattle.types.specs.internal.Walking.{targets_for}
 use Rattle.types.proofs.statements.targets_of.Given as goal
 

@@ -1,10 +1,12 @@
 use Rattle.trees.specs.Views.{module_tree}
 use Rattle.typed_trees.specs.Jumps.{JumpsAreSound}
+use Rattle.typed_trees.specs.Storable.{IsStorable}
 use Rattle.typed_trees.specs.Views.{module_view}
 use Rattle.typing.specs.Typing.{typing_of}
 use Rattle.typing.specs.Untyped.{GivesBack}
 use Rattle.typing.proofs.JumpsLaw.{jumps_are_sound}
 use Rattle.typing.proofs.StatementsBack.{gives_back}
+use Rattle.typing.proofs.StorableStatements.{is_storable}
 use Rattle.typing.proofs.TypedLaws.{where_typed}
 use Rattle.types.proofs.walk.check.Goals as goal
 
@@ -16,3 +18,7 @@ returns-clause-given_back c =
 pub returns-clause-jumps : goal.returns-clause-jumps
 returns-clause-jumps c =
     where_typed module_view c.typed.result (typing_of (module_tree c.args.parsed)) JumpsAreSound c.typed.ensures (jumps_are_sound (module_tree c.args.parsed))
+
+pub returns-clause-storable : goal.returns-clause-storable
+returns-clause-storable c =
+    where_typed module_view c.typed.result (typing_of (module_tree c.args.parsed)) IsStorable c.typed.ensures (is_storable (module_tree c.args.parsed))

@@ -1,4 +1,4 @@
-use Rattle.typed_expressions.specs.internal.Views.{constants_view, known_view}
+use Rattle.typed_expressions.specs.Views.{constants_view, known_view}
 use Rattle.typed_expressions.proofs.ArgumentLoops.{goes_on, ended}
 use Rattle.typed_expressions.proofs.known.Known.+expression.Goals as goal
 

@@ -3,7 +3,7 @@ use Rattle.trees.specs.Views.{argument_trees}
 use Rattle.typing.specs.Checks.{◌>>=◌}
 use Rattle.typing.specs.Expressions.{arguments}
 use Rattle.typed_expressions.specs.internal.Fronts.{in_front}
-use Rattle.typed_expressions.specs.internal.Views.{constants_view, known_view}
+use Rattle.typed_expressions.specs.Views.{constants_view, known_view}
 use Rattle.typed_expressions.proofs.known.Known.+expression.Given as goal
 
 abbrev pub invariant-arguments-loop-tree : goal.invariant-arguments-loop-tree

@@ -1,7 +1,7 @@
 use Rattle.std.proofs.Common.{◌≡◌, map, drop}
 use Rattle.trees.specs.Views.{reference_tree, target_trees}
 use Rattle.typing.specs.Statements.{destinations}
-use Rattle.typed_expressions.specs.internal.Views.{constants_view, destination_view, known_view}
+use Rattle.typed_expressions.specs.Views.{constants_view, destination_view, known_view}
 use Rattle.typing.specs.Results.{in_front}
 use Rattle.typed_expressions.specs.internal.Fronts.{after_destinations}
 use Rattle.typed_expressions.proofs.known.Known.destinations.Given as goal

@@ -1,6 +1,6 @@
 use Rattle.typed_trees.specs.Views.{type_view}
 use Rattle.typed_expressions.specs.internal.Fillings.{filled_view}
-use Rattle.typed_expressions.specs.internal.Views.{known_view}
+use Rattle.typed_expressions.specs.Views.{known_view}
 use Rattle.typed_expressions.proofs.Filled.{onto_value, onto_values, values_first}
 use Rattle.typing.proofs.Loops.{state_goes_on}
 use Rattle.typed_expressions.proofs.known.Known.fill.Goals as goal

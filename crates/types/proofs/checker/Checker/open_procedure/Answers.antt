@@ -13,5 +13,5 @@ returns-in_err-open_heading c =
 pub returns : goal.returns
 returns c =
     opening_gives (block_view c.args.block) (heading_tree c.args.heading.now) (declaration_trees c.args.declared.now) (progress_view c.args.self.now)
-    c.in_ok-types.types.items c.open_heading.new.scopes c.args.self.now.known.procedures.items c.push.new.self.items c.headed.result c.in_ok-number.number c.push_global.new.globals.items
-    (search rules) c.in_ok-open_heading.ensures refl c.in_ok-push.ensures.items c.headed.ensures (search rules) c.in_ok-push_global.ensures
+    c.in_ok-types.types.items c.open_heading.new.scopes c.args.self.now.known.procedures.items c.push.new.self.items c.headed.result c.in_ok-number.number c.add_global.new.globals.items
+    (search rules) c.in_ok-open_heading.ensures refl c.in_ok-push.ensures.items c.headed.ensures (search rules) c.in_ok-add_global.ensures

@@ -1,0 +1,45 @@
+//! PUBLIC and EXTERNAL.
+
+ghost use Rattle.std.specs.Prelude.{◌≡◌, OnOk};
+ghost use Rattle.typing.specs.Blocks.{is_external_linkage, is_public_linkage, line_of_linkage, with_global};
+
+use std::alloc::AllocError;
+use trees::Linkage;
+use typed_trees::GlobalItem;
+
+/// Whether something is PUBLIC.
+pub(crate) fn is_public_linkage(linkage: Option<Linkage>) -> bool
+    ensures { result ≡ is_public_linkage linkage }
+{
+    matches!(linkage, Some(Linkage::Public(_)))
+}
+
+/// Whether something is EXTERNAL.
+pub(crate) fn is_external_linkage(linkage: Option<Linkage>) -> bool
+    ensures { result ≡ is_external_linkage linkage }
+{
+    matches!(linkage, Some(Linkage::External(_)))
+}
+
+/// The line of PUBLIC or EXTERNAL.
+pub(crate) fn line_of_linkage(linkage: Linkage) -> u32
+    ensures { result ≡ line_of_linkage linkage }
+{
+    match linkage {
+        Linkage::Public(place) | Linkage::External(place) => place.line,
+    }
+}
+
+/// One more global, where there is a linkage.
+pub(crate) fn add_global(
+    globals: &mut Vec<GlobalItem>,
+    linkage: Option<Linkage>,
+    item: GlobalItem,
+) -> Result<(), AllocError>
+    ensures { OnOk result (globals.new.items ≡ with_global linkage item globals.old.items) }
+{
+    if linkage.is_some() {
+        globals.push(item)?;
+    }
+    Ok(())
+}

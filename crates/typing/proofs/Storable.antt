@@ -1,0 +1,107 @@
+-- Objects and constants so far have a place each, and go on to as they grow.
+use Rattle.std.proofs.Common.{◌≡◌, ℕ, suc, zero, ◌+◌, List, [], ◌∷◌, ◌++◌, length, Option, All, refl, sym, ap, ◌∙◌, subst, length-append, append-nil, arith}
+use Rattle.std.specs.Prelude.{filter_map}
+use Rattle.std.specs.List.{cons_option, enumerate_from}
+use Rattle.std.proofs.lemmas.List.Elements.{All-append, All-cons, All-nil, filter_map-append}
+use Rattle.typed_trees.specs.declared.parts.AtAddress.TheVariants.{AtNumber, AtObject}
+use Rattle.typed_trees.specs.declared.parts.ConstantItem.TheVariants.{ConstantObject, ConstantList}
+use Rattle.typed_trees.specs.declared.parts.ConstantItem.{ConstantItem}
+use Rattle.typed_trees.specs.TypedTrees.{Home, InConstants, Placed, TypedObject, Constants}
+use Rattle.typed_trees.specs.Storable.{object_in, list_in, constant_number, numbered_constant, numbers_from, LooksBack}
+use Rattle.trees.specs.Trees.{ConstantTree}
+use Rattle.typing.specs.Constants.{bytes_of_constants}
+use Rattle.typing.specs.Expressions.{with_list}
+use Rattle.typing.specs.Items.{with_constant}
+
+abbrev pub AllLookBack : List TypedObject → Type 0
+AllLookBack objects =
+    All (λ (numbered : ℕ × TypedObject). LooksBack numbered.0 (numbered.1).home) (enumerate_from 0 objects)
+
+-- the objects and the constants of a text so far
+pub record AreStorable (objects : List TypedObject) (constants : Constants) : Type 0 where
+  pub objects_stand : filter_map object_in constants.items ≡ filter_map numbered_constant (enumerate_from 0 objects)
+  pub lists_stand : filter_map list_in constants.items ≡ numbers_from 0 (length constants.lists)
+  pub look_back : AllLookBack objects
+
+enumerate_more : {X : Type 0} (first : ℕ) (before : List X) (x : X) (last : ℕ) → first + length before ≡ last
+    → enumerate_from first (before ++ x ∷ []) ≡ enumerate_from first before ++ (last, x) ∷ []
+enumerate_more first [] x last is = ap (λ (number : ℕ). (number, x) ∷ []) (omega (arith, is))
+enumerate_more first (y ∷ before) x last is =
+    ap (λ rest. (first, y) ∷ rest) (enumerate_more (first + 1) before x last (omega (arith, is)))
+
+numbers_more : (first count last : ℕ) → first + count ≡ last
+    → numbers_from first (suc count) ≡ numbers_from first count ++ last ∷ []
+numbers_more first zero last is = ap (λ (number : ℕ). number ∷ []) (omega (arith, is))
+numbers_more first (suc count) last is =
+    ap (λ rest. first ∷ rest) (numbers_more (first + 1) count last (omega (arith, is)))
+
+-- one more constant list
+pub list_more : {objects : List TypedObject} {constants : Constants} (list : List ConstantTree)
+    → AreStorable objects constants → AreStorable objects (with_list list constants)
+list_more {objects} {constants} list are =
+    let new : List ConstantItem = ConstantList (length constants.lists) ∷ [] in
+    let bytes : List (List ℕ) = bytes_of_constants list ∷ [] in
+    let count_after : suc (length constants.lists) ≡ length (constants.lists ++ bytes) =
+    omega (arith, length-append constants.lists bytes) in
+    record {
+      objects_stand = filter_map-append object_in constants.items new
+          ∙ append-nil (filter_map object_in constants.items) ∙ are.objects_stand;
+      lists_stand = filter_map-append list_in constants.items new
+          ∙ ap (λ (numbers : List ℕ). numbers ++ length constants.lists ∷ []) are.lists_stand
+          ∙ sym (numbers_more 0 (length constants.lists) (length constants.lists) (omega arith))
+          ∙ ap (numbers_from 0) count_after;
+      look_back = are.look_back;
+    }
+
+-- one more object
+abbrev number_to_list : Option ℕ → List ℕ
+number_to_list number = cons_option number []
+
+objects_in_constants : (home : Home) (number : ℕ) (constants : Constants)
+    → filter_map object_in (with_constant home number constants).items
+    ≡ filter_map object_in constants.items ++ number_to_list (constant_number number home)
+objects_in_constants (InConstants values) number constants =
+    filter_map-append object_in constants.items (ConstantObject number ∷ [])
+objects_in_constants home number constants = sym (append-nil (filter_map object_in constants.items))
+
+lists_in_constants : (home : Home) (number : ℕ) (constants : Constants)
+    → filter_map list_in (with_constant home number constants).items ≡ filter_map list_in constants.items
+lists_in_constants (InConstants values) number constants =
+    filter_map-append list_in constants.items (ConstantObject number ∷ [])
+    ∙ append-nil (filter_map list_in constants.items)
+lists_in_constants home number constants = refl
+
+same_lists : (home : Home) (number : ℕ) (constants : Constants)
+    → (with_constant home number constants).lists ≡ constants.lists
+same_lists (InConstants values) number constants = refl
+same_lists home number constants = refl
+
+pub object_more : {objects : List TypedObject} {constants : Constants} (object : TypedObject)
+    → LooksBack (length objects) object.home → AreStorable objects constants
+    → AreStorable (objects ++ object ∷ []) (with_constant object.home (length objects) constants)
+object_more {objects} {constants} object back are =
+    let count : ℕ = length objects in
+    let all = enumerate_more 0 objects object count (omega arith) in
+    let before : List (ℕ × TypedObject) = enumerate_from 0 objects in
+    let LookBack : ℕ × TypedObject → Type 0 = λ numbered. LooksBack numbered.0 (numbered.1).home in
+    record {
+      objects_stand = objects_in_constants object.home count constants
+          ∙ ap (λ (numbers : List ℕ). numbers ++ number_to_list (constant_number count object.home)) are.objects_stand
+          ∙ sym (filter_map-append numbered_constant before ((count, object) ∷ []))
+          ∙ ap (filter_map numbered_constant) (sym all);
+      lists_stand = lists_in_constants object.home count constants ∙ are.lists_stand
+          ∙ ap (λ (lists : List (List ℕ)). numbers_from 0 (length lists)) (sym (same_lists object.home count constants));
+      look_back = subst (λ (numbered : List (ℕ × TypedObject)). All LookBack numbered) (sym all)
+          (All-append LookBack before ((count, object) ∷ []) are.look_back
+          (All-cons LookBack (count, object) [] back (All-nil LookBack)));
+    }
+
+-- what looks back from a place looks back from all that come after it
+pub back_later : (home : Home) (number : ℕ) → LooksBack number home → LooksBack (number + 1) home
+back_later (Placed (AtObject other offset)) number back = omega (arith, back)
+back_later (Placed (AtNumber address)) number back = tt
+back_later home number back = tt
+
+-- nothing so far
+pub none_yet : AreStorable [] (record { lists = []; items = [] })
+none_yet = record { objects_stand = refl; lists_stand = refl; look_back = All-nil _ }
