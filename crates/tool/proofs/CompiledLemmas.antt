@@ -52,6 +52,9 @@ text_at sources file d below = sym (get_or-map (λ (source : declared_source.Sou
 pub within_texts : (sources : List declared_source.Source) (file : ℕ) → file < length sources → file < length (texts_of sources)
 within_texts sources file below = simp length-map below
 
+pub past_texts : (sources : List declared_source.Source) (file : ℕ) → length sources ≤ file → length (texts_of sources) ≤ file
+past_texts sources file past = simp length-map past
+
 -- what is compiled of the texts that are left stands after what was compiled
 abbrev pub GoesOn : Plan → List (List ℕ) → (file : ℕ) → List Compiled → Type 0
 GoesOn plan texts file made = (rest : List Compiled) → AreCompiled plan (drop file texts) rest → AreCompiled plan texts (made ++ rest)

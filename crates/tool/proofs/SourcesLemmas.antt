@@ -1,5 +1,5 @@
 -- Programs of sources that are compiled.
-use Rattle.std.proofs.Common.{◌≡◌, ℕ, zero, suc, ◌+◌, ◌<◌, ◌≤◌, ◌⊎◌, inl, inr, Bool, true, false, List, [], ◌∷◌, ◌++◌, length, flat_map, map, Option, Some, None, is_some, All, slice_get, arith, refl, sym, ap, ◌∙◌, subst, ⊎_elim}
+use Rattle.std.proofs.Common.{◌≡◌, ℕ, zero, suc, ◌+◌, ◌<◌, ◌≤◌, ◌⊎◌, inl, inr, Bool, true, false, List, [], ◌∷◌, ◌++◌, length, flat_map, map, Option, Some, None, is_some, All, cond, arith, refl, sym, ap, ◌∙◌, subst, ⊎_elim}
 use Rattle.std.proofs.lemmas.Bool.{cases_lt}
 use Rattle.std.proofs.lemmas.List.{length-map}
 use Rattle.std.proofs.lemmas.List.Elements.{All-from_recursion, recursion_from_All}
@@ -25,7 +25,7 @@ use Rattle.tool.specs.Code.{code_lengths, module_code, program_code}
 use Rattle.tool.specs.Construction.{Construction, program_modules}
 use Rattle.tool.specs.Refusals.{IsRefusal}
 use Rattle.tool.specs.Sources.{AreSourcesOf, AreWithoutFault, HasCause, IsInOrder, IsNotServed, IsProgramOf, IsServed, IsWithoutFault, sources_before, text_of, texts_of}
-use Rattle.tool.specs.internal.Compiling.{AreCompiled, HasProgramCause, IsBuiltFrom, IsCompiled, IsUnservedAt, module_in}
+use Rattle.tool.specs.internal.Compiling.{AreCompiled, HasProgramCause, IsBuiltFrom, IsCompiled, module_in, unserved_from}
 
 abbrev typed_in : Compiled → Typed
 typed_in one = one.source.typed
@@ -100,11 +100,6 @@ module _ (plan : Plan) where
   served_each (text ∷ texts) (one ∷ others) are all =
       (served_one (outputs_of (module_in one)) (sym are.0.served ∙ all.0), served_each texts others are.1 all.1)
 
-  pub served_all : (texts : List (List ℕ)) (compiled : List Compiled) (modules : List Typed) → AreCompiled plan texts compiled → All (λ (one : Compiled). one.is_served ≡ true) compiled → modules ≡ map typed_in compiled → All IsServed (map module_view modules)
-  served_all texts compiled modules are all is =
-      subst (λ ms. All IsServed (map module_view ms)) (sym is)
-      (All-from_recursion IsServed (modules_in compiled) (served_each texts compiled are (recursion_from_All _ compiled all)))
-
   not_served_one : (outputs : Option (List Output)) → is_some outputs ≡ false → outputs ≡ None
   not_served_one (Some found) is = absurd (cc)
   not_served_one None is = refl
@@ -112,17 +107,48 @@ module _ (plan : Plan) where
   not_served : (text : List ℕ) (one : Compiled) → IsCompiled plan text one → one.is_served ≡ false → IsNotServed text
   not_served text one is off = record { typed = module_in one; source = is.source; not_served = not_served_one (outputs_of (module_in one)) (sym is.served ∙ off) }
 
-  unserved_at : (texts : List (List ℕ)) (compiled : List Compiled) (file : ℕ) (one : Compiled) → AreCompiled plan texts compiled → slice_get compiled file ≡ Some one → one.is_served ≡ false → (file < length texts) × IsNotServed (text_of texts file)
-  unserved_at [] [] file one are at off = absurd (cc)
-  unserved_at [] (first ∷ others) file one are at off = absurd are
-  unserved_at (text ∷ texts) [] file one are at off = absurd are
-  unserved_at (text ∷ texts) (first ∷ others) zero one are at off =
-      let same : first ≡ one = cc in (omega arith, not_served text one (subst (λ c. IsCompiled plan text c) same are.0) off)
-  unserved_at (text ∷ texts) (first ∷ others) (suc file) one are at off =
-      let rest = unserved_at texts others file one are.1 at off in (omega (arith, rest.0), rest.1)
+  -- a source that is not served, so many after the first of these
+  record Found (base file : ℕ) (texts : List (List ℕ)) : Type 0 where
+    place : ℕ
+    same : file ≡ base + place
+    below : place < length texts
+    not_served : IsNotServed (text_of texts place)
 
-  pub unserved_cause : (texts : List (List ℕ)) (compiled : List Compiled) (file : ℕ) → AreCompiled plan texts compiled → IsUnservedAt file compiled → (file < length texts) × IsNotServed (text_of texts file)
-  unserved_cause texts compiled file are is = unserved_at texts compiled file is.one are is.at is.not_served
+  found_by : (test : Bool) (text : List ℕ) (texts : List (List ℕ)) (first : Compiled) (base file : ℕ) (later : Option ℕ) → first.is_served ≡ test → IsCompiled plan text first → (later ≡ Some file → Found (base + 1) file texts)
+      → cond test later (Some base) ≡ Some file → Found base file (text ∷ texts)
+  found_by true text texts first base file later off is rest found =
+      let next = rest found in
+      record { place = suc next.place; same = omega (arith, next.same); below = omega (arith, next.below); not_served = next.not_served }
+  found_by false text texts first base file later off is rest found =
+      let same : base ≡ file = cc in
+      record { place = zero; same = omega (arith, same); below = omega arith; not_served = not_served text first is off }
+
+  unserved_at : (texts : List (List ℕ)) (compiled : List Compiled) (base file : ℕ) → AreCompiled plan texts compiled → unserved_from base compiled ≡ Some file → Found base file texts
+  unserved_at [] [] base file are found = absurd (cc)
+  unserved_at [] (first ∷ others) base file are found = absurd are
+  unserved_at (text ∷ texts) [] base file are found = absurd are
+  unserved_at (text ∷ texts) (first ∷ others) base file are found =
+      found_by first.is_served text texts first base file (unserved_from (base + 1) others) refl are.0 (unserved_at texts others (base + 1) file are.1) found
+
+  pub unserved_cause : (texts : List (List ℕ)) (compiled : List Compiled) (file : ℕ) → AreCompiled plan texts compiled → unserved_from 0 compiled ≡ Some file → (file < length texts) × IsNotServed (text_of texts file)
+  unserved_cause texts compiled file are found =
+      let is = unserved_at texts compiled 0 file are found in
+      let same : is.place ≡ file = omega (arith, is.same) in
+      subst (λ k. (k < length texts) × IsNotServed (text_of texts k)) same (is.below, is.not_served)
+
+  served_by : (test : Bool) (first : Compiled) (others : List Compiled) (base : ℕ) (later : Option ℕ) → first.is_served ≡ test → (later ≡ None → AllByRecursion (λ (one : Compiled). one.is_served ≡ true) others)
+      → cond test later (Some base) ≡ None → AllByRecursion (λ (one : Compiled). one.is_served ≡ true) (first ∷ others)
+  served_by true first others base later on rest none = (on, rest none)
+  served_by false first others base later on rest none = absurd (cc)
+
+  served_from : (compiled : List Compiled) (base : ℕ) → unserved_from base compiled ≡ None → AllByRecursion (λ (one : Compiled). one.is_served ≡ true) compiled
+  served_from [] base none = tt
+  served_from (first ∷ others) base none = served_by first.is_served first others base (unserved_from (base + 1) others) refl (served_from others (base + 1)) none
+
+  pub served_all : (texts : List (List ℕ)) (compiled : List Compiled) (modules : List Typed) → AreCompiled plan texts compiled → unserved_from 0 compiled ≡ None → modules ≡ map typed_in compiled → All IsServed (map module_view modules)
+  served_all texts compiled modules are none is =
+      subst (λ ms. All IsServed (map module_view ms)) (sym is)
+      (All-from_recursion IsServed (modules_in compiled) (served_each texts compiled are (served_from compiled 0 none)))
 
   pub program_built : (texts : List (List ℕ)) (compiled : List Compiled) (modules : List Typed) (built : Construction) → AreCompiled plan texts compiled → modules ≡ map typed_in compiled → All IsServed (map module_view modules) → IsBuiltFrom (map module_view modules) plan built
       → IsProgramOf texts (program_modules built.program)

@@ -1,10 +1,10 @@
 //! Sources alone: what each is compiled to.
 
-ghost use Rattle.std.specs.Prelude.{◌≡◌, ◌≤◌, true, None, length, map, flat_map, All, IfOk, IfSome};
+ghost use Rattle.std.specs.Prelude.{◌≡◌, ◌≤◌, length, map, flat_map, option_map, All, IfOk};
 ghost use Rattle.failure.specs.Failure.{IfFault};
 ghost use Rattle.tool.specs.Sources.{AreWithoutFault, HasCause, IsInOrder, texts_of};
 ghost use Rattle.tool.specs.declared.code.TheConstants.{MOST_CODE};
-ghost use Rattle.tool.specs.internal.Compiling.{AreCompiled, HasCompileCause, IsCompiled, IsUnservedAt};
+ghost use Rattle.tool.specs.internal.Compiling.{AreCompiled, HasCompileCause, IsCompiled, unserved_from};
 
 use crate::code::code_of_module;
 use crate::fault::ToolFault;
@@ -80,8 +80,7 @@ pub struct Unserved {
 
 /// The first source that is not served.
 pub fn first_unserved(compiled: &[Compiled]) -> Option<Unserved>
-    ensures none { result ≡ None → All (λ one. one.is_served ≡ true) compiled.now }
-    ensures some { IfSome result (λ unserved. IsUnservedAt unserved.file compiled.now) }
+    ensures { option_map (λ unserved. unserved.file) result ≡ unserved_from 0 compiled.now }
 {
     for (file, one) in compiled.iter().enumerate() {
         if !one.is_served {

@@ -74,7 +74,6 @@ fn build_few(alloc: Global, sources: &[Source], plan: &Plan) -> Result<Built, Fa
 }
 
 // Joins modules that are served, and places the program with their code.
-#[tactic(auto, using(crate::proofs::ServedLemmas::have_storage))]
 fn build_program(alloc: Global, parts: Parts, plan: &Plan) -> Result<Built, Failure<ToolFault>>
     requires storages { map layout_view parts.storages.items
         ≡ map (λ typed. storage_with (module_view typed)) parts.modules.items }

@@ -1,5 +1,5 @@
 -- Sources that are read and whose code is made.
-use Rattle.std.specs.Prelude.{◌≡◌, ℕ, ◌≤◌, false, List, [], ◌∷◌, length, Some, is_some, slice_get}
+use Rattle.std.specs.Prelude.{◌≡◌, ℕ, ◌+◌, ◌≤◌, List, [], ◌∷◌, length, Option, Some, None, is_some, if◌then◌else◌}
 use Rattle.typed_trees.specs.TypedTrees.{TypedModule}
 use Rattle.typed_trees.specs.Views.{module_view}
 use Rattle.layout.specs.Storage.{storage_with}
@@ -38,11 +38,10 @@ AreCompiled plan [] [] = Unit {0}
 AreCompiled plan (text ∷ texts) (compiled ∷ others) = IsCompiled plan text compiled × AreCompiled plan texts others
 AreCompiled plan texts compiled = ⊥
 
--- the source at a place is not served
-pub record IsUnservedAt (file : ℕ) (compiled : List Compiled) : Type 0 where
-  pub one : Compiled
-  pub at : slice_get compiled file ≡ Some one
-  pub not_served : one.is_served ≡ false
+-- the first source that is not served, where the first of these is the source of that number
+abbrev pub unserved_from : (file : ℕ) → List Compiled → Option ℕ
+unserved_from file [] = None
+unserved_from file (one ∷ others) = if one.is_served then unserved_from (file + 1) others else Some file
 
 -- the text has the fault, or its code is too long
 abbrev pub HasCompileCause : ToolFault → ℕ → List ℕ → Plan → Type 0
