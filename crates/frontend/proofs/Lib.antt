@@ -1,2 +1,1 @@
-pub mod ServedLemmas
 pub mod ReadLemmas

@@ -1,5 +1,5 @@
 -- Why a source text is refused.
-use Rattle.std.specs.Prelude.{◌≡◌, ℕ, ◌≤◌, ◌<◌, List, length, None, Some}
+use Rattle.std.specs.Prelude.{◌≡◌, ℕ, ◌≤◌, ◌<◌, List, length, Err}
 use Rattle.words.specs.declared.fault.Fault as words_fault
 use Rattle.words.specs.declared.limits.TheConstants.{LONGEST_SOURCE}
 use Rattle.words.specs.Spelling.{Lexeme, IsFirstFault}
@@ -10,11 +10,14 @@ use Rattle.syntax.specs.Faults.{IsOfDepth, IsOfEndName, IsWrongWith}
 use Rattle.trees.specs.Derivation.{Derives, DerivesModule, DerivesButForDepth, DerivesButForEndName}
 use Rattle.trees.specs.Symbols.{symbols_of}
 use Rattle.trees.specs.Trees.{ModuleTree}
+use Rattle.typed_trees.specs.TypedTrees.{TypedModule}
+use Rattle.typing.specs.declared.fault.Fault as typing_fault
+use Rattle.typing.specs.Typing.{typing_of}
+use Rattle.layout.specs.declared.fault.Fault as storage_fault
+use Rattle.layout.specs.Storage.{storage_of}
 use Rattle.frontend.specs.declared.read.ReadFault.{ReadFault}
-use Rattle.frontend.specs.declared.read.ReadFault.TheVariants.{TooLong, Words, Expansion, Syntax, NotServed, Port}
-use Rattle.frontend.specs.declared.served.Output.{Output}
-use Rattle.frontend.specs.Reading.{HasOutputs, IsExpansionOf, IsSpellingOf, IsText, first_over}
-use Rattle.frontend.specs.Served.{served}
+use Rattle.frontend.specs.declared.read.ReadFault.TheVariants.{TooLong, Words, Expansion, Syntax, Typing, Storage}
+use Rattle.frontend.specs.Reading.{HasTyping, IsExpansionOf, IsSpellingOf, IsText}
 
 -- a text that is not too long has this first fault of its words
 pub record HasWordsFault (text : List ℕ) (fault : words_fault.Fault) : Type 0 where
@@ -41,23 +44,17 @@ pub record HasSyntaxFault (text : List ℕ) (fault : syntax_fault.Fault) : Type 
   pub expansion : IsExpansionOf text output
   pub wrong : IsSyntaxFault output fault
 
--- a text is a module that is not served
-pub record IsNotServed (text : List ℕ) : Type 0 where
+-- a text is a module that has no typing, with this fault
+pub record HasTypingFault (text : List ℕ) (fault : typing_fault.Fault) : Type 0 where
   pub tree : ModuleTree
   pub read : IsText text tree
-  pub not_served : served tree ≡ None
+  pub wrong : typing_of tree ≡ Err fault
 
--- the first output to a port that is too great is on this line
-pub record HasPortOver (outputs : List Output) (line : ℕ) : Type 0 where
-  pub output : Output
-  pub first : first_over outputs ≡ Some output
-  pub on_line : line ≡ output.line
-
--- a text is a module that is served, but for a port that is too great, the first of which is on this line
-pub record HasWrongPort (text : List ℕ) (line : ℕ) : Type 0 where
-  pub outputs : List Output
-  pub served : HasOutputs text outputs
-  pub over : HasPortOver outputs line
+-- a text is a module that has no storage, with this fault
+pub record HasStorageFault (text : List ℕ) (fault : storage_fault.Fault) : Type 0 where
+  pub typed : TypedModule
+  pub typing : HasTyping text typed
+  pub wrong : storage_of typed ≡ Err fault
 
 -- the cause of a refusal is in the text
 abbrev pub HasReadCause : ReadFault → List ℕ → Type 0
@@ -65,5 +62,5 @@ HasReadCause TooLong text = LONGEST_SOURCE < length text
 HasReadCause (Words fault) text = HasWordsFault text fault
 HasReadCause (Expansion fault) text = HasExpansionFault text fault
 HasReadCause (Syntax fault) text = HasSyntaxFault text fault
-HasReadCause (NotServed line) text = IsNotServed text
-HasReadCause (Port line) text = HasWrongPort text line
+HasReadCause (Typing fault) text = HasTypingFault text fault
+HasReadCause (Storage fault) text = HasStorageFault text fault

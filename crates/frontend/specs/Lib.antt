@@ -3,7 +3,6 @@ pub use Rattle.words.specs.Spelling
 pub use Rattle.literally.specs.Expansion
 pub use Rattle.trees.specs.Derivation
 pub use Rattle.trees.specs.Trees
-pub mod Served
 pub mod Reading
 pub mod Causes
 pub mod Faults

@@ -1,8 +1,8 @@
-//! From a source text to the statements of its module.
+//! From a source text to its typed module.
 #![tactic(auto)]
 
 mod read;
-mod served;
+mod unserved;
 
-pub use read::{ReadFault, read_source};
+pub use read::{ReadFault, SourceModule, read_source};
 pub use words::LONGEST_SOURCE;

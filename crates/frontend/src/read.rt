@@ -1,25 +1,26 @@
-//! From a source text to the statements of its module.
+//! From a source text to its typed module.
 
-ghost use Rattle.std.specs.Prelude.{◌≡◌, ◌<◌, ◌≤◌, None, length, map, IfOk};
+ghost use Rattle.std.specs.Prelude.{◌≡◌, ◌<◌, ◌≤◌, length, IfOk};
 ghost use Rattle.failure.specs.Failure.{IfFault};
 ghost use Rattle.words.specs.declared.limits.TheConstants.{LONGEST_SOURCE};
 ghost use Rattle.words.specs.Spelling.{lexemes_of};
 ghost use Rattle.trees.specs.Derivation.{Derives};
 ghost use Rattle.trees.specs.Views.{module_tree};
-ghost use Rattle.frontend.specs.Reading.{IsSourceOf, first_over, statement_from};
-ghost use Rattle.frontend.specs.Causes.{HasPortOver, HasReadCause, IsSyntaxFault};
+ghost use Rattle.typed_trees.specs.Views.{module_view};
+ghost use Rattle.layout.specs.Storage.{storage_with};
+ghost use Rattle.layout.specs.Views.{layout_view};
+ghost use Rattle.frontend.specs.Reading.{HasTyping, IsSourceOf, IsText};
+ghost use Rattle.frontend.specs.Causes.{HasReadCause, IsSyntaxFault};
 ghost use Rattle.frontend.specs.internal.Steps.{failure_as};
 
-use crate::served::{Output, Unserved, served_outputs};
+use crate::unserved::unserved_line;
 use failure::Failure;
-use source_meaning::{Expression, Statement, Target};
+use layout::Layout;
 use std::alloc::Global;
 use thiserror::Error;
 use trees::Module;
+use typed_trees::Typed;
 use words::{LONGEST_SOURCE, Word};
-
-/// The greatest port.
-pub const GREATEST_PORT: u16 = 255;
 
 /// Why a source text is refused.
 #[derive(Clone, Copy, Debug, PartialEq, Eq, Error)]
@@ -36,12 +37,12 @@ pub enum ReadFault {
     /// Its expanded words are not a module.
     #[error("{0}")]
     Syntax(syntax::Fault),
-    /// It is a module with a construct that is not served yet. The line is that of the first one.
-    #[error("line {line}: a construct that is not served yet")]
-    NotServed { line: u32 },
-    /// A port is too great. The line is that of its statement.
-    #[error("line {line}: a port over {most}", most = GREATEST_PORT)]
-    Port { line: u32 },
+    /// It breaks a rule of names, types, attributes or constants.
+    #[error("{0}")]
+    Typing(typing::Fault),
+    /// Its data or its constants are more than a segment holds.
+    #[error("{0}")]
+    Storage(layout::Fault),
 }
 
 impl ReadFault {
@@ -57,12 +58,12 @@ impl ReadFault {
             ReadFault::Words(fault) => fault.number(),
             ReadFault::Expansion(fault) => fault.number(),
             ReadFault::Syntax(fault) => fault.number(),
-            ReadFault::NotServed { .. } => "N1",
-            ReadFault::Port { .. } => "C15",
+            ReadFault::Typing(fault) => fault.number(),
+            ReadFault::Storage(fault) => fault.number(),
         }
     }
 
-    /// The line of the fault, counted from 1, or 0 where the whole source is refused.
+    /// The line of the fault, counted from 1, or 0 where the whole source is refused, or its segments.
     pub fn line(&self) -> u32
         ensures { result ≡ line_of self.now }
     {
@@ -71,27 +72,78 @@ impl ReadFault {
             ReadFault::Words(fault) => fault.line(),
             ReadFault::Expansion(fault) => fault.line(),
             ReadFault::Syntax(fault) => fault.line(),
-            ReadFault::NotServed { line } | ReadFault::Port { line } => *line,
+            ReadFault::Typing(fault) => fault.line(),
+            ReadFault::Storage(_) => 0,
         }
     }
 }
 
-/// The statements of the module that a text is.
-#[tactic(auto, using(crate::proofs::ReadLemmas::is_text))]
-pub fn read_source(alloc: Global, text: &[u8]) -> Result<Vec<Statement>, Failure<ReadFault>>
-    ensures source { IfOk result (λ statements. IsSourceOf text.now statements.items) }
+/// A source as it is read: its typed module, where the objects and constants of that lie in its segments, and the line of
+/// its first construct that is not served yet (1 where there is none).
+#[derive(Debug, Drop)]
+pub struct SourceModule {
+    pub typed: Typed,
+    pub storage: Layout,
+    pub unserved_line: u32,
+}
+
+/// The typed module that a text is, with its storage.
+#[tactic(auto, using(crate::proofs::ReadLemmas::is_source, crate::proofs::ReadLemmas::stored))]
+pub fn read_source(alloc: Global, text: &[u8]) -> Result<SourceModule, Failure<ReadFault>>
+    ensures source { IfOk result (λ read. IsSourceOf text.now (module_view read.typed)) }
+    ensures storage { IfOk result (λ read. layout_view read.storage ≡ storage_with (module_view read.typed)) }
     ensures refused { IfFault result (λ fault. HasReadCause fault text.now) }
     ensures too_long { LONGEST_SOURCE < length text.now → result ≡ Err (Failure.Fault ReadFault.TooLong) }
 {
     if text.len() > LONGEST_SOURCE {
         return Err(Failure::Fault(ReadFault::TooLong));
     }
+    let TypedText {
+        typed,
+        unserved_line,
+    } = type_text(alloc, text)?;
+    let storage = layout::layout(alloc, &typed).map_err(from_storage)?;
+    Ok(SourceModule {
+        typed,
+        storage,
+        unserved_line,
+    })
+}
+
+// The typed module that a text is, and the line of its first construct that is not served yet.
+#[derive(Drop)]
+struct TypedText {
+    typed: Typed,
+    unserved_line: u32,
+}
+
+// The typing of a text that is not too long.
+#[tactic(auto, using(crate::proofs::ReadLemmas::has_typing))]
+fn type_text(alloc: Global, text: &[u8]) -> Result<TypedText, Failure<ReadFault>>
+    requires { length text.now ≤ LONGEST_SOURCE }
+    ensures typing { IfOk result (λ read. HasTyping text.now (module_view read.typed)) }
+    ensures refused { IfFault result (λ fault. HasReadCause fault text.now) }
+{
+    let tree = parse_text(alloc, text)?;
+    let unserved_line = unserved_line(&tree);
+    let typed = types::check(alloc, tree).map_err(from_typing)?;
+    Ok(TypedText {
+        typed,
+        unserved_line,
+    })
+}
+
+// The module that a text is which is not too long.
+#[tactic(auto, using(crate::proofs::ReadLemmas::is_text))]
+fn parse_text(alloc: Global, text: &[u8]) -> Result<Module, Failure<ReadFault>>
+    requires { length text.now ≤ LONGEST_SOURCE }
+    ensures read { IfOk result (λ parsed. IsText text.now (module_tree parsed)) }
+    ensures refused { IfFault result (λ fault. HasReadCause fault text.now) }
+{
     let words = words::scan(alloc, text).map_err(from_words)?;
     let expanded = literally::expand(alloc, words.as_slice()).map_err(from_expansion)?;
-    let tree = parse_words(alloc, expanded.as_slice()).map_err(from_syntax)?;
-    let outputs = served_outputs(alloc, &tree).map_err(from_service)?;
-    let statements = statements_of(alloc, outputs.as_slice()).map_err(from_port)?;
-    Ok(statements)
+    let parsed = parse_words(alloc, expanded.as_slice()).map_err(from_syntax)?;
+    Ok(parsed)
 }
 
 // The module that words derive.
@@ -129,53 +181,20 @@ fn from_syntax(failure: Failure<syntax::Fault>) -> Failure<ReadFault>
     }
 }
 
-fn from_service(failure: Failure<Unserved>) -> Failure<ReadFault>
-    ensures { result ≡ failure_as (λ unserved. ReadFault.NotServed unserved.line) failure }
+fn from_typing(failure: Failure<typing::Fault>) -> Failure<ReadFault>
+    ensures { result ≡ failure_as (λ fault. ReadFault.Typing fault) failure }
 {
     match failure {
-        Failure::Fault(Unserved { line }) => Failure::Fault(ReadFault::NotServed { line }),
+        Failure::Fault(fault) => Failure::Fault(ReadFault::Typing(fault)),
         Failure::Memory => Failure::Memory,
     }
 }
 
-fn from_port(failure: Failure<PortOver>) -> Failure<ReadFault>
-    ensures { result ≡ failure_as (λ port. ReadFault.Port port.line) failure }
+fn from_storage(failure: Failure<layout::Fault>) -> Failure<ReadFault>
+    ensures { result ≡ failure_as (λ fault. ReadFault.Storage fault) failure }
 {
     match failure {
-        Failure::Fault(PortOver { line }) => Failure::Fault(ReadFault::Port { line }),
+        Failure::Fault(fault) => Failure::Fault(ReadFault::Storage(fault)),
         Failure::Memory => Failure::Memory,
     }
-}
-
-// A port that is too great, by the line of its statement.
-#[derive(Clone, Copy, Debug, PartialEq, Eq)]
-struct PortOver {
-    line: u32,
-}
-
-// The statements that outputs are.
-fn statements_of(alloc: Global, outputs: &[Output]) -> Result<Vec<Statement>, Failure<PortOver>>
-    ensures ports { IfOk result (λ _. first_over outputs.now ≡ None) }
-    ensures same { IfOk result (λ statements. statements.items ≡ map statement_from outputs.now) }
-    ensures refused { IfFault result (λ port. HasPortOver outputs.now port.line) }
-{
-    let mut statements = Vec::new(alloc);
-    for output in outputs {
-        if output.port.value > GREATEST_PORT {
-            return Err(Failure::Fault(PortOver { line: output.line }));
-        }
-        statements.push(statement_of(*output))?;
-    }
-    Ok(statements)
-}
-
-// The statement of an output to a port that there is.
-fn statement_of(output: Output) -> Statement
-    requires { output.port.value ≤ GREATEST_PORT }
-    ensures { result ≡ statement_from output }
-{
-    Statement::Assignment(
-        Target::Output(output.port.value as u8),
-        Expression::Number(output.value.value),
-    )
 }

@@ -1,1 +1,2 @@
+pub mod OutputLemmas
 pub mod RunLemmas

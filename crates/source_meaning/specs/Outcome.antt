@@ -1,7 +1,7 @@
 -- Outcomes of a part of a run, and how one part follows another.
 use Rattle.std.specs.Prelude.{ℕ, List}
 use Rattle.ports.specs.declared.event.Event.{Event}
-use Rattle.source_meaning.specs.declared.program.Reason.{Reason}
+use Rattle.source_meaning.specs.declared.reason.Reason.{Reason}
 
 -- what a run changes: the memory, the events so far, and how many more turns and calls it may take
 pub record Situation : Type 0 where

@@ -1,8 +1,8 @@
-//! What a PL/M-80 program means: the program, where its parts lie, and its runs.
+//! What a PL/M-80 program means: its runs. Programs whose statements are outputs of numbers are served so far.
 #![tactic(auto)]
 
-pub mod program;
+mod outputs;
+mod reason;
 
-pub use program::{
-    Expression, JoinFault, Joined, Placement, Reason, Statement, Statements, Target, join,
-};
+pub use outputs::{Output, outputs_of};
+pub use reason::Reason;

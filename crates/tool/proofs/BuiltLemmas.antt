@@ -7,25 +7,23 @@ use Rattle.isa8080.specs.declared.registers.Status.TheVariants.{Running, Illegal
 use Rattle.isa8080.specs.State.{State, Registers, low_byte}
 use Rattle.isa8080.specs.Code.{form_of}
 use Rattle.isa8080.specs.Step.{carry_out, running, step_of, state_after, initial_registers, initial_state}
-use Rattle.source_meaning.specs.declared.program.Joined.{Joined}
-use Rattle.source_meaning.specs.declared.program.Placement.{Placement}
-use Rattle.source_meaning.specs.declared.program.Expression.TheVariants.{Number}
-use Rattle.source_meaning.specs.declared.program.Target.TheVariants.{Output}
-use Rattle.source_meaning.specs.declared.program.Statement.{Statement}
-use Rattle.source_meaning.specs.declared.program.Statement.TheVariants.{Assignment}
+use Rattle.typed_trees.specs.TypedTrees.{TypedModule}
+use Rattle.layout.specs.Placement.{Placement}
+use Rattle.source_meaning.specs.declared.outputs.Output.{Output}
+use Rattle.source_meaning.specs.Outputs.{program_outputs}
 use Rattle.source_meaning.specs.Run.{Run, source_run}
 use Rattle.tool.specs.declared.built.Image.{Image}
 use Rattle.tool.specs.Image.{loaded, machine_run}
-use Rattle.tool.specs.Code.{statements_code, program_code, code_bytes}
+use Rattle.tool.specs.Code.{outputs_code, main_code, code_bytes}
 use Rattle.tool.specs.Headline.{Agrees, DoesWhatItSays}
 use Rattle.tool.proofs.Standing.{StandsAt, byte_moved, stands_moved, stands_loaded}
 use Rattle.isa8080.proofs.Endings.{EndsWith, halted, halted_ends, step_first}
-use Rattle.source_meaning.proofs.RunLemmas.{outputs, ended_run, run_ends}
+use Rattle.source_meaning.proofs.RunLemmas.{events_of, ended_run, run_ends}
 
 -- there is always a halt at the end
-halt_left : (ss : List Statement) → 1 ≤ length (code_bytes (statements_code ss))
+halt_left : (ss : List Output) → 1 ≤ length (code_bytes (outputs_code ss))
 halt_left [] = omega arith
-halt_left (Assignment (Output port) (Number n) ∷ ss) = omega arith
+halt_left (first ∷ ss) = omega arith
 
 module _ (script : List (List ℕ)) (m : List ℕ) where
   -- a step at a first byte that stands at the program counter
@@ -51,41 +49,41 @@ module _ (script : List (List ℕ)) (m : List ℕ) where
   running_legal : (r : Registers) (events : List Event) → (running r m events).status ≢ Illegal
   running_legal r events e = let bad : Running ≡ Illegal = e in cc
 
-  -- the code of statements performs their events and halts
-  statements_end : (ss : List Statement) (r : Registers) (events final : List Event) → final ≡ events ++ outputs ss → StandsAt m r.pc (code_bytes (statements_code ss)) → r.pc + length (code_bytes (statements_code ss)) ≤ 65536 → EndsWith script (running r m events) final
-  statements_end [] r events final all stands fits =
+  -- the code of outputs performs their events and halts
+  outputs_end : (ss : List Output) (r : Registers) (events final : List Event) → final ≡ events ++ events_of ss → StandsAt m r.pc (code_bytes (outputs_code ss)) → r.pc + length (code_bytes (outputs_code ss)) ≤ 65536 → EndsWith script (running r m events) final
+  outputs_end [] r events final all stands fits =
       let same : final ≡ events = all ∙ append-nil events in
       step_first script (running r m events) (halted (record r { pc = (r.pc + 1) % 65536 }) m events) final
       (hlt_step r events stands.0)
       ([], all)
       (running_legal r events)
       (subst (λ es. EndsWith script (halted (record r { pc = (r.pc + 1) % 65536 }) m events) es) (sym same) (halted_ends script (record r { pc = (r.pc + 1) % 65536 }) m events))
-  statements_end (Assignment (Output port) (Number n) ∷ ss) r events final all stands fits =
+  outputs_end (first ∷ ss) r events final all stands fits =
       let left = halt_left ss in
       let p1 : (r.pc + 1) % 65536 ≡ r.pc + 1 = omega arith in
       let p2 : (r.pc + 2) % 65536 ≡ r.pc + 1 + 1 = omega arith in
       let p3 : ((r.pc + 2) % 65536 + 1) % 65536 ≡ r.pc + 1 + 1 + 1 = omega arith in
       let p4 : ((r.pc + 2) % 65536 + 2) % 65536 ≡ r.pc + 1 + 1 + 1 + 1 = omega arith in
-      let r1 : Registers = record r { a = low_byte n; pc = (r.pc + 2) % 65536 } in
+      let r1 : Registers = record r { a = low_byte first.value; pc = (r.pc + 2) % 65536 } in
       let r2 : Registers = record r1 { pc = (r1.pc + 2) % 65536 } in
-      let event : Event = write_event port (low_byte n) in
-      let more : events ++ (event ∷ outputs ss) ≡ (events ++ event ∷ []) ++ outputs ss = sym (append_assoc events (event ∷ []) (outputs ss)) in
+      let event : Event = write_event first.port (low_byte first.value) in
+      let more : events ++ (event ∷ events_of ss) ≡ (events ++ event ∷ []) ++ events_of ss = sym (append_assoc events (event ∷ []) (events_of ss)) in
       let end : EndsWith script (running r2 m (events ++ event ∷ [])) final =
-      statements_end ss r2 (events ++ event ∷ []) final (all ∙ more) (stands_moved m _ _ _ p4 stands.1.1.1.1) (omega arith) in
+      outputs_end ss r2 (events ++ event ∷ []) final (all ∙ more) (stands_moved m _ _ _ p4 stands.1.1.1.1) (omega arith) in
       let second : EndsWith script (running r1 m events) final =
       step_first script (running r1 m events) (running r2 m (events ++ event ∷ [])) final
-      (out_step r1 events port (byte_moved m _ _ _ p2 stands.1.1.0) (byte_moved m _ _ _ p3 stands.1.1.1.0))
-      (event ∷ outputs ss, all)
+      (out_step r1 events first.port (byte_moved m _ _ _ p2 stands.1.1.0) (byte_moved m _ _ _ p3 stands.1.1.1.0))
+      (event ∷ events_of ss, all)
       (running_legal r1 events)
       end in
       step_first script (running r m events) (running r1 m events) final
-      (mvi_step r events (low_byte n) stands.0 (byte_moved m _ _ _ p1 stands.1.0))
-      (event ∷ outputs ss, all)
+      (mvi_step r events (low_byte first.value) stands.0 (byte_moved m _ _ _ p1 stands.1.0))
+      (event ∷ events_of ss, all)
       (running_legal r events)
       second
 
-  -- the code of a program
-  program_ends : (stack_end : ℕ) (ss : List Statement) (r : Registers) (events : List Event) → StandsAt m r.pc (code_bytes (program_code stack_end ss)) → r.pc + length (code_bytes (program_code stack_end ss)) ≤ 65536 → EndsWith script (running r m events) (events ++ outputs ss)
+  -- the code of a main module
+  program_ends : (stack_end : ℕ) (ss : List Output) (r : Registers) (events : List Event) → StandsAt m r.pc (code_bytes (main_code stack_end ss)) → r.pc + length (code_bytes (main_code stack_end ss)) ≤ 65536 → EndsWith script (running r m events) (events ++ events_of ss)
   program_ends stack_end ss r events stands fits =
       let left = halt_left ss in
       let first = lxi_sp_step r events stands.0 in
@@ -93,14 +91,14 @@ module _ (script : List (List ℕ)) (m : List ℕ) where
       let r1 : Registers = record r { sp = first.0; pc = (r.pc + 3) % 65536 } in
       step_first script (running r m events) (running r1 m events) _
       first.1
-      (outputs ss, refl)
+      (events_of ss, refl)
       (running_legal r events)
-      (statements_end ss r1 events _ refl (stands_moved m _ _ _ p3 stands.1.1.1) (omega arith))
+      (outputs_end ss r1 events _ refl (stands_moved m _ _ _ p3 stands.1.1.1) (omega arith))
 
 -- a program and a machine that both come to one end with the same events
-agrees_at_end : (script : List (List ℕ)) (s : State) (events : List Event) (ss : List Statement) (source : ℕ → Run) → ((n : ℕ) → source n ≡ ended_run events ss) → EndsWith script s (events ++ outputs ss) → Agrees source (λ k. state_after script k s)
+agrees_at_end : (script : List (List ℕ)) (s : State) (events : List Event) (ss : List Output) (source : ℕ → Run) → ((n : ℕ) → source n ≡ ended_run events ss) → EndsWith script s (events ++ events_of ss) → Agrees source (λ k. state_after script k s)
 agrees_at_end script s events ss source ends h =
-    let source_events : (n : ℕ) → (source n).events ≡ events ++ outputs ss = λ n. ap (λ (x : Run). x.events) (ends n) in
+    let source_events : (n : ℕ) → (source n).events ≡ events ++ events_of ss = λ n. ap (λ (x : Run). x.events) (ends n) in
     record {
       keeps_up = λ n. (h.steps, h.events ∙ sym (source_events n));
       runs_no_further = λ k. (0, subst (λ es. IsBeginning (state_after script k s).events es) (sym (source_events 0)) (h.begins k));
@@ -110,13 +108,14 @@ agrees_at_end script s events ss source ends h =
     }
 
 -- an image whose bytes are the code of the program does what the program says
-pub code_agrees : (program : Joined) (placement : Placement) (room stack_end : ℕ) (image : Image) → image.code.bytes ≡ code_bytes (program_code stack_end program.main) → image.start ≡ image.code.start → image.code.start + length image.code.bytes ≤ 65536 → DoesWhatItSays program placement room image
+pub code_agrees : (modules : List TypedModule) (placement : Placement) (room stack_end : ℕ) (image : Image) → image.code.bytes ≡ code_bytes (main_code stack_end (program_outputs modules)) → image.start ≡ image.code.start → image.code.start + length image.code.bytes ≤ 65536 → DoesWhatItSays modules placement room image
 unfolding machine_run
-code_agrees program placement room stack_end image code begins fits memory script events is_memory is_script never =
+code_agrees modules placement room stack_end image code begins fits memory script events is_memory is_script never =
+    let outputs : List Output = program_outputs modules in
     let stands : StandsAt (loaded image memory) image.code.start image.code.bytes = stands_loaded memory image.code.bytes image.code.start (omega (arith, is_memory.size)) in
-    let here : StandsAt (loaded image memory) image.start (code_bytes (program_code stack_end program.main)) =
-    stands_moved (loaded image memory) (code_bytes (program_code stack_end program.main)) image.code.start image.start begins (subst (λ bs. StandsAt (loaded image memory) image.code.start bs) code stands) in
-    let room_left : image.start + length (code_bytes (program_code stack_end program.main)) ≤ 65536 = omega (arith, ap length code) in
-    agrees_at_end script (initial_state (loaded image memory) events image.start) events program.main (source_run program placement room memory script events)
-    (run_ends program placement room memory script events never)
-    (program_ends script (loaded image memory) stack_end program.main (initial_registers image.start) events here room_left)
+    let here : StandsAt (loaded image memory) image.start (code_bytes (main_code stack_end outputs)) =
+    stands_moved (loaded image memory) (code_bytes (main_code stack_end outputs)) image.code.start image.start begins (subst (λ bs. StandsAt (loaded image memory) image.code.start bs) code stands) in
+    let room_left : image.start + length (code_bytes (main_code stack_end outputs)) ≤ 65536 = omega (arith, ap length code) in
+    agrees_at_end script (initial_state (loaded image memory) events image.start) events outputs (source_run modules placement room memory script events)
+    (run_ends modules placement room memory script events never)
+    (program_ends script (loaded image memory) stack_end outputs (initial_registers image.start) events here room_left)

@@ -1,10 +1,8 @@
 -- The code of a program.
-use Rattle.std.specs.Prelude.{ℕ, ◌+◌, ◌%◌, List, [], ◌∷◌, ◌++◌}
-use Rattle.mem80.specs.declared.memory.TheConstants.{MEMORY_SIZE}
-use Rattle.source_meaning.specs.declared.program.Expression.TheVariants.{Number}
-use Rattle.source_meaning.specs.declared.program.Target.TheVariants.{Output}
-use Rattle.source_meaning.specs.declared.program.Statement.{Statement}
-use Rattle.source_meaning.specs.declared.program.Statement.TheVariants.{Assignment}
+use Rattle.std.specs.Prelude.{ℕ, List, [], ◌∷◌, ◌++◌, flat_map, length, map}
+use Rattle.typed_trees.specs.TypedTrees.{TypedModule}
+use Rattle.source_meaning.specs.declared.outputs.Output.{Output}
+use Rattle.source_meaning.specs.Outputs.{outputs_from}
 use Rattle.isa8080.specs.declared.instr.Register.TheVariants.{A}
 use Rattle.isa8080.specs.declared.instr.Operand.TheVariants.{Of}
 use Rattle.isa8080.specs.declared.instr.Pair.TheVariants.{Sp}
@@ -12,30 +10,42 @@ use Rattle.isa8080.specs.declared.instr.Instr.{Instr}
 use Rattle.isa8080.specs.declared.instr.Instr.TheVariants.{Lxi, Mvi, Out, Hlt}
 use Rattle.isa8080.specs.State.{low_byte}
 use Rattle.isa8080.specs.Code.{bytes_of}
-use Rattle.tool.specs.declared.plan.Plan.{Plan}
+use Rattle.placing.specs.declared.plan.Plan.{Plan}
+use Rattle.placing.specs.Views.{stack_end_of}
 
--- the code of a statement, and after it other code
-abbrev pub statement_code : Statement → List Instr → List Instr
-statement_code (Assignment (Output port) (Number n)) rest = Mvi (Of A) (low_byte n) ∷ Out port ∷ rest
+-- the code of an output, and after it other code
+abbrev pub output_code : Output → List Instr → List Instr
+output_code output rest = Mvi (Of A) (low_byte output.value) ∷ Out output.port ∷ rest
 
--- the code of statements, and the halt at their end
-abbrev pub statements_code : List Statement → List Instr
-statements_code [] = Hlt ∷ []
-statements_code (s ∷ ss) = statement_code s (statements_code ss)
+-- the code of outputs, and the halt at their end
+abbrev pub outputs_code : List Output → List Instr
+outputs_code [] = Hlt ∷ []
+outputs_code (first ∷ others) = output_code first (outputs_code others)
 
--- the code of a program: it sets the stack pointer first
-abbrev pub program_code : ℕ → List Statement → List Instr
-program_code stack_end statements = Lxi Sp stack_end ∷ statements_code statements
+-- the code of a main module: it sets the stack pointer first
+abbrev pub main_code : (stack_end : ℕ) → List Output → List Instr
+main_code stack_end outputs = Lxi Sp stack_end ∷ outputs_code outputs
 
 -- the bytes of instructions, one after another
 abbrev pub code_bytes : List Instr → List ℕ
 code_bytes [] = []
 code_bytes (i ∷ is) = bytes_of i ++ code_bytes is
 
--- the address just past the stack of a plan
-abbrev pub stack_end_of : Plan → ℕ
-stack_end_of plan = (plan.stack + plan.stack_size) % MEMORY_SIZE
+-- the bytes of the code of a main module with these outputs, with the stack as planned
+abbrev pub code_of : Plan → List Output → List ℕ
+code_of plan outputs = code_bytes (main_code (stack_end_of plan) outputs)
 
--- the bytes of the code of statements, with the stack as planned
-abbrev pub code_of : Plan → List Statement → List ℕ
-code_of plan statements = code_bytes (program_code (stack_end_of plan) statements)
+-- the code segment of a module: one without statements has no code
+abbrev pub segment_of : Plan → List Output → List ℕ
+segment_of plan [] = []
+segment_of plan (first ∷ others) = code_of plan (first ∷ others)
+
+abbrev pub module_code : Plan → TypedModule → List ℕ
+module_code plan typed = segment_of plan (outputs_from typed)
+
+-- the code segments of a program, one after another, and how long each is
+abbrev pub program_code : Plan → List TypedModule → List ℕ
+program_code plan modules = flat_map (module_code plan) modules
+
+abbrev pub code_lengths : Plan → List TypedModule → List ℕ
+code_lengths plan modules = map (λ (typed : TypedModule). length (module_code plan typed)) modules

@@ -1,13 +1,18 @@
 -- What a contract sees of a built program, and what holds of it.
-use Rattle.std.specs.Prelude.{◌≡◌, ◌≤◌, length}
-use Rattle.source_meaning.specs.declared.program.Joined.{Joined}
-use Rattle.source_meaning.specs.declared.program.Placement.{Placement}
-use Rattle.source_meaning.specs.Placing.{IsLawful}
+use Rattle.std.specs.Prelude.{◌≡◌, ◌≤◌, List, length, map}
+use Rattle.typed_trees.specs.TypedTrees.{TypedModule}
+use Rattle.typed_trees.specs.Views.{module_view}
+use Rattle.layout.specs.Lawful.{IsLawful}
+use Rattle.layout.specs.Placement.{Placement}
+use Rattle.layout.specs.Placing.{placement_by}
+use Rattle.join.specs.declared.joined.Joined.{Joined}
+use Rattle.join.specs.Views.{modules_of}
+use Rattle.placing.specs.declared.plan.Plan.{Plan}
+use Rattle.placing.specs.Views.{plan_view}
 use Rattle.tool.specs.declared.code.TheConstants.{MOST_CODE}
-use Rattle.tool.specs.declared.plan.Plan.{Plan}
 use Rattle.tool.specs.declared.built.Image.{Image}
+use Rattle.tool.specs.Code.{code_lengths}
 use Rattle.tool.specs.Headline.{DoesWhatItSays}
-use Rattle.tool.specs.Placing.{stack_range}
 
 -- the joined program, the plan, the placement and the image
 pub record Construction : Type 0 where
@@ -16,13 +21,19 @@ pub record Construction : Type 0 where
   pub placement : Placement
   pub image : Image
 
--- the image does what the program says, with the stack of the plan; code and stack lie lawfully where the plan says,
--- the code is not too long, and the image has it where the placement has it
+-- the modules of a program
+abbrev pub program_modules : Joined → List TypedModule
+program_modules program = map module_view (modules_of program)
+
+-- the image does what the program says, with the stack of the plan; the program lies lawfully where the plan
+-- puts it, the code is not too long, and the image has it where the placement has it
 pub record IsConstruction (built : Construction) : Type 0 where
-  pub headline : DoesWhatItSays built.program built.placement built.plan.stack_size built.image
-  pub lawful : IsLawful built.placement
-  pub code_as_planned : built.placement.code.start ≡ built.plan.code
-  pub stack_as_planned : built.placement.stack ≡ stack_range built.plan
+  pub headline :
+      DoesWhatItSays (program_modules built.program) built.placement built.plan.stack_size built.image
+  pub lawful : IsLawful (program_modules built.program) built.placement
+  pub as_planned : built.placement
+      ≡ placement_by (plan_view built.plan) (program_modules built.program)
+      (code_lengths built.plan (program_modules built.program))
   pub code_fits : length built.image.code.bytes ≤ MOST_CODE
   pub code_as_placed : built.placement.code
       ≡ record { start = built.image.code.start; len = length built.image.code.bytes }

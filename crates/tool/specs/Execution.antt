@@ -8,7 +8,7 @@ use Rattle.cpu8080.specs.declared.machine.End.TheVariants.{Halted}
 use Rattle.cpu8080.specs.Machine.{Machine}
 use Rattle.source_meaning.specs.Outcome.{Ended}
 use Rattle.source_meaning.specs.Run.{Run, source_run}
-use Rattle.tool.specs.Construction.{Construction}
+use Rattle.tool.specs.Construction.{Construction, program_modules}
 use Rattle.tool.specs.declared.built.Image.{Image}
 use Rattle.tool.specs.Image.{loaded}
 
@@ -25,7 +25,7 @@ started image memory script events failures =
 -- the runs of the source of a built program, by their budgets
 abbrev pub source_of : Construction → List ℕ → List (List ℕ) → List Event → ℕ → Run
 source_of built memory script events =
-    source_run built.program built.placement built.plan.stack_size memory script events
+    source_run (program_modules built.program) built.placement built.plan.stack_size memory script events
 
 -- what a machine did is a beginning of what the source does, and if it halted the source ended with just that
 pub record IsFaithful (source : ℕ → Run) (end : End) (machine : Machine) : Type 0 where

@@ -6,8 +6,8 @@ use Rattle.ports.specs.Input.{IsScript}
 use Rattle.mem80.specs.Memory.{IsMemory}
 use Rattle.isa8080.specs.declared.registers.Status.TheVariants.{Halted, Illegal}
 use Rattle.isa8080.specs.State.{State}
-use Rattle.source_meaning.specs.declared.program.Joined.{Joined}
-use Rattle.source_meaning.specs.declared.program.Placement.{Placement}
+use Rattle.typed_trees.specs.TypedTrees.{TypedModule}
+use Rattle.layout.specs.Placement.{Placement}
 use Rattle.source_meaning.specs.Outcome.{Ended}
 use Rattle.source_meaning.specs.Run.{Run, source_run, NeverOutside}
 use Rattle.tool.specs.declared.built.Image.{Image}
@@ -28,10 +28,10 @@ pub record Agrees (source : ℕ → Run) (machine : ℕ → State) : Type 0 wher
 
 -- the image does what the program says, from every memory and with every script and all events before it, where
 -- the program with this room on the stack never goes outside
-abbrev pub DoesWhatItSays : Joined → Placement → ℕ → Image → Type 0
-DoesWhatItSays program placement room image =
+abbrev pub DoesWhatItSays : List TypedModule → Placement → ℕ → Image → Type 0
+DoesWhatItSays modules placement room image =
     (memory : List ℕ) (script : List (List ℕ)) (events : List Event)
     → IsMemory memory
     → IsScript script
-    → NeverOutside (source_run program placement room memory script events)
-    → Agrees (source_run program placement room memory script events) (machine_run image memory script events)
+    → NeverOutside (source_run modules placement room memory script events)
+    → Agrees (source_run modules placement room memory script events) (machine_run image memory script events)

@@ -11,7 +11,6 @@ pub use Rattle.writing.specs.Writing
 pub mod Code
 pub mod Image
 pub mod Headline
-pub mod Placing
 pub mod Construction
 pub mod Execution
 pub mod Sources

@@ -3,8 +3,8 @@ use Rattle.std.specs.Prelude.{◌≡◌, ℕ, ◌<◌, ◌⊎◌, Result, Ok, Er
 use Rattle.failure.specs.declared.Failure.{Failure}
 use Rattle.failure.specs.declared.Failure.TheVariants.{Fault, Memory}
 use Rattle.frontend.specs.declared.read.ReadFault.TheVariants.{TooLong}
-use Rattle.tool.specs.declared.sources.ToolFault.{ToolFault}
-use Rattle.tool.specs.declared.sources.ToolFault.TheVariants.{TooManySources, Source, CodeTooLong, NotServed, Join, Placement}
+use Rattle.tool.specs.declared.fault.ToolFault.{ToolFault}
+use Rattle.tool.specs.declared.fault.ToolFault.TheVariants.{TooManySources, Source, CodeTooLong, NotServed, Join, Placement}
 use Rattle.tool.specs.Construction.{Construction}
 
 -- a fault is that this source is too long, that a source before it has a fault, or that there are too many

@@ -1,39 +1,18 @@
 //! Programs that lie at their places.
 
-ghost use Rattle.std.specs.Prelude.{◌≡◌, ◌+◌, ◌≤◌, length, IfErr, IfOk};
-ghost use Rattle.tool.specs.Construction.{IsConstruction};
-ghost use Rattle.tool.specs.Code.{code_of};
-ghost use Rattle.tool.specs.Placing.{HasPlacementCause, number_of};
+ghost use Rattle.std.specs.Prelude.{◌≡◌, All, None};
+ghost use Rattle.layout.specs.Joined.{IsJoined};
+ghost use Rattle.layout.specs.Lawful.{IsLawful};
+ghost use Rattle.layout.specs.Placing.{placement_by, placing_refusal};
+ghost use Rattle.placing.specs.Views.{placement_view, plan_view};
+ghost use Rattle.tool.specs.Code.{code_lengths, program_code};
+ghost use Rattle.tool.specs.Construction.{IsConstruction, program_modules};
+ghost use Rattle.tool.specs.Sources.{IsServed};
 
-use crate::code::MOST_CODE;
-use crate::plan::Plan;
-use mem80::{Bytes, MEMORY_SIZE, Piece, Range, overlap};
-use source_meaning::{Joined, Placement};
+use join::Joined;
+use mem80::{Bytes, Piece};
+use placing::{Placement, Plan};
 use std::marker::Model;
-use thiserror::Error;
-
-/// Why a program can't lie as planned.
-#[derive(Clone, Copy, Debug, PartialEq, Eq, Error)]
-pub enum PlacementFault {
-    /// The code or the stack passes the end of memory.
-    #[error("the code or the stack passes the end of memory")]
-    TooHigh,
-    /// The code and the stack overlap.
-    #[error("the code and the stack overlap")]
-    Overlap,
-}
-
-impl PlacementFault {
-    /// The number of the fault, as `plm` prints it.
-    pub fn number(&self) -> &'static str
-        ensures { result.now ≡ number_of self.now }
-    {
-        match self {
-            PlacementFault::TooHigh => "P2",
-            PlacementFault::Overlap => "P1",
-        }
-    }
-}
 
 /// The bytes of a program at their places.
 #[derive(Drop)]
@@ -58,6 +37,11 @@ impl Model for Built {
 
     ghost Value = { Construction };
 
+    ghost use Rattle.join.specs.contracts.joined.Joined as joined;
+    ghost use Rattle.std.specs.Coded.{codes};
+
+    ghost coded = { Prim.hlevel (codes, joined.the_row.coded) };
+
     ghost use Rattle.tool.specs.internal.Inside.{construction_of, IsConstructionInside};
 
     ghost view = { construction_of };
@@ -81,9 +65,9 @@ impl Built {
         &self.plan
     }
 
-    /// Where its code and its stack lie.
+    /// Where its modules, its code and its stack lie.
     pub fn placement(&self) -> &Placement
-        ensures shown { result.now ≡ self.now.placement }
+        ensures shown { placement_view result.now ≡ self.now.placement }
         ensures construction { IsConstruction self.now }
     {
         &self.placement
@@ -98,36 +82,24 @@ impl Built {
     }
 }
 
-/// Places a program and its code. Takes no memory.
-pub fn place(program: Joined, code: Vec<u8>, plan: Plan) -> Result<Built, PlacementFault>
-    requires code { code.items ≡ code_of plan program.main }
-    requires fits { length code.items ≤ MOST_CODE }
-    ensures program { IfOk result (λ built. built.program ≡ program) }
-    ensures plan { IfOk result (λ built. built.plan ≡ plan) }
-    ensures refused { IfErr result (λ fault. HasPlacementCause fault plan (length code.items)) }
+/// Puts the code of a program, all of whose modules are served, at its place. Takes no memory.
+pub fn assemble(program: Joined, plan: Plan, placement: Placement, code: Vec<u8>) -> Built
+    requires served { All IsServed (program_modules program) }
+    requires joined { IsJoined (program_modules program) }
+    requires possible { placing_refusal (plan_view plan) (program_modules program)
+        (code_lengths plan (program_modules program)) ≡ None }
+    requires placed { placement_view placement ≡ placement_by (plan_view plan) (program_modules program)
+        (code_lengths plan (program_modules program)) }
+    requires lawful { IsLawful (program_modules program) (placement_view placement) }
+    requires code { code.items ≡ program_code plan (program_modules program) }
+    ensures program { result.program ≡ program }
+    ensures plan { result.plan ≡ plan }
 {
-    let code_range = Range {
-        start: plan.code as u32,
-        len: code.len() as u32,
-    };
-    let stack_range = Range {
-        start: plan.stack as u32,
-        len: plan.stack_size as u32,
-    };
-    if end_of(&code_range) > MEMORY_SIZE as u64 || end_of(&stack_range) > MEMORY_SIZE as u64 {
-        return Err(PlacementFault::TooHigh);
-    }
-    if overlap(&code_range, &stack_range) {
-        return Err(PlacementFault::Overlap);
-    }
     let start = plan.code;
-    Ok(Built {
+    Built {
         program,
         plan,
-        placement: Placement {
-            code: code_range,
-            stack: stack_range,
-        },
+        placement,
         image: Image {
             code: Piece {
                 start,
@@ -135,12 +107,5 @@ pub fn place(program: Joined, code: Vec<u8>, plan: Plan) -> Result<Built, Placem
             },
             start,
         },
-    })
-}
-
-// The address just past a range.
-fn end_of(range: &Range) -> u64
-    ensures { result ≡ range.now.start + range.now.len }
-{
-    range.start as u64 + range.len as u64
+    }
 }

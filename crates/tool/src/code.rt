@@ -1,22 +1,25 @@
-//! The code of a program.
+//! The code of modules.
 
-ghost use Rattle.std.specs.Prelude.{◌≡◌, ◌<◌, ◌≤◌, ◌++◌, [], codes, length, IfOk, OnOk};
+ghost use Rattle.std.specs.Prelude.{◌≡◌, ◌<◌, ◌≤◌, ◌++◌, [], codes, length, is_some, IfOk, OnOk};
 ghost use Rattle.failure.specs.Failure.{IfFault};
+ghost use Rattle.typed_trees.specs.Views.{module_view};
+ghost use Rattle.source_meaning.specs.Outputs.{outputs_of};
 ghost use Rattle.isa8080.specs.Code.{bytes_of};
-ghost use Rattle.tool.specs.Code.{code_bytes, code_of, statement_code};
+ghost use Rattle.tool.specs.Code.{code_bytes, code_of, module_code, output_code, segment_of};
 
-use crate::plan::Plan;
 use failure::Failure;
 use isa8080::{Instr, Operand, Pair, Register, encode};
-use source_meaning::{Expression, Statement, Target};
+use placing::Plan;
+use source_meaning::{Output, outputs_of};
 use std::alloc::{AllocError, Global};
 use thiserror::Error;
+use typed_trees::Typed;
 
 /// The greatest number of bytes of code.
 pub const MOST_CODE: usize = 65535;
 
-// With one statement more the code is longer than that.
-const MOST_STATEMENTS: usize = 16382;
+// With one output more the code is longer than that.
+const MOST_OUTPUTS: usize = 16382;
 
 /// Why there is no code.
 #[derive(Clone, Copy, Debug, PartialEq, Eq, Error)]
@@ -37,46 +40,80 @@ impl CodeFault {
     }
 }
 
-/// The code of statements: it sets the stack pointer to the end of the planned stack, performs the statements, and
-/// halts.
-pub fn generate(
+/// The code of a module, and whether the module is served. One that is not has no code.
+#[derive(Drop)]
+pub struct ModuleCode {
+    pub is_served: bool,
+    pub bytes: Vec<u8>,
+}
+
+/// The code segment of a module.
+#[tactic(auto, using(crate::proofs::CodeLemmas::served_outputs, crate::proofs::CodeLemmas::unserved_outputs))]
+pub fn code_of_module(
     alloc: Global,
-    statements: &[Statement],
+    typed: &Typed,
     plan: &Plan,
-) -> Result<Vec<u8>, Failure<CodeFault>>
-    ensures code { IfOk result (λ code. code.items ≡ code_of plan.now statements.now) }
-    ensures fits { IfOk result (λ code. length code.items ≤ MOST_CODE) }
-    ensures too_long { IfFault result (λ _. MOST_CODE < length (code_of plan.now statements.now)) }
+) -> Result<ModuleCode, Failure<CodeFault>>
+    ensures served { IfOk result (λ made. made.is_served ≡ is_some (outputs_of (module_view typed.now))) }
+    ensures code { IfOk result (λ made. made.bytes.items ≡ module_code plan.now (module_view typed.now)) }
+    ensures fits { IfOk result (λ made. length made.bytes.items ≤ MOST_CODE) }
+    ensures too_long { IfFault result (λ _. MOST_CODE < length (module_code plan.now (module_view typed.now))) }
 {
-    if statements.len() > MOST_STATEMENTS {
+    match outputs_of(alloc, typed)? {
+        Some(outputs) => {
+            let bytes = generate(alloc, outputs.as_slice(), plan)?;
+            Ok(ModuleCode {
+                is_served: true,
+                bytes,
+            })
+        }
+        None => Ok(ModuleCode {
+            is_served: false,
+            bytes: Vec::new(alloc),
+        }),
+    }
+}
+
+// The code segment of a module with these outputs: it sets the stack pointer to the end of the planned stack, performs
+// the outputs, and halts. A module without outputs has no code.
+#[tactic(auto, using(crate::proofs::CodeLemmas::segment_is))]
+fn generate(alloc: Global, outputs: &[Output], plan: &Plan) -> Result<Vec<u8>, Failure<CodeFault>>
+    ensures code { IfOk result (λ code. code.items ≡ segment_of plan.now outputs.now) }
+    ensures fits { IfOk result (λ code. length code.items ≤ MOST_CODE) }
+    ensures too_long { IfFault result (λ _. MOST_CODE < length (segment_of plan.now outputs.now)) }
+{
+    if outputs.len() == 0 {
+        return Ok(Vec::new(alloc));
+    }
+    if outputs.len() > MOST_OUTPUTS {
         return Err(Failure::Fault(CodeFault::TooLong));
     }
-    let code = emit_program(alloc, statements, plan)?;
+    let code = emit_main(alloc, outputs, plan)?;
     Ok(code)
 }
 
-fn emit_program(alloc: Global, statements: &[Statement], plan: &Plan) -> Result<Vec<u8>, AllocError>
-    ensures { IfOk result (λ code. code.items ≡ code_of plan.now statements.now) }
+// The code of a main module.
+fn emit_main(alloc: Global, outputs: &[Output], plan: &Plan) -> Result<Vec<u8>, AllocError>
+    ensures { IfOk result (λ code. code.items ≡ code_of plan.now outputs.now) }
 {
     let mut code = Vec::new(alloc);
     emit(&mut code, Instr::Lxi(Pair::Sp, plan.stack_end()))?;
-    for statement in statements {
-        emit_statement(&mut code, *statement)?;
+    for output in outputs {
+        emit_output(&mut code, *output)?;
     }
     emit(&mut code, Instr::Hlt)?;
     Ok(code)
 }
 
-// The code of one statement.
-fn emit_statement(code: &mut Vec<u8>, statement: Statement) -> Result<(), AllocError>
-    ensures { OnOk result (code.new.items ≡ code.old.items ++ code_bytes (statement_code statement [])) }
+// The code of one output.
+fn emit_output(code: &mut Vec<u8>, output: Output) -> Result<(), AllocError>
+    ensures { OnOk result (code.new.items ≡ code.old.items ++ code_bytes (output_code output [])) }
 {
-    match statement {
-        Statement::Assignment(Target::Output(port), Expression::Number(n)) => {
-            emit(code, Instr::Mvi(Operand::Of(Register::A), (n % 256) as u8))?;
-            emit(code, Instr::Out(port))
-        }
-    }
+    emit(
+        code,
+        Instr::Mvi(Operand::Of(Register::A), (output.value % 256) as u8),
+    )?;
+    emit(code, Instr::Out(output.port))
 }
 
 // One instruction more.

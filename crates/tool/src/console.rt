@@ -3,13 +3,14 @@
 ghost use Rattle.std.specs.Prelude.{◌≤◌};
 
 use crate::execution::execute;
-use crate::plan::Plan;
-use crate::sources::{Source, ToolFault, build};
+use crate::fault::ToolFault;
+use crate::sources::{Source, build};
 use command_line::{LineFault, Order, command};
 use cpu8080::End;
 use failure::Failure;
 use files::Files;
 use mem80::Memory;
+use placing::Plan;
 use ports::Script;
 use report::report;
 use std::alloc::Global;
@@ -123,10 +124,19 @@ fn ending_of(end: End) -> Ending {
     }
 }
 
-// Prints why a source is refused: the number of the fault, the file or a dash, and the line.
-fn refuse_source<E: Write>(fault: &ToolFault, name: &str, err: &mut E) -> Ending {
-    let place = if fault.file().is_some() { name } else { "-" };
-    refuse(fault.number(), place, fault.line(), err)
+// Prints why sources are refused: the number of the fault, the name that it tells of, or the file, or a dash, and the
+// line.
+fn refuse_source<E: Write>(fault: &ToolFault, file: &str, err: &mut E) -> Ending {
+    match fault.name() {
+        Some(name) => {
+            let _ = writeln!(err, "{} {name} {}", fault.number(), fault.line());
+            Ending::Refused
+        }
+        None => {
+            let place = if fault.file().is_some() { file } else { "-" };
+            refuse(fault.number(), place, fault.line(), err)
+        }
+    }
 }
 
 // Standard output could not be written.

@@ -10,6 +10,13 @@ use tool::{Built, Plan, Source, ToolFault, build, execute};
 
 const ANSWER: &str = "M: DO; OUTPUT(1) = 42; END M;";
 
+const EMPTY: &str = "A: DO; END A;";
+
+// Both declarations are valid, but not served.
+const IMPORTS: &str = "A: DO; DECLARE\nX BYTE EXTERNAL; END A;";
+
+const EXPORTS: &str = "A: DO;\nDECLARE X BYTE PUBLIC; END A;";
+
 // The number of a fault.
 fn number_of(answer: &Result<Built, Failure<ToolFault>>) -> &'static str {
     match answer {
@@ -37,8 +44,10 @@ fn numbers_of_sources(rt: HostRuntime) -> Result<(), Fail> {
     for (text, copies, answer) in [
         (ANSWER, 0, "J4"),
         (ANSWER, 1, "built"),
-        (ANSWER, 2, "N1"),
-        (ANSWER, 64, "N1"),
+        (ANSWER, 2, "J4"),
+        (ANSWER, 64, "J4"),
+        (EMPTY, 1, "J4"),
+        (EMPTY, 64, "J4"),
         ("?", 64, "C1"),
         ("?", 65, "U1"),
     ] {
@@ -77,13 +86,29 @@ fn fault_of_two(alloc: Global, first: &[u8], second: &[u8]) -> Result<String, Fa
 fn faults_of_two_sources(rt: HostRuntime) -> Result<(), Fail> {
     let unserved = "M: DO;\n\nHALT; END M;";
     let wrong = "M: DO;\nEND N;";
+    let unknown = "M: DO;\n\n\nOUTPUT(1) = X; END M;";
     for (first, second, answer) in [
-        (ANSWER, ANSWER, "N1 1 1"),
+        (ANSWER, ANSWER, "J4 - 0"),
+        (EMPTY, EMPTY, "J4 - 0"),
         (ANSWER, unserved, "N1 1 3"),
         (unserved, ANSWER, "N1 0 3"),
+        (unserved, unserved, "N1 0 3"),
+        (EMPTY, unserved, "N1 1 3"),
         (unserved, wrong, "C9 1 2"),
         (wrong, "?", "C9 0 2"),
         (unserved, "M: DO;\nOUTPUT(256) = 1; END M;", "C15 1 2"),
+        (unserved, unknown, "C11 1 4"),
+        (unknown, wrong, "C11 0 4"),
+        (unknown, unserved, "C11 0 4"),
+        (wrong, unknown, "C9 0 2"),
+        (
+            unserved,
+            "A: DO; DECLARE B (65535) BYTE, C BYTE; END A;",
+            "C18 1 0",
+        ),
+        (ANSWER, IMPORTS, "N1 1 2"),
+        (EXPORTS, EXPORTS, "N1 0 2"),
+        (EXPORTS, unknown, "C11 1 4"),
     ] {
         let given = fault_of_two(rt.alloc(), first.as_bytes(), second.as_bytes())?;
         assert_eq!(rt; given.as_str(), answer, "{first} {second}");
@@ -102,6 +127,12 @@ fn faults_of_two_long_sources(rt: HostRuntime) -> Result<(), Fail> {
         (ANSWER.as_bytes(), too_long.as_slice(), "U2 1 0"),
         (long_code.as_bytes(), wrong, "G1 0 0"),
         (wrong, long_code.as_bytes(), "C9 0 2"),
+        (
+            b"M: DO; HALT; END M;".as_slice(),
+            long_code.as_bytes(),
+            "G1 1 0",
+        ),
+        (long_code.as_bytes(), ANSWER.as_bytes(), "G1 0 0"),
     ] {
         let given = fault_of_two(rt.alloc(), first, second)?;
         assert_eq!(rt; given.as_str(), answer);
@@ -136,6 +167,92 @@ fn places_of_code_and_stack(rt: HostRuntime) -> Result<(), Fail> {
         };
         let given = answer_of(rt.alloc(), ANSWER.as_bytes(), 1, &plan)?;
         assert_eq!(rt; given, answer, "code {code} stack {stack} {stack_size}");
+    }
+    Ok(())
+}
+
+// Nothing that is served has data, so their place says nothing: what is empty meets nothing.
+#[test]
+fn places_of_no_data(rt: HostRuntime) -> Result<(), Fail> {
+    for data_base in [0, 255, 256, 260, 263, 264, 61440, 62463, 62464, 65535] {
+        let plan = Plan {
+            data_base,
+            ..Plan::usual()
+        };
+        let given = answer_of(rt.alloc(), ANSWER.as_bytes(), 1, &plan)?;
+        assert_eq!(rt; given, "built", "data {data_base}");
+    }
+    Ok(())
+}
+
+// Sources are joined before the program is placed.
+#[test]
+fn faults_before_those_of_places(rt: HostRuntime) -> Result<(), Fail> {
+    let past_memory = Plan {
+        code: 65535,
+        ..Plan::usual()
+    };
+    let in_the_stack = Plan {
+        stack: 256,
+        ..Plan::usual()
+    };
+    for plan in [past_memory, in_the_stack] {
+        for (text, copies, answer) in [
+            (ANSWER, 2, "J4"),
+            (EMPTY, 1, "J4"),
+            (IMPORTS, 1, "N1"),
+            ("M: DO; OUTPUT(1) = X; END M;", 1, "C11"),
+        ] {
+            let given = answer_of(rt.alloc(), text.as_bytes(), copies, &plan)?;
+            assert_eq!(rt; given, answer, "{text} {plan:?}");
+        }
+    }
+    assert_eq!(rt;
+        answer_of(rt.alloc(), ANSWER.as_bytes(), 1, &past_memory)?,
+        "P2"
+    );
+    assert_eq!(rt;
+        answer_of(rt.alloc(), ANSWER.as_bytes(), 1, &in_the_stack)?,
+        "P1"
+    );
+    Ok(())
+}
+
+#[test]
+fn a_main_module_beside_an_empty_one(rt: HostRuntime) -> Result<(), Fail> {
+    let namesake = "M: DO; DECLARE A LITERALLY '1'; END M;";
+    for texts in [[ANSWER, EMPTY], [EMPTY, ANSWER], [namesake, ANSWER]] {
+        let sources = texts.map(|text| Source {
+            name: "a.plm",
+            text: text.as_bytes(),
+        });
+        let Ok(built) = build(rt.alloc(), &sources, &Plan::usual()) else {
+            return Err(Fail::from("not built"));
+        };
+        let memory = Memory::new(rt.alloc())?;
+        let (end, machine) = execute(&built, memory, Script::new(rt.alloc()), 100);
+        assert_eq!(rt; end, End::Halted);
+        let [event] = machine.ports().events() else {
+            return Err(Fail::from("not one event"));
+        };
+        assert_eq!(rt; (event.write, event.port, event.value), (true, 1, 42));
+    }
+    Ok(())
+}
+
+// A main module after so many empty ones.
+#[test]
+fn a_main_module_after_many(rt: HostRuntime) -> Result<(), Fail> {
+    for (before, answer) in [(0, "built"), (63, "built"), (64, "U1")] {
+        let mut sources = Vec::new(rt.alloc());
+        for text in std::iter::repeat_n(EMPTY, before).chain([ANSWER]) {
+            sources.push(Source {
+                name: "a.plm",
+                text: text.as_bytes(),
+            })?;
+        }
+        let built = build(rt.alloc(), sources.as_slice(), &Plan::usual());
+        assert_eq!(rt; number_of(&built), answer, "{before} before it");
     }
     Ok(())
 }

@@ -25,12 +25,16 @@ fn programs_that_run(rt: HostRuntime) -> Result<(), Fail> {
 }
 
 // A fault of each call that a source goes through, in their order, and then of what comes after them.
-static REFUSALS: [(&str, &str); 8] = [
+static REFUSALS: [(&str, &str); 9] = [
     ("M: DO; ? END M;", "C1 a.plm 1\n"),
     ("M: DO; DECLARE A LITERALLY 'A';\nA;", "C5 a.plm 2\n"),
     ("M: DO;\nOUTPUT(1) = 2\n", "C7 a.plm 2\n"),
-    ("M: DO; OUTPUT(256) = A; END M;", "N1 a.plm 1\n"),
-    ("M: DO; OUTPUT(256) = 1; END M;", "C15 a.plm 1\n"),
+    ("M: DO; OUTPUT(1) = A; HALT; END M;", "C11 a.plm 1\n"),
+    ("M: DO; OUTPUT(256) = 1; HALT; END M;", "C15 a.plm 1\n"),
+    (
+        "M: DO; DECLARE A (65535) BYTE, B BYTE; END M;",
+        "C18 a.plm 0\n",
+    ),
     ("M: DO; END M;", "J4 - 0\n"),
     ("M: DO; DECLARE A LITERALLY '1'; END M;", "J4 - 0\n"),
     ("M: DO; DECLARE A BYTE; END M;", "N1 a.plm 1\n"),

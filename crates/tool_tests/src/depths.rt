@@ -6,19 +6,47 @@ use std::test::Fail;
 
 // What stands before the levels, opens one, stands within, closes one and stands after them, and how many there may be.
 static LEVELS: [(&str, &str, &str, &str, &str, u8); 13] = [
-    ("M: DO; OUTPUT(0) = ", "(", "1", ")", "; END M;", 62),
     ("M: DO; ", "DO; ", "", "END; ", "END M;", 64),
     ("M: DO; ", "DO WHILE 1; ", "", "END; ", "END M;", 63),
     ("M: DO; ", "P: PROCEDURE; ", "", "END P; ", "END M;", 64),
     ("M: DO; ", "IF 1 THEN ", ";", "", " END M;", 63),
-    ("M: DO; A = ", "NOT ", "1", "", "; END M;", 62),
-    ("M: DO; A = 1", " + 1", "", "", "; END M;", 62),
-    ("M: DO; A = 1", " OR 1", "", "", "; END M;", 62),
-    ("M: DO; A = ", "B(", "1", ")", "; END M;", 62),
-    ("M: DO; ", "A(", "1", ")", " = 1; END M;", 63),
-    ("M: DO; CALL ", "A(", "1", ")", "; END M;", 63),
-    ("M: DO; A = ", "(A := ", "1", ")", "; END M;", 31),
-    ("M: DO; IF ", "(", "A", ")", " THEN B = 1; END M;", 62),
+    ("M: DO; OUTPUT(0) = ", "NOT ", "1", "", "; END M;", 62),
+    ("M: DO; OUTPUT(0) = 1", " + 1", "", "", "; END M;", 62),
+    ("M: DO; OUTPUT(0) = 1", " OR 1", "", "", "; END M;", 62),
+    ("M: DO; OUTPUT(0) = ", "LOW(", "1", ")", "; END M;", 62),
+    (
+        "M: DO; DECLARE B (2) BYTE; OUTPUT(0) = ",
+        "B(",
+        "1",
+        ")",
+        "; END M;",
+        62,
+    ),
+    (
+        "M: DO; DECLARE A (2) BYTE; ",
+        "A(",
+        "1",
+        ")",
+        " = 1; END M;",
+        63,
+    ),
+    (
+        "M: DO; DECLARE B (2) BYTE; P: PROCEDURE (X); DECLARE X BYTE; END P; CALL P(",
+        "B(",
+        "1",
+        ")",
+        "); END M;",
+        62,
+    ),
+    (
+        "M: DO; DECLARE A BYTE; A = ",
+        "(A := ",
+        "1",
+        ")",
+        "; END M;",
+        31,
+    ),
+    ("M: DO; IF ", "(", "1", ")", " THEN ; END M;", 62),
 ];
 
 // A text with so many levels.
@@ -49,6 +77,16 @@ fn levels_within_a_module(rt: HostRuntime) -> Result<(), Fail> {
         check_refusal(&rt, too_deep.as_str(), "C8 a.plm 1\n")?;
     }
     Ok(())
+}
+
+// A constant in parentheses is served.
+#[test]
+fn a_constant_in_parentheses(rt: HostRuntime) -> Result<(), Fail> {
+    let row = ("M: DO; OUTPUT(0) = ", "(", "1", ")", "; END M;", 62);
+    let text = nested(rt.alloc(), &row, 62)?;
+    check_run(&rt, text.as_str(), "OUT 00 01\nHALT\n")?;
+    let text = nested(rt.alloc(), &row, 63)?;
+    check_refusal(&rt, text.as_str(), "C8 a.plm 1\n")
 }
 
 #[test]

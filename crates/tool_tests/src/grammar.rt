@@ -271,7 +271,7 @@ static REPLACED_WORDS: [(&str, &str); 6] = [
     ),
     (
         "M: DO; DECLARE J LITERALLY 'GOTO L';\nJ; END M;",
-        "N1 a.plm 2\n",
+        "C20 a.plm 2\n",
     ),
 ];
 
@@ -280,7 +280,7 @@ fn replaced_words(rt: HostRuntime) -> Result<(), Fail> {
     check_refusals(&rt, &REPLACED_WORDS)
 }
 
-static PORTS_OVER_255: [(&str, &str); 5] = [
+static PORTS_OVER_255: [(&str, &str); 7] = [
     ("M: DO; OUTPUT(256) = 1; END M;", "C15 a.plm 1\n"),
     (
         "M: DO; OUTPUT(1) = 1;\nOUTPUT(65535) = 1; OUTPUT(300) = 1; END M;",
@@ -290,7 +290,12 @@ static PORTS_OVER_255: [(&str, &str); 5] = [
         "M: DO; DECLARE P LITERALLY '256';\nOUTPUT(P) = 1; END M;",
         "C15 a.plm 2\n",
     ),
-    ("M: DO; OUTPUT(256) = 1;\nHALT; END M;", "N1 a.plm 2\n"),
+    ("M: DO; OUTPUT(256) = 1;\nHALT; END M;", "C15 a.plm 1\n"),
+    ("M: DO; HALT;\nOUTPUT(256) = 1; END M;", "C15 a.plm 2\n"),
+    (
+        "M: DO; DECLARE A BYTE;\nA = INPUT(256); END M;",
+        "C15 a.plm 2\n",
+    ),
     (
         "M: DO; OUTPUT(256) = 1; OUTPUT(0) = ; END M;",
         "C7 a.plm 1\n",

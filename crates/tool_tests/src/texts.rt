@@ -83,3 +83,26 @@ static WORDS_THAT_ARE_READ: [(&str, &str); 6] = [
 fn words_that_are_read(rt: HostRuntime) -> Result<(), Fail> {
     check_runs(&rt, &WORDS_THAT_ARE_READ)
 }
+
+static CONSTANTS: [(&str, &str); 6] = [
+    ("M: DO; OUTPUT(0) = 'A'; END M;", "OUT 00 41\nHALT\n"),
+    ("M: DO; OUTPUT(0) = 'AG'; END M;", "OUT 00 47\nHALT\n"),
+    ("M: DO; OUTPUT('A') = 1; END M;", "OUT 41 01\nHALT\n"),
+    (
+        "M: DO; OUTPUT(1) = (2); OUTPUT(1) = (('AG')); END M;",
+        "OUT 01 02\nOUT 01 47\nHALT\n",
+    ),
+    (
+        "M: DO; OUTPUT('''') = ''''; OUTPUT(0) = 'A'''; END M;",
+        "OUT 27 27\nOUT 00 27\nHALT\n",
+    ),
+    (
+        "M: DO; DECLARE P LITERALLY '32', Q LITERALLY 'OUTPUT(P)'; Q = ' '; OUTPUT(' ') = ' ~'; END M;",
+        "OUT 20 20\nOUT 20 7E\nHALT\n",
+    ),
+];
+
+#[test]
+fn constants(rt: HostRuntime) -> Result<(), Fail> {
+    check_runs(&rt, &CONSTANTS)
+}

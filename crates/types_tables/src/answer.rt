@@ -1,93 +1,81 @@
-//! What is answered to a source.
+//! What `plm` answers to a source.
 
-ghost use Rattle.std.specs.Prelude.{◌≤◌, length};
-ghost use Rattle.words.specs.declared.limits.TheConstants.{LONGEST_SOURCE};
-
-use failure::Failure;
+use anyhow::Result;
 use std::alloc::Global;
 use std::fmt;
+use tool::run_command;
+use tool_tests::one_file::OneFile;
 
-// The number and the line of a fault.
-#[derive(Clone, Copy, Drop)]
-struct Place {
-    number: &'static str,
-    line: u32,
+// The name that a source goes by.
+const FILE: &str = "a.plm";
+
+/// What `plm run` answers to a source: its exit status, and what it prints as faults.
+#[derive(Drop)]
+pub struct Answer {
+    status: u8,
+    told: Vec<u8>,
 }
 
-/// What is answered to a source: it has a typing, or the number and the line of its fault.
-#[derive(Clone, Copy, Drop)]
-pub struct Answer(Result<(), Failure<Place>>);
-
 impl Answer {
-    /// The answer to a source of no more than the greatest length.
-    pub fn of(alloc: Global, source: &[u8]) -> Answer
-        requires { length source.now ≤ LONGEST_SOURCE }
-    {
-        Answer(typed(alloc, source))
+    /// The answer to a source.
+    pub fn of(alloc: Global, source: &[u8]) -> Answer {
+        let mut files = OneFile::new(alloc, FILE, source);
+        let mut out: Vec<u8> = Vec::new(alloc);
+        let mut told: Vec<u8> = Vec::new(alloc);
+        let words = ["plm", "run", FILE];
+        let status = run_command(alloc, words.as_slice(), &mut files, &mut out, &mut told);
+        Answer { status, told }
+    }
+
+    /// Whether this is what a heading says: `OK`, or the number and the line of a fault.
+    pub fn is_as_said(&self, alloc: Global, heading: &str) -> Result<bool> {
+        match heading.split_once(" ") {
+            Some((number, line)) => self.is_refusal(alloc, number, line),
+            None => Ok(heading == "OK" && self.is_acceptance()),
+        }
+    }
+
+    // Whether the source is refused with a fault of this number on this line, and with nothing else.
+    fn is_refusal(&self, alloc: Global, number: &str, line: &str) -> Result<bool> {
+        let fault = format!(in alloc; "{number} {FILE} {line}\n")?;
+        Ok(self.status == 1 && self.told.as_slice() == fault.as_bytes())
+    }
+
+    // Whether the source is valid: it ran to its end, or is not served, or is no main module.
+    fn is_acceptance(&self) -> bool {
+        match self.status {
+            0 => self.told.is_empty(),
+            1 => is_told_of_valid_sources(self.text()),
+            _ => false,
+        }
+    }
+
+    // What is printed as faults.
+    fn text(&self) -> &str {
+        std::str::from_utf8(self.told.as_slice()).unwrap_or("other bytes than text")
+    }
+}
+
+// Whether this is a fault of a valid source alone: it is not served, on whichever line, or no module is the main one.
+fn is_told_of_valid_sources(told: &str) -> bool {
+    match told.strip_prefix("N1 a.plm ") {
+        Some(rest) => is_line(rest.as_bytes()),
+        None => told == "J4 - 0\n",
+    }
+}
+
+// Whether these are digits and a line feed.
+fn is_line(bytes: &[u8]) -> bool {
+    match bytes {
+        [digits @ .., b'\n'] => {
+            !digits.is_empty() && digits.iter().all(|digit| digit.is_ascii_digit())
+        }
+        _ => false,
     }
 }
 
 impl fmt::Display for Answer {
     fn fmt<W: fmt::Write>(&self, f: &mut fmt::Formatter<W>) -> fmt::Result {
-        match &self.0 {
-            Ok(()) => f.write_str("OK"),
-            Err(Failure::Fault(place)) => write!(f, "{} {}", place.number, place.line),
-            Err(Failure::Memory) => f.write_str("out of memory"),
-        }
-    }
-}
-
-// Types a source.
-fn typed(alloc: Global, source: &[u8]) -> Result<(), Failure<Place>>
-    requires { length source.now ≤ LONGEST_SOURCE }
-{
-    let words = words::scan(alloc, source).map_err(of_words)?;
-    let expanded = literally::expand(alloc, words.as_slice()).map_err(of_expansion)?;
-    let parsed = syntax::parse(alloc, expanded.as_slice()).map_err(of_syntax)?;
-    types::check(alloc, parsed).map_err(of_types)?;
-    Ok(())
-}
-
-// The place of a fault of words.
-fn of_words(failure: Failure<words::Fault>) -> Failure<Place> {
-    match failure {
-        Failure::Fault(fault) => Failure::Fault(Place {
-            number: fault.number(),
-            line: fault.line(),
-        }),
-        Failure::Memory => Failure::Memory,
-    }
-}
-
-// The place of a fault of LITERALLY.
-fn of_expansion(failure: Failure<literally::Fault>) -> Failure<Place> {
-    match failure {
-        Failure::Fault(fault) => Failure::Fault(Place {
-            number: fault.number(),
-            line: fault.line(),
-        }),
-        Failure::Memory => Failure::Memory,
-    }
-}
-
-// The place of a fault of the grammar.
-fn of_syntax(failure: Failure<syntax::Fault>) -> Failure<Place> {
-    match failure {
-        Failure::Fault(fault) => Failure::Fault(Place {
-            number: fault.number(),
-            line: fault.line(),
-        }),
-        Failure::Memory => Failure::Memory,
-    }
-}
-
-// The place of a fault of the typing.
-fn of_types(failure: Failure<typing::Fault>) -> Failure<Place> {
-    match failure {
-        Failure::Fault(fault) => Failure::Fault(Place {
-            number: fault.number(),
-            line: fault.line(),
-        }),
-        Failure::Memory => Failure::Memory,
+        write!(f, "status {} {}", self.status, self.text().trim_end())
     }
 }

@@ -1,6 +1,7 @@
-//! Types the sources of standard input, and prints those of which the answer is not what is said of them. A source stands
-//! between a heading, `OK` or the number and the line of its fault as `C13 4`, and a line `====`. The line after the heading
-//! is line 1 of the source.
+//! Runs the sources of standard input by `plm`, and prints those of which the answer is not what is said of them. A source
+//! stands between a heading, `OK` or the number and the line of its fault as `C13 4`, and a line `====`. The line after the
+//! heading is line 1 of the source. A valid source runs to its end, or is answered that it is not served, or that no module
+//! is the main one.
 //!
 //! What is said was written by hand from the manual and from the rules of the language in `docs/language.md`, before any
 //! source was typed.
@@ -12,7 +13,6 @@ use answer::Answer;
 use anyhow::Result;
 use std::alloc::Global;
 use std::io::{BufRead, BufReader};
-use words::LONGEST_SOURCE;
 
 // The line after a source.
 const END_OF_SOURCE: &str = "====";
@@ -57,21 +57,15 @@ impl Block {
 
 // Whether a source has the answer that its heading says; where not, prints both.
 fn is_as_said(rt: &HostRuntime, block: &Block) -> Result<bool> {
-    let text = block.source.as_bytes();
-    if text.len() > LONGEST_SOURCE {
-        println!(rt; "line {}: the source is too long", block.place)?;
-        return Ok(false);
+    let answer = Answer::of(rt.alloc(), block.source.as_bytes());
+    let is_as_said = answer.is_as_said(rt.alloc(), block.heading.as_str())?;
+    if !is_as_said {
+        println!(rt;
+            "line {}: said {}, answered {answer}",
+            block.place, block.heading
+        )?;
     }
-    let answer = Answer::of(rt.alloc(), text);
-    let answered = format!(in rt.alloc(); "{answer}")?;
-    if answered.as_str() == block.heading.as_str() {
-        return Ok(true);
-    }
-    println!(rt;
-        "line {}: said {}, answered {answered}",
-        block.place, block.heading
-    )?;
-    Ok(false)
+    Ok(is_as_said)
 }
 
 fn main(rt: HostRuntime) -> Result<()> {
