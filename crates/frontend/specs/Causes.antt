@@ -7,8 +7,8 @@ use Rattle.literally.specs.declared.fault.Fault as expansion_fault
 use Rattle.literally.specs.Expansion.{IsFault}
 use Rattle.syntax.specs.declared.fault.Fault as syntax_fault
 use Rattle.syntax.specs.Faults.{IsOfDepth, IsOfEndName, IsWrongWith}
-use Rattle.trees.specs.Derivation.{Derives, DerivesModule, DerivesButForDepth, DerivesButForEndName}
-use Rattle.trees.specs.Symbols.{symbols_of}
+use Rattle.grammar.specs.Derivation.{Derives, DerivesModule, DerivesButForDepth, DerivesButForEndName}
+use Rattle.grammar.specs.Symbols.{symbols_of}
 use Rattle.trees.specs.Trees.{ModuleTree}
 use Rattle.typed_trees.specs.TypedTrees.{TypedModule}
 use Rattle.typing.specs.declared.fault.Fault as typing_fault

@@ -1,7 +1,7 @@
 pub use Rattle.failure.specs.Failure
 pub use Rattle.words.specs.Spelling
 pub use Rattle.literally.specs.Expansion
-pub use Rattle.trees.specs.Derivation
+pub use Rattle.grammar.specs.Derivation
 pub use Rattle.trees.specs.Trees
 pub mod Reading
 pub mod Causes

@@ -3,7 +3,7 @@ use Rattle.std.specs.Prelude.{◌≡◌, ℕ, ◌≤◌, List, length, Ok}
 use Rattle.words.specs.declared.limits.TheConstants.{LONGEST_SOURCE}
 use Rattle.words.specs.Spelling.{Lexeme, Spells}
 use Rattle.literally.specs.Expansion.{Expands}
-use Rattle.trees.specs.Derivation.{Derives}
+use Rattle.grammar.specs.Derivation.{Derives}
 use Rattle.trees.specs.Trees.{ModuleTree}
 use Rattle.typed_trees.specs.TypedTrees.{TypedModule}
 use Rattle.typing.specs.Typing.{typing_of}

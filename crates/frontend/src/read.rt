@@ -4,7 +4,7 @@ ghost use Rattle.std.specs.Prelude.{◌≡◌, ◌<◌, ◌≤◌, length, IfOk}
 ghost use Rattle.failure.specs.Failure.{IfFault};
 ghost use Rattle.words.specs.declared.limits.TheConstants.{LONGEST_SOURCE};
 ghost use Rattle.words.specs.Spelling.{lexemes_of};
-ghost use Rattle.trees.specs.Derivation.{Derives};
+ghost use Rattle.grammar.specs.Derivation.{Derives};
 ghost use Rattle.trees.specs.Views.{module_tree};
 ghost use Rattle.typed_trees.specs.Views.{module_view};
 ghost use Rattle.layout.specs.Storage.{storage_with};

@@ -12,9 +12,9 @@ use Rattle.trees.specs.declared.declaration.Storage.{Storage}
 use Rattle.trees.specs.declared.declaration.Storage.TheVariants.{Initial, Data}
 use Rattle.trees.specs.declared.identifier.Identifier.{Identifier}
 use Rattle.trees.specs.declared.identifier.Place.{Place}
-use Rattle.trees.specs.Forms.{IsNotEmpty, IsSubject, IsItemType, IsValueList, IsItem, IsElement}
-use Rattle.trees.specs.Spelling.{optional, between_commas, more_after_commas, origin_symbols, offsets_symbols, restricted_symbols, scalar_symbols, count_symbols, dimension_symbols, member_symbols, name_symbols, item_type_symbols, linkage_symbols, at_symbols, storage_symbol, value_list_symbols, base_symbols, names_symbols, subject_symbols, item_symbols, element_symbols}
-use Rattle.trees.specs.Symbols.{Symbol, NameSymbol, ReservedSymbol, PlacedSymbol, MarkSymbol}
+use Rattle.grammar.specs.Forms.{IsNotEmpty, IsSubject, IsItemType, IsValueList, IsItem, IsElement}
+use Rattle.grammar.specs.Spelling.{optional, between_commas, more_after_commas, origin_symbols, offsets_symbols, restricted_symbols, scalar_symbols, count_symbols, dimension_symbols, member_symbols, name_symbols, item_type_symbols, linkage_symbols, at_symbols, storage_symbol, value_list_symbols, base_symbols, names_symbols, subject_symbols, item_symbols, element_symbols}
+use Rattle.grammar.specs.Symbols.{Symbol, NameSymbol, ReservedSymbol, PlacedSymbol, MarkSymbol}
 use Rattle.trees.specs.Trees.{ConstantOrigin, LocationOrigin, ItemTypeTree, ScalarItem, StructureItem, AtTree, ValueListTree, SubjectTree, SingleSubject, GroupSubject, ItemTree, ElementTree, LiterallyElement, ItemElement}
 use Rattle.syntax.proofs.ListLaws.{items-sound, items-reads, gave, first_fault}
 use Rattle.syntax.proofs.ReaderLemmas.{if_false, if_cases, bind_ok, bind_at, same_reading, at_word-is, place_of_word-is, next_name-is, mark-ok, name-ok, string-ok}

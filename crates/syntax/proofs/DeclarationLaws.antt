@@ -10,9 +10,9 @@ use Rattle.trees.specs.declared.declaration.ScalarType.{ScalarType}
 use Rattle.trees.specs.declared.declaration.ScalarType.TheVariants.{Byte, Address}
 use Rattle.trees.specs.declared.identifier.Identifier.{Identifier}
 use Rattle.trees.specs.declared.identifier.Place.{Place}
-use Rattle.trees.specs.Forms.{IsNotEmpty, IsElement}
-use Rattle.trees.specs.Spelling.{optional, between_commas, scalar_symbols, linkage_symbols, names_symbols, element_symbols, parameters_symbols, reentrant_symbols, heading_symbols}
-use Rattle.trees.specs.Symbols.{Symbol, NameSymbol, ReservedSymbol, MarkSymbol, SemicolonSymbol}
+use Rattle.grammar.specs.Forms.{IsNotEmpty, IsElement}
+use Rattle.grammar.specs.Spelling.{optional, between_commas, scalar_symbols, linkage_symbols, names_symbols, element_symbols, parameters_symbols, reentrant_symbols, heading_symbols}
+use Rattle.grammar.specs.Symbols.{Symbol, NameSymbol, ReservedSymbol, MarkSymbol, SemicolonSymbol}
 use Rattle.trees.specs.Trees.{ElementTree, HeadingTree}
 use Rattle.syntax.proofs.ListLaws.{items-sound}
 use Rattle.syntax.proofs.ReaderLemmas.{if_false, if_cases, bind_ok, bind_at, place_of_word-is, mark-ok, word-ok, name-ok}

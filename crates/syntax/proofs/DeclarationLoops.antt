@@ -4,7 +4,7 @@ use Rattle.std.proofs.lemmas.List.{map-append}
 use Rattle.words.specs.declared.vocabulary.ReservedWord.TheVariants.{Literally}
 use Rattle.trees.specs.declared.declaration.Sign.{Sign}
 use Rattle.trees.specs.declared.identifier.Identifier.{Identifier}
-use Rattle.trees.specs.Symbols.{Symbol}
+use Rattle.grammar.specs.Symbols.{Symbol}
 use Rattle.trees.specs.Trees.{ConstantTree, OffsetTree, ElementTree, SubjectTree, SingleSubject, GroupSubject, ItemTree, ItemElement, LiterallyElement, StringTree}
 use Rattle.trees.specs.declared.declaration.Offset.{Offset}
 use Rattle.trees.specs.Views.{constant_tree, offset_tree}

@@ -11,8 +11,8 @@ use Rattle.trees.specs.declared.declaration.ScalarType.TheVariants.{Byte, Addres
 use Rattle.trees.specs.declared.declaration.Sign.{Sign}
 use Rattle.trees.specs.declared.declaration.Sign.TheVariants.{Plus, Minus}
 use Rattle.trees.specs.declared.identifier.Number.{Number}
-use Rattle.trees.specs.Spelling.{optional, constant_symbols, origin_symbols, sign_symbol, offsets_symbols, restricted_symbols, scalar_symbols, count_symbols, dimension_symbols, member_symbols}
-use Rattle.trees.specs.Symbols.{Symbol, NameSymbol, NumberSymbol, MarkSymbol}
+use Rattle.grammar.specs.Spelling.{optional, constant_symbols, origin_symbols, sign_symbol, offsets_symbols, restricted_symbols, scalar_symbols, count_symbols, dimension_symbols, member_symbols}
+use Rattle.grammar.specs.Symbols.{Symbol, NameSymbol, NumberSymbol, MarkSymbol}
 use Rattle.trees.specs.Trees.{ConstantTree, NumberConstant, StringConstant, OriginTree, ConstantOrigin, LocationOrigin, OffsetTree, RestrictedTree}
 use Rattle.syntax.proofs.ReaderLemmas.{if_false, if_cases, bind_ok, bind_at, read, same_reading, at_mark-is, at_word-is, mark-ok, name-ok, number-ok, constant-ok, constant-at}
 use Rattle.syntax.specs.internal.Declarations.{origin, next_sign, offset_then, offsets, all_offsets, restricted, next_scalar, scalar_of, scalar, result_of, result_type, count, dimension_inside, dimension, member}

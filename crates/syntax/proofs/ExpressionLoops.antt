@@ -3,9 +3,9 @@ use Rattle.std.proofs.Common.{◌≡◌, ℕ, suc, ◌≤◌, ◌<◌, ◌-◌, 
 use Rattle.words.specs.declared.vocabulary.Mark.TheVariants.{LeftParenthesis, Period}
 use Rattle.trees.specs.declared.expression.BinaryOperator.{BinaryOperator}
 use Rattle.trees.specs.declared.identifier.Identifier.{Identifier}
-use Rattle.trees.specs.Forms.{level_of}
-use Rattle.trees.specs.Nesting.{expression_height}
-use Rattle.trees.specs.Symbols.{Symbol, NameSymbol}
+use Rattle.grammar.specs.Forms.{level_of}
+use Rattle.grammar.specs.Nesting.{expression_height}
+use Rattle.grammar.specs.Symbols.{Symbol, NameSymbol}
 use Rattle.trees.specs.Trees.{ExpressionTree, ConstantLeaf, ReferenceLeaf, BinaryNode, ReferenceTree}
 use Rattle.syntax.specs.internal.Expressions.{ExpressionParser, expression, operand, primary, parenthesized, location, reference_after, reference, expression_less, all_operators, operator_then, next_operator, goes_on, top_level, operator_on}
 use Rattle.syntax.specs.internal.Reader.{Parser, Cause, TooDeep, Reading, ◌>>=◌, at_mark, next_name, constant}

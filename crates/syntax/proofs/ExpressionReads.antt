@@ -7,12 +7,12 @@ use Rattle.trees.specs.declared.expression.BinaryOperator.{BinaryOperator}
 use Rattle.trees.specs.declared.expression.BinaryOperator.TheVariants.{Or, Xor, And, Equal, Less, Greater, LessOrEqual, GreaterOrEqual, Unequal, Add, Subtract, Multiply, Divide, Modulo}
 use Rattle.trees.specs.declared.expression.UnaryOperator.{UnaryOperator}
 use Rattle.trees.specs.declared.expression.UnaryOperator.TheVariants.{Not, Negate}
-use Rattle.trees.specs.Forms.{expression_level, negation_level, sign_level, primary_level, level_of, IsNotEmpty}
-use Rattle.trees.specs.internal.Forms.{left_level, unary_level_of, operand_level_of, IsExpression, IsReference, IsMember, AreArguments}
-use Rattle.trees.specs.Nesting.{expression_height, reference_height, member_height, arguments_height, targets_height}
-use Rattle.trees.specs.Spelling.{more_after_commas, between_commas, constant_symbols, binary_symbol}
-use Rattle.trees.specs.internal.Spelling.{expression_symbols, reference_symbols, member_of_symbols, arguments_symbols, more_arguments_symbols}
-use Rattle.trees.specs.Symbols.{Symbol, MarkSymbol}
+use Rattle.grammar.specs.Forms.{expression_level, negation_level, sign_level, primary_level, level_of, IsNotEmpty}
+use Rattle.grammar.specs.internal.Forms.{left_level, unary_level_of, operand_level_of, IsExpression, IsReference, IsMember, AreArguments}
+use Rattle.grammar.specs.Nesting.{expression_height, reference_height, member_height, arguments_height, targets_height}
+use Rattle.grammar.specs.Spelling.{more_after_commas, between_commas, constant_symbols, binary_symbol}
+use Rattle.grammar.specs.internal.Spelling.{expression_symbols, reference_symbols, member_of_symbols, arguments_symbols, more_arguments_symbols}
+use Rattle.grammar.specs.Symbols.{Symbol, MarkSymbol}
 use Rattle.trees.specs.Trees.{ConstantTree, NumberConstant, StringConstant, ExpressionTree, ConstantLeaf, ReferenceLeaf, LocationLeaf, ListLeaf, ParenthesizedNode, AssignmentNode, UnaryNode, BinaryNode, ReferenceTree, ReferenceTo, MemberTree, NoMember, MemberOf, ArgumentTrees, NoArguments, MoreArguments}
 use Rattle.syntax.specs.internal.Expressions.{ExpressionParser, next_operator, top_level, goes_on, arguments_of, arguments, member_of, reference, location, parenthesized, primary, operand, operator_then, all_operators, expression, expression_less}
 use Rattle.syntax.specs.internal.Lists.{items, Keeps}

@@ -3,12 +3,12 @@ use Rattle.std.proofs.Common.{◌≡◌, ℕ, Bool, true, false, nat_le, List, S
 use Rattle.std.proofs.lemmas.Bool.{leb-true, leb-false}
 use Rattle.std.specs.List.{AllByRecursion}
 use Rattle.words.specs.declared.vocabulary.Mark.TheVariants.{LeftParenthesis}
-use Rattle.trees.specs.Forms.{expression_level, IsNotEmpty, IsElement}
-use Rattle.trees.specs.internal.Forms.{IsExpression, IsReference, AreArguments}
-use Rattle.trees.specs.Nesting.{expression_height, reference_height, arguments_height}
-use Rattle.trees.specs.Spelling.{between_commas, element_symbols, heading_symbols}
-use Rattle.trees.specs.internal.Spelling.{expression_symbols, reference_symbols, arguments_symbols}
-use Rattle.trees.specs.Symbols.{Symbol}
+use Rattle.grammar.specs.Forms.{expression_level, IsNotEmpty, IsElement}
+use Rattle.grammar.specs.internal.Forms.{IsExpression, IsReference, AreArguments}
+use Rattle.grammar.specs.Nesting.{expression_height, reference_height, arguments_height}
+use Rattle.grammar.specs.Spelling.{between_commas, element_symbols, heading_symbols}
+use Rattle.grammar.specs.internal.Spelling.{expression_symbols, reference_symbols, arguments_symbols}
+use Rattle.grammar.specs.Symbols.{Symbol}
 use Rattle.trees.specs.Trees.{ExpressionTree, ReferenceTree, ArgumentTrees, ElementTree}
 use Rattle.syntax.specs.internal.Declarations.{element, heading}
 use Rattle.syntax.specs.internal.Lists.{items}

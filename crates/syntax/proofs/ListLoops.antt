@@ -2,7 +2,7 @@
 use Rattle.std.proofs.Common.{◌≡◌, ◌<◌, Bool, true, false, List, [], ◌∷◌, ◌++◌, drop, length, map, Option, Some, None, Result, Ok, Err, refl, sym, ◌∙◌, ap, arith, append_assoc, append-nil}
 use Rattle.std.proofs.lemmas.List.{map-append, map-id}
 use Rattle.words.specs.declared.vocabulary.Mark.TheVariants.{Comma}
-use Rattle.trees.specs.Symbols.{Symbol}
+use Rattle.grammar.specs.Symbols.{Symbol}
 use Rattle.syntax.specs.internal.Lists.{all_more_items, items, Keeps, Shrinks, after_items}
 use Rattle.syntax.specs.internal.Reader.{Parser, Cause, Reading, ◌>>=◌, at_mark, constant, next_constant}
 use Rattle.syntax.proofs.ReaderLemmas.{taken-ok}

@@ -1,7 +1,7 @@
 -- Lists of arguments.
 use Rattle.std.proofs.Common.{◌≡◌, max, List, [], ◌∷◌, ◌++◌, map, refl, arith}
 use Rattle.trees.specs.declared.expression.Expression.{Expression}
-use Rattle.trees.specs.Nesting.{expression_height, arguments_height}
+use Rattle.grammar.specs.Nesting.{expression_height, arguments_height}
 use Rattle.trees.specs.Views.{expression_tree, argument_trees}
 use Rattle.syntax.specs.internal.Expressions.{arguments_of}
 

@@ -3,11 +3,11 @@ use Rattle.std.proofs.Common.{◌≡◌, ℕ, max, ◌<◌, ◌≤◌, Bool, tru
 use Rattle.words.specs.declared.vocabulary.Mark.TheVariants as marks
 use Rattle.words.specs.declared.vocabulary.ReservedWord.TheVariants as words
 use Rattle.words.specs.Spelling.{Lexeme}
-use Rattle.trees.specs.declared.module.TheConstants.{NESTING_LIMIT}
-use Rattle.trees.specs.Derivation.{DerivesModule, whole_module as module_line, Derives, DerivesButForDepth, DerivesButForEndName, DerivesAtMostOne}
-use Rattle.trees.specs.Nesting.{module_height, ModuleEndsMatch}
-use Rattle.trees.specs.Spelling.{optional, name_symbols, ending_symbols}
-use Rattle.trees.specs.Symbols.{Symbol, NameSymbol, PlacedSymbol, MarkSymbol, SemicolonSymbol, symbols_of}
+use Rattle.grammar.specs.declared.TheConstants.{NESTING_LIMIT}
+use Rattle.grammar.specs.Derivation.{DerivesModule, whole_module as module_line, Derives, DerivesButForDepth, DerivesButForEndName, DerivesAtMostOne}
+use Rattle.grammar.specs.Nesting.{module_height, ModuleEndsMatch}
+use Rattle.grammar.specs.Spelling.{optional, name_symbols, ending_symbols}
+use Rattle.grammar.specs.Symbols.{Symbol, NameSymbol, PlacedSymbol, MarkSymbol, SemicolonSymbol, symbols_of}
 use Rattle.trees.specs.Trees.{ModuleTree}
 use Rattle.syntax.specs.internal.Reader.{Cause, Unexpected, TooDeep, OtherEndName, place_of_word, taken}
 use Rattle.syntax.specs.internal.Statements.{at_the_end, module_of, whole_module}

@@ -3,9 +3,9 @@ use Rattle.std.proofs.Common.{◌≡◌, true, List, Result, Ok, Err, subst}
 use Rattle.std.specs.Prelude.{IfOk}
 use Rattle.words.specs.Spelling.{Lexeme}
 use Rattle.trees.specs.declared.module.Module.{Module}
-use Rattle.trees.specs.declared.module.TheConstants.{NESTING_LIMIT}
-use Rattle.trees.specs.Derivation.{Derives, DerivesButForDepth, DerivesButForEndName, DerivesModule}
-use Rattle.trees.specs.Symbols.{Symbol, symbols_of}
+use Rattle.grammar.specs.declared.TheConstants.{NESTING_LIMIT}
+use Rattle.grammar.specs.Derivation.{Derives, DerivesButForDepth, DerivesButForEndName, DerivesModule}
+use Rattle.grammar.specs.Symbols.{Symbol, symbols_of}
 use Rattle.trees.specs.Trees.{ModuleTree}
 use Rattle.trees.specs.Views.{module_tree}
 use Rattle.failure.specs.Failure.{IfFault}

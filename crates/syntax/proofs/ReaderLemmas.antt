@@ -10,8 +10,8 @@ use Rattle.trees.specs.declared.expression.BinaryOperator.TheVariants.{Or, Xor, 
 use Rattle.trees.specs.declared.identifier.Identifier.{Identifier}
 use Rattle.trees.specs.declared.identifier.Number.{Number}
 use Rattle.trees.specs.declared.identifier.Place.{Place}
-use Rattle.trees.specs.Spelling.{binary_symbol, constant_symbols}
-use Rattle.trees.specs.Symbols.{Symbol, NameSymbol, NumberSymbol, StringSymbol, ReservedSymbol, PlacedSymbol, MarkSymbol, SemicolonSymbol}
+use Rattle.grammar.specs.Spelling.{binary_symbol, constant_symbols}
+use Rattle.grammar.specs.Symbols.{Symbol, NameSymbol, NumberSymbol, StringSymbol, ReservedSymbol, PlacedSymbol, MarkSymbol, SemicolonSymbol}
 use Rattle.trees.specs.Trees.{StringTree, ConstantTree, NumberConstant, StringConstant}
 use Rattle.syntax.specs.internal.Expressions.{operator_of, next_operator}
 use Rattle.syntax.specs.internal.Reader.{Parser, Cause, Unexpected, ◌>>=◌, mark_number, word_number, at_mark, at_word, place_of_word, next_semicolon, next_name, next_constant, mark, word, taken, semicolon, name, constant, number, string}

@@ -1,6 +1,6 @@
 -- What fails first, fails as a whole.
 use Rattle.std.proofs.Common.{◌≡◌, ◌≢◌, List, [], ◌∷◌, Option, Some, None, Result, refl, ap}
-use Rattle.trees.specs.Symbols.{Symbol}
+use Rattle.grammar.specs.Symbols.{Symbol}
 use Rattle.syntax.specs.internal.Results.{FailsBy}
 use Rattle.syntax.specs.internal.Statements.{at_the_end}
 use Rattle.syntax.specs.internal.Reader.{Cause, Unexpected, ◌>>=◌}

@@ -4,7 +4,7 @@ use Rattle.words.specs.declared.vocabulary.ReservedWord.{ReservedWord}
 use Rattle.words.specs.declared.vocabulary.ReservedWord.TheVariants as words
 use Rattle.trees.specs.declared.identifier.Identifier.{Identifier}
 use Rattle.trees.specs.declared.identifier.Place.{Place}
-use Rattle.trees.specs.Symbols.{Symbol, NameSymbol, UnknownSymbol, reserved_symbol}
+use Rattle.grammar.specs.Symbols.{Symbol, NameSymbol, UnknownSymbol, reserved_symbol}
 use Rattle.syntax.specs.declared.statements.Beginning.TheVariants as beginnings
 use Rattle.syntax.specs.internal.Inside.{next_beginning}
 use Rattle.syntax.specs.internal.Statements.{beginning_at}

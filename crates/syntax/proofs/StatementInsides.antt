@@ -1,7 +1,7 @@
 -- What is read where there is room.
 use Rattle.std.proofs.Common.{◌≡◌, ℕ, zero, suc, ◌<◌, ◌-◌, true, false, List, [], ◌∷◌, drop, Option, Some, Err, refl, ◌∙◌, ap, arith}
 use Rattle.words.specs.declared.vocabulary.ReservedWord.TheVariants.{Declare}
-use Rattle.trees.specs.Symbols.{Symbol, NameSymbol, NumberSymbol, StringSymbol, ReservedSymbol, PlacedSymbol, MarkSymbol, SemicolonSymbol, UnknownSymbol}
+use Rattle.grammar.specs.Symbols.{Symbol, NameSymbol, NumberSymbol, StringSymbol, ReservedSymbol, PlacedSymbol, MarkSymbol, SemicolonSymbol, UnknownSymbol}
 use Rattle.syntax.specs.internal.Expressions.{expression, reference}
 use Rattle.syntax.specs.internal.Results.{FailsBy}
 use Rattle.syntax.specs.internal.Inside.{block_in, kind_inside, statement_inside}

@@ -2,7 +2,7 @@
 use Rattle.std.proofs.Common.{◌≡◌, ◌≢◌, ◌<◌, ℕ, Bool, true, false, List, [], ◌∷◌, ◌++◌, drop, length, Option, Some, None, if◌then◌else◌, refl, sym, ◌∙◌, ap, arith, append_assoc}
 use Rattle.words.specs.declared.vocabulary.Mark.TheVariants as marks
 use Rattle.trees.specs.declared.identifier.Identifier.{Identifier}
-use Rattle.trees.specs.Symbols.{Symbol, NameSymbol}
+use Rattle.grammar.specs.Symbols.{Symbol, NameSymbol}
 use Rattle.syntax.specs.internal.Reader.{at_mark}
 use Rattle.syntax.specs.internal.Statements.{next_label, labels_before, after_labels}
 

@@ -3,7 +3,7 @@ use Rattle.std.proofs.Common.{◌≡◌, ℕ, zero, suc, ◌≤◌, ◌<◌, Boo
 use Rattle.words.specs.declared.vocabulary.ReservedWord.TheVariants.{End}
 use Rattle.trees.specs.declared.statement.Declaration.{Declaration}
 use Rattle.trees.specs.declared.statement.Statement.{Statement}
-use Rattle.trees.specs.Symbols.{Symbol}
+use Rattle.grammar.specs.Symbols.{Symbol}
 use Rattle.trees.specs.Trees.{StatementTree, StatementTrees, MoreStatements, DeclarationTree, DeclarationTrees, MoreDeclarations}
 use Rattle.trees.specs.Views.{statement_tree, statement_trees, declaration_tree, declaration_trees}
 use Rattle.syntax.specs.internal.Results.{FailsBy}

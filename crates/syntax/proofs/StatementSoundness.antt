@@ -7,14 +7,14 @@ use Rattle.words.specs.declared.vocabulary.ReservedWord.{ReservedWord}
 use Rattle.words.specs.declared.vocabulary.ReservedWord.TheVariants as words
 use Rattle.trees.specs.declared.identifier.Identifier.{Identifier}
 use Rattle.trees.specs.declared.identifier.Place.{Place}
-use Rattle.trees.specs.Derivation.{DerivesExpression, DerivesArguments, DerivesTargets, DerivesStatement, labelled, unlabelled, DerivesKind, null, assignment as assignment_line, call as call_line, return, return_value as return_value_line, halt as halt_line, goto as goto_line, if_then, if_then_else, simple_do as simple_do_line, do_while, iterative_do as iterative_do_line, iterative_do_by, do_case, DerivesStatements, no_statement, next_statement, DerivesDeclaration, declare as declare_line, procedure as procedure_line, DerivesDeclarations, no_declaration, next_declaration}
-use Rattle.trees.specs.Forms.{expression_level, IsNotEmpty, ends_in_open_if, is_open_if}
-use Rattle.trees.specs.internal.Forms.{IsReference}
-use Rattle.trees.specs.internal.Spelling.{reference_symbols}
-use Rattle.trees.specs.Spelling.{between_commas, optional, name_symbols, element_symbols, heading_symbols, ending_symbols}
-use Rattle.trees.specs.Symbols.{Symbol, NameSymbol, NumberSymbol, StringSymbol, ReservedSymbol, PlacedSymbol, MarkSymbol, SemicolonSymbol, UnknownSymbol}
+use Rattle.grammar.specs.Derivation.{DerivesExpression, DerivesArguments, DerivesTargets, DerivesStatement, labelled, unlabelled, DerivesKind, null, assignment as assignment_line, call as call_line, return, return_value as return_value_line, halt as halt_line, goto as goto_line, if_then, if_then_else, simple_do as simple_do_line, do_while, iterative_do as iterative_do_line, iterative_do_by, do_case, DerivesStatements, no_statement, next_statement, DerivesDeclaration, declare as declare_line, procedure as procedure_line, DerivesDeclarations, no_declaration, next_declaration}
+use Rattle.grammar.specs.Forms.{expression_level, IsNotEmpty, ends_in_open_if, is_open_if}
+use Rattle.grammar.specs.internal.Forms.{IsReference}
+use Rattle.grammar.specs.internal.Spelling.{reference_symbols}
+use Rattle.grammar.specs.Spelling.{between_commas, optional, name_symbols, element_symbols, heading_symbols, ending_symbols}
+use Rattle.grammar.specs.Symbols.{Symbol, NameSymbol, NumberSymbol, StringSymbol, ReservedSymbol, PlacedSymbol, MarkSymbol, SemicolonSymbol, UnknownSymbol}
 use Rattle.trees.specs.Trees.{ExpressionTree, ArgumentTrees, ReferenceTree, IterationTree, StatementTree, LabelledStatement, StatementKindTree, IfStatement, IterateStatement, ElseTree, NoElse, ElseStatement, StatementTrees, DeclarationTree, DeclareTree, ProcedureTree, DeclarationTrees}
-use Rattle.trees.proofs.Derivations.{expression-derived, arguments-derived, targets-derived}
+use Rattle.grammar.proofs.Derivations.{expression-derived, arguments-derived, targets-derived}
 use Rattle.syntax.specs.internal.Expressions.{expression, reference, arguments}
 use Rattle.syntax.specs.internal.Lists.{items, many, many_items}
 use Rattle.syntax.specs.internal.Reader.{Parser, TooDeep, Reading, at_mark, at_word, next_name, mark, semicolon, word, name}

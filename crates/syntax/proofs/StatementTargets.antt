@@ -3,7 +3,7 @@ use Rattle.std.proofs.Common.{◌≡◌, ℕ, ◌<◌, true, false, List, [], �
 use Rattle.std.proofs.lemmas.List.{map-append}
 use Rattle.words.specs.declared.vocabulary.Mark.TheVariants.{Comma}
 use Rattle.trees.specs.declared.expression.Reference.{Reference}
-use Rattle.trees.specs.Symbols.{Symbol}
+use Rattle.grammar.specs.Symbols.{Symbol}
 use Rattle.trees.specs.Trees.{ReferenceTree}
 use Rattle.trees.specs.Views.{reference_tree}
 use Rattle.syntax.specs.internal.Expressions.{expression, reference}

@@ -2,9 +2,9 @@
 use Rattle.std.proofs.Common.{◌≡◌, ℕ, zero, suc, max, ◌≤◌, ◌<◌, Bool, false, List, [], ◌∷◌, drop, length, refl, arith}
 use Rattle.std.specs.List.{AllByRecursion}
 use Rattle.words.specs.declared.vocabulary.Mark.TheVariants.{Comma}
-use Rattle.trees.specs.Forms.{IsNotEmpty}
-use Rattle.trees.specs.Spelling.{more_after_commas, between_commas}
-use Rattle.trees.specs.Symbols.{Symbol, MarkSymbol}
+use Rattle.grammar.specs.Forms.{IsNotEmpty}
+use Rattle.grammar.specs.Spelling.{more_after_commas, between_commas}
+use Rattle.grammar.specs.Symbols.{Symbol, MarkSymbol}
 use Rattle.syntax.specs.internal.Lists.{more_items, all_more_items, items}
 use Rattle.syntax.specs.internal.Reader.{Parser, at_mark}
 use Rattle.syntax.proofs.ReaderLemmas.{at_mark-is, if_false}

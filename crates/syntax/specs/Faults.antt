@@ -2,8 +2,8 @@
 use Rattle.std.specs.Prelude.{ℕ, ◌<◌, List, Result, Ok, Err, codes}
 use Rattle.failure.specs.declared.Failure.{Failure}
 use Rattle.failure.specs.declared.Failure.TheVariants as failures
-use Rattle.trees.specs.declared.module.TheConstants.{NESTING_LIMIT}
-use Rattle.trees.specs.Nesting.{module_height, ModuleEndsMatch}
+use Rattle.grammar.specs.declared.TheConstants.{NESTING_LIMIT}
+use Rattle.grammar.specs.Nesting.{module_height, ModuleEndsMatch}
 use Rattle.trees.specs.Trees.{ModuleTree}
 use Rattle.syntax.specs.declared.fault.Fault.{Fault}
 use Rattle.syntax.specs.declared.fault.Fault.TheVariants.{Word, Depth, EndName}

@@ -1,9 +1,9 @@
 //! Expressions.
 
 ghost use Rattle.std.specs.Prelude.{◌≡◌, ◌<◌, ◌≤◌, ◌+◌, suc, map, IfOk};
-ghost use Rattle.trees.specs.declared.module.TheConstants.{NESTING_LIMIT};
+ghost use Rattle.grammar.specs.declared.TheConstants.{NESTING_LIMIT};
 ghost use Rattle.syntax.specs.internal.Expressions.{arguments, reference_after, reference, location, assigned, closed, parenthesized, primary, operand, all_operators, expression, expression_less, next_operator, operator_on};
-ghost use Rattle.trees.specs.Forms.{expression_level};
+ghost use Rattle.grammar.specs.Forms.{expression_level};
 ghost use Rattle.trees.specs.Trees.{ReferenceLeaf};
 ghost use Rattle.syntax.specs.internal.Results.{Gives};
 ghost use Rattle.syntax.specs.internal.Lists.{items};

@@ -1,7 +1,7 @@
 //! Lists of items between commas.
 
 ghost use Rattle.std.specs.Prelude.{List, map};
-ghost use Rattle.trees.specs.Symbols.{Symbol};
+ghost use Rattle.grammar.specs.Symbols.{Symbol};
 ghost use Rattle.syntax.specs.internal.Results.{Gives};
 ghost use Rattle.syntax.specs.internal.Lists.{items, Keeps};
 ghost use Rattle.syntax.specs.internal.Reader.{Reading};

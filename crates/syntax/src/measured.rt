@@ -1,9 +1,9 @@
 //! Expressions with how many levels they take, and at which levels of the grammar they may stand.
 
 ghost use Rattle.std.specs.Prelude.{◌≡◌, ◌<◌, ◌+◌, suc, max, [], ◌∷◌, ◌++◌, IfOk, OnOk, IfSome, IsNone, false, map};
-ghost use Rattle.trees.specs.Forms.{expression_level, negation_level, relation_level, sign_level, primary_level, level_of};
-ghost use Rattle.trees.specs.internal.Forms.{left_level, unary_level_of};
-ghost use Rattle.trees.specs.Nesting.{expression_height, reference_height, arguments_height};
+ghost use Rattle.grammar.specs.Forms.{expression_level, negation_level, relation_level, sign_level, primary_level, level_of};
+ghost use Rattle.grammar.specs.internal.Forms.{left_level, unary_level_of};
+ghost use Rattle.grammar.specs.Nesting.{expression_height, reference_height, arguments_height};
 ghost use Rattle.trees.specs.Trees.{ConstantLeaf, ReferenceLeaf, LocationLeaf, ListLeaf, ParenthesizedNode, AssignmentNode, UnaryNode, BinaryNode, ReferenceTo, NoMember, MemberOf, NoArguments};
 ghost use Rattle.trees.specs.Views.{constant_tree, expression_tree, reference_tree, argument_trees, reference_of, is_reference_leaf};
 ghost use Rattle.syntax.specs.internal.Expressions.{top_level};

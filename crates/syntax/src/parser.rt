@@ -3,9 +3,9 @@
 ghost use Rattle.std.specs.Prelude.{◌≡◌, ◌≢◌, ◌≤◌, true, List, [], OnOk, IfOk, IfErr, Some};
 ghost use Rattle.failure.specs.Failure.{IfFault};
 ghost use Rattle.words.specs.Spelling.{Lexeme, lexemes_of};
-ghost use Rattle.trees.specs.declared.module.TheConstants.{NESTING_LIMIT};
-ghost use Rattle.trees.specs.Derivation.{Derives, DerivesAtMostOne, DerivesButForDepth, DerivesButForEndName, DerivesModule};
-ghost use Rattle.trees.specs.Symbols.{symbols_of};
+ghost use Rattle.grammar.specs.declared.TheConstants.{NESTING_LIMIT};
+ghost use Rattle.grammar.specs.Derivation.{Derives, DerivesAtMostOne, DerivesButForDepth, DerivesButForEndName, DerivesModule};
+ghost use Rattle.grammar.specs.Symbols.{symbols_of};
 ghost use Rattle.trees.specs.Trees.{ModuleTree};
 ghost use Rattle.trees.specs.Views.{module_tree};
 ghost use Rattle.syntax.specs.Faults.{IsOfDepth, IsOfEndName, IsRefused, IsWrongWith};
@@ -17,9 +17,10 @@ ghost use Rattle.syntax.specs.internal.Statements.{module_of, whole_module};
 use crate::fault::Fault;
 use crate::reader::Reader;
 use failure::Failure;
+use grammar::NESTING_LIMIT;
 use std::alloc::Global;
 use std::marker::Model;
-use trees::{Block, Identifier, Module, NESTING_LIMIT, Place};
+use trees::{Block, Identifier, Module, Place};
 use words::{Mark, ReservedWord, Word};
 
 /// The module that the words derive. Takes time and memory in proportion to the words (which no clause says).

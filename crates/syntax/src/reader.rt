@@ -2,7 +2,7 @@
 
 ghost use Rattle.std.specs.Prelude.{◌≡◌, ◌≢◌, ◌↔◌, MatchOption, MatchBool, Ok, None, ◌<◌, IsTrue, true, false, [], ◌∷◌, drop, length, IfOk, Some};
 ghost use Rattle.words.specs.Spelling.{lexeme_of};
-ghost use Rattle.trees.specs.Symbols.{symbol_of, MarkSymbol, ReservedSymbol};
+ghost use Rattle.grammar.specs.Symbols.{symbol_of, MarkSymbol, ReservedSymbol};
 ghost use Rattle.words.specs.Strings.{characters_of, unquoted};
 ghost use Rattle.trees.specs.Views.{constant_tree, string_tree};
 ghost use Rattle.syntax.specs.internal.Expressions.{operator_of, next_operator};
@@ -27,7 +27,7 @@ pub(crate) struct Reader<'a> {
 
 impl<'a> Model for Reader<'a> {
     ghost use Rattle.std.specs.Prelude.{List};
-    ghost use Rattle.trees.specs.Symbols.{Symbol};
+    ghost use Rattle.grammar.specs.Symbols.{Symbol};
     ghost use Rattle.syntax.specs.internal.Results.{left_of};
 
     ghost Value = { List Symbol };

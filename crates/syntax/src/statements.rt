@@ -3,9 +3,9 @@
 ghost use Rattle.std.specs.Prelude.{◌≡◌, ◌<◌, ◌≤◌, true, not, [], ◌∷◌, map, length, OnOk, IfOk, IfErr, Some, None};
 ghost use Rattle.std.specs.Option.{option_map};
 ghost use Rattle.words.specs.Spelling.{lexeme_of};
-ghost use Rattle.trees.specs.declared.module.TheConstants.{NESTING_LIMIT};
-ghost use Rattle.trees.specs.Forms.{expression_level};
-ghost use Rattle.trees.specs.Symbols.{symbol_of};
+ghost use Rattle.grammar.specs.declared.TheConstants.{NESTING_LIMIT};
+ghost use Rattle.grammar.specs.Forms.{expression_level};
+ghost use Rattle.grammar.specs.Symbols.{symbol_of};
 ghost use Rattle.trees.specs.Views.{expression_tree, reference_tree, argument_trees, statement_tree, kind_tree, else_tree, statement_trees, declaration_tree, declaration_trees, iteration_tree};
 ghost use Rattle.syntax.specs.internal.Expressions.{expression, reference, arguments};
 ghost use Rattle.syntax.specs.internal.Results.{cause_of, Gives, Leaves};

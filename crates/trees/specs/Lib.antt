@@ -1,10 +1,3 @@
 pub mod Names
 pub mod Trees
 pub mod Views
-pub mod Symbols
-pub mod Spelling
-pub mod Forms
-pub mod Nesting
-pub mod Derivation
-pub mod Rows
-pub mod internal

@@ -1,4 +1,4 @@
-//! The trees of PL/M-80 modules, and which words derive them.
+//! The trees of PL/M-80 modules.
 #![tactic(auto)]
 
 mod declaration;
@@ -14,7 +14,7 @@ pub use declaration::{
 };
 pub use expression::{BinaryOperator, Expression, Reference, Selector, UnaryOperator};
 pub use identifier::{Constant, Identifier, Number, Place, StringLiteral};
-pub use module::{Module, NESTING_LIMIT};
+pub use module::Module;
 pub use name::Name;
 pub use statement::{
     Assignment, Block, Declaration, DoCase, DoWhile, Heading, IfThen, Iteration, IterativeDo,

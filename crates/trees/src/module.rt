@@ -3,9 +3,6 @@
 use crate::identifier::{Identifier, Place};
 use crate::statement::Block;
 
-/// How many levels a module may nest.
-pub const NESTING_LIMIT: u8 = 64;
-
 /// A module, with the name after its END, if there is one. It borrows nothing from the source.
 #[derive(Debug, Drop)]
 pub struct Module {

@@ -16,7 +16,7 @@ use Rattle.trees.specs.declared.declaration.Storage.TheVariants.{Initial, Data}
 use Rattle.trees.specs.declared.identifier.Identifier.{Identifier}
 use Rattle.trees.specs.declared.identifier.Number.{Number}
 use Rattle.trees.specs.declared.identifier.Place.{Place}
-use Rattle.trees.specs.Symbols.{Symbol}
+use Rattle.grammar.specs.Symbols.{Symbol}
 use Rattle.trees.specs.Trees.{OriginTree, ConstantOrigin, LocationOrigin, OffsetTree, RestrictedTree, ItemTypeTree, ScalarItem, StructureItem, AtTree, ValueListTree, SubjectTree, SingleSubject, GroupSubject, ItemTree, ElementTree, LiterallyElement, ItemElement, HeadingTree}
 use Rattle.syntax.specs.internal.Reader.{Parser, Unexpected, ◌>>=◌, at_mark, at_word, place_of_word, next_name, mark, word, name, number, string, constant}
 use Rattle.syntax.specs.internal.Lists.{items}

@@ -7,10 +7,10 @@ use Rattle.trees.specs.declared.expression.BinaryOperator.{BinaryOperator}
 use Rattle.trees.specs.declared.expression.BinaryOperator.TheVariants.{Or, Xor, And, Equal, Less, Greater, LessOrEqual, GreaterOrEqual, Unequal, Add, Subtract, Multiply, Divide, Modulo}
 use Rattle.trees.specs.declared.expression.UnaryOperator.TheVariants.{Not, Negate}
 use Rattle.trees.specs.declared.identifier.Identifier.{Identifier}
-use Rattle.trees.specs.Forms.{expression_level, negation_level, sign_level, primary_level, level_of}
-use Rattle.trees.specs.internal.Forms.{left_level, unary_level_of}
-use Rattle.trees.specs.Nesting.{expression_height}
-use Rattle.trees.specs.Symbols.{Symbol, MarkSymbol, ReservedSymbol}
+use Rattle.grammar.specs.Forms.{expression_level, negation_level, sign_level, primary_level, level_of}
+use Rattle.grammar.specs.internal.Forms.{left_level, unary_level_of}
+use Rattle.grammar.specs.Nesting.{expression_height}
+use Rattle.grammar.specs.Symbols.{Symbol, MarkSymbol, ReservedSymbol}
 use Rattle.trees.specs.Trees.{ExpressionTree, ConstantLeaf, ReferenceLeaf, LocationLeaf, ListLeaf, ParenthesizedNode, AssignmentNode, UnaryNode, BinaryNode, ReferenceTree, ReferenceTo, MemberTree, NoMember, MemberOf, ArgumentTrees, NoArguments, MoreArguments}
 use Rattle.syntax.specs.internal.Reader.{Parser, Unexpected, TooDeep, ◌>>=◌, at_mark, at_word, mark, name, next_name, constant}
 use Rattle.syntax.specs.internal.Lists.{items}

@@ -3,8 +3,8 @@ use Rattle.std.specs.Prelude.{◌≡◌, ℕ, Bool, true, false, List, [], ◌�
 use Rattle.trees.specs.declared.statement.Block.{Block}
 use Rattle.trees.specs.declared.statement.Declaration.{Declaration}
 use Rattle.trees.specs.declared.statement.Statement.{Statement}
-use Rattle.trees.specs.Forms.{expression_level}
-use Rattle.trees.specs.Symbols.{Symbol, NameSymbol, UnknownSymbol}
+use Rattle.grammar.specs.Forms.{expression_level}
+use Rattle.grammar.specs.Symbols.{Symbol, NameSymbol, UnknownSymbol}
 use Rattle.trees.specs.Trees.{ExpressionTree, StatementTree, StatementKindTree, StatementTrees, MoreStatements, DeclarationTrees, MoreDeclarations}
 use Rattle.trees.specs.Views.{statement_tree, declaration_tree, block_declarations, block_statements}
 use Rattle.failure.specs.declared.Failure.{Failure}

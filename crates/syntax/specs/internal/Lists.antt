@@ -2,7 +2,7 @@
 -- always enough.
 use Rattle.std.specs.Prelude.{◌≡◌, ℕ, zero, suc, ◌≤◌, ◌<◌, Bool, List, [], ◌∷◌, ◌++◌, drop, length, Ok, Err, if◌then◌else◌}
 use Rattle.words.specs.declared.vocabulary.Mark.TheVariants.{Comma}
-use Rattle.trees.specs.Symbols.{Symbol}
+use Rattle.grammar.specs.Symbols.{Symbol}
 use Rattle.syntax.specs.internal.Reader.{Parser, Reading, Unexpected, ◌>>=◌, at_mark}
 
 -- {`,` item}

@@ -2,7 +2,7 @@
 use Rattle.std.specs.Prelude.{◌≡◌, List, Option, None, Some, Result, Ok, Err}
 use Rattle.words.specs.declared.word.Word as scanned
 use Rattle.words.specs.Spelling.{lexemes_of}
-use Rattle.trees.specs.Symbols.{Symbol, symbols_of}
+use Rattle.grammar.specs.Symbols.{Symbol, symbols_of}
 use Rattle.failure.specs.declared.Failure.{Failure}
 use Rattle.failure.specs.declared.Failure.TheVariants as failures
 use Rattle.syntax.specs.declared.fault.Fault.{Fault}

@@ -7,8 +7,8 @@ use Rattle.words.specs.declared.vocabulary.ReservedWord.{ReservedWord}
 use Rattle.words.specs.declared.vocabulary.ReservedWord.TheVariants as words
 use Rattle.trees.specs.declared.identifier.Identifier.{Identifier}
 use Rattle.trees.specs.declared.identifier.Place.{Place}
-use Rattle.trees.specs.Forms.{expression_level}
-use Rattle.trees.specs.Symbols.{Symbol, NameSymbol, SemicolonSymbol, PlacedSymbol}
+use Rattle.grammar.specs.Forms.{expression_level}
+use Rattle.grammar.specs.Symbols.{Symbol, NameSymbol, SemicolonSymbol, PlacedSymbol}
 use Rattle.trees.specs.Trees.{ExpressionTree, IterationTree, StatementTree, LabelledStatement, StatementKindTree, NullStatement, AssignmentStatement, CallStatement, ReturnStatement, HaltStatement, GotoStatement, IfStatement, ElseTree, NoElse, ElseStatement, DoStatement, WhileStatement, IterateStatement, CaseStatement, StatementTrees, NoStatements, MoreStatements, DeclarationTree, DeclareTree, ProcedureTree, DeclarationTrees, NoDeclarations, MoreDeclarations, ModuleTree}
 use Rattle.syntax.specs.declared.statements.Beginning.{Beginning}
 use Rattle.syntax.specs.declared.statements.Beginning.TheVariants as beginnings

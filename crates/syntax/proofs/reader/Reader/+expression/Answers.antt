@@ -1,5 +1,5 @@
 use Rattle.std.proofs.Common.{arith}
-use Rattle.trees.specs.Forms.{expression_level}
+use Rattle.grammar.specs.Forms.{expression_level}
 use Rattle.trees.specs.Views.{expression_tree}
 use Rattle.syntax.specs.internal.Expressions.{expression}
 use Rattle.syntax.proofs.ExpressionSound.{expression-keeps}

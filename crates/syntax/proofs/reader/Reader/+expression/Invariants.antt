@@ -1,5 +1,5 @@
 use Rattle.std.proofs.Common.{◌≡◌, ◌≤◌, ◌+◌, ◌*◌, suc, map, length}
-use Rattle.trees.specs.Forms.{expression_level}
+use Rattle.grammar.specs.Forms.{expression_level}
 use Rattle.trees.specs.Views.{expression_tree}
 use Rattle.syntax.specs.internal.Expressions.{expression, all_operators}
 use Rattle.syntax.specs.internal.Lists.{items, all_more_items, after_items}

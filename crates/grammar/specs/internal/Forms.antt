@@ -2,7 +2,7 @@
 use Rattle.std.specs.Prelude.{ℕ, suc, ◌≤◌, ◌==◌, if◌then◌else◌}
 use Rattle.trees.specs.declared.expression.UnaryOperator.{UnaryOperator}
 use Rattle.trees.specs.declared.expression.UnaryOperator.TheVariants.{Not, Negate}
-use Rattle.trees.specs.Forms.{expression_level, negation_level, relation_level, sum_level, sign_level, primary_level, level_of, IsNotEmpty}
+use Rattle.grammar.specs.Forms.{expression_level, negation_level, relation_level, sum_level, sign_level, primary_level, level_of, IsNotEmpty}
 use Rattle.trees.specs.Trees.{ExpressionTree, ConstantLeaf, ReferenceLeaf, LocationLeaf, ListLeaf, ParenthesizedNode, AssignmentNode, UnaryNode, BinaryNode, ReferenceTree, ReferenceTo, MemberTree, NoMember, MemberOf, ArgumentTrees, NoArguments, MoreArguments}
 
 -- The level of what stands left of an operator of a level: the same level, since chains group from the left.

@@ -11,11 +11,11 @@ use Rattle.trees.specs.declared.expression.UnaryOperator.TheVariants.{Not, Negat
 use Rattle.trees.specs.declared.identifier.Identifier.{Identifier}
 use Rattle.trees.specs.declared.identifier.Number.{Number}
 use Rattle.trees.specs.declared.identifier.Place.{Place}
-use Rattle.trees.specs.declared.module.TheConstants.{NESTING_LIMIT}
-use Rattle.trees.specs.Forms.{expression_level, conjunction_level, negation_level, relation_level, sum_level, term_level, sign_level, primary_level, level_of, IsNotEmpty, IsElement, ends_in_open_if}
-use Rattle.trees.specs.Nesting.{module_height, IsNestedWithin, ModuleEndsMatch}
-use Rattle.trees.specs.Spelling.{binary_symbol, between_commas, constant_symbols, element_symbols, heading_symbols, ending_symbols}
-use Rattle.trees.specs.Symbols.{Symbol, NameSymbol, NumberSymbol, StringSymbol, ReservedSymbol, PlacedSymbol, MarkSymbol, SemicolonSymbol, symbols_of}
+use Rattle.grammar.specs.declared.TheConstants.{NESTING_LIMIT}
+use Rattle.grammar.specs.Forms.{expression_level, conjunction_level, negation_level, relation_level, sum_level, term_level, sign_level, primary_level, level_of, IsNotEmpty, IsElement, ends_in_open_if}
+use Rattle.grammar.specs.Nesting.{module_height, IsNestedWithin, ModuleEndsMatch}
+use Rattle.grammar.specs.Spelling.{binary_symbol, between_commas, constant_symbols, element_symbols, heading_symbols, ending_symbols}
+use Rattle.grammar.specs.Symbols.{Symbol, NameSymbol, NumberSymbol, StringSymbol, ReservedSymbol, PlacedSymbol, MarkSymbol, SemicolonSymbol, symbols_of}
 use Rattle.trees.specs.Trees.{StringTree, ConstantTree, NumberConstant, StringConstant, ExpressionTree, ConstantLeaf, ReferenceLeaf, LocationLeaf, ListLeaf, ParenthesizedNode, AssignmentNode, UnaryNode, BinaryNode, ReferenceTree, ReferenceTo, NoMember, MemberOf, ArgumentTrees, NoArguments, MoreArguments, ElementTree, HeadingTree, IterationTree, StatementTree, LabelledStatement, StatementKindTree, NullStatement, AssignmentStatement, CallStatement, ReturnStatement, HaltStatement, GotoStatement, IfStatement, NoElse, ElseStatement, DoStatement, WhileStatement, IterateStatement, CaseStatement, StatementTrees, NoStatements, MoreStatements, DeclarationTree, DeclareTree, ProcedureTree, DeclarationTrees, NoDeclarations, MoreDeclarations, ModuleTree}
 
 mutual

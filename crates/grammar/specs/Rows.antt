@@ -8,10 +8,10 @@ use Rattle.words.specs.Spelling.{Lexeme}
 use Rattle.trees.specs.declared.expression.BinaryOperator.TheVariants.{Add}
 use Rattle.trees.specs.declared.identifier.Identifier.{Identifier}
 use Rattle.trees.specs.declared.identifier.Place.{Place}
-use Rattle.trees.specs.Forms.{ends_in_open_if}
+use Rattle.grammar.specs.Forms.{ends_in_open_if}
 use Rattle.trees.specs.Names.{is_name}
-use Rattle.trees.specs.Nesting.{expression_height, module_height}
-use Rattle.trees.specs.Symbols.{PlacedSymbol, SemicolonSymbol, UnknownSymbol, symbol_of}
+use Rattle.grammar.specs.Nesting.{expression_height, module_height}
+use Rattle.grammar.specs.Symbols.{PlacedSymbol, SemicolonSymbol, UnknownSymbol, symbol_of}
 use Rattle.trees.specs.Trees.{ExpressionTree, ConstantLeaf, NumberConstant, ReferenceLeaf, AssignmentNode, BinaryNode, ReferenceTree, ReferenceTo, NoMember, NoArguments, MoreArguments, StatementTree, LabelledStatement, StatementKindTree, NullStatement, GotoStatement, IfStatement, ElseTree, NoElse, ElseStatement, NoStatements, MoreStatements, NoDeclarations, ModuleTree}
 
 -- the word of a kind, with these bytes, at this place of line 1

@@ -1,0 +1,2 @@
+pub mod Derivations
+mod Rows

@@ -1,0 +1,7 @@
+pub mod Symbols
+pub mod Spelling
+pub mod Forms
+pub mod Nesting
+pub mod Derivation
+pub mod Rows
+pub mod internal
