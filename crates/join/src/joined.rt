@@ -14,7 +14,7 @@ use std::alloc::Global;
 use typed_trees::Typed;
 
 /// A program: modules in which each EXTERNAL stands for the PUBLIC of its name.
-#[derive(Debug, Drop)]
+#[derive(Drop)]
 pub struct Joined {
     modules: Vec<Typed>,
 }

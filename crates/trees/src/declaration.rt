@@ -42,7 +42,7 @@ pub struct Member {
 }
 
 /// The type of a variable or of an element of an array.
-#[derive(Debug, Drop)]
+#[derive(Drop)]
 pub enum ItemType {
     Scalar(ScalarType),
     /// STRUCTURE and its members, of which there is one at least.
@@ -50,7 +50,7 @@ pub enum ItemType {
 }
 
 /// What a restricted expression begins with.
-#[derive(Debug, Drop)]
+#[derive(Drop)]
 pub enum Origin {
     Constant(Constant),
     /// `.name`
@@ -58,21 +58,21 @@ pub enum Origin {
 }
 
 /// `+` or `-`, and a constant.
-#[derive(Debug, Drop)]
+#[derive(Drop)]
 pub struct Offset {
     pub sign: Sign,
     pub constant: Constant,
 }
 
 /// A restricted expression: a constant or a location, with constants added or subtracted.
-#[derive(Debug, Drop)]
+#[derive(Drop)]
 pub struct Restricted {
     pub origin: Origin,
     pub offsets: Vec<Offset>,
 }
 
 /// `AT (..)`, and where the word AT stands.
-#[derive(Debug, Drop)]
+#[derive(Drop)]
 pub struct At {
     pub place: Place,
     pub address: Restricted,
@@ -86,14 +86,14 @@ pub enum Storage {
 }
 
 /// `INITIAL (..)` or `DATA (..)`, with one value at least.
-#[derive(Debug, Drop)]
+#[derive(Drop)]
 pub struct ValueList {
     pub storage: Storage,
     pub values: Vec<Restricted>,
 }
 
 /// What an item declares.
-#[derive(Debug, Drop)]
+#[derive(Drop)]
 pub enum Subject {
     /// A name, and the name after BASED, if there is one.
     Single {
@@ -105,7 +105,7 @@ pub enum Subject {
 }
 
 /// Variables that are declared together.
-#[derive(Debug, Drop)]
+#[derive(Drop)]
 pub struct Item {
     pub subject: Subject,
     pub dimension: Option<Dimension>,
@@ -116,14 +116,14 @@ pub struct Item {
 }
 
 /// A name and the text that it stands for: `name LITERALLY string`.
-#[derive(Debug, Drop)]
+#[derive(Drop)]
 pub struct Definition {
     pub name: Identifier,
     pub text: StringLiteral,
 }
 
 /// An element of a DECLARE.
-#[derive(Debug, Drop)]
+#[derive(Drop)]
 pub enum Element {
     /// `name LITERALLY string`
     Literally(Box<Definition>),

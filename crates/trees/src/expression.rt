@@ -47,7 +47,7 @@ pub enum BinaryOperator {
 
 /// An expression. Parentheses stay in it.
 #[cycle(expression)]
-#[derive(Debug, Drop)]
+#[derive(Drop)]
 pub enum Expression {
     /// A number or a string.
     Constant(Constant),
@@ -77,7 +77,7 @@ const _: () = prove!(size_of::<Reference>() <= 80);
 
 /// A name with its subscripts or arguments, which stand in parentheses; no parentheses are an empty list.
 #[cycle(expression)]
-#[derive(Debug, Drop)]
+#[derive(Drop)]
 pub struct Selector {
     pub name: Identifier,
     pub arguments: Vec<Expression>,
@@ -85,7 +85,7 @@ pub struct Selector {
 
 /// A name with subscripts or arguments, and a member of it, if one is named.
 #[cycle(expression)]
-#[derive(Debug, Drop)]
+#[derive(Drop)]
 pub struct Reference {
     pub name: Identifier,
     pub arguments: Vec<Expression>,

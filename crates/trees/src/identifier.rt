@@ -25,14 +25,14 @@ pub struct Number {
 }
 
 /// A string as it stands in a source: the bytes that it stands for.
-#[derive(Debug, Drop)]
+#[derive(Drop)]
 pub struct StringLiteral {
     pub characters: Vec<u8>,
     pub place: Place,
 }
 
 /// A number or a string.
-#[derive(Debug, Drop)]
+#[derive(Drop)]
 pub enum Constant {
     Number(Number),
     String(Box<StringLiteral>),

@@ -4,7 +4,7 @@ use crate::identifier::{Identifier, Place};
 use crate::statement::Block;
 
 /// A module, with the name after its END, if there is one. It borrows nothing from the source.
-#[derive(Debug, Drop)]
+#[derive(Drop)]
 pub struct Module {
     pub name: Identifier,
     /// Where the word DO stands.

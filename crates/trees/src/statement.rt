@@ -6,7 +6,7 @@ use crate::identifier::{Identifier, Place};
 use std::alloc::{AllocError, Global};
 
 /// The head of an iterative DO: `variable = first TO last [BY step]`.
-#[derive(Debug, Drop)]
+#[derive(Drop)]
 pub struct Iteration {
     pub variable: Identifier,
     pub first: Expression,
@@ -15,7 +15,7 @@ pub struct Iteration {
 }
 
 /// The targets of an assignment, and the value that they get.
-#[derive(Debug, Drop)]
+#[derive(Drop)]
 pub struct Assignment {
     pub target: Reference,
     /// The targets after the first.
@@ -25,7 +25,7 @@ pub struct Assignment {
 
 /// A statement with the labels before it.
 #[cycle(statement)]
-#[derive(Debug, Drop)]
+#[derive(Drop)]
 pub struct Statement {
     pub labels: Vec<Identifier>,
     pub kind: StatementKind,
@@ -33,7 +33,7 @@ pub struct Statement {
 
 /// What a statement does.
 #[cycle(statement)]
-#[derive(Debug, Drop)]
+#[derive(Drop)]
 pub enum StatementKind {
     /// `;`, with where it stands.
     Null(Place),
@@ -78,7 +78,7 @@ const _: () = prove!(size_of::<Statement>() <= 56);
 
 /// IF a condition THEN a statement ELSE another, if there is one, with where the word IF stands.
 #[cycle(statement)]
-#[derive(Debug, Drop)]
+#[derive(Drop)]
 pub struct IfThen {
     pub place: Place,
     pub condition: Expression,
@@ -88,7 +88,7 @@ pub struct IfThen {
 
 /// DO WHILE a condition, with where the word DO stands.
 #[cycle(statement)]
-#[derive(Debug, Drop)]
+#[derive(Drop)]
 pub struct DoWhile {
     pub place: Place,
     pub condition: Expression,
@@ -97,7 +97,7 @@ pub struct DoWhile {
 
 /// An iterative DO, with where the word DO stands.
 #[cycle(statement)]
-#[derive(Debug, Drop)]
+#[derive(Drop)]
 pub struct IterativeDo {
     pub place: Place,
     pub iteration: Iteration,
@@ -106,7 +106,7 @@ pub struct IterativeDo {
 
 /// DO CASE a number, with where the word DO stands.
 #[cycle(statement)]
-#[derive(Debug, Drop)]
+#[derive(Drop)]
 pub struct DoCase {
     pub place: Place,
     pub choice: Expression,
@@ -294,7 +294,7 @@ impl StatementKind {
 
 /// Declarations, and then statements.
 #[cycle(statement)]
-#[derive(Debug, Drop)]
+#[derive(Drop)]
 pub struct Block {
     pub declarations: Vec<Declaration>,
     pub statements: Vec<Statement>,
@@ -302,7 +302,7 @@ pub struct Block {
 
 /// A declaration.
 #[cycle(statement)]
-#[derive(Debug, Drop)]
+#[derive(Drop)]
 pub enum Declaration {
     /// DECLARE, with one element at least.
     Declare(Vec<Element>),
@@ -341,7 +341,7 @@ impl Declaration {
 }
 
 /// The head of a procedure. No parentheses are an empty list of parameters.
-#[derive(Debug, Drop)]
+#[derive(Drop)]
 pub struct Heading {
     pub name: Identifier,
     pub parameters: Vec<Identifier>,
@@ -353,7 +353,7 @@ pub struct Heading {
 
 /// A procedure, with the name after its END, if there is one.
 #[cycle(statement)]
-#[derive(Debug, Drop)]
+#[derive(Drop)]
 pub struct Procedure {
     pub heading: Heading,
     pub body: Block,

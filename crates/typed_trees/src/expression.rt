@@ -6,7 +6,7 @@ use trees::{BinaryOperator, ScalarType, UnaryOperator};
 
 /// An expression.
 #[cycle(expression)]
-#[derive(Debug, Drop)]
+#[derive(Drop)]
 pub enum TypedExpression {
     /// A number of a type.
     Number {
@@ -71,7 +71,7 @@ pub enum TypedExpression {
 /// An object or a part of it: an element, a member of the element, by its position in the structure and where it begins
 /// there (0 where no member is meant), and an element of the member.
 #[cycle(expression)]
-#[derive(Debug, Drop)]
+#[derive(Drop)]
 pub struct TypedReference {
     pub object: u32,
     pub subscript: TypedSubscript,
@@ -82,7 +82,7 @@ pub struct TypedReference {
 
 /// A subscript, which is an ADDRESS, with the size of an element and how many there are; or none.
 #[cycle(expression)]
-#[derive(Debug, Drop)]
+#[derive(Drop)]
 pub enum TypedSubscript {
     Absent,
     Present {
@@ -94,7 +94,7 @@ pub enum TypedSubscript {
 
 /// What a value of the type `from` goes to.
 #[cycle(expression)]
-#[derive(Debug, Drop)]
+#[derive(Drop)]
 pub enum TypedTarget {
     /// A scalar of the type `to`, which the value is converted to.
     Stored {

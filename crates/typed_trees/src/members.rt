@@ -28,7 +28,7 @@ pub(crate) struct Entry {
 }
 
 /// The members of a structure, in their order.
-#[derive(Debug, Drop)]
+#[derive(Drop)]
 pub struct Members {
     entries: IndexMap<Name, Entry>,
     size: u32,

@@ -7,7 +7,7 @@ use std::rc::Rc;
 use trees::{Name, ScalarType};
 
 /// The type of an object, or of the elements of an array.
-#[derive(Debug, Drop)]
+#[derive(Drop)]
 pub enum ObjectType {
     Scalar(ScalarType),
     /// The members of a structure, which the names of an item share.
@@ -15,7 +15,7 @@ pub enum ObjectType {
 }
 
 /// Where an object lives.
-#[derive(Debug, Drop)]
+#[derive(Drop)]
 pub enum Home {
     /// In the data segment, filled by INITIAL from its start on.
     Data(Vec<InitialValue>),
@@ -34,7 +34,7 @@ pub enum Home {
 }
 
 /// A variable or a parameter.
-#[derive(Debug, Drop)]
+#[derive(Drop)]
 pub struct TypedObject {
     pub name: Name,
     /// How many elements an array has.
@@ -46,7 +46,7 @@ pub struct TypedObject {
 }
 
 /// A procedure, or the main program of a module as one.
-#[derive(Debug, Drop)]
+#[derive(Drop)]
 pub struct TypedProcedure {
     pub name: Name,
     pub visibility: Visibility,
@@ -63,7 +63,7 @@ pub struct TypedProcedure {
 }
 
 /// A typed module. Its tables are in the order of the text.
-#[derive(Debug, Drop)]
+#[derive(Drop)]
 pub struct Typed {
     pub name: Name,
     pub objects: Vec<TypedObject>,

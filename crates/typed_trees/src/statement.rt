@@ -4,7 +4,7 @@ use crate::expression::{TypedExpression, TypedTarget};
 use trees::ScalarType;
 
 /// The head of an iterative DO: the variable with its type, which the first value is converted to as it is stored.
-#[derive(Debug, Drop)]
+#[derive(Drop)]
 pub struct TypedIteration {
     pub variable: u32,
     pub scalar: ScalarType,
@@ -14,14 +14,14 @@ pub struct TypedIteration {
 }
 
 /// Targets and the value that all of them get.
-#[derive(Debug, Drop)]
+#[derive(Drop)]
 pub struct TypedAssignment {
     pub targets: Vec<TypedTarget>,
     pub value: TypedExpression,
 }
 
 /// What CALL MOVE copies: so many bytes, from where, to where. Each is an ADDRESS.
-#[derive(Debug, Drop)]
+#[derive(Drop)]
 pub struct TypedMove {
     pub count: TypedExpression,
     pub source: TypedExpression,
@@ -30,7 +30,7 @@ pub struct TypedMove {
 
 /// A statement.
 #[cycle(statement)]
-#[derive(Debug, Drop)]
+#[derive(Drop)]
 pub enum TypedStatement {
     /// A label, which stands before the statement that it names.
     Label(u32),
@@ -61,7 +61,7 @@ const _: () = prove!(size_of::<TypedStatement>() <= 40);
 
 /// IF a condition THEN a statement ELSE another, if there is one.
 #[cycle(statement)]
-#[derive(Debug, Drop)]
+#[derive(Drop)]
 pub struct TypedIf {
     pub condition: TypedExpression,
     pub body: TypedStatement,
@@ -70,7 +70,7 @@ pub struct TypedIf {
 
 /// DO WHILE a condition.
 #[cycle(statement)]
-#[derive(Debug, Drop)]
+#[derive(Drop)]
 pub struct TypedWhile {
     pub condition: TypedExpression,
     pub body: TypedList,
@@ -78,7 +78,7 @@ pub struct TypedWhile {
 
 /// An iterative DO.
 #[cycle(statement)]
-#[derive(Debug, Drop)]
+#[derive(Drop)]
 pub struct TypedIterate {
     pub head: TypedIteration,
     pub body: TypedList,
@@ -86,7 +86,7 @@ pub struct TypedIterate {
 
 /// DO CASE a number.
 #[cycle(statement)]
-#[derive(Debug, Drop)]
+#[derive(Drop)]
 pub struct TypedCase {
     pub choice: TypedExpression,
     pub body: Vec<TypedStatement>,
@@ -94,7 +94,7 @@ pub struct TypedCase {
 
 /// A list of statements that may hold labels, numbered in a row from the first on, each with where it stands in the list.
 #[cycle(statement)]
-#[derive(Debug, Drop)]
+#[derive(Drop)]
 pub struct TypedList {
     pub first_label: u32,
     pub places: Vec<u32>,
