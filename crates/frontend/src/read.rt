@@ -80,7 +80,7 @@ impl ReadFault {
 
 /// A source as it is read: its typed module, where the objects and constants of that lie in its segments, and the line of
 /// its first construct that is not served yet (1 where there is none).
-#[derive(Debug, Drop)]
+#[derive(Drop)]
 pub struct SourceModule {
     pub typed: Typed,
     pub storage: Layout,

@@ -14,7 +14,7 @@ use trees::Module;
 
 /// A module, and what each use of a name in it is bound to, in the order of the text. Names of members and names after
 /// END are no uses.
-#[derive(Debug, Drop)]
+#[derive(Drop)]
 pub struct Bound {
     pub parsed: Module,
     pub bindings: Vec<Binding>,
