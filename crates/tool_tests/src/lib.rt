@@ -8,7 +8,7 @@ mod commands;
 #[cfg(test)]
 mod depths;
 #[cfg(test)]
-mod grammar;
+mod productions;
 pub mod one_file;
 #[cfg(test)]
 mod programs;
