@@ -6,6 +6,8 @@ ghost use Rattle.words.specs.declared.limits.TheConstants.{LONGEST_SOURCE};
 ghost use Rattle.words.specs.Spelling.{lexemes_of};
 ghost use Rattle.grammar.specs.Derivation.{Derives};
 ghost use Rattle.trees.specs.Views.{module_tree};
+ghost use Rattle.typed_trees.specs.Jumps.{JumpsAreSound};
+ghost use Rattle.typed_trees.specs.Storable.{IsStorable};
 ghost use Rattle.typed_trees.specs.Views.{module_view};
 ghost use Rattle.layout.specs.Storage.{storage_with};
 ghost use Rattle.layout.specs.Views.{layout_view};
@@ -92,6 +94,8 @@ pub struct SourceModule {
 pub fn read_source(alloc: Global, text: &[u8]) -> Result<SourceModule, Failure<ReadFault>>
     ensures source { IfOk result (λ read. IsSourceOf text.now (module_view read.typed)) }
     ensures storage { IfOk result (λ read. layout_view read.storage ≡ storage_with (module_view read.typed)) }
+    ensures storable { IfOk result (λ read. IsStorable (module_view read.typed)) }
+    ensures jumps { IfOk result (λ read. JumpsAreSound (module_view read.typed)) }
     ensures refused { IfFault result (λ fault. HasReadCause fault text.now) }
     ensures too_long { LONGEST_SOURCE < length text.now → result ≡ Err (Failure.Fault ReadFault.TooLong) }
 {
@@ -122,6 +126,8 @@ struct TypedText {
 fn type_text(alloc: Global, text: &[u8]) -> Result<TypedText, Failure<ReadFault>>
     requires { length text.now ≤ LONGEST_SOURCE }
     ensures typing { IfOk result (λ read. HasTyping text.now (module_view read.typed)) }
+    ensures storable { IfOk result (λ read. IsStorable (module_view read.typed)) }
+    ensures jumps { IfOk result (λ read. JumpsAreSound (module_view read.typed)) }
     ensures refused { IfFault result (λ fault. HasReadCause fault text.now) }
 {
     let tree = parse_text(alloc, text)?;

@@ -6,6 +6,7 @@ use Rattle.std.proofs.lemmas.Bool.{cases_lt}
 use Rattle.std.proofs.lemmas.List.{get_or-map, length-map}
 use Rattle.std.proofs.lemmas.List.Elements.{All-cons, All-from_recursion, recursion_from_All}
 use Rattle.typed_trees.specs.TypedTrees.{TypedModule}
+use Rattle.typed_trees.specs.Storable.{IsStorable}
 use Rattle.layout.specs.Storage.{storage_with}
 use Rattle.layout.specs.Views.{layout_view}
 use Rattle.placing.specs.declared.plan.Plan.{Plan}
@@ -21,9 +22,9 @@ use Rattle.tool.specs.Code.{module_code}
 use Rattle.tool.specs.Sources.{AreWithoutFault, HasCause, HasLongCode, IsInOrder, IsWithoutFault, text_of, texts_of}
 use Rattle.tool.specs.internal.Compiling.{AreCompiled, HasCompileCause, IsCompiled, module_in}
 
-pub is_compiled : (plan : Plan) (text : List ℕ) (one : Compiled) → IsSourceOf text (module_in one) → layout_view one.source.storage ≡ storage_with (module_in one) → one.is_served ≡ is_some (outputs_of (module_in one))
+pub is_compiled : (plan : Plan) (text : List ℕ) (one : Compiled) → IsSourceOf text (module_in one) → layout_view one.source.storage ≡ storage_with (module_in one) → IsStorable (module_in one) → one.is_served ≡ is_some (outputs_of (module_in one))
     → one.code.items ≡ module_code plan (module_in one) → length one.code.items ≤ MOST_CODE → IsCompiled plan text one
-is_compiled plan text one source storage served code fits = record { source = source; storage = storage; served = served; code = code; fits = fits }
+is_compiled plan text one source storage storable served code fits = record { source = source; storage = storage; storable = storable; served = served; code = code; fits = fits }
 
 pub has_long_code : (text : List ℕ) (plan : Plan) (typed : TypedModule) → IsSourceOf text typed → MOST_CODE < length (module_code plan typed) → HasLongCode text plan
 has_long_code text plan typed source long = record { typed = typed; source = source; long = long }

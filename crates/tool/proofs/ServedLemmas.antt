@@ -20,13 +20,13 @@ none_of : {X : Type 0} (xs : List X) → (length xs == 0) ≡ true → xs ≡ []
 none_of [] is = refl
 none_of (x ∷ xs) is = let bad : ⊥ = grind (arith, common_steps, is) in absurd bad
 
--- four tests that hold
-four : (one two three last : Bool) → (one && two && three && last) ≡ true → (one ≡ true) × (two ≡ true) × (three ≡ true) × (last ≡ true)
-four true true true true is = (refl, refl, refl, refl)
-four false two three last is = absurd (cc)
-four true false three last is = absurd (cc)
-four true true false last is = absurd (cc)
-four true true true false is = absurd (cc)
+-- the last of four tests that hold
+last_of : (one two three last : Bool) → (one && two && three && last) ≡ true → last ≡ true
+last_of one two three true is = refl
+last_of true true true false is = is
+last_of false two three false is = absurd (cc)
+last_of true false three false is = absurd (cc)
+last_of true true false false is = absurd (cc)
 
 chosen : {A : Type 0} (test : Bool) (x : Option A) (y : A) → cond test x None ≡ Some y → test ≡ true
 chosen true x y is = refl
@@ -36,50 +36,27 @@ then_is : {A : Type 0} (test : Bool) (x : Option A) (y : A) → cond test x None
 then_is true x y is = is
 then_is false x y is = absurd (cc)
 
--- a module that is served has nothing in its tables
-record HasNothing (typed : TypedModule) : Type 0 where
-  objects : typed.objects ≡ []
-  lists : typed.constants.lists ≡ []
-  items : typed.constants.items ≡ []
-
-has_nothing : (typed : TypedModule) → IsServed typed → HasNothing typed
-has_nothing typed served =
+-- a module that is served has no constants
+no_items : (typed : TypedModule) → IsServed typed → typed.constants.items ≡ []
+no_items typed served =
     let all : declares_nothing typed ≡ true = chosen (declares_nothing typed) (outputs_of_list typed.main.body) served.0 served.1 in
-    let each = four (length typed.objects == 0) (length typed.procedures == 0) (length typed.constants.lists == 0) (length typed.constants.items == 0) all in
-    record {
-      objects = none_of typed.objects each.0;
-      lists = none_of typed.constants.lists each.2;
-      items = none_of typed.constants.items each.3;
-    }
-
-storable : (typed : TypedModule) → IsServed typed → IsStorable typed
-storable typed served =
-    let nothing = has_nothing typed served in
-    record {
-      objects = ap (filter_map object_in) nothing.items ∙ sym (ap (λ (objects : List TypedObject). filter_map numbered_constant (enumerate_from 0 objects)) nothing.objects);
-      lists = ap (filter_map list_in) nothing.items ∙ sym (ap (λ (lists : List (List ℕ)). numbers_from 0 (length lists)) nothing.lists);
-      at = subst (λ (objects : List TypedObject). All (λ (numbered : ℕ × TypedObject). LooksBack numbered.0 (numbered.1).home) (enumerate_from 0 objects)) (sym nothing.objects) (All-from_recursion _ [] tt);
-    }
+    none_of typed.constants.items (last_of (length typed.objects == 0) (length typed.procedures == 0) (length typed.constants.lists == 0) (length typed.constants.items == 0) all)
 
 no_constants : (typed : TypedModule) (bytes : ℕ) → IsServed typed → constant_bytes typed ≤ bytes
 no_constants typed bytes served =
-    let none : constant_bytes typed ≡ 0 = ap (sum_by (size_of_constant typed)) (has_nothing typed served).items in
+    let none : constant_bytes typed ≡ 0 = ap (sum_by (size_of_constant typed)) (no_items typed served) in
     omega (arith, none)
-
-storable_each : (modules : List TypedModule) → AllByRecursion IsServed modules → AllByRecursion IsStorable modules
-storable_each [] all = tt
-storable_each (typed ∷ others) all = (storable typed all.0, storable_each others all.1)
 
 constants_each : (modules : List TypedModule) (lengths : List ℕ) → AllByRecursion IsServed modules → AllByRecursion HoldsConstants (zip modules lengths)
 constants_each [] lengths all = tt
 constants_each (typed ∷ others) [] all = tt
 constants_each (typed ∷ others) (bytes ∷ lengths) all = (no_constants typed bytes all.0, constants_each others lengths all.1)
 
-pub have_storage : (modules : List TypedModule) (lengths : List ℕ) → All IsServed modules → HaveStorage modules lengths
-have_storage modules lengths served =
+pub have_storage : (modules : List TypedModule) (lengths : List ℕ) → All IsServed modules → All IsStorable modules → HaveStorage modules lengths
+have_storage modules lengths served storable =
     let each = recursion_from_All IsServed modules served in
     record {
-      storable = All-from_recursion IsStorable modules (storable_each modules each);
+      storable = storable;
       constants = All-from_recursion HoldsConstants (zip modules lengths) (constants_each modules lengths each);
     }
 

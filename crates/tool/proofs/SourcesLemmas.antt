@@ -7,6 +7,7 @@ use Rattle.std.specs.List.{AllByRecursion}
 use Rattle.words.specs.declared.limits.TheConstants.{LONGEST_SOURCE}
 use Rattle.typed_trees.specs.TypedTrees.{TypedModule}
 use Rattle.typed_trees.specs.declared.module.Typed.{Typed}
+use Rattle.typed_trees.specs.Storable.{IsStorable}
 use Rattle.typed_trees.specs.Views.{module_view}
 use Rattle.layout.specs.declared.slot.Layout.{Layout}
 use Rattle.layout.specs.Storage.{storage_with}
@@ -24,7 +25,7 @@ use Rattle.tool.specs.declared.fault.ToolFault.TheVariants.{TooManySources, Sour
 use Rattle.tool.specs.Code.{code_lengths, module_code, program_code}
 use Rattle.tool.specs.Construction.{Construction, program_modules}
 use Rattle.tool.specs.Refusals.{IsRefusal}
-use Rattle.tool.specs.Sources.{AreSourcesOf, AreWithoutFault, HasCause, IsInOrder, IsNotServed, IsProgramOf, IsServed, IsWithoutFault, sources_before, text_of, texts_of}
+use Rattle.tool.specs.Sources.{AreServed, AreSourcesOf, AreWithoutFault, HasCause, IsInOrder, IsNotServed, IsProgramOf, IsServed, IsServedSource, IsWithoutFault, sources_before, text_of, texts_of}
 use Rattle.tool.specs.internal.Compiling.{AreCompiled, HasProgramCause, IsBuiltFrom, IsCompiled, module_in, unserved_from}
 
 abbrev typed_in : Compiled → Typed
@@ -107,21 +108,39 @@ module _ (plan : Plan) where
   not_served : (text : List ℕ) (one : Compiled) → IsCompiled plan text one → one.is_served ≡ false → IsNotServed text
   not_served text one is off = record { typed = module_in one; source = is.source; not_served = not_served_one (outputs_of (module_in one)) (sym is.served ∙ off) }
 
-  -- a source that is not served, so many after the first of these
+  storable_each : (texts : List (List ℕ)) (compiled : List Compiled) → AreCompiled plan texts compiled → AllByRecursion IsStorable (modules_in compiled)
+  storable_each [] [] are = tt
+  storable_each [] (one ∷ others) are = absurd are
+  storable_each (text ∷ texts) [] are = absurd are
+  storable_each (text ∷ texts) (one ∷ others) are = (are.0.storable, storable_each texts others are.1)
+
+  pub storable_all : (texts : List (List ℕ)) (compiled : List Compiled) (modules : List Typed) → AreCompiled plan texts compiled → modules ≡ map typed_in compiled → All IsStorable (map module_view modules)
+  storable_all texts compiled modules are is =
+      subst (λ ms. All IsStorable (map module_view ms)) (sym is) (All-from_recursion IsStorable (modules_in compiled) (storable_each texts compiled are))
+
+  -- a source that is not served, so many after the first of these, which are
   record Found (base file : ℕ) (texts : List (List ℕ)) : Type 0 where
     place : ℕ
     same : file ≡ base + place
     below : place < length texts
     not_served : IsNotServed (text_of texts place)
+    before : (other : ℕ) → other < place → IsServedSource (text_of texts other)
+
+  served_source : (text : List ℕ) (one : Compiled) → IsCompiled plan text one → one.is_served ≡ true → IsServedSource text
+  served_source text one is on = record { typed = module_in one; source = is.source; served = served_one (outputs_of (module_in one)) (sym is.served ∙ on) }
+
+  before_next : (text : List ℕ) (texts : List (List ℕ)) (place other : ℕ) → IsServedSource text → ((earlier : ℕ) → earlier < place → IsServedSource (text_of texts earlier)) → other < suc place → IsServedSource (text_of (text ∷ texts) other)
+  before_next text texts place zero first rest below = first
+  before_next text texts place (suc other) first rest below = rest other (omega (arith, below))
 
   found_by : (test : Bool) (text : List ℕ) (texts : List (List ℕ)) (first : Compiled) (base file : ℕ) (later : Option ℕ) → first.is_served ≡ test → IsCompiled plan text first → (later ≡ Some file → Found (base + 1) file texts)
       → cond test later (Some base) ≡ Some file → Found base file (text ∷ texts)
   found_by true text texts first base file later off is rest found =
       let next = rest found in
-      record { place = suc next.place; same = omega (arith, next.same); below = omega (arith, next.below); not_served = next.not_served }
+      record { place = suc next.place; same = omega (arith, next.same); below = omega (arith, next.below); not_served = next.not_served; before = λ other under. before_next text texts next.place other (served_source text first is off) next.before under }
   found_by false text texts first base file later off is rest found =
       let same : base ≡ file = cc in
-      record { place = zero; same = omega (arith, same); below = omega arith; not_served = not_served text first is off }
+      record { place = zero; same = omega (arith, same); below = omega arith; not_served = not_served text first is off; before = λ other under. absurd (omega (arith, under)) }
 
   unserved_at : (texts : List (List ℕ)) (compiled : List Compiled) (base file : ℕ) → AreCompiled plan texts compiled → unserved_from base compiled ≡ Some file → Found base file texts
   unserved_at [] [] base file are found = absurd (cc)
@@ -130,11 +149,11 @@ module _ (plan : Plan) where
   unserved_at (text ∷ texts) (first ∷ others) base file are found =
       found_by first.is_served text texts first base file (unserved_from (base + 1) others) refl are.0 (unserved_at texts others (base + 1) file are.1) found
 
-  pub unserved_cause : (texts : List (List ℕ)) (compiled : List Compiled) (file : ℕ) → AreCompiled plan texts compiled → unserved_from 0 compiled ≡ Some file → (file < length texts) × IsNotServed (text_of texts file)
+  pub unserved_cause : (texts : List (List ℕ)) (compiled : List Compiled) (file : ℕ) → AreCompiled plan texts compiled → unserved_from 0 compiled ≡ Some file → (file < length texts) × IsNotServed (text_of texts file) × AreServed file texts
   unserved_cause texts compiled file are found =
       let is = unserved_at texts compiled 0 file are found in
       let same : is.place ≡ file = omega (arith, is.same) in
-      subst (λ k. (k < length texts) × IsNotServed (text_of texts k)) same (is.below, is.not_served)
+      subst (λ k. (k < length texts) × IsNotServed (text_of texts k) × AreServed k texts) same (is.below, is.not_served, record { each = is.before })
 
   served_by : (test : Bool) (first : Compiled) (others : List Compiled) (base : ℕ) (later : Option ℕ) → first.is_served ≡ test → (later ≡ None → AllByRecursion (λ (one : Compiled). one.is_served ≡ true) others)
       → cond test later (Some base) ≡ None → AllByRecursion (λ (one : Compiled). one.is_served ≡ true) (first ∷ others)
@@ -163,7 +182,7 @@ module _ (plan : Plan) where
   program_cause (CodeTooLong file) texts compiled modules are is served cause = absurd cause
   program_cause (NotServed file line) texts compiled modules are is served cause = absurd cause
   program_cause (Join fault) texts compiled modules are is served cause =
-      record { modules = map module_view modules; sources = subst (λ ms. AreSourcesOf texts (map module_view ms)) (sym is) (sources_are texts compiled are); cause = cause }
+      record { modules = map module_view modules; sources = subst (λ ms. AreSourcesOf texts (map module_view ms)) (sym is) (sources_are texts compiled are); served = served; cause = cause }
   program_cause (Placement fault) texts compiled modules are is served cause =
       record {
         modules = map module_view modules;

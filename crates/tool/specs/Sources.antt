@@ -55,10 +55,21 @@ pub record IsNotServed (text : List ℕ) : Type 0 where
   pub source : IsSourceOf text typed
   pub not_served : outputs_of typed ≡ None
 
--- the modules of the texts make no program
+-- a text is the source of a module that is served
+pub record IsServedSource (text : List ℕ) : Type 0 where
+  pub typed : TypedModule
+  pub source : IsSourceOf text typed
+  pub served : IsServed typed
+
+-- so many texts are served
+pub record AreServed (count : ℕ) (texts : List (List ℕ)) : Type 0 where
+  pub each : (file : ℕ) → file < count → IsServedSource (text_of texts file)
+
+-- the modules of the texts, all of which are served, make no program
 pub record HasNoProgram (fault : join_fault.Fault) (texts : List (List ℕ)) : Type 0 where
   pub modules : List TypedModule
   pub sources : AreSourcesOf texts modules
+  pub served : All IsServed modules
   pub cause : join_refusal modules ≡ Some (of_joining.refusal_of fault)
 
 -- the program of the texts can't lie as planned
@@ -73,7 +84,8 @@ abbrev pub HasCause : ToolFault → List (List ℕ) → Plan → Type 0
 HasCause TooManySources texts plan = MOST_SOURCES < length texts
 HasCause (Source file fault) texts plan = (file < length texts) × HasReadCause fault (text_of texts file)
 HasCause (CodeTooLong file) texts plan = (file < length texts) × HasLongCode (text_of texts file) plan
-HasCause (NotServed file line) texts plan = (file < length texts) × IsNotServed (text_of texts file)
+HasCause (NotServed file line) texts plan =
+    (file < length texts) × IsNotServed (text_of texts file) × AreServed file texts
 HasCause (Join fault) texts plan = HasNoProgram fault texts
 HasCause (Placement fault) texts plan = HasNoPlace fault texts plan
 

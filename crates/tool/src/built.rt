@@ -3,7 +3,9 @@
 ghost use Rattle.std.specs.Prelude.{◌≡◌, All, None};
 ghost use Rattle.layout.specs.Joined.{IsJoined};
 ghost use Rattle.layout.specs.Lawful.{IsLawful};
+ghost use Rattle.layout.specs.Placement.{pieces_of};
 ghost use Rattle.layout.specs.Placing.{placement_by, placing_refusal};
+ghost use Rattle.placing.specs.Tables.{IsTableOf};
 ghost use Rattle.placing.specs.Views.{placement_view, plan_view};
 ghost use Rattle.tool.specs.Code.{code_lengths, program_code};
 ghost use Rattle.tool.specs.Construction.{IsConstruction, program_modules};
@@ -68,6 +70,7 @@ impl Built {
     /// Where its modules, its code and its stack lie.
     pub fn placement(&self) -> &Placement
         ensures shown { placement_view result.now ≡ self.now.placement }
+        ensures kinds { result.now.kinds.value ≡ self.now.kinds }
         ensures construction { IsConstruction self.now }
     {
         &self.placement
@@ -91,6 +94,8 @@ pub fn assemble(program: Joined, plan: Plan, placement: Placement, code: Vec<u8>
     requires placed { placement_view placement ≡ placement_by (plan_view plan) (program_modules program)
         (code_lengths plan (program_modules program)) }
     requires lawful { IsLawful (program_modules program) (placement_view placement) }
+    requires table { IsTableOf (pieces_of (program_modules program) (placement_view placement))
+        placement.kinds.value }
     requires code { code.items ≡ program_code plan (program_modules program) }
     ensures program { result.program ≡ program }
     ensures plan { result.plan ≡ plan }

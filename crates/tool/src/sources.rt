@@ -3,11 +3,12 @@
 ghost use Rattle.std.specs.Prelude.{◌≡◌, ℕ, ◌<◌, ◌≤◌, All, length, map, Err, IfOk};
 ghost use Rattle.words.specs.declared.limits.TheConstants.{LONGEST_SOURCE};
 ghost use Rattle.failure.specs.Failure.{IfFault};
+ghost use Rattle.typed_trees.specs.Storable.{IsStorable};
 ghost use Rattle.typed_trees.specs.Views.{module_view};
 ghost use Rattle.layout.specs.Storage.{storage_with};
 ghost use Rattle.layout.specs.Views.{layout_view};
 ghost use Rattle.tool.specs.Code.{code_lengths, program_code};
-ghost use Rattle.tool.specs.Construction.{program_modules};
+ghost use Rattle.tool.specs.Construction.{IsConstruction, program_modules};
 ghost use Rattle.tool.specs.Headline.{DoesWhatItSays};
 ghost use Rattle.tool.specs.Sources.{texts_of, text_of, HasCause, IsInOrder, IsProgramOf, IsServed};
 ghost use Rattle.tool.specs.Refusals.{IsRefusedBy};
@@ -38,6 +39,7 @@ pub fn build(alloc: Global, sources: &[Source], plan: &Plan) -> Result<Built, Fa
     ensures plan { IfOk result (λ built. built.plan ≡ plan.now) }
     ensures headline { IfOk result
         (λ built. DoesWhatItSays (program_modules built.program) built.placement built.plan.stack_size built.image) }
+    ensures construction { IfOk result IsConstruction }
     ensures refused { IfFault result (λ fault. HasCause fault (texts_of sources.now) plan.now) }
     ensures order { IfFault result (λ fault. IsInOrder fault (texts_of sources.now) plan.now) }
     ensures too_many { MOST_SOURCES < length sources.now
@@ -54,7 +56,7 @@ pub fn build(alloc: Global, sources: &[Source], plan: &Plan) -> Result<Built, Fa
 }
 
 // Builds the program of at most as many sources as there may be.
-#[tactic(auto, using(crate::proofs::SourcesLemmas::unserved_cause, crate::proofs::SourcesLemmas::parts_fit, crate::proofs::SourcesLemmas::storages_fit, crate::proofs::SourcesLemmas::lengths_fit, crate::proofs::SourcesLemmas::code_fits, crate::proofs::SourcesLemmas::served_all, crate::proofs::SourcesLemmas::program_built, crate::proofs::SourcesLemmas::program_cause, crate::proofs::SourcesLemmas::program_order))]
+#[tactic(auto, using(crate::proofs::SourcesLemmas::unserved_cause, crate::proofs::SourcesLemmas::parts_fit, crate::proofs::SourcesLemmas::storages_fit, crate::proofs::SourcesLemmas::lengths_fit, crate::proofs::SourcesLemmas::code_fits, crate::proofs::SourcesLemmas::served_all, crate::proofs::SourcesLemmas::storable_all, crate::proofs::SourcesLemmas::program_built, crate::proofs::SourcesLemmas::program_cause, crate::proofs::SourcesLemmas::program_order))]
 fn build_few(alloc: Global, sources: &[Source], plan: &Plan) -> Result<Built, Failure<ToolFault>>
     ensures program { IfOk result (λ built. IsProgramOf (texts_of sources.now) (program_modules built.program)) }
     ensures plan { IfOk result (λ built. built.plan ≡ plan.now) }
@@ -80,6 +82,7 @@ fn build_program(alloc: Global, parts: Parts, plan: &Plan) -> Result<Built, Fail
     requires lengths { parts.lengths.items ≡ code_lengths plan.now (map module_view parts.modules.items) }
     requires code { parts.code.items ≡ program_code plan.now (map module_view parts.modules.items) }
     requires served { All IsServed (map module_view parts.modules.items) }
+    requires storable { All IsStorable (map module_view parts.modules.items) }
     ensures program { IfOk result (λ built. IsBuiltFrom (map module_view parts.modules.items) plan.now built) }
     ensures refused { IfFault result
         (λ fault. HasProgramCause fault (map module_view parts.modules.items) plan.now) }

@@ -1,6 +1,7 @@
 -- Sources that are read and whose code is made.
 use Rattle.std.specs.Prelude.{◌≡◌, ℕ, ◌+◌, ◌≤◌, List, [], ◌∷◌, length, Option, Some, None, is_some, if◌then◌else◌}
 use Rattle.typed_trees.specs.TypedTrees.{TypedModule}
+use Rattle.typed_trees.specs.Storable.{IsStorable}
 use Rattle.typed_trees.specs.Views.{module_view}
 use Rattle.layout.specs.Storage.{storage_with}
 use Rattle.layout.specs.Views.{layout_view}
@@ -28,6 +29,7 @@ module_in compiled = module_view compiled.source.typed
 pub record IsCompiled (plan : Plan) (text : List ℕ) (compiled : Compiled) : Type 0 where
   pub source : IsSourceOf text (module_in compiled)
   pub storage : layout_view compiled.source.storage ≡ storage_with (module_in compiled)
+  pub storable : IsStorable (module_in compiled)
   pub served : compiled.is_served ≡ is_some (outputs_of (module_in compiled))
   pub code : compiled.code.items ≡ module_code plan (module_in compiled)
   pub fits : length compiled.code.items ≤ MOST_CODE

@@ -18,8 +18,10 @@ invariant_of-result c =
     omega (arith, c.requires.lawful.code_in_memory, ap (λ (range : Range). range.start) placed, ap (λ (range : Range). range.len) placed, ap length bytes) in
     record {
       headline = code_agrees modules (placement_view c.args.placement) c.args.plan.stack_size (stack_end_of c.args.plan) _ (bytes ∙ main) refl ends;
+      joined = c.requires.joined;
       lawful = c.requires.lawful;
       as_planned = c.requires.placed;
+      table = c.requires.table;
       code_fits = omega (arith, ap length bytes, code_within c.args.plan modules c.requires.possible);
       code_as_placed = placed ∙ ap (λ n. record { start = c.args.plan.code; len = n }) (ap length (sym bytes));
     }

@@ -1,4 +1,5 @@
 use Rattle.std.proofs.Common.{All, map, subst, sym}
+use Rattle.typed_trees.specs.Storable.{IsStorable}
 use Rattle.typed_trees.specs.Views.{module_view}
 use Rattle.tool.specs.Sources.{IsServed}
 use Rattle.tool.proofs.ServedLemmas.{have_storage}
@@ -10,4 +11,6 @@ assemble-requires-clause-served c =
 
 pub assemble-requires-clause-lawful : goal.assemble-requires-clause-lawful
 assemble-requires-clause-lawful c =
-    c.in-Ok-place.ensures.lawful (have_storage _ _ (assemble-requires-clause-served c))
+    c.in-Ok-place.ensures.lawful
+    (have_storage _ _ (assemble-requires-clause-served c)
+    (subst (λ modules. All IsStorable (map module_view modules)) (sym c.in-Ok.ensures.kept) c.requires.storable))
