@@ -1,0 +1,5 @@
+pub mod Values
+pub mod Outcomes
+pub mod Access
+pub mod Meaning
+pub mod Run
