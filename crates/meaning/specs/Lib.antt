@@ -3,3 +3,4 @@ pub mod Outcomes
 pub mod Access
 pub mod Meaning
 pub mod Run
+pub mod internal
