@@ -1,9 +1,1 @@
-pub use Rattle.mem80.specs.Memory
-pub use Rattle.ports.specs.Events
-pub use Rattle.ports.specs.Input
-pub use Rattle.mem80.specs.Range
 pub mod Outputs
-pub mod Outcome
-pub mod Meaning
-pub mod Run
-pub mod internal

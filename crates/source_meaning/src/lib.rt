@@ -1,8 +1,6 @@
-//! What a PL/M-80 program means: its runs. Programs whose statements are outputs of numbers are served so far.
+//! Which programs are served so far: those whose statements are outputs of numbers.
 #![tactic(auto)]
 
 mod outputs;
-mod reason;
 
 pub use outputs::{Output, outputs_of};
-pub use reason::Reason;
