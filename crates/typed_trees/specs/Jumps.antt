@@ -62,8 +62,8 @@ IsNoLabel (LabelStatement label) = ⊥
 IsNoLabel statement = Unit {0}
 
 abbrev mutual
-  -- The labels of each list in a statement stand where its places say, numbered from its first label on. Labels stand
-  -- in lists alone: not after THEN or ELSE, and not in a DO CASE.
+  -- The labels of each list in a statement stand where its places say, numbered from its first label on.
+  -- Labels stand in lists alone: not after THEN or ELSE, and not in a DO CASE.
   pub ListsStand : TypedStatement → Type 0
   ListsStand (LabelStatement label) = Unit {0}
   ListsStand NullStatement = Unit {0}
@@ -86,7 +86,8 @@ abbrev mutual
 
   pub ListsStandInCases : TypedStatements → Type 0
   ListsStandInCases NoStatements = Unit {0}
-  ListsStandInCases (MoreStatements first others) = IsNoLabel first × ListsStand first × ListsStandInCases others
+  ListsStandInCases (MoreStatements first others) =
+      IsNoLabel first × ListsStand first × ListsStandInCases others
 
   pub ListsStandInStatements : TypedStatements → Type 0
   ListsStandInStatements NoStatements = Unit {0}
