@@ -93,7 +93,8 @@ pub struct SourceModule {
 #[tactic(auto, using(crate::proofs::ReadLemmas::is_source, crate::proofs::ReadLemmas::stored))]
 pub fn read_source(alloc: Global, text: &[u8]) -> Result<SourceModule, Failure<ReadFault>>
     ensures source { IfOk result (λ read. IsSourceOf text.now (module_view read.typed)) }
-    ensures storage { IfOk result (λ read. layout_view read.storage ≡ storage_with (module_view read.typed)) }
+    ensures storage { IfOk result
+        (λ read. layout_view read.storage ≡ storage_with (module_view read.typed)) }
     ensures storable { IfOk result (λ read. IsStorable (module_view read.typed)) }
     ensures jumps { IfOk result (λ read. JumpsAreSound (module_view read.typed)) }
     ensures refused { IfFault result (λ fault. HasReadCause fault text.now) }

@@ -40,7 +40,8 @@ fn outputs_in(
     alloc: Global,
     statements: &[TypedStatement],
 ) -> Result<Option<Vec<Output>>, AllocError>
-    ensures { IfOk result (λ found. option_map vec_items found ≡ outputs_in (statements_view statements.now)) }
+    ensures { IfOk result
+        (λ found. option_map vec_items found ≡ outputs_in (statements_view statements.now)) }
 {
     let mut outputs = Vec::new(alloc);
     for statement in statements {

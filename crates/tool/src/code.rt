@@ -57,7 +57,8 @@ pub fn code_of_module(
     ensures served { IfOk result (λ made. made.is_served ≡ is_some (outputs_of (module_view typed.now))) }
     ensures code { IfOk result (λ made. made.bytes.items ≡ module_code plan.now (module_view typed.now)) }
     ensures fits { IfOk result (λ made. length made.bytes.items ≤ MOST_CODE) }
-    ensures too_long { IfFault result (λ _. MOST_CODE < length (module_code plan.now (module_view typed.now))) }
+    ensures too_long { IfFault result
+        (λ _. MOST_CODE < length (module_code plan.now (module_view typed.now))) }
 {
     match outputs_of(alloc, typed)? {
         Some(outputs) => {

@@ -103,10 +103,14 @@ pub struct Parts {
 /// Takes sources apart.
 pub fn parts_of(alloc: Global, compiled: Vec<Compiled>) -> Result<Parts, AllocError>
     requires { All (λ one. length one.code.items ≤ MOST_CODE) compiled.items }
-    ensures modules { IfOk result (λ parts. parts.modules.items ≡ map (λ one. one.source.typed) compiled.items) }
-    ensures storages { IfOk result (λ parts. parts.storages.items ≡ map (λ one. one.source.storage) compiled.items) }
-    ensures lengths { IfOk result (λ parts. parts.lengths.items ≡ map (λ one. length one.code.items) compiled.items) }
-    ensures code { IfOk result (λ parts. parts.code.items ≡ flat_map (λ one. one.code.items) compiled.items) }
+    ensures modules { IfOk result
+        (λ parts. parts.modules.items ≡ map (λ one. one.source.typed) compiled.items) }
+    ensures storages { IfOk result
+        (λ parts. parts.storages.items ≡ map (λ one. one.source.storage) compiled.items) }
+    ensures lengths { IfOk result
+        (λ parts. parts.lengths.items ≡ map (λ one. length one.code.items) compiled.items) }
+    ensures code { IfOk result
+        (λ parts. parts.code.items ≡ flat_map (λ one. one.code.items) compiled.items) }
 {
     let mut modules = Vec::with_capacity(alloc, compiled.len())?;
     let mut storages = Vec::with_capacity(alloc, compiled.len())?;

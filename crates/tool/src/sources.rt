@@ -35,7 +35,8 @@ pub struct Source<'a> {
 /// Reads the sources, joins their modules, makes the code and places the program as planned.
 #[tactic(auto, using(crate::proofs::SourcesLemmas::refused_by, crate::proofs::SourcesLemmas::no_program))]
 pub fn build(alloc: Global, sources: &[Source], plan: &Plan) -> Result<Built, Failure<ToolFault>>
-    ensures program { IfOk result (λ built. IsProgramOf (texts_of sources.now) (program_modules built.program)) }
+    ensures program { IfOk result
+        (λ built. IsProgramOf (texts_of sources.now) (program_modules built.program)) }
     ensures plan { IfOk result (λ built. built.plan ≡ plan.now) }
     ensures headline { IfOk result
         (λ built. DoesWhatItSays (program_modules built.program) built.placement built.plan.stack_size built.image) }
@@ -58,7 +59,8 @@ pub fn build(alloc: Global, sources: &[Source], plan: &Plan) -> Result<Built, Fa
 // Builds the program of at most as many sources as there may be.
 #[tactic(auto, using(crate::proofs::SourcesLemmas::unserved_cause, crate::proofs::SourcesLemmas::parts_fit, crate::proofs::SourcesLemmas::storages_fit, crate::proofs::SourcesLemmas::lengths_fit, crate::proofs::SourcesLemmas::code_fits, crate::proofs::SourcesLemmas::served_all, crate::proofs::SourcesLemmas::storable_all, crate::proofs::SourcesLemmas::program_built, crate::proofs::SourcesLemmas::program_cause, crate::proofs::SourcesLemmas::program_order))]
 fn build_few(alloc: Global, sources: &[Source], plan: &Plan) -> Result<Built, Failure<ToolFault>>
-    ensures program { IfOk result (λ built. IsProgramOf (texts_of sources.now) (program_modules built.program)) }
+    ensures program { IfOk result
+        (λ built. IsProgramOf (texts_of sources.now) (program_modules built.program)) }
     ensures plan { IfOk result (λ built. built.plan ≡ plan.now) }
     ensures refused { IfFault result (λ fault. HasCause fault (texts_of sources.now) plan.now) }
     ensures order { IfFault result (λ fault. IsInOrder fault (texts_of sources.now) plan.now) }

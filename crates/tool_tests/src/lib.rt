@@ -7,9 +7,9 @@ mod building;
 mod commands;
 #[cfg(test)]
 mod depths;
+pub mod one_file;
 #[cfg(test)]
 mod productions;
-pub mod one_file;
 #[cfg(test)]
 mod programs;
 #[cfg(test)]
