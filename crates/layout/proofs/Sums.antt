@@ -1,5 +1,5 @@
--- Sums over what is left of a list, as loops over lists of trees need them.
-use Rattle.std.proofs.Common.{◌≡◌, ℕ, suc, ◌+◌, ◌<◌, ◌≤◌, List, ◌∷◌, length, drop, get_or, map, min, ap, sym, ◌∙◌, add-one, arith, Global}
+-- Sums over what is left of a list, as loops over lists of trees need them, and over the values that fill an object.
+use Rattle.std.proofs.Common.{◌≡◌, ℕ, suc, ◌+◌, ◌<◌, ◌≤◌, List, [], ◌∷◌, length, drop, flat_map, get_or, map, min, refl, ap, sym, ◌∙◌, add-one, length-append, arith, Global}
 use Rattle.std.specs.Prelude.{sum_by, ◌&&◌, Vec, vec_items}
 use Rattle.std.specs.List.{list_all}
 use Rattle.std.proofs.Math.ListN.{drop_of_length-le}
@@ -7,9 +7,13 @@ use Rattle.std.proofs.Math.Seq.{drop-cons}
 use Rattle.std.proofs.lemmas.List.Sums.{sum_by-cons}
 use Rattle.typed_trees.specs.declared.module.TypedObject.{TypedObject as Object}
 use Rattle.typed_trees.specs.declared.parts.ConstantItem.{ConstantItem}
-use Rattle.typed_trees.specs.TypedTrees.{TypedObject, TypedModule}
+use Rattle.typed_trees.specs.declared.parts.InitialValue.TheVariants.{ByteValue, WordValue, LocationValue}
+use Rattle.typed_trees.specs.declared.parts.InitialValue.{InitialValue}
+use Rattle.typed_trees.specs.Storable.{size_of_value, bytes_filled}
+use Rattle.typed_trees.specs.TypedTrees.{Home, InData, InConstants, TypedObject, TypedModule}
 use Rattle.typed_trees.specs.Views.{object_view}
 use Rattle.typed_trees.specs.Weight.{size_of_constant}
+use Rattle.layout.specs.StartingMemory.{bytes_of_value, values_in}
 use Rattle.layout.specs.Storage.{bytes_in_data, data_bytes, fits_as_object, fits_as_list}
 
 -- the view of what is left of a list begins with that of the item that a loop is at
@@ -146,3 +150,23 @@ pub lists_fit_first :
     → list_all fits_as_list (map vec_items (drop i lists))
     ≡ (fits_as_list bytes.items && list_all fits_as_list (map vec_items (drop (i + 1) lists)))
 lists_fit_first lists i bytes within is = ap (list_all fits_as_list) (lists_first lists i bytes within is)
+
+-- INITIAL and DATA write as many bytes as the tables count
+value_bytes : (address_of : ℕ → ℕ) (value : InitialValue)
+    → length (bytes_of_value address_of value) ≡ size_of_value value
+value_bytes address_of (ByteValue byte) = refl
+value_bytes address_of (WordValue word) = refl
+value_bytes address_of (LocationValue object offset) = refl
+
+values_bytes : (address_of : ℕ → ℕ) (values : List InitialValue)
+    → length (flat_map (bytes_of_value address_of) values) ≡ sum_by size_of_value values
+values_bytes address_of [] = refl
+values_bytes address_of (value ∷ values) =
+    omega (arith, length-append (bytes_of_value address_of value) (flat_map (bytes_of_value address_of) values),
+    value_bytes address_of value, values_bytes address_of values, sum_by-cons size_of_value value values)
+
+pub bytes_written : (address_of : ℕ → ℕ) (home : Home)
+    → length (flat_map (bytes_of_value address_of) (values_in home)) ≡ bytes_filled home
+bytes_written address_of (InData values) = values_bytes address_of values
+bytes_written address_of (InConstants values) = values_bytes address_of values
+bytes_written address_of home = refl

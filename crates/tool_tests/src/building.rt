@@ -64,7 +64,7 @@ fn numbers_of_sources(rt: HostRuntime) -> Result<(), Fail> {
 }
 
 // The number, the source and the line of the fault that `build` answers for two sources.
-fn fault_of_two(alloc: Global, first: &[u8], second: &[u8]) -> Result<String, Fail> {
+fn fault_of_two<'a>(alloc: Global, first: &'a [u8], second: &'a [u8]) -> Result<String, Fail> {
     let sources = [first, second].map(|text| Source {
         name: "a.plm",
         text,

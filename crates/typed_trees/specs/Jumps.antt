@@ -1,5 +1,5 @@
 -- Where the labels of lists stand, and where GOTOs go.
-use Rattle.std.specs.Prelude.{◌≡◌, ℕ, ◌+◌, ◌<◌, ◌≤◌, List, [], ◌∷◌, length, All, Any}
+use Rattle.std.specs.Prelude.{◌≡◌, ◌≢◌, ℕ, ◌+◌, ◌<◌, ◌≤◌, List, [], ◌∷◌, ◌++◌, length, flat_map, All, AllPairs, Any}
 use Rattle.typed_trees.specs.TypedTrees.{TypedStatement, LabelStatement, NullStatement, AssignmentStatement, CallStatement, MoveStatement, ReturnStatement, HaltStatement, GotoStatement, IfStatement, DoStatement, WhileStatement, IterateStatement, CaseStatement, TypedElse, NoElse, ElseStatement, TypedStatements, NoStatements, MoreStatements, TypedList, ListOf, TypedProcedure, TypedModule}
 
 -- the labels of a list: so many numbers from the first on
@@ -56,8 +56,14 @@ LabelsStand label place (first ∷ places) (MoreStatements (LabelStatement numbe
     (number ≡ label) × (first ≡ place) × LabelsStand (label + 1) (place + 1) places others
 LabelsStand label place places (MoreStatements statement others) = LabelsStand label (place + 1) places others
 
+-- a statement, which is no label before one
+abbrev pub IsNoLabel : TypedStatement → Type 0
+IsNoLabel (LabelStatement label) = ⊥
+IsNoLabel statement = Unit {0}
+
 abbrev mutual
-  -- the labels of each list in a statement stand where its places say, numbered from its first label on
+  -- The labels of each list in a statement stand where its places say, numbered from its first label on.
+  -- Labels stand in lists alone: not after THEN or ELSE, and not in a DO CASE.
   pub ListsStand : TypedStatement → Type 0
   ListsStand (LabelStatement label) = Unit {0}
   ListsStand NullStatement = Unit {0}
@@ -67,15 +73,21 @@ abbrev mutual
   ListsStand (ReturnStatement value) = Unit {0}
   ListsStand HaltStatement = Unit {0}
   ListsStand (GotoStatement label) = Unit {0}
-  ListsStand (IfStatement condition body otherwise) = ListsStand body × ListsStandInElse otherwise
+  ListsStand (IfStatement condition body otherwise) =
+      IsNoLabel body × ListsStand body × ListsStandInElse otherwise
   ListsStand (DoStatement body) = ListStands body
   ListsStand (WhileStatement condition body) = ListStands body
   ListsStand (IterateStatement head body) = ListStands body
-  ListsStand (CaseStatement choice body) = ListsStandInStatements body
+  ListsStand (CaseStatement choice body) = ListsStandInCases body
 
   pub ListsStandInElse : TypedElse → Type 0
   ListsStandInElse NoElse = Unit {0}
-  ListsStandInElse (ElseStatement statement) = ListsStand statement
+  ListsStandInElse (ElseStatement statement) = IsNoLabel statement × ListsStand statement
+
+  pub ListsStandInCases : TypedStatements → Type 0
+  ListsStandInCases NoStatements = Unit {0}
+  ListsStandInCases (MoreStatements first others) =
+      IsNoLabel first × ListsStand first × ListsStandInCases others
 
   pub ListsStandInStatements : TypedStatements → Type 0
   ListsStandInStatements NoStatements = Unit {0}
@@ -91,7 +103,44 @@ pub record BodyIsSound (body : TypedList) : Type 0 where
   pub closed : IsClosed body
   pub stands : ListStands body
 
--- the bodies of all procedures of a module, and that of its main program, are sound
+abbrev mutual
+  -- the numbers of the labels in a statement, in the order of the text
+  pub labels_in : TypedStatement → List ℕ
+  labels_in (LabelStatement label) = label ∷ []
+  labels_in NullStatement = []
+  labels_in (AssignmentStatement targets value) = []
+  labels_in (CallStatement procedure values) = []
+  labels_in (MoveStatement count source destination) = []
+  labels_in (ReturnStatement value) = []
+  labels_in HaltStatement = []
+  labels_in (GotoStatement label) = []
+  labels_in (IfStatement condition body otherwise) = labels_in body ++ labels_in_else otherwise
+  labels_in (DoStatement body) = labels_in_list body
+  labels_in (WhileStatement condition body) = labels_in_list body
+  labels_in (IterateStatement head body) = labels_in_list body
+  labels_in (CaseStatement choice body) = labels_in_statements body
+
+  pub labels_in_else : TypedElse → List ℕ
+  labels_in_else NoElse = []
+  labels_in_else (ElseStatement statement) = labels_in statement
+
+  pub labels_in_statements : TypedStatements → List ℕ
+  labels_in_statements NoStatements = []
+  labels_in_statements (MoreStatements first others) = labels_in first ++ labels_in_statements others
+
+  pub labels_in_list : TypedList → List ℕ
+  labels_in_list (ListOf first places statements) = labels_in_statements statements
+
+abbrev pub labels_in_procedure : TypedProcedure → List ℕ
+labels_in_procedure procedure = labels_in_list procedure.body
+
+-- the numbers of all labels of a module
+abbrev pub labels_in_module : TypedModule → List ℕ
+labels_in_module typed = flat_map labels_in_procedure typed.procedures ++ labels_in_procedure typed.main
+
+-- The bodies of all procedures of a module, and that of its main program, are sound, and no two labels of the
+-- module have the same number.
 pub record JumpsAreSound (typed : TypedModule) : Type 0 where
   pub procedures : All (λ (procedure : TypedProcedure). BodyIsSound procedure.body) typed.procedures
   pub main : BodyIsSound typed.main.body
+  pub labels : AllPairs (λ (one other : ℕ). one ≢ other) (labels_in_module typed)

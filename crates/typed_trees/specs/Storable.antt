@@ -1,11 +1,13 @@
 -- What holds of the tables of a module so that its objects and its constants have a place each.
-use Rattle.std.specs.Prelude.{◌≡◌, ℕ, zero, suc, ◌+◌, ◌<◌, List, [], ◌∷◌, length, filter_map, All, Option, Some, None}
+use Rattle.std.specs.Prelude.{◌≡◌, ℕ, zero, suc, ◌+◌, ◌<◌, ◌≤◌, List, [], ◌∷◌, length, filter_map, sum_by, All, Option, Some, None, IsSomeAnd, slice_get}
 use Rattle.std.specs.List.{enumerate_from}
-use Rattle.typed_trees.specs.declared.parts.AtAddress.TheVariants.{AtNumber, AtObject}
-use Rattle.typed_trees.specs.declared.parts.AtAddress.{AtAddress}
+use Rattle.typed_trees.specs.declared.parts.AtAddress.TheVariants.{AtObject}
 use Rattle.typed_trees.specs.declared.parts.ConstantItem.TheVariants.{ConstantObject, ConstantList}
 use Rattle.typed_trees.specs.declared.parts.ConstantItem.{ConstantItem}
-use Rattle.typed_trees.specs.TypedTrees.{Home, InConstants, Placed, TypedObject, TypedModule}
+use Rattle.typed_trees.specs.declared.parts.InitialValue.TheVariants.{ByteValue, WordValue, LocationValue}
+use Rattle.typed_trees.specs.declared.parts.InitialValue.{InitialValue}
+use Rattle.typed_trees.specs.TypedTrees.{Home, InData, InConstants, Placed, TypedObject, TypedModule}
+use Rattle.typed_trees.specs.Sizes.{size_of_object}
 
 -- the object, or the constant list, that is one of the constants
 abbrev pub object_in : ConstantItem → Option ℕ
@@ -34,11 +36,40 @@ abbrev pub LooksBack : (number : ℕ) → Home → Type 0
 LooksBack number (Placed (AtObject other offset)) = other < number
 LooksBack number home = Unit {0}
 
+-- an object that has a place of its own: in the data segment, among the constants, or where AT puts it; it is
+-- neither BASED, nor in a frame, nor in another module
+abbrev pub HasPlace : Home → Type 0
+HasPlace (InData values) = Unit {0}
+HasPlace (InConstants values) = Unit {0}
+HasPlace (Placed address) = Unit {0}
+HasPlace home = ⊥
+
+-- where AT puts an object after another, that one has a place
+abbrev pub LooksAtPlace : List TypedObject → Home → Type 0
+LooksAtPlace objects (Placed (AtObject other offset)) =
+    IsSomeAnd (slice_get objects other) (λ (object : TypedObject). HasPlace object.home)
+LooksAtPlace objects home = Unit {0}
+
+-- how many bytes a value takes
+abbrev pub size_of_value : InitialValue → ℕ
+size_of_value (ByteValue byte) = 1
+size_of_value (WordValue word) = 2
+size_of_value (LocationValue object offset) = 2
+
+-- how many bytes INITIAL or DATA fills
+abbrev pub bytes_filled : Home → ℕ
+bytes_filled (InData values) = sum_by size_of_value values
+bytes_filled (InConstants values) = sum_by size_of_value values
+bytes_filled home = 0
+
 -- The objects with DATA stand among the constants in the order of their numbers, each once, and so do the
--- constant lists; nothing else does. AT looks back.
+-- constant lists; nothing else does. AT looks back, at objects that have a place. INITIAL and DATA fill no
+-- more bytes than the object has.
 pub record IsStorable (typed : TypedModule) : Type 0 where
   pub objects : filter_map object_in typed.constants.items
       ≡ filter_map numbered_constant (enumerate_from 0 typed.objects)
   pub lists : filter_map list_in typed.constants.items ≡ numbers_from 0 (length typed.constants.lists)
   pub at : All (λ (numbered : ℕ × TypedObject). LooksBack numbered.0 (numbered.1).home)
       (enumerate_from 0 typed.objects)
+  pub places : All (λ (object : TypedObject). LooksAtPlace typed.objects object.home) typed.objects
+  pub filled : All (λ (object : TypedObject). bytes_filled object.home ≤ size_of_object object) typed.objects

@@ -1,6 +1,7 @@
 -- Typed trees: names are resolved to the entities of the module's tables, each expression has its type, and
--- each conversion is written out. Parentheses are gone. Objects, procedures, constant lists and labels are
--- numbered from 0 in the order of the text.
+-- each conversion is written out. Parentheses are gone. Objects, procedures and constant lists are numbered
+-- from 0 in the order of the text. So are labels, but that all labels of a list are numbered where it begins,
+-- before those of the lists in it.
 use Rattle.std.specs.Prelude.{ℕ, Bool, List, Option}
 use Rattle.trees.specs.declared.declaration.ScalarType.{ScalarType}
 use Rattle.trees.specs.declared.expression.BinaryOperator.{BinaryOperator}

@@ -1,4 +1,5 @@
--- In a typed module each GOTO goes to a label of a list around it, and labels stand where their places say.
+-- In a typed module each GOTO goes to a label of a list around it, labels stand where their places say, and no two
+-- labels have the same number.
 use Rattle.std.proofs.Common.{◌≡◌, ℕ, ◌+◌, List, [], ◌∷◌, length, drop, Ok, refl, ap, subst}
 use Rattle.std.specs.Prelude.{IfOk}
 use Rattle.std.proofs.lemmas.List.Elements.{All-nil}
@@ -7,7 +8,7 @@ use Rattle.trees.specs.Trees.{StatementTree, LabelledStatement, StatementKindTre
 use Rattle.names.specs.Environment.{Body, Names, numbered_from, into_list, body_after_block, with_procedure}
 use Rattle.names.specs.Events.{labels_of}
 use Rattle.typed_trees.specs.TypedTrees.{TypedStatements, TypedList, TypedModule}
-use Rattle.typed_trees.specs.Jumps.{LabelsOf, JumpsStayInElse, JumpsStayInStatements, JumpsStayInList, LabelsStand, ListsStandInElse, ListsStandInStatements, ListStands, JumpsAreSound}
+use Rattle.typed_trees.specs.Jumps.{LabelsOf, JumpsStayInElse, JumpsStayInStatements, JumpsStayInList, LabelsStand, ListsStandInElse, ListsStandInStatements, ListsStandInCases, ListStands, BodyIsSound, JumpsAreSound}
 use Rattle.typing.specs.Checks.{Checked}
 use Rattle.typing.specs.Expressions.{arguments}
 use Rattle.typing.specs.Blocks.{Block, Progress}
@@ -16,8 +17,8 @@ use Rattle.typing.specs.Procedures.{open_procedure, own_block, parameter_objects
 use Rattle.typing.specs.Typing.{inner_block, entered, left, kind, labelled, alone, else_part, cases, statements, declaration, declarations, module_block, at_the_beginning, typing_of}
 use Rattle.typing.proofs.Steps.{then, then_any}
 use Rattle.typing.proofs.KnownLabels.{AreAround, none_around, around_entered}
-use Rattle.typing.proofs.LabelPlaces.{labels_stand, list_count, jumps_after_labels, lists_after_labels}
-use Rattle.typing.proofs.Parts.{IsAt, IsDone, value_is, assignment_is, call_is, return_is, goto_is, iteration_is}
+use Rattle.typing.proofs.LabelPlaces.{labels_stand, list_count, jumps_after_labels, lists_after_labels, labels_differ}
+use Rattle.typing.proofs.Parts.{AreSound, IsAt, IsDone, value_is, assignment_is, call_is, return_is, goto_is, iteration_is}
 use Rattle.typing.proofs.Declarations.{declare_labels_is, declare_elements_is, open_procedure_is, close_procedure_is}
 
 -- the statements of a list from one on, whose next label has this number
@@ -103,7 +104,11 @@ mutual
       then _ _ (value condition progress) _ (value_is condition progress at) (λ tested at_body.
       then _ _ (alone block body tested.1) _ (alone_is block body tested.1 are at_body) (λ chosen one.
       then _ _ (else_part block otherwise chosen.1) _ (else_part_is block otherwise chosen.1 are one.1) (λ other two.
-      (record { jumps = (one.0.jumps, two.0); stands = (one.0.stands, two.1); is_no_label = tt }, two.2))))
+      (record {
+        jumps = (one.0.jumps, two.0);
+        stands = (one.0.is_no_label, one.0.stands, two.1);
+        is_no_label = tt;
+      }, two.2))))
   kind_is block (DoStatement place declared body) progress are at =
       then _ _ (declarations (inner_block block) declared (entered progress)) _
       (declarations_is (inner_block block) declared (entered progress)
@@ -154,18 +159,18 @@ mutual
   else_part_is block NoElse progress are at = (tt, tt, at)
   else_part_is block (ElseStatement body) progress are at =
       then _ _ (alone block body progress) _ (alone_is block body progress are at) (λ typed done.
-      (done.0.jumps, done.0.stands, done.1))
+      (done.0.jumps, (done.0.is_no_label, done.0.stands), done.1))
 
   cases_is : {around : List LabelsOf} {lists : List Names} {outer : List Body} (block : Block)
       (trees : StatementTrees) (progress : Progress)
       → AreAround around lists → IsAt lists outer progress.known
       → IfOk (cases block trees progress)
-      (λ typed. JumpsStayInStatements around typed.0 × ListsStandInStatements typed.0 × IsAt lists outer typed.1.known)
+      (λ typed. JumpsStayInStatements around typed.0 × ListsStandInCases typed.0 × IsAt lists outer typed.1.known)
   cases_is block NoStatements progress are at = (tt, tt, at)
   cases_is block (MoreStatements first others) progress are at =
       then _ _ (alone block first progress) _ (alone_is block first progress are at) (λ typed one.
       then _ _ (cases block others typed.1) _ (cases_is block others typed.1 are one.1) (λ rest more.
-      ((one.0.jumps, more.0), (one.0.stands, more.1), more.2)))
+      ((one.0.jumps, more.0), (one.0.is_no_label, one.0.stands, more.1), more.2)))
 
   statements_is : {around : List LabelsOf} {lists : List Names} {outer : List Body} (block : Block)
       (trees : StatementTrees) (label : ℕ) (progress : Progress)
@@ -223,7 +228,8 @@ mutual
       then _ _ (declaration block first progress) _ (declaration_is block first progress at) (λ after at_rest.
       declarations_is block others after at_rest)
 
-typing_is : (tree : ModuleTree) → IfOk (typing_of tree) JumpsAreSound
+typing_is : (tree : ModuleTree)
+    → IfOk (typing_of tree) (λ typed. AreSound typed.procedures × BodyIsSound typed.main.body)
 unfolding typing_of
 typing_is tree =
     then _ _ (declarations module_block tree.declarations at_the_beginning) _
@@ -233,9 +239,13 @@ typing_is tree =
     (list_is tree.statements (λ label. statements module_block tree.statements label) declared (none_around []) at_body
     (λ inside tables label start known at_start. statements_is module_block tree.statements label start known at_start))
     (λ typed done.
-    record { procedures = done.after.procedures; main = record { closed = done.jumps; stands = done.stands } }))
+    (done.after.procedures, record { closed = done.jumps; stands = done.stands })))
 
--- In every typed module each GOTO goes to a label of a list around it in the same body, and the labels of each list
--- stand where its places say.
+-- In every typed module each GOTO goes to a label of a list around it in the same body, the labels of each list
+-- stand where its places say, and no two labels have the same number.
 pub jumps_are_sound : (tree : ModuleTree) (found : TypedModule) → typing_of tree ≡ Ok found → JumpsAreSound found
-jumps_are_sound tree found is = subst (λ (given : Checked TypedModule). IfOk given JumpsAreSound) is (typing_is tree)
+jumps_are_sound tree found is =
+    let are : AreSound found.procedures × BodyIsSound found.main.body =
+    subst (λ (given : Checked TypedModule). IfOk given (λ typed. AreSound typed.procedures × BodyIsSound typed.main.body))
+    is (typing_is tree) in
+    record { procedures = are.0; main = are.1; labels = labels_differ tree found is }

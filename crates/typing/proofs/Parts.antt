@@ -13,7 +13,7 @@ use Rattle.names.specs.declared.entity.BuiltIn.TheVariants.{Move}
 use Rattle.names.specs.BuiltIns.{jump_of}
 use Rattle.names.specs.Environment.{Here, Body, Names, known_in}
 use Rattle.typed_trees.specs.TypedTrees.{TypedArguments, NoArguments as NoTyped, MoreArguments as MoreTyped, TypedStatement, TypedProcedure, Constants}
-use Rattle.typed_trees.specs.Jumps.{LabelsOf, JumpsStay, ListsStand, BodyIsSound}
+use Rattle.typed_trees.specs.Jumps.{LabelsOf, JumpsStay, ListsStand, IsNoLabel, BodyIsSound}
 use Rattle.typing.specs.declared.fault.Cause.TheVariants.{WrongUse}
 use Rattle.typing.specs.Checks.{require}
 use Rattle.typing.specs.References.{Known, Given, line_of, count_of_given, bound, procedure_of}
@@ -23,7 +23,6 @@ use Rattle.typing.specs.Blocks.{Owner, TheModule, OfProcedure, Progress}
 use Rattle.typing.specs.Statements.{with_constants, value, destinations, assignment, moved, call_bound, call, return_with, return_from, goto_bound, goto, counter_bound, step, iteration}
 use Rattle.typing.proofs.Steps.{then, then_any}
 use Rattle.typing.proofs.KnownLabels.{IsLabelAround, AreAround}
-use Rattle.typing.proofs.LabelPlaces.{IsNoLabel}
 
 -- a place of a text, with the labels that are known there and the bodies around its own
 pub record IsIn (lists : List Names) (outer : List Body) (here : Here) : Type 0 where

@@ -1,13 +1,14 @@
 -- Objects and constants so far have a place each, and go on to as they grow.
-use Rattle.std.proofs.Common.{◌≡◌, ℕ, suc, zero, ◌+◌, List, [], ◌∷◌, ◌++◌, length, Option, All, refl, sym, ap, ◌∙◌, subst, length-append, append-nil, arith}
-use Rattle.std.specs.Prelude.{filter_map}
+use Rattle.std.proofs.Common.{◌≡◌, ℕ, suc, zero, ◌+◌, ◌≤◌, List, [], ◌∷◌, ◌++◌, length, slice_get, Option, All, refl, sym, ap, ◌∙◌, subst, length-append, append-nil, arith}
+use Rattle.std.specs.Prelude.{filter_map, IsSomeAnd}
 use Rattle.std.specs.List.{cons_option, enumerate_from}
-use Rattle.std.proofs.lemmas.List.Elements.{All-append, All-cons, All-nil, filter_map-append}
+use Rattle.std.proofs.lemmas.List.Elements.{All-append, All-cons, All-nil, All-weaker, filter_map-append}
 use Rattle.typed_trees.specs.declared.parts.AtAddress.TheVariants.{AtNumber, AtObject}
 use Rattle.typed_trees.specs.declared.parts.ConstantItem.TheVariants.{ConstantObject, ConstantList}
 use Rattle.typed_trees.specs.declared.parts.ConstantItem.{ConstantItem}
 use Rattle.typed_trees.specs.TypedTrees.{Home, InConstants, Placed, TypedObject, Constants}
-use Rattle.typed_trees.specs.Storable.{object_in, list_in, constant_number, numbered_constant, numbers_from, LooksBack}
+use Rattle.typed_trees.specs.Storable.{object_in, list_in, constant_number, numbered_constant, numbers_from, LooksBack, LooksAtPlace, bytes_filled}
+use Rattle.typed_trees.specs.Sizes.{size_of_object}
 use Rattle.trees.specs.Trees.{ConstantTree}
 use Rattle.typing.specs.Constants.{bytes_of_constants}
 use Rattle.typing.specs.Expressions.{with_list}
@@ -17,11 +18,20 @@ abbrev pub AllLookBack : List TypedObject → Type 0
 AllLookBack objects =
     All (λ (numbered : ℕ × TypedObject). LooksBack numbered.0 (numbered.1).home) (enumerate_from 0 objects)
 
+-- the objects that AT looks back at have a place, and values have room in their objects
+abbrev pub AllAtPlaces : (objects each : List TypedObject) → Type 0
+AllAtPlaces objects each = All (λ (object : TypedObject). LooksAtPlace objects object.home) each
+
+abbrev pub HasRoom : TypedObject → Type 0
+HasRoom object = bytes_filled object.home ≤ size_of_object object
+
 -- the objects and the constants of a text so far
 pub record AreStorable (objects : List TypedObject) (constants : Constants) : Type 0 where
   pub objects_stand : filter_map object_in constants.items ≡ filter_map numbered_constant (enumerate_from 0 objects)
   pub lists_stand : filter_map list_in constants.items ≡ numbers_from 0 (length constants.lists)
   pub look_back : AllLookBack objects
+  pub at_places : AllAtPlaces objects objects
+  pub have_room : All HasRoom objects
 
 enumerate_more : {X : Type 0} (first : ℕ) (before : List X) (x : X) (last : ℕ) → first + length before ≡ last
     → enumerate_from first (before ++ x ∷ []) ≡ enumerate_from first before ++ (last, x) ∷ []
@@ -51,6 +61,8 @@ list_more {objects} {constants} list are =
           ∙ sym (numbers_more 0 (length constants.lists) (length constants.lists) (omega arith))
           ∙ ap (numbers_from 0) count_after;
       look_back = are.look_back;
+      at_places = are.at_places;
+      have_room = are.have_room;
     }
 
 -- one more object
@@ -76,10 +88,28 @@ same_lists : (home : Home) (number : ℕ) (constants : Constants)
 same_lists (InConstants values) number constants = refl
 same_lists home number constants = refl
 
+get_later : (P : TypedObject → Type 0) (objects others : List TypedObject) (number : ℕ)
+    → IsSomeAnd (slice_get objects number) P → IsSomeAnd (slice_get (objects ++ others) number) P
+get_later P [] others number is = absurd is
+get_later P (object ∷ objects) others zero is = is
+get_later P (object ∷ objects) others (suc number) is = get_later P objects others number is
+
+pub place_later : (home : Home) (objects others : List TypedObject)
+    → LooksAtPlace objects home → LooksAtPlace (objects ++ others) home
+place_later (Placed (AtObject other offset)) objects others looks = get_later _ objects others other looks
+place_later (Placed (AtNumber address)) objects others looks = tt
+place_later home objects others looks = tt
+
 pub object_more : {objects : List TypedObject} {constants : Constants} (object : TypedObject)
-    → LooksBack (length objects) object.home → AreStorable objects constants
+    → LooksBack (length objects) object.home → LooksAtPlace objects object.home → HasRoom object
+    → AreStorable objects constants
     → AreStorable (objects ++ object ∷ []) (with_constant object.home (length objects) constants)
-object_more {objects} {constants} object back are =
+object_more {objects} {constants} object back looks room are =
+    let after : List TypedObject = objects ++ object ∷ [] in
+    let AtPlace : TypedObject → Type 0 = λ each. LooksAtPlace after each.home in
+    let places_before : AllAtPlaces after objects =
+    All-weaker (λ (each : TypedObject). LooksAtPlace objects each.home) AtPlace
+    (λ each is. place_later each.home objects (object ∷ []) is) objects are.at_places in
     let count : ℕ = length objects in
     let all = enumerate_more 0 objects object count (omega arith) in
     let before : List (ℕ × TypedObject) = enumerate_from 0 objects in
@@ -94,6 +124,10 @@ object_more {objects} {constants} object back are =
       look_back = subst (λ (numbered : List (ℕ × TypedObject)). All LookBack numbered) (sym all)
           (All-append LookBack before ((count, object) ∷ []) are.look_back
           (All-cons LookBack (count, object) [] back (All-nil LookBack)));
+      at_places = All-append AtPlace objects (object ∷ []) places_before
+          (All-cons AtPlace object [] (place_later object.home objects (object ∷ []) looks) (All-nil AtPlace));
+      have_room = All-append HasRoom objects (object ∷ []) are.have_room
+          (All-cons HasRoom object [] room (All-nil HasRoom));
     }
 
 -- what looks back from a place looks back from all that come after it
@@ -104,4 +138,4 @@ back_later home number back = tt
 
 -- nothing so far
 pub none_yet : AreStorable [] (record { lists = []; items = [] })
-none_yet = record { objects_stand = refl; lists_stand = refl; look_back = All-nil _ }
+none_yet = record { objects_stand = refl; lists_stand = refl; look_back = All-nil _; at_places = All-nil _; have_room = All-nil _ }

@@ -1,5 +1,5 @@
--- In a typed module the objects with DATA and the constant lists stand among the constants in their order, and AT
--- looks back.
+-- In a typed module the objects with DATA and the constant lists stand among the constants in their order, AT looks
+-- back at objects that have a place, and values have room in their objects.
 use Rattle.std.proofs.Common.{◌≡◌, ℕ, ◌+◌, List, [], ◌∷◌, length, Option, None, Some, Ok, subst}
 use Rattle.std.specs.Prelude.{IfOk, is_none, ◌==◌}
 use Rattle.trees.specs.declared.declaration.ScalarType.{ScalarType}
@@ -221,7 +221,13 @@ typing_is_storable tree =
     then _ _ (list_of tree.statements (λ label. statements module_block tree.statements label) declared) _
     (list_is tree.statements (λ label. statements module_block tree.statements label) declared at_body
     (λ label start at_start. statements_is module_block tree.statements label start at_start)) (λ typed after.
-    record { objects = after.objects_stand; lists = after.lists_stand; at = after.look_back }))
+    record {
+      objects = after.objects_stand;
+      lists = after.lists_stand;
+      at = after.look_back;
+      places = after.at_places;
+      filled = after.have_room;
+    }))
 
 pub is_storable : (tree : ModuleTree) (found : TypedModule) → typing_of tree ≡ Ok found → IsStorable found
 is_storable tree found is = subst (λ (given : Checked TypedModule). IfOk given IsStorable) is (typing_is_storable tree)
