@@ -11,14 +11,15 @@ use Rattle.typed_trees.specs.TypedTrees.{TypedModule}
 use Rattle.layout.specs.Placement.{Placement}
 use Rattle.source_meaning.specs.declared.outputs.Output.{Output}
 use Rattle.source_meaning.specs.Outputs.{program_outputs}
-use Rattle.source_meaning.specs.Run.{Run, source_run}
+use Rattle.meaning.specs.Run.{Run, source_run}
 use Rattle.tool.specs.declared.built.Image.{Image}
 use Rattle.tool.specs.Image.{loaded, machine_run}
 use Rattle.tool.specs.Code.{outputs_code, main_code, code_bytes}
 use Rattle.tool.specs.Headline.{Agrees, DoesWhatItSays}
 use Rattle.tool.proofs.Standing.{StandsAt, byte_moved, stands_moved, stands_loaded}
 use Rattle.isa8080.proofs.Endings.{EndsWith, halted, halted_ends, step_first}
-use Rattle.source_meaning.proofs.RunLemmas.{events_of, ended_run, run_ends}
+use Rattle.source_meaning.proofs.RunLemmas.{events_of, ended_run}
+use Rattle.tool.proofs.RunLemmas.{MainModule, runs_end}
 
 -- there is always a halt at the end
 halt_left : (ss : List Output) → 1 ≤ length (code_bytes (outputs_code ss))
@@ -108,14 +109,14 @@ agrees_at_end script s events ss source ends h =
     }
 
 -- an image whose bytes are the code of the program does what the program says
-pub code_agrees : (modules : List TypedModule) (placement : Placement) (room stack_end : ℕ) (image : Image) → image.code.bytes ≡ code_bytes (main_code stack_end (program_outputs modules)) → image.start ≡ image.code.start → image.code.start + length image.code.bytes ≤ 65536 → DoesWhatItSays modules placement room image
+pub code_agrees : (modules : List TypedModule) (main : MainModule modules) (placement : Placement) (room stack_end : ℕ) (image : Image) → image.code.bytes ≡ code_bytes (main_code stack_end (program_outputs modules)) → image.start ≡ image.code.start → image.code.start + length image.code.bytes ≤ 65536 → DoesWhatItSays modules placement room image
 unfolding machine_run
-code_agrees modules placement room stack_end image code begins fits memory script events is_memory is_script never =
+code_agrees modules main placement room stack_end image code begins fits memory script events is_memory is_script never =
     let outputs : List Output = program_outputs modules in
     let stands : StandsAt (loaded image memory) image.code.start image.code.bytes = stands_loaded memory image.code.bytes image.code.start (omega (arith, is_memory.size)) in
     let here : StandsAt (loaded image memory) image.start (code_bytes (main_code stack_end outputs)) =
     stands_moved (loaded image memory) (code_bytes (main_code stack_end outputs)) image.code.start image.start begins (subst (λ bs. StandsAt (loaded image memory) image.code.start bs) code stands) in
     let room_left : image.start + length (code_bytes (main_code stack_end outputs)) ≤ 65536 = omega (arith, ap length code) in
     agrees_at_end script (initial_state (loaded image memory) events image.start) events outputs (source_run modules placement room memory script events)
-    (run_ends modules placement room memory script events never)
+    (runs_end modules main placement room memory script events never)
     (program_ends script (loaded image memory) stack_end outputs (initial_registers image.start) events here room_left)

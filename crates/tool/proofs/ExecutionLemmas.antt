@@ -11,8 +11,8 @@ use Rattle.cpu8080.specs.declared.machine.End.{End}
 use Rattle.cpu8080.specs.declared.machine.End.TheVariants as end
 use Rattle.cpu8080.specs.Machine.{Machine}
 use Rattle.cpu8080.specs.Runs.{IsRun}
-use Rattle.source_meaning.specs.Outcome.{Ended}
-use Rattle.source_meaning.specs.Run.{Run}
+use Rattle.meaning.specs.Outcomes.{Ended}
+use Rattle.meaning.specs.Run.{Run}
 use Rattle.tool.specs.declared.built.Image.{Image}
 use Rattle.tool.specs.Execution.{started, IsFaithful}
 use Rattle.tool.specs.Headline.{Agrees}

@@ -5,4 +5,5 @@ pub mod ExecutionLemmas
 pub mod CompiledLemmas
 pub mod SourcesLemmas
 pub mod ServedLemmas
+pub mod RunLemmas
 pub mod PlacedLemmas

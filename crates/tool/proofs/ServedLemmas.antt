@@ -70,39 +70,39 @@ some_outputs : (plan : Plan) (first : TypedStatement) (others : TypedStatements)
 some_outputs plan first others [] is = absurd (no_output (output_of first) (outputs_in others) is)
 some_outputs plan first others (output ∷ outputs) is = refl
 
+no_outputs : (body : TypedList) (outputs : List Output) → outputs_of_list body ≡ Some outputs → has_statement body ≡ false → outputs ≡ []
+no_outputs (ListOf first places NoStatements) outputs is main = cc
+no_outputs (ListOf first places (MoreStatements statement others)) outputs is main = absurd (cc)
+
+pub outputs_are : (typed : TypedModule) (served : IsServed typed) → outputs_from typed ≡ served.0
+outputs_are typed served = ap (λ found. unwrap_or found []) served.1
+
+pub body_outputs : (typed : TypedModule) (served : IsServed typed) → outputs_of_list typed.main.body ≡ Some served.0
+body_outputs typed served = then_is (declares_nothing typed) (outputs_of_list typed.main.body) served.0 served.1
+
+pub other_module : (typed : TypedModule) → IsServed typed → is_main typed ≡ false → outputs_from typed ≡ []
+other_module typed served main = outputs_are typed served ∙ no_outputs typed.main.body served.0 (body_outputs typed served) main
+
+-- without a main module there is no code
+no_main_by : (test : Bool) (typed : TypedModule) (others : List TypedModule) → is_main typed ≡ test → IsServed typed → cond test 1 0 + count_by is_main others ≡ 0 → (count_by is_main others ≡ 0 → program_outputs others ≡ []) → program_outputs (typed ∷ others) ≡ []
+no_main_by true typed others main served none rest = absurd (omega (arith, none))
+no_main_by false typed others main served none rest = rw (other_module typed served main) (rest (omega (arith, none)))
+
+pub no_main : (modules : List TypedModule) → AllByRecursion IsServed modules → count_by is_main modules ≡ 0 → program_outputs modules ≡ []
+no_main [] all none = refl
+no_main (typed ∷ others) all none =
+    no_main_by (is_main typed) typed others refl all.0 (sym (sum_by-cons (λ (counted : TypedModule). cond (is_main counted) 1 0) typed others) ∙ none) (no_main others all.1)
+
 module _ (plan : Plan) where
   main_code_is : (body : TypedList) (outputs : List Output) → outputs_of_list body ≡ Some outputs → has_statement body ≡ true → segment_of plan outputs ≡ code_of plan outputs
   main_code_is (ListOf first places NoStatements) outputs is main = absurd (cc)
   main_code_is (ListOf first places (MoreStatements statement others)) outputs is main = some_outputs plan statement others outputs is
-
-  no_outputs : (body : TypedList) (outputs : List Output) → outputs_of_list body ≡ Some outputs → has_statement body ≡ false → outputs ≡ []
-  no_outputs (ListOf first places NoStatements) outputs is main = cc
-  no_outputs (ListOf first places (MoreStatements statement others)) outputs is main = absurd (cc)
-
-  outputs_are : (typed : TypedModule) (served : IsServed typed) → outputs_from typed ≡ served.0
-  outputs_are typed served = ap (λ found. unwrap_or found []) served.1
-
-  body_outputs : (typed : TypedModule) (served : IsServed typed) → outputs_of_list typed.main.body ≡ Some served.0
-  body_outputs typed served = then_is (declares_nothing typed) (outputs_of_list typed.main.body) served.0 served.1
 
   main_module : (typed : TypedModule) → IsServed typed → is_main typed ≡ true → module_code plan typed ≡ code_of plan (outputs_from typed)
   main_module typed served main =
       ap (segment_of plan) (outputs_are typed served)
       ∙ main_code_is typed.main.body served.0 (body_outputs typed served) main
       ∙ sym (ap (code_of plan) (outputs_are typed served))
-
-  other_module : (typed : TypedModule) → IsServed typed → is_main typed ≡ false → outputs_from typed ≡ []
-  other_module typed served main = outputs_are typed served ∙ no_outputs typed.main.body served.0 (body_outputs typed served) main
-
-  -- without a main module there is no code
-  no_main_by : (test : Bool) (typed : TypedModule) (others : List TypedModule) → is_main typed ≡ test → IsServed typed → cond test 1 0 + count_by is_main others ≡ 0 → (count_by is_main others ≡ 0 → program_outputs others ≡ []) → program_outputs (typed ∷ others) ≡ []
-  no_main_by true typed others main served none rest = absurd (omega (arith, none))
-  no_main_by false typed others main served none rest = rw (other_module typed served main) (rest (omega (arith, none)))
-
-  no_main : (modules : List TypedModule) → AllByRecursion IsServed modules → count_by is_main modules ≡ 0 → program_outputs modules ≡ []
-  no_main [] all none = refl
-  no_main (typed ∷ others) all none =
-      no_main_by (is_main typed) typed others refl all.0 (sym (sum_by-cons (λ (counted : TypedModule). cond (is_main counted) 1 0) typed others) ∙ none) (no_main others all.1)
 
   no_code_by : (outputs : List Output) → outputs ≡ [] → segment_of plan outputs ≡ []
   no_code_by outputs is = ap (segment_of plan) is

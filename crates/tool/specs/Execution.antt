@@ -6,8 +6,8 @@ use Rattle.isa8080.specs.Step.{initial_state}
 use Rattle.cpu8080.specs.declared.machine.End.{End}
 use Rattle.cpu8080.specs.declared.machine.End.TheVariants.{Halted}
 use Rattle.cpu8080.specs.Machine.{Machine}
-use Rattle.source_meaning.specs.Outcome.{Ended}
-use Rattle.source_meaning.specs.Run.{Run, source_run}
+use Rattle.meaning.specs.Outcomes.{Ended}
+use Rattle.meaning.specs.Run.{Run, source_run}
 use Rattle.tool.specs.Construction.{Construction, program_modules}
 use Rattle.tool.specs.declared.built.Image.{Image}
 use Rattle.tool.specs.Image.{loaded}

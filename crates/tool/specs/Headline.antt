@@ -8,8 +8,8 @@ use Rattle.isa8080.specs.declared.registers.Status.TheVariants.{Halted, Illegal}
 use Rattle.isa8080.specs.State.{State}
 use Rattle.typed_trees.specs.TypedTrees.{TypedModule}
 use Rattle.layout.specs.Placement.{Placement}
-use Rattle.source_meaning.specs.Outcome.{Ended}
-use Rattle.source_meaning.specs.Run.{Run, source_run, NeverOutside}
+use Rattle.meaning.specs.Outcomes.{Ended}
+use Rattle.meaning.specs.Run.{Run, source_run, NeverOutside}
 use Rattle.tool.specs.declared.built.Image.{Image}
 use Rattle.tool.specs.Image.{machine_run}
 

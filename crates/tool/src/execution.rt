@@ -2,7 +2,7 @@
 
 ghost use Rattle.std.specs.Prelude.{◌≡◌};
 ghost use Rattle.ports.specs.Input.{IsScript};
-ghost use Rattle.source_meaning.specs.Run.{NeverOutside};
+ghost use Rattle.meaning.specs.Run.{NeverOutside};
 ghost use Rattle.cpu8080.specs.Runs.{IsRun};
 ghost use Rattle.tool.specs.Execution.{IsFaithful, source_of, started};
 

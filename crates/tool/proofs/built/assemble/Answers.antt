@@ -4,6 +4,7 @@ use Rattle.placing.specs.Views.{placement_view, stack_end_of}
 use Rattle.mem80.specs.declared.range.Range.{Range}
 use Rattle.tool.specs.Construction.{program_modules}
 use Rattle.tool.proofs.BuiltLemmas.{code_agrees}
+use Rattle.tool.proofs.RunLemmas.{main_module_of}
 use Rattle.tool.proofs.PlacedLemmas.{one_main_module, code_placed, code_within}
 use Rattle.tool.proofs.ServedLemmas.{code_is_main}
 use Rattle.tool.proofs.built.assemble.Goals as goal
@@ -17,7 +18,7 @@ invariant_of-result c =
     let ends : c.args.plan.code + length c.from_vec.result ≤ 65536 =
     omega (arith, c.requires.lawful.code_in_memory, ap (λ (range : Range). range.start) placed, ap (λ (range : Range). range.len) placed, ap length bytes) in
     record {
-      headline = code_agrees modules (placement_view c.args.placement) c.args.plan.stack_size (stack_end_of c.args.plan) _ (bytes ∙ main) refl ends;
+      headline = code_agrees modules (main_module_of modules c.requires.served (one_main_module modules c.requires.joined)) (placement_view c.args.placement) c.args.plan.stack_size (stack_end_of c.args.plan) _ (bytes ∙ main) refl ends;
       joined = c.requires.joined;
       lawful = c.requires.lawful;
       as_planned = c.requires.placed;
