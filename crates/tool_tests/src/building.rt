@@ -63,22 +63,34 @@ fn numbers_of_sources(rt: HostRuntime) -> Result<(), Fail> {
     Ok(())
 }
 
-// The number, the source and the line of the fault that `build` answers for two sources.
+// The fault of an answer, if it has one.
+fn fault_in(answer: &Result<Built, Failure<ToolFault>>) -> Option<ToolFault> {
+    match answer {
+        Err(Failure::Fault(fault)) => Some(*fault),
+        _ => None,
+    }
+}
+
+// The number, the source and the line of a fault.
+fn told(alloc: Global, fault: ToolFault) -> Result<String, Fail> {
+    let number = fault.number();
+    let line = fault.line();
+    match fault.file() {
+        Some(file) => Ok(format!(in alloc; "{number} {file} {line}")?),
+        None => Ok(format!(in alloc; "{number} - {line}")?),
+    }
+}
+
+// What is told of the fault of two sources.
 fn fault_of_two<'a>(alloc: Global, first: &'a [u8], second: &'a [u8]) -> Result<String, Fail> {
     let sources = [first, second].map(|text| Source {
         name: "a.plm",
         text,
     });
-    match build(alloc, &sources, &Plan::usual()) {
-        Err(Failure::Fault(fault)) => {
-            let number = fault.number();
-            let line = fault.line();
-            match fault.file() {
-                Some(file) => Ok(format!(in alloc; "{number} {file} {line}")?),
-                None => Ok(format!(in alloc; "{number} - {line}")?),
-            }
-        }
-        _ => Err(Fail::from("no fault")),
+    let answer = build(alloc, &sources, &Plan::usual());
+    match fault_in(&answer) {
+        Some(fault) => told(alloc, fault),
+        None => Err(Fail::from("no fault")),
     }
 }
 
