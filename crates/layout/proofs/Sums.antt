@@ -162,8 +162,13 @@ values_bytes : (address_of : ℕ → ℕ) (values : List InitialValue)
     → length (flat_map (bytes_of_value address_of) values) ≡ sum_by size_of_value values
 values_bytes address_of [] = refl
 values_bytes address_of (value ∷ values) =
-    omega (arith, length-append (bytes_of_value address_of value) (flat_map (bytes_of_value address_of) values),
-    value_bytes address_of value, values_bytes address_of values, sum_by-cons size_of_value value values)
+    omega (
+      arith,
+      length-append (bytes_of_value address_of value) (flat_map (bytes_of_value address_of) values),
+      value_bytes address_of value,
+      values_bytes address_of values,
+      sum_by-cons size_of_value value values,
+    )
 
 pub bytes_written : (address_of : ℕ → ℕ) (home : Home)
     → length (flat_map (bytes_of_value address_of) (values_in home)) ≡ bytes_filled home

@@ -40,7 +40,7 @@ main_by true typed others main served all one rest =
       typed = typed;
       found = found_first (is_main typed) typed (find is_main others) main;
       outputs = body_outputs typed served
-      ∙ ap Some (sym (outputs_are typed served) ∙ sym (append-nil (outputs_from typed)) ∙ sym (ap (λ more. outputs_from typed ++ more) (no_main others all none)));
+          ∙ ap Some (sym (outputs_are typed served) ∙ sym (append-nil (outputs_from typed)) ∙ sym (ap (λ more. outputs_from typed ++ more) (no_main others all none)));
     }
 main_by false typed others main served all one rest =
     let later = rest (omega (arith, one)) in

@@ -103,12 +103,14 @@ mutual
   kind_is block (IfStatement place condition body otherwise) progress are at =
       then _ _ (value condition progress) _ (value_is condition progress at) (λ tested at_body.
       then _ _ (alone block body tested.1) _ (alone_is block body tested.1 are at_body) (λ chosen one.
-      then _ _ (else_part block otherwise chosen.1) _ (else_part_is block otherwise chosen.1 are one.1) (λ other two.
-      (record {
-        jumps = (one.0.jumps, two.0);
-        stands = (one.0.is_no_label, one.0.stands, two.1);
-        is_no_label = tt;
-      }, two.2))))
+      then _ _ (else_part block otherwise chosen.1) _ (else_part_is block otherwise chosen.1 are one.1) (λ other two. (
+        record {
+          jumps = (one.0.jumps, two.0);
+          stands = (one.0.is_no_label, one.0.stands, two.1);
+          is_no_label = tt;
+        },
+        two.2,
+      ))))
   kind_is block (DoStatement place declared body) progress are at =
       then _ _ (declarations (inner_block block) declared (entered progress)) _
       (declarations_is (inner_block block) declared (entered progress)

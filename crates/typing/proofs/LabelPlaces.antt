@@ -351,12 +351,18 @@ module _ (n : ℕ) where
       ≤ in_procedures procedures + times n (labels_in_procedure procedure)
   put_in [] number procedure = omega arith
   put_in (first ∷ others) zero procedure =
-      omega (arith, times_append n (labels_in_procedure procedure) (flat_map labels_in_procedure others),
-      times_append n (labels_in_procedure first) (flat_map labels_in_procedure others))
+      omega (
+        arith,
+        times_append n (labels_in_procedure procedure) (flat_map labels_in_procedure others),
+        times_append n (labels_in_procedure first) (flat_map labels_in_procedure others),
+      )
   put_in (first ∷ others) (suc number) procedure =
-      omega (arith, put_in others number procedure,
-      times_append n (labels_in_procedure first) (flat_map labels_in_procedure (slice_set others number procedure)),
-      times_append n (labels_in_procedure first) (flat_map labels_in_procedure others))
+      omega (
+        arith,
+        put_in others number procedure,
+        times_append n (labels_in_procedure first) (flat_map labels_in_procedure (slice_set others number procedure)),
+        times_append n (labels_in_procedure first) (flat_map labels_in_procedure others),
+      )
 
   labels_after_body : (bodies : List Body) (here : Here) → (after_body bodies here).labels ≡ here.labels
   labels_after_body [] here = refl
@@ -482,8 +488,15 @@ module _ (n : ℕ) where
         then _ _ (statements block others next typed.1) _ (statements_add block others next typed.1) (λ rest more.
         let kept : below here.labels n ≡ below progress.known.here.labels n =
         ap (λ (limit : ℕ). below limit n) keeps in
-        omega (arith, same, kept, one, more, with_labels names label next (MoreTyped typed.0 rest.0) refl,
-        times_append n (labels_in typed.0) (labels_in_statements rest.0)))))
+        omega (
+          arith,
+          same,
+          kept,
+          one,
+          more,
+          with_labels names label next (MoreTyped typed.0 rest.0) refl,
+          times_append n (labels_in typed.0) (labels_in_statements rest.0),
+        ))))
 
     declaration_adds : (block : Block) (tree : DeclarationTree) (progress : Progress)
         → IfOk (declaration block tree progress) (AddsNone progress)
@@ -516,8 +529,14 @@ module _ (n : ℕ) where
       then _ _ (list_of tree.statements (λ label. statements module_block tree.statements label) declared) _
       (list_adds tree.statements (λ label. statements module_block tree.statements label) declared
       (λ label start. statements_add module_block tree.statements label start)) (λ typed second.
-      omega (arith, first, second, none_below n, below_most typed.1.known.here.labels n,
-      times_append n (flat_map labels_in_procedure typed.1.known.procedures) (labels_in_list typed.0))))
+      omega (
+        arith,
+        first,
+        second,
+        none_below n,
+        below_most typed.1.known.here.labels n,
+        times_append n (flat_map labels_in_procedure typed.1.known.procedures) (labels_in_list typed.0),
+      )))
 
 -- no two labels of a typed module have the same number
 pub labels_differ : (tree : ModuleTree) (found : TypedModule) → typing_of tree ≡ Ok found

@@ -161,8 +161,13 @@ fills_more : (value : InitialValue) (scalar : ScalarType) (scalars : List Scalar
 fills_more value scalar scalars filled same fills = record {
   taken = scalar ∷ fills.taken;
   are_first = ap (λ (others : List ScalarType). scalar ∷ others) fills.are_first;
-  bytes = omega (arith, same, fills.bytes, sum_by-cons size_of_value value filled.values,
-      sum_by-cons size_of_scalar scalar fills.taken);
+  bytes = omega (
+    arith,
+    same,
+    fills.bytes,
+    sum_by-cons size_of_value value filled.values,
+    sum_by-cons size_of_scalar scalar fills.taken,
+  );
 }
 
 fill_scalar_is : (line : ℕ) (scalars : List ScalarType) (value : RestrictedValue)
@@ -214,8 +219,13 @@ fill_is known (value ∷ others) scalars =
       taken = one.taken ++ more.taken;
       are_first = one.are_first ∙ ap (λ (left : List ScalarType). one.taken ++ left) more.are_first
           ∙ sym (append_assoc one.taken more.taken rest.left);
-      bytes = omega (arith, one.bytes, more.bytes, sum_by-append size_of_value first.values rest.values,
-          sum_by-append size_of_scalar one.taken more.taken);
+      bytes = omega (
+        arith,
+        one.bytes,
+        more.bytes,
+        sum_by-append size_of_value first.values rest.values,
+        sum_by-append size_of_scalar one.taken more.taken,
+      );
     }))
 
 -- the bytes of so many scalars from the first on
@@ -239,8 +249,11 @@ first_of_both : (scalars others : List ScalarType) (count more limit : ℕ)
 first_of_both [] others count more limit within most = omega (arith, most count (omega (arith, within)))
 first_of_both (scalar ∷ scalars) others zero more limit within most = omega arith
 first_of_both (scalar ∷ scalars) others (suc count) more limit within most =
-    omega (arith, first_of_both scalars others count more limit (omega (arith, within)) most,
-    sum_by-cons size_of_scalar scalar scalars)
+    omega (
+      arith,
+      first_of_both scalars others count more limit (omega (arith, within)) most,
+      sum_by-cons size_of_scalar scalar scalars,
+    )
 
 first_none : (scalars : List ScalarType) → first_bytes 0 scalars ≡ 0
 first_none [] = refl
@@ -253,11 +266,14 @@ first_of_elements element zero zero all within = omega (arith, first_none (repea
 first_of_elements element zero (suc count) all within = absurd (omega (arith, within, zero-mul (length element)))
 first_of_elements element (suc elements) count zero within = zero-le
 first_of_elements element (suc elements) count (suc all) within =
-    omega (arith, suc-mul elements (sum_by size_of_scalar element),
-    first_of_both element (repeat all element) count (elements * length element)
-    (elements * sum_by size_of_scalar element)
-    (omega (arith, within, suc-mul elements (length element)))
-    (λ fewer few. first_of_elements element elements fewer all few))
+    omega (
+      arith,
+      suc-mul elements (sum_by size_of_scalar element),
+      first_of_both element (repeat all element) count (elements * length element)
+          (elements * sum_by size_of_scalar element)
+          (omega (arith, within, suc-mul elements (length element)))
+          (λ fewer few. first_of_elements element elements fewer all few),
+    )
 
 enough : (used each : ℕ) → 0 < each → used ≤ elements_for used each * each
 enough used each some =
@@ -280,16 +296,24 @@ replicated : (count : ℕ) (scalar : ScalarType)
     → sum_by size_of_scalar (replicate count scalar) ≡ count * size_of_scalar scalar
 replicated zero scalar = sym (zero-mul (size_of_scalar scalar))
 replicated (suc count) scalar =
-    omega (arith, sum_by-cons size_of_scalar scalar (replicate count scalar), replicated count scalar,
-    suc-mul count (size_of_scalar scalar))
+    omega (
+      arith,
+      sum_by-cons size_of_scalar scalar (replicate count scalar),
+      replicated count scalar,
+      suc-mul count (size_of_scalar scalar),
+    )
 
 members_bytes : (members : List TypedMember)
     → sum_by size_of_scalar (flat_map scalars_of_member members) ≡ sum_by size_of_member members
 members_bytes [] = refl
 members_bytes (member ∷ members) =
-    omega (arith, sum_by-append size_of_scalar (scalars_of_member member) (flat_map scalars_of_member members),
-    replicated (count_of member.dimension) member.scalar, members_bytes members,
-    sum_by-cons size_of_member member members)
+    omega (
+      arith,
+      sum_by-append size_of_scalar (scalars_of_member member) (flat_map scalars_of_member members),
+      replicated (count_of member.dimension) member.scalar,
+      members_bytes members,
+      sum_by-cons size_of_member member members,
+    )
 
 element_bytes : (object_type : ObjectType)
     → sum_by size_of_scalar (scalars_of_element object_type) ≡ size_of_element object_type
@@ -300,8 +324,12 @@ repeated : (count : ℕ) (element : List ScalarType)
     → sum_by size_of_scalar (repeat count element) ≡ count * sum_by size_of_scalar element
 repeated zero element = sym (zero-mul (sum_by size_of_scalar element))
 repeated (suc count) element =
-    omega (arith, sum_by-append size_of_scalar element (repeat count element), repeated count element,
-    suc-mul count (sum_by size_of_scalar element))
+    omega (
+      arith,
+      sum_by-append size_of_scalar element (repeat count element),
+      repeated count element,
+      suc-mul count (sum_by size_of_scalar element),
+    )
 
 elements_bytes : (count : ℕ) (object_type : ObjectType)
     → sum_by size_of_scalar (scalars_of_elements count object_type) ≡ count * size_of_element object_type
@@ -312,8 +340,12 @@ elements_bytes count object_type =
 fills_at_most : (scalars : List ScalarType) (filled : Filled) → Fills scalars filled
     → sum_by size_of_value filled.values ≤ sum_by size_of_scalar scalars
 fills_at_most scalars filled fills =
-    omega (arith, fills.bytes, ap (sum_by size_of_scalar) fills.are_first,
-    sum_by-append size_of_scalar fills.taken filled.left)
+    omega (
+      arith,
+      fills.bytes,
+      ap (sum_by size_of_scalar) fills.are_first,
+      sum_by-append size_of_scalar fills.taken filled.left,
+    )
 
 fills_listed : (object_type : ObjectType) (all used : ℕ) (filled : Filled)
     → (fills : Fills (scalars_of_elements all object_type) filled) → used ≡ length fills.taken
