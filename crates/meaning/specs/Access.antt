@@ -1,6 +1,6 @@
 -- Looking at and changing the bytes that a program declares (PL/M-80 Programming Manual, "Arrays and
 -- structures" and "Based variables"). What goes outside the language here is this profile's own.
-use Rattle.std.specs.Prelude.{ℕ, ◌+◌, ◌*◌, ◌/◌, ◌%◌, Bool, true, false, ◌&&◌, nat_le, nat_lt, List, [], slice_get, slice_index, slice_index_or, slice_set, Option, if◌then◌else◌}
+use Rattle.std.specs.Prelude.{ℕ, ◌+◌, ◌*◌, ◌/◌, ◌%◌, Bool, true, ◌&&◌, nat_le, nat_lt, List, [], slice_get, slice_index, slice_index_or, slice_set, if◌then◌else◌}
 use Rattle.std.specs.List.{list_any}
 use Rattle.std.specs.Option.{option_map_or}
 use Rattle.mem80.specs.declared.memory.TheConstants.{MEMORY_SIZE}
@@ -10,9 +10,8 @@ use Rattle.trees.specs.declared.declaration.ScalarType.TheVariants.{Byte, Addres
 use Rattle.typed_trees.specs.TypedTrees.{Home, InFrame, Nowhere, TypedObject, TypedModule}
 use Rattle.layout.specs.Placement.{PlacedPiece, pieces_of, constant_pieces}
 use Rattle.layout.specs.StartingMemory.{address_of_object}
-use Rattle.meaning.specs.declared.reason.Reason.{Reason}
 use Rattle.meaning.specs.declared.reason.Reason.TheVariants.{Byte as UndeclaredByte, Constant}
-use Rattle.meaning.specs.Outcomes.{Program, State, Stop, Outside, Outcome, Gave, Stopped, then_do}
+use Rattle.meaning.specs.Outcomes.{Program, State, Outside, Outcome, Gave, Stopped, then_do}
 
 -- whether one of the pieces has an address
 abbrev pub holds_byte : (address : ℕ) → PlacedPiece → Bool

@@ -1,12 +1,12 @@
 -- The meaning of expressions and statements (PL/M-80 Programming Manual). What calls, further turns of loops
 -- and jumps mean is given from outside, and is tied in a knot by a number.
-use Rattle.std.specs.Prelude.{ℕ, zero, suc, ◌+◌, ◌-◌, ◌*◌, ◌/◌, ◌%◌, ◌==◌, Bool, true, false, ◌&&◌, nat_le, nat_lt, List, [], ◌∷◌, ◌++◌, length, replicate, map, zip, slice_get, slice_index, slice_index_or, Option, Some, None, option_map, if◌then◌else◌}
+use Rattle.std.specs.Prelude.{ℕ, zero, suc, ◌+◌, ◌-◌, ◌*◌, ◌%◌, ◌==◌, Bool, true, false, ◌&&◌, nat_le, nat_lt, List, [], ◌∷◌, ◌++◌, replicate, map, slice_get, slice_index, Option, Some, None, option_map, if◌then◌else◌}
 use Rattle.std.specs.Option.{option_map_or, option_and_then}
 use Rattle.mem80.specs.declared.memory.TheConstants.{MEMORY_SIZE}
 use Rattle.ports.specs.Events.{read_event, write_event}
 use Rattle.ports.specs.Input.{input_value}
 use Rattle.trees.specs.declared.declaration.ScalarType.{ScalarType}
-use Rattle.trees.specs.declared.declaration.ScalarType.TheVariants.{Byte, Address}
+use Rattle.trees.specs.declared.declaration.ScalarType.TheVariants.{Address}
 use Rattle.typed_trees.specs.Charge.{charge_of}
 use Rattle.typed_trees.specs.Sizes.{size_of_object}
 use Rattle.typed_trees.specs.TypedTrees.{TypedExpression, NumberNode, ValueNode, LocationNode, ListNode, ConversionNode, AssignmentNode, UnaryNode, BinaryNode, CallNode, FunctionNode, ShiftNode, InputNode, TypedReference, PartOf, Subscript, NoSubscript, At, TypedTarget, StoredIn, SentTo, TypedArguments, NoArguments, MoreArguments, TypedIteration, TypedStatement, LabelStatement, NullStatement, AssignmentStatement, CallStatement, MoveStatement, ReturnStatement, HaltStatement, GotoStatement, IfStatement, DoStatement, WhileStatement, IterateStatement, CaseStatement, TypedElse, NoElse, ElseStatement, TypedStatements, NoStatements, MoreStatements, TypedList, ListOf, Home, BasedOn, InFrame, TypedObject, TypedProcedure, TypedModule}
@@ -14,8 +14,8 @@ use Rattle.layout.specs.Joined.{InProgram, procedure_meant}
 use Rattle.layout.specs.Placement.{ModulePlacement}
 use Rattle.meaning.specs.declared.reason.Reason.TheVariants.{Divide, Stack}
 use Rattle.meaning.specs.Values.{as_type, function_of, is_true, result_of, result_of_one, shifted, values_of}
-use Rattle.meaning.specs.Outcomes.{Program, State, Stop, Ended, More, Outside, Outcome, Gave, Stopped, then_do, taking_one, Flow, Onward, Returned, Jumped}
-use Rattle.meaning.specs.Access.{Place, InMemory, InTheFrame, Surroundings, address_of, home_of, place_in, place_of, read_byte, read_scalar, write_byte, write_scalar}
+use Rattle.meaning.specs.Outcomes.{Program, State, Ended, More, Outside, Outcome, Gave, Stopped, then_do, taking_one, Flow, Onward, Returned, Jumped}
+use Rattle.meaning.specs.Access.{Place, InMemory, InTheFrame, Surroundings, home_of, place_in, place_of, read_byte, read_scalar, write_byte, write_scalar}
 
 -- a further turn of a loop, from its test on
 pub data Turn : Type 0 where

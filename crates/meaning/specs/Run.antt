@@ -1,5 +1,5 @@
 -- Runs of a program with a budget.
-use Rattle.std.specs.Prelude.{◌≡◌, ◌≢◌, ℕ, suc, List, [], position, find, Option}
+use Rattle.std.specs.Prelude.{◌≢◌, ℕ, suc, List, [], position, find}
 use Rattle.std.specs.Option.{option_map_or}
 use Rattle.ports.specs.declared.event.Event.{Event}
 use Rattle.typed_trees.specs.TypedTrees.{TypedModule}

@@ -1,7 +1,7 @@
 -- The outputs of statements one by one.
 use Rattle.std.proofs.Common.{◌≡◌, ◌≤◌, List, [], ◌∷◌, ◌++◌, length, Option, Some, None, option_map, ap, append_assoc, arith, map, refl, sym}
 use Rattle.typed_trees.specs.declared.statement.TypedStatement.{TypedStatement}
-use Rattle.typed_trees.specs.TypedTrees.{TypedTarget, TypedExpression, AssignmentStatement}
+use Rattle.typed_trees.specs.TypedTrees.{TypedExpression, AssignmentStatement}
 use Rattle.typed_trees.specs.declared.expression.TypedTarget.{TypedTarget as Target}
 use Rattle.typed_trees.specs.Views.{statement_view, statements_view, target_view}
 use Rattle.source_meaning.specs.declared.outputs.Output.{Output}

@@ -1,12 +1,12 @@
 -- What the runs of programs of outputs come to.
-use Rattle.std.proofs.Common.{◌≡◌, ◌≢◌, ℕ, ◌%◌, Bool, true, false, List, [], ◌∷◌, ◌++◌, Option, Some, None, refl, sym, ap, subst, ◌∙◌, append-nil, append_assoc, nat_lt, cond}
+use Rattle.std.proofs.Common.{◌≡◌, ◌≢◌, ℕ, ◌%◌, Bool, true, false, List, [], ◌∷◌, ◌++◌, Option, Some, None, refl, sym, ap, ◌∙◌, append-nil, append_assoc, nat_lt, cond}
 use Rattle.ports.specs.declared.event.Event.{Event}
 use Rattle.ports.specs.Events.{write_event}
 use Rattle.typed_trees.specs.Charge.{charge_of}
-use Rattle.typed_trees.specs.TypedTrees.{TypedExpression, NumberNode, ValueNode, LocationNode, ListNode, ConversionNode, AssignmentNode, UnaryNode, BinaryNode, CallNode, FunctionNode, ShiftNode, InputNode, TypedTarget, StoredIn, SentTo, TypedStatement, LabelStatement, NullStatement, AssignmentStatement, CallStatement, MoveStatement, ReturnStatement, HaltStatement, GotoStatement, IfStatement, DoStatement, WhileStatement, IterateStatement, CaseStatement, TypedStatements, NoStatements, MoreStatements, TypedList, ListOf, TypedModule}
+use Rattle.typed_trees.specs.TypedTrees.{TypedExpression, NumberNode, ValueNode, LocationNode, ListNode, ConversionNode, AssignmentNode, UnaryNode, BinaryNode, CallNode, FunctionNode, ShiftNode, InputNode, StoredIn, SentTo, TypedStatement, LabelStatement, NullStatement, AssignmentStatement, CallStatement, MoveStatement, ReturnStatement, HaltStatement, GotoStatement, IfStatement, DoStatement, WhileStatement, IterateStatement, CaseStatement, TypedStatements, NoStatements, MoreStatements, TypedList, ListOf, TypedModule}
 use Rattle.meaning.specs.declared.reason.Reason.TheVariants.{Stack}
 use Rattle.meaning.specs.Access.{Surroundings}
-use Rattle.meaning.specs.Meaning.{Later, caught_in, charged, done, done_all, done_list, going_on, later_by}
+use Rattle.meaning.specs.Meaning.{Later, caught_in, done, done_all, done_list, going_on}
 use Rattle.meaning.specs.Outcomes.{State, Ended, Outside, Outcome, Gave, Stopped, then_do, Flow, Onward}
 use Rattle.meaning.specs.Run.{Run, main_done, run_of}
 use Rattle.source_meaning.specs.declared.outputs.Output.{Output}

@@ -1,5 +1,5 @@
 -- Modules whose statements are outputs of numbers to ports. The meaning of programs is given for these so far.
-use Rattle.std.specs.Prelude.{ℕ, Bool, ◌&&◌, List, [], ◌∷◌, flat_map, length, ◌==◌, Option, Some, None, option_map, option_and_then, unwrap_or, if◌then◌else◌}
+use Rattle.std.specs.Prelude.{Bool, ◌&&◌, List, [], ◌∷◌, flat_map, length, ◌==◌, Option, Some, None, option_map, option_and_then, unwrap_or, if◌then◌else◌}
 use Rattle.typed_trees.specs.TypedTrees.{TypedExpression, NumberNode, TypedTarget, SentTo, TypedStatement, AssignmentStatement, TypedStatements, NoStatements, MoreStatements, TypedList, ListOf, TypedModule}
 use Rattle.source_meaning.specs.declared.outputs.Output.{Output}
 
