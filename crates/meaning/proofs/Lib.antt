@@ -1,3 +1,4 @@
 pub mod Kept
 pub mod KeptParts
 pub mod KeptStatements
+pub mod KeptCalls
