@@ -2,3 +2,4 @@ pub mod Kept
 pub mod KeptParts
 pub mod KeptStatements
 pub mod KeptCalls
+pub mod Agreement

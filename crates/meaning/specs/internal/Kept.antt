@@ -53,3 +53,12 @@ pub record LaterKeeps (number : ℕ) (later : Later) : Type 0 where
       → Keeps around.program jump_took s (later.again turn around s)
   pub onto : (list : TypedList) (rest : TypedStatements) (around : Surroundings) (s : State)
       → suc s.budget < number → Keeps around.program jump_took s (later.onto list rest around s)
+
+-- two of what is given from outside agree where the budget is below a number
+pub record Agrees (number : ℕ) (one other : Later) : Type 0 where
+  pub call : (at : InProgram) (arguments : List ℕ) (around : Surroundings) (s : State) → s.budget < number
+      → one.call at arguments around s ≡ other.call at arguments around s
+  pub again : (turn : Turn) (around : Surroundings) (s : State) → suc s.budget < number
+      → one.again turn around s ≡ other.again turn around s
+  pub onto : (list : TypedList) (rest : TypedStatements) (around : Surroundings) (s : State)
+      → suc s.budget < number → one.onto list rest around s ≡ other.onto list rest around s
