@@ -24,7 +24,7 @@ frame_back program s t first = record {
   frame = refl;
 }
 
-sets_parameters : (scalars : List ScalarType) (parameters arguments : List ℕ) (around : Surroundings) (s : State) → Keeps around.program nothing_else s (parameters_set around scalars parameters arguments s)
+pub sets_parameters : (scalars : List ScalarType) (parameters arguments : List ℕ) (around : Surroundings) (s : State) → Keeps around.program nothing_else s (parameters_set around scalars parameters arguments s)
 sets_parameters [] parameters arguments around s = (continues_itself around.program s, tt)
 sets_parameters (scalar ∷ scalars) [] arguments around s = (continues_itself around.program s, tt)
 sets_parameters (scalar ∷ scalars) (parameter ∷ parameters) [] around s = (continues_itself around.program s, tt)

@@ -31,7 +31,7 @@ pub then_flow : {A : Type 0} (program : Program) (s : State) (outcome : Outcome 
 then_flow program s outcome go kept rest = keeps_then program nothing_else jump_took (jump_weakens program) s outcome go kept (λ found t first more. rest found t first)
 
 -- one is taken of the budget
-less_budget : (program : Program) (s : State) → Continues program s (record s { budget = s.budget - 1 })
+pub less_budget : (program : Program) (s : State) → Continues program s (record s { budget = s.budget - 1 })
 less_budget program s = record {
   follows = record { budget = omega arith; events = (follows_itself program s).events; size = refl; constants = λ address is. refl };
   frame = refl;
@@ -72,7 +72,7 @@ module _ (number : ℕ) (later : Later) (kept : LaterKeeps number later) where
   returns (Some expression) around s below =
       then_flow around.program s (value later around expression s) _ (value_keeps number later kept expression around s below) (λ found t first. (continues_itself around.program t, tt))
 
-  steps : (step : Option TypedExpression) (around : Surroundings) (s : State) → s.budget < number → Keeps around.program nothing_else s (step_value later around step s)
+  pub steps : (step : Option TypedExpression) (around : Surroundings) (s : State) → s.budget < number → Keeps around.program nothing_else s (step_value later around step s)
   steps None around s below = (continues_itself around.program s, tt)
   steps (Some step) around s below = value_keeps number later kept step around s below
 

@@ -3,3 +3,4 @@ pub mod KeptParts
 pub mod KeptStatements
 pub mod KeptCalls
 pub mod Agreement
+pub mod AgreementStatements
