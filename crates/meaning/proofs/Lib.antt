@@ -4,3 +4,4 @@ pub mod KeptStatements
 pub mod KeptCalls
 pub mod Agreement
 pub mod AgreementStatements
+pub mod Added

@@ -62,3 +62,16 @@ pub record Agrees (number : ℕ) (one other : Later) : Type 0 where
       → one.again turn around s ≡ other.again turn around s
   pub onto : (list : TypedList) (rest : TypedStatements) (around : Surroundings) (s : State)
       → suc s.budget < number → one.onto list rest around s ≡ other.onto list rest around s
+
+-- the events of an outcome begin with those of a state
+abbrev pub ComesAfter : {A : Type 0} → State → Outcome A → Type 0
+ComesAfter s (Gave found t) = IsBeginning s.events t.events
+ComesAfter s (Stopped why t) = IsBeginning s.events t.events
+
+-- what is given from outside only adds events
+pub record LaterAdds (later : Later) : Type 0 where
+  pub call : (at : InProgram) (arguments : List ℕ) (around : Surroundings) (s : State)
+      → ComesAfter s (later.call at arguments around s)
+  pub again : (turn : Turn) (around : Surroundings) (s : State) → ComesAfter s (later.again turn around s)
+  pub onto : (list : TypedList) (rest : TypedStatements) (around : Surroundings) (s : State)
+      → ComesAfter s (later.onto list rest around s)
