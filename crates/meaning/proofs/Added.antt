@@ -26,7 +26,7 @@ pub adds_then : {A B : Type 0} (s : State) (outcome : Outcome A) (go : A → Sta
 adds_then s (Gave found t) go first rest = after_beginning s t (go found t) first (rest found t)
 adds_then s (Stopped why t) go first rest = first
 
-adds_if : {A : Type 0} (s : State) (test : Bool) (one other : Outcome A) → ComesAfter s one → ComesAfter s other → ComesAfter s (cond test one other)
+pub adds_if : {A : Type 0} (s : State) (test : Bool) (one other : Outcome A) → ComesAfter s one → ComesAfter s other → ComesAfter s (cond test one other)
 adds_if s true one other first second = first
 adds_if s false one other first second = second
 
@@ -34,7 +34,7 @@ adds_if s false one other first second = second
 pub adds_taking : {A : Type 0} (s : State) (go : State → Outcome A) → ((t : State) → ComesAfter t (go t)) → ComesAfter s (taking_one s go)
 adds_taking s go rest = adds_if s (s.budget == 0) _ _ (begins_itself s) (after_beginning s (record s { budget = s.budget - 1 }) (go (record s { budget = s.budget - 1 })) (begins_itself s) (rest (record s { budget = s.budget - 1 })))
 
-adds_computed : (found : Option ℕ) (s : State) → ComesAfter s (computed found s)
+pub adds_computed : (found : Option ℕ) (s : State) → ComesAfter s (computed found s)
 adds_computed (Some found) s = begins_itself s
 adds_computed None s = begins_itself s
 
@@ -233,7 +233,7 @@ module _ (later : Later) (adds : LaterAdds later) where
   pub adds_rest : (list : TypedList) (rest : TypedStatements) (around : Surroundings) (s : State) → ComesAfter s (rest_of later list rest around s)
   adds_rest list rest around s = adds_then s (done_all later around rest s) _ (adds_statements rest around s) (λ flow t. adds_caught list flow around t)
 
-  adds_parameters : (scalars : List ScalarType) (parameters arguments : List ℕ) (around : Surroundings) (s : State) → ComesAfter s (parameters_set around scalars parameters arguments s)
+  pub adds_parameters : (scalars : List ScalarType) (parameters arguments : List ℕ) (around : Surroundings) (s : State) → ComesAfter s (parameters_set around scalars parameters arguments s)
   adds_parameters [] parameters arguments around s = begins_itself s
   adds_parameters (scalar ∷ scalars) [] arguments around s = begins_itself s
   adds_parameters (scalar ∷ scalars) (parameter ∷ parameters) [] around s = begins_itself s

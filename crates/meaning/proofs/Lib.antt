@@ -5,3 +5,4 @@ pub mod KeptCalls
 pub mod Agreement
 pub mod AgreementStatements
 pub mod Added
+pub mod Lasting

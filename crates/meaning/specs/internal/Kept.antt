@@ -1,5 +1,5 @@
 -- What holds along each run: of a state and one that comes after it.
-use Rattle.std.specs.Prelude.{◌≡◌, ℕ, suc, ◌<◌, ◌≤◌, Bool, true, List, length, map}
+use Rattle.std.specs.Prelude.{◌≡◌, ℕ, suc, ◌+◌, ◌<◌, ◌≤◌, Bool, true, List, length, map}
 use Rattle.mem80.specs.Memory.{byte_at}
 use Rattle.ports.specs.Events.{IsBeginning}
 use Rattle.layout.specs.Joined.{InProgram}
@@ -75,3 +75,25 @@ pub record LaterAdds (later : Later) : Type 0 where
   pub again : (turn : Turn) (around : Surroundings) (s : State) → ComesAfter s (later.again turn around s)
   pub onto : (list : TypedList) (rest : TypedStatements) (around : Surroundings) (s : State)
       → ComesAfter s (later.onto list rest around s)
+
+-- the same state with so much more budget
+abbrev pub with_more : ℕ → State → State
+with_more more s = record s { budget = s.budget + more }
+
+-- A second outcome, with so much more budget at its beginning: where the first run wants more, the second goes on
+-- from there, and else both come to the same.
+abbrev pub Lasts : {A : Type 0} → ℕ → Outcome A → Outcome A → Type 0
+Lasts more (Gave found t) other = other ≡ Gave found (with_more more t)
+Lasts more (Stopped Ended t) other = other ≡ Stopped Ended (with_more more t)
+Lasts more (Stopped (Outside reason) t) other = other ≡ Stopped (Outside reason) (with_more more t)
+Lasts more (Stopped More t) other = ComesAfter t other
+
+-- what is given from outside, for a run and one with so much more budget
+pub record LaterLasts (number more : ℕ) (one other : Later) : Type 0 where
+  pub call : (at : InProgram) (arguments : List ℕ) (around : Surroundings) (s : State) → s.budget < number
+      → Lasts more (one.call at arguments around s) (other.call at arguments around (with_more more s))
+  pub again : (turn : Turn) (around : Surroundings) (s : State) → suc s.budget < number
+      → Lasts more (one.again turn around s) (other.again turn around (with_more more s))
+  pub onto : (list : TypedList) (rest : TypedStatements) (around : Surroundings) (s : State)
+      → suc s.budget < number
+      → Lasts more (one.onto list rest around s) (other.onto list rest around (with_more more s))
