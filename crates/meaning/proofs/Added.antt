@@ -125,7 +125,7 @@ module _ (later : Later) (adds : LaterAdds later) where
   adds_after_turn turn (Returned found) around t = begins_itself t
   adds_after_turn turn (Jumped label) around t = begins_itself t
 
-  adds_landed : (list : TypedList) (label : ℕ) (rest : Option TypedStatements) (around : Surroundings) (t : State) → ComesAfter t (landed later around list label rest t)
+  pub adds_landed : (list : TypedList) (label : ℕ) (rest : Option TypedStatements) (around : Surroundings) (t : State) → ComesAfter t (landed later around list label rest t)
   adds_landed list label (Some rest) around t = adds.onto list rest around t
   adds_landed list label None around t = begins_itself t
 
@@ -134,7 +134,7 @@ module _ (later : Later) (adds : LaterAdds later) where
   adds_caught list (Returned found) around t = begins_itself t
   adds_caught list (Jumped label) around t = adds_landed list label (rest_from label list) around t
 
-  adds_going : (flow : Flow) (go : State → Outcome Flow) (t : State) → ComesAfter t (go t) → ComesAfter t (going_on flow go t)
+  pub adds_going : (flow : Flow) (go : State → Outcome Flow) (t : State) → ComesAfter t (go t) → ComesAfter t (going_on flow go t)
   adds_going Onward go t rest = rest
   adds_going (Returned found) go t rest = begins_itself t
   adds_going (Jumped label) go t rest = begins_itself t
@@ -247,7 +247,7 @@ module _ (later : Later) (adds : LaterAdds later) where
       (adds_parameters procedure.parameter_types procedure.parameters arguments around (record s { frame = frame_of at typed }))
       (λ done t. adds_then t (done_list later around procedure.body t) _ (adds_list procedure.body around t) (λ flow u. begins_itself u)))
 
-  adds_found : (found : Option (TypedModule × TypedProcedure)) (at : InProgram) (arguments : List ℕ) (around : Surroundings) (s : State)
+  pub adds_found : (found : Option (TypedModule × TypedProcedure)) (at : InProgram) (arguments : List ℕ) (around : Surroundings) (s : State)
       → ComesAfter s
       (option_map_or
       (λ (one : TypedModule × TypedProcedure).

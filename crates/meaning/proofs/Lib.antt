@@ -6,3 +6,5 @@ pub mod Agreement
 pub mod AgreementStatements
 pub mod Added
 pub mod Lasting
+pub mod LastingStatements
+pub mod Runs
