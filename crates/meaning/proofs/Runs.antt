@@ -10,7 +10,7 @@ use Rattle.layout.specs.Placement.{Placement}
 use Rattle.layout.specs.StartingMemory.{starting_memory}
 use Rattle.meaning.specs.declared.reason.Reason.TheVariants.{Stack}
 use Rattle.meaning.specs.Access.{Surroundings}
-use Rattle.meaning.specs.Meaning.{later_by}
+use Rattle.meaning.specs.Meaning.{done_list, later_by}
 use Rattle.meaning.specs.Outcomes.{State, Stop, Ended, More, Outside, Outcome, Gave, Stopped, Flow, Onward}
 use Rattle.meaning.specs.Run.{Run, main_done, number_of_main, run_of, source_run}
 use Rattle.meaning.specs.internal.Kept.{ComesAfter, Lasts, with_more}
@@ -35,11 +35,14 @@ module _ (more : ℕ) where
 
   main_lasts : (budget : ℕ) (typed : TypedModule) (around : Surroundings) (s : State) → s.budget ≡ budget → Lasts more (main_done budget typed around s) (main_done (budget + more) typed around (with_more more s))
   main_lasts budget typed around s is =
-      lasts_if more (nat_lt around.room (charge_of typed.main)) (Stopped (Outside Stack) s) _ (Stopped (Outside Stack) (with_more more s)) _
-      (λ on. refl)
-      (λ off.
-      lasts_list more (suc budget) (later_by (suc budget)) (later_by (suc budget + more)) (later_keeps (suc budget)) (later_adds (suc budget + more)) (later_lasts (suc budget) more)
-      typed.main.body (record around { room = around.room - charge_of typed.main }) s (omega (arith, is)))
+      let within : Surroundings = record around { room = around.room - charge_of typed.main } in
+      let same : suc budget + more ≡ suc (budget + more) = omega arith in
+      let rest : Lasts more (done_list (later_by (suc budget)) within typed.main.body s) (done_list (later_by (suc (budget + more))) within typed.main.body (with_more more s)) =
+      subst (λ count. Lasts more (done_list (later_by (suc budget)) within typed.main.body s) (done_list (later_by count) within typed.main.body (with_more more s))) same
+      (lasts_list more (suc budget) (later_by (suc budget)) (later_by (suc budget + more)) (later_keeps (suc budget)) (later_adds (suc budget + more)) (later_lasts (suc budget) more) typed.main.body within s (omega (arith, is))) in
+      lasts_if more (nat_lt around.room (charge_of typed.main)) (Stopped (Outside Stack) s) (done_list (later_by (suc budget)) within typed.main.body s)
+      (Stopped (Outside Stack) (with_more more s)) (done_list (later_by (suc (budget + more))) within typed.main.body (with_more more s))
+      (λ on. refl) (λ off. rest)
 
   found_lasts : (budget : ℕ) (found : Option TypedModule) (around : Surroundings) (s : State) → s.budget ≡ budget
       → Lasts more (option_map_or (λ (typed : TypedModule). main_done budget typed around s) found (Gave Onward s)) (option_map_or (λ (typed : TypedModule). main_done (budget + more) typed around (with_more more s)) found (Gave Onward (with_more more s)))
