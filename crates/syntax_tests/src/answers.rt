@@ -15,7 +15,7 @@ pub fn hold(rt: &impl Abort, holds: bool) {
 /// Stops the test where a source has another answer than this: the shape of its module, or the number and the line of its fault.
 pub fn check_answer(rt: &impl Abort, alloc: Global, source: &[u8], wanted: &[u8]) {
     let words = scan(alloc, beginning(source)).ok().expect(rt, "words");
-    let mut shape = Shape::new(alloc);
+    let mut shape = Shape::new(alloc, false);
     match parse(alloc, words.as_slice()) {
         Ok(module) => shape.module(&module),
         Err(failure) => shape.failure(failure),

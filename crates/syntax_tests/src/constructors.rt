@@ -1,7 +1,7 @@
 //! Each constructor of a tree, called once with ample memory.
 
 use crate::answers::hold;
-use crate::shape::Shape;
+use crate::shape::{Shape, Shaped};
 use std::alloc::{AllocError, Global};
 use std::process::Abort;
 use trees::{
@@ -64,7 +64,7 @@ fn variable(rt: &impl Abort, alloc: Global, letter: u8) -> Reference {
 
 // Stops the test where a name has other characters than these, or is printed in another way.
 fn check_name(rt: &impl Abort, alloc: Global, name: Name, wanted: &[u8]) {
-    let mut shape = Shape::new(alloc);
+    let mut shape = Shape::new(alloc, false);
     shape.bytes(name.as_slice());
     shape.byte(b' ');
     shape.printed(name);
@@ -90,28 +90,10 @@ fn no_names(rt: HostRuntime) {
     }
 }
 
-// What is written after a shape: nothing, if a name stands at `PLACE`.
-fn elsewhere(place: Place) -> &'static [u8] {
-    if place == PLACE { b"" } else { b" elsewhere" }
-}
-
-// Where the name stands that an expression refers or assigns to, if it does.
-fn place_of_expression(expression: &Expression) -> Place {
-    match expression {
-        Expression::Reference(reference)
-        | Expression::Assignment {
-            target: reference,
-            ..
-        } => reference.name.place,
-        _ => PLACE,
-    }
-}
-
-// Stops the test where an expression has another shape than this, or its name another place.
-fn check(rt: &impl Abort, alloc: Global, expression: Expression, wanted: &[u8]) {
-    let mut shape = Shape::new(alloc);
-    shape.expression(&expression);
-    shape.bytes(elsewhere(place_of_expression(&expression)));
+// Stops the test where a tree has another shape than this, or a name another place.
+fn check<T: Shaped + Drop>(rt: &impl Abort, alloc: Global, tree: T, wanted: &[u8]) {
+    let mut shape = Shape::new(alloc, true);
+    tree.write(&mut shape);
     shape.check(rt, wanted);
 }
 
@@ -125,7 +107,7 @@ fn references(rt: HostRuntime) {
     let base = selector(&rt, b's', list(&rt, alloc, number(1)));
     let member = selector(&rt, b'B', Vec::new(alloc));
     let made = given(&rt, Reference::new(alloc, base, Some(member)));
-    check(&rt, alloc, reference(&rt, alloc, made), b"S(1).B");
+    check(&rt, alloc, reference(&rt, alloc, made), b"S@7(1).B@7");
 }
 
 fn list_of_string(rt: &impl Abort, alloc: Global) -> Expression {
@@ -150,8 +132,8 @@ fn variable_again(rt: &impl Abort, alloc: Global) -> Expression {
 fn leaves(rt: HostRuntime) {
     let alloc = rt.alloc();
     check(&rt, alloc, list_of_string(&rt, alloc), b".('A')");
-    check(&rt, alloc, location(&rt, alloc), b".A");
-    check(&rt, alloc, variable_again(&rt, alloc), b"A");
+    check(&rt, alloc, location(&rt, alloc), b".A@7");
+    check(&rt, alloc, variable_again(&rt, alloc), b"A@7");
 }
 
 #[test]
@@ -162,41 +144,22 @@ fn nodes(rt: HostRuntime) {
     let made = Expression::binary(alloc, BinaryOperator::Add, number(2), given(&rt, made));
     let target = variable(&rt, alloc, b'A');
     let made = Expression::assignment(alloc, target, given(&rt, made));
-    check(&rt, alloc, given(&rt, made), b"(:= A (+ 2 <(- 1)>))");
+    check(&rt, alloc, given(&rt, made), b"(:= A@7 (+ 2 <(- 1)>))");
 }
 
-// Where the name stands that a statement assigns to first, if it does, and where `;` stands.
-fn place_of_statement(kind: &StatementKind) -> Place {
-    match kind {
-        StatementKind::Null(place) => *place,
-        StatementKind::Assignment(assignment) => assignment.target.name.place,
-        _ => PLACE,
-    }
+// A statement without labels.
+fn plain(alloc: Global, kind: StatementKind) -> Statement {
+    Statement::new(Vec::new(alloc), kind)
 }
 
-// Stops the test where a statement with these labels has another shape than this, or another place.
-fn check_labelled(
-    rt: &impl Abort,
-    alloc: Global,
-    labels: Vec<Identifier>,
-    kind: StatementKind,
-    wanted: &[u8],
-) {
-    let statement = Statement::new(labels, kind);
-    let mut shape = Shape::new(alloc);
-    shape.statement(&statement);
-    shape.bytes(elsewhere(place_of_statement(&statement.kind)));
-    shape.check(rt, wanted);
-}
-
-// Stops the test where a statement without labels has another shape than this, or another place.
+// Stops the test where a statement without labels has another shape than this, or a name another place.
 fn check_kind(
     rt: &impl Abort,
     alloc: Global,
     made: Result<StatementKind, AllocError>,
     wanted: &[u8],
 ) {
-    check_labelled(rt, alloc, Vec::new(alloc), given(rt, made), wanted);
+    check(rt, alloc, plain(alloc, given(rt, made)), wanted);
 }
 
 fn assignment(rt: &impl Abort, alloc: Global) -> Result<StatementKind, AllocError> {
@@ -213,8 +176,8 @@ fn call(rt: &impl Abort, alloc: Global) -> Result<StatementKind, AllocError> {
 #[test]
 fn statements(rt: HostRuntime) {
     let alloc = rt.alloc();
-    check_kind(&rt, alloc, assignment(&rt, alloc), b"(= A B 3)");
-    check_kind(&rt, alloc, call(&rt, alloc), b"(CALL P(4))");
+    check_kind(&rt, alloc, assignment(&rt, alloc), b"(= A@7 B@7 3)");
+    check_kind(&rt, alloc, call(&rt, alloc), b"(CALL P@7(4))");
     let made = StatementKind::return_value(alloc, PLACE, None);
     check_kind(&rt, alloc, made, b"(RETURN)");
     let made = StatementKind::return_value(alloc, PLACE, Some(number(5)));
@@ -227,21 +190,18 @@ fn labels(rt: HostRuntime) {
     let names = [identifier(&rt, b'A'), identifier(&rt, b'B')];
     let labels = Vec::from_array(alloc, names).expect(&rt, "out of memory");
     let goto = StatementKind::goto(alloc, PLACE, identifier(&rt, b'B'));
-    check_labelled(&rt, alloc, labels, given(&rt, goto), b"A: B: (GOTO B)");
-}
-
-// A statement without labels.
-fn plain(alloc: Global, kind: StatementKind) -> Statement {
-    Statement::new(Vec::new(alloc), kind)
+    let statement = Statement::new(labels, given(&rt, goto));
+    check(&rt, alloc, statement, b"A@7: B@7: (GOTO B@7)");
 }
 
 #[test]
 fn branches(rt: HostRuntime) {
     let alloc = rt.alloc();
-    check_kind(&rt, alloc, Ok(StatementKind::null(PLACE)), b";");
     let halt = plain(alloc, StatementKind::halt(PLACE));
-    let null = plain(alloc, StatementKind::null(PLACE));
-    let made = StatementKind::if_then(alloc, PLACE, number(1), halt, Some(null));
+    let null = StatementKind::null(PLACE);
+    hold(&rt, matches!(null, StatementKind::Null(PLACE)));
+    let null = Some(plain(alloc, null));
+    let made = StatementKind::if_then(alloc, PLACE, number(1), halt, null);
     check_kind(&rt, alloc, made, b"(IF 1 (HALT) ;)");
 }
 
@@ -270,43 +230,14 @@ fn iterative_do(rt: &impl Abort, alloc: Global) -> Result<StatementKind, AllocEr
 fn groups(rt: HostRuntime) {
     let alloc = rt.alloc();
     check_kind(&rt, alloc, simple_do(&rt, alloc), b"(DO (WHILE 1 (HALT)))");
-    check_kind(&rt, alloc, iterative_do(&rt, alloc), b"(FROM I 1 2)");
+    check_kind(&rt, alloc, iterative_do(&rt, alloc), b"(FROM I@7 1 2)");
     let cases = StatementKind::do_case(alloc, PLACE, number(0), Vec::new(alloc));
     check_kind(&rt, alloc, cases, b"(CASE 0)");
 }
 
-// Where the name after END of a procedure stands, if there is one.
-fn place_of_declaration(declaration: &Declaration) -> Place {
-    match declaration {
-        Declaration::Procedure(procedure) => match &procedure.end_name {
-            Some(name) => name.place,
-            None => PLACE,
-        },
-        Declaration::Declare(_) => PLACE,
-    }
-}
-
-// Stops the test where a declaration has another shape than this, or its name another place.
-fn check_declaration(rt: &impl Abort, alloc: Global, declaration: Declaration, wanted: &[u8]) {
-    let mut shape = Shape::new(alloc);
-    shape.declaration(&declaration);
-    shape.bytes(elsewhere(place_of_declaration(&declaration)));
-    shape.check(rt, wanted);
-}
-
-// Where the name of a definition stands.
-fn place_of_element(element: &Element) -> Place {
-    match element {
-        Element::Literally(definition) => definition.name.place,
-        Element::Item(_) => PLACE,
-    }
-}
-
 fn definition(rt: &impl Abort, alloc: Global) -> Element {
     let text = string(rt, alloc, b'1');
-    let made = given(rt, Element::literally(alloc, identifier(rt, b'N'), text));
-    hold(rt, place_of_element(&made) == PLACE);
-    made
+    given(rt, Element::literally(alloc, identifier(rt, b'N'), text))
 }
 
 fn group(rt: &impl Abort, alloc: Global) -> Element {
@@ -326,7 +257,12 @@ fn declarations(rt: HostRuntime) {
     let alloc = rt.alloc();
     let elements = Vec::from_array(alloc, [definition(&rt, alloc), group(&rt, alloc)]);
     let made = Declaration::declare(elements.expect(&rt, "out of memory"));
-    check_declaration(&rt, alloc, made, b"(DECLARE (N LITERALLY '1') ((A) BYTE))");
+    check(
+        &rt,
+        alloc,
+        made,
+        b"(DECLARE (N@7 LITERALLY '1') ((A@7) BYTE))",
+    );
 }
 
 fn heading(rt: &impl Abort, alloc: Global) -> Heading {
@@ -348,6 +284,6 @@ fn procedures(rt: HostRuntime) {
     };
     let end_name = Some(identifier(&rt, b'P'));
     let made = Declaration::procedure(alloc, heading(&rt, alloc), body, end_name);
-    let wanted = b"(PROCEDURE P BYTE PUBLIC END P)";
-    check_declaration(&rt, alloc, given(&rt, made), wanted);
+    let wanted = b"(PROCEDURE P@7 BYTE PUBLIC END P@7)";
+    check(&rt, alloc, given(&rt, made), wanted);
 }

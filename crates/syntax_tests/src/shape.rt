@@ -1,5 +1,5 @@
-//! The shape of a tree as a text, without places: operators stand before their operands, and a tree that is in parentheses in the
-//! source stands between `<` and `>`. A label stands before its statement, with its colon.
+//! The shape of a tree as a text: operators stand before their operands, and a tree that is in parentheses in the source stands
+//! between `<` and `>`. A label stands before its statement, with its colon. The places of names can be shown, as `A@7`.
 //!
 //! Lists are passed as vectors, since `as_slice` makes proofs longer.
 
@@ -20,13 +20,40 @@ use trees::{
 #[derive(Drop)]
 pub struct Shape {
     text: Vec<u8>,
+    // Whether the place of a name is shown.
+    shows_places: bool,
+}
+
+/// What has a shape.
+pub trait Shaped {
+    /// Writes the shape.
+    fn write(&self, shape: &mut Shape);
+}
+
+impl Shaped for Expression {
+    fn write(&self, shape: &mut Shape) {
+        shape.expression(self);
+    }
+}
+
+impl Shaped for Statement {
+    fn write(&self, shape: &mut Shape) {
+        shape.statement(self);
+    }
+}
+
+impl Shaped for Declaration {
+    fn write(&self, shape: &mut Shape) {
+        shape.declaration(self);
+    }
 }
 
 impl Shape {
-    /// A shape of which nothing is written.
-    pub fn new(alloc: Global) -> Shape {
+    /// A shape of which nothing is written, with or without the places of names.
+    pub fn new(alloc: Global, shows_places: bool) -> Shape {
         Shape {
             text: Vec::new(alloc),
+            shows_places,
         }
     }
 
@@ -54,6 +81,10 @@ impl Shape {
 
     fn name(&mut self, name: &Identifier) {
         self.bytes(name.name.as_slice());
+        if self.shows_places {
+            self.byte(b'@');
+            self.printed(name.place.start);
+        }
     }
 
     /// A module.
@@ -103,9 +134,8 @@ impl Shape {
         }
     }
 
-    /// A statement.
     #[cycle(statement)]
-    pub fn statement(&mut self, statement: &Statement) {
+    fn statement(&mut self, statement: &Statement) {
         for label in &statement.labels {
             self.name(label);
             self.bytes(b": ");
@@ -165,9 +195,8 @@ impl Shape {
         self.ending(&procedure.end_name);
     }
 
-    /// A declaration.
     #[cycle(statement)]
-    pub fn declaration(&mut self, declaration: &Declaration) {
+    fn declaration(&mut self, declaration: &Declaration) {
         match declaration {
             Declaration::Declare(elements) => self.elements(elements),
             Declaration::Procedure(procedure) => self.declaration_of_procedure(procedure),
@@ -201,9 +230,8 @@ impl Shape {
         self.expression(expression);
     }
 
-    /// An expression.
     #[cycle(expression)]
-    pub fn expression(&mut self, expression: &Expression) {
+    fn expression(&mut self, expression: &Expression) {
         self.bytes(opening_of_expression(expression));
         match expression {
             Expression::Constant(value) => self.constant(value),
@@ -247,9 +275,8 @@ impl Shape {
         }
     }
 
-    /// A reference.
     #[cycle(expression)]
-    pub fn reference(&mut self, reference: &Reference) {
+    fn reference(&mut self, reference: &Reference) {
         self.name(&reference.name);
         self.arguments(&reference.arguments);
         if let Some(member) = &reference.member {
