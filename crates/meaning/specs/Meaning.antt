@@ -56,7 +56,7 @@ address_in_memory (InTheFrame object offset is_inside) = 0
 -- the address of a constant list
 abbrev pub address_of_list : Surroundings → (list : ℕ) → ℕ
 address_of_list around list =
-    option_map_or (λ (placed : ModulePlacement). slice_index placed.lists list)
+    option_map_or (λ (placed : ModulePlacement). slice_index placed.lists list % MEMORY_SIZE)
     (slice_get around.program.placement.modules around.number_of_module) 0
 
 -- a division by 0 goes outside

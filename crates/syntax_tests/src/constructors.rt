@@ -1,8 +1,9 @@
 //! Each constructor of a tree, called once with ample memory.
 
+use crate::answers::hold;
+use crate::shape::{Shape, Shaped};
 use std::alloc::{AllocError, Global};
 use std::process::Abort;
-use std::test::Fail;
 use trees::{
     BinaryOperator, Block, Constant, Declaration, Element, Expression, Heading, Identifier, Item,
     ItemType, Iteration, Linkage, Name, Number, Place, Reference, ScalarType, Selector, Statement,
@@ -11,13 +12,26 @@ use trees::{
 
 const PLACE: Place = Place { start: 7, line: 2 };
 
+// What a constructor made.
+fn given<T>(rt: &impl Abort, made: Result<T, AllocError>) -> T {
+    made.expect(rt, "out of memory")
+}
+
+// A list of one item.
+fn list<T: Drop>(rt: &impl Abort, alloc: Global, item: T) -> Vec<T> {
+    let mut items = Vec::new(alloc);
+    items.push(item).ok().expect(rt, "memory");
+    items
+}
+
 fn name(rt: &impl Abort, text: &[u8]) -> Name {
     Name::from_text(text).expect(rt, "a name")
 }
 
-fn identifier(rt: &impl Abort, text: &[u8]) -> Identifier {
+// The name of one letter.
+fn identifier(rt: &impl Abort, letter: u8) -> Identifier {
     Identifier {
-        name: name(rt, text),
+        name: name(rt, &[letter]),
         place: PLACE,
     }
 }
@@ -29,104 +43,108 @@ fn number(value: u16) -> Expression {
     }))
 }
 
-fn is_number(expression: &Expression, value: u16) -> bool {
-    matches!(expression, Expression::Constant(Constant::Number(number)) if number.value == value)
+fn string(rt: &impl Abort, alloc: Global, character: u8) -> StringLiteral {
+    StringLiteral {
+        characters: list(rt, alloc, character),
+        place: PLACE,
+    }
+}
+
+fn selector(rt: &impl Abort, letter: u8, arguments: Vec<Expression>) -> Selector {
+    Selector {
+        name: identifier(rt, letter),
+        arguments,
+    }
+}
+
+fn variable(rt: &impl Abort, alloc: Global, letter: u8) -> Reference {
+    let base = selector(rt, letter, Vec::new(alloc));
+    given(rt, Reference::new(alloc, base, None))
+}
+
+// Stops the test where a name has other characters than these, or is printed in another way.
+fn check_name(rt: &impl Abort, alloc: Global, name: Name, wanted: &[u8]) {
+    let mut shape = Shape::new(alloc, false);
+    shape.bytes(name.as_slice());
+    shape.byte(b' ');
+    shape.printed(name);
+    shape.check(rt, wanted);
 }
 
 #[test]
-fn names(rt: HostRuntime) -> Result<(), Fail> {
+fn names(rt: HostRuntime) {
     let total = name(&rt, b"Total$1");
-    assert_eq!(rt; total.as_slice(), b"TOTAL1".as_slice());
-    assert_eq!(rt; format!(in rt.alloc(); "{total}")?.as_str(), "TOTAL1");
-    assert!(rt; total == name(&rt, b"t$ota$l1"));
-    assert!(rt; total != name(&rt, b"TOTAL"));
+    check_name(&rt, rt.alloc(), total, b"TOTAL1 TOTAL1");
+    hold(&rt, total == name(&rt, b"t$ota$l1"));
+    hold(&rt, total != name(&rt, b"TOTAL"));
     let longest = name(&rt, b"ABCDEFGHIJKLMNOPQRSTUVWXYZ$01234");
-    assert_eq!(rt; longest.as_slice().len(), 31);
-    Ok(())
+    hold(&rt, longest.as_slice().len() == 31);
 }
+
+static NO_NAMES: [&[u8]; 5] = [b"ABCDEFGHIJKLMNOPQRSTUVWXYZ012345", b"1A", b"$", b"", b"A+"];
 
 #[test]
 fn no_names(rt: HostRuntime) {
-    assert!(rt; Name::from_text(b"ABCDEFGHIJKLMNOPQRSTUVWXYZ012345").is_none());
-    assert!(rt; Name::from_text(b"1A").is_none());
-    assert!(rt; Name::from_text(b"$").is_none());
-    assert!(rt; Name::from_text(b"").is_none());
-    assert!(rt; Name::from_text(b"A+").is_none());
+    for text in &NO_NAMES {
+        hold(&rt, Name::from_text(text).is_none());
+    }
 }
 
-fn variable(alloc: Global, name: Identifier) -> Result<Reference, AllocError> {
-    let arguments = Vec::new(alloc);
-    Reference::new(alloc, Selector { name, arguments }, None)
+// Stops the test where a tree has another shape than this, or a name another place.
+fn check<T: Shaped + Drop>(rt: &impl Abort, alloc: Global, tree: T, wanted: &[u8]) {
+    let mut shape = Shape::new(alloc, true);
+    tree.write(&mut shape);
+    shape.check(rt, wanted);
 }
 
-#[test]
-fn references(rt: HostRuntime) -> Result<(), Fail> {
-    let base = Selector {
-        name: identifier(&rt, b"S"),
-        arguments: vec![in rt.alloc(); number(1)]?,
-    };
-    let member = Selector {
-        name: identifier(&rt, b"B"),
-        arguments: Vec::new(rt.alloc()),
-    };
-    let reference = Reference::new(rt.alloc(), base, Some(member))?;
-    assert_eq!(rt; reference.name, identifier(&rt, b"s"));
-    assert!(rt; matches!(reference.arguments.as_slice(), [first] if is_number(first, 1)));
-    assert!(rt; matches!(&reference.member, Some(member) if member.arguments.is_empty()));
-    Ok(())
+fn reference(rt: &impl Abort, alloc: Global, reference: Reference) -> Expression {
+    given(rt, Expression::reference(alloc, reference))
 }
 
 #[test]
-fn leaves(rt: HostRuntime) -> Result<(), Fail> {
-    let literal = StringLiteral {
-        characters: vec![in rt.alloc(); b'A']?,
-        place: PLACE,
-    };
-    let text = Constant::string(rt.alloc(), literal)?;
-    assert!(rt; matches!(&text, Constant::String(literal) if literal.characters.len() == 1));
-    let list = Expression::list(vec![in rt.alloc(); text]?);
-    assert!(rt; matches!(&list, Expression::List(constants) if constants.len() == 1));
-    let location = Expression::location(rt.alloc(), variable(rt.alloc(), identifier(&rt, b"A"))?)?;
-    assert!(rt; matches!(&location, Expression::Location(_)));
-    assert!(rt; location.into_reference().is_err());
-    let reference = Expression::reference(
-        rt.alloc(),
-        variable(rt.alloc(), identifier(&rt, b"A"))?,
-    )?;
-    let Ok(found) = reference.into_reference() else {
-        panic!(rt; "no reference");
-    };
-    assert_eq!(rt; found.name, identifier(&rt, b"A"));
-    Ok(())
-}
-
-#[test]
-fn nodes(rt: HostRuntime) -> Result<(), Fail> {
+fn references(rt: HostRuntime) {
     let alloc = rt.alloc();
-    let inner = Expression::unary(alloc, UnaryOperator::Negate, number(1))?;
-    let inner = Expression::parenthesized(alloc, inner)?;
-    let sum = Expression::binary(alloc, BinaryOperator::Add, number(2), inner)?;
-    let assignment = Expression::assignment(
-        alloc,
-        variable(rt.alloc(), identifier(&rt, b"A"))?,
-        sum,
-    )?;
-    let Expression::Assignment { target, value } = assignment else {
-        panic!(rt; "another expression");
-    };
-    assert_eq!(rt; target.name, identifier(&rt, b"A"));
-    let Expression::Binary(BinaryOperator::Add, left, right) = Box::into_inner(value) else {
-        panic!(rt; "another expression");
-    };
-    assert!(rt; is_number(&left, 2));
-    let Expression::Parenthesized(inner) = Box::into_inner(right) else {
-        panic!(rt; "another expression");
-    };
-    let Expression::Unary(UnaryOperator::Negate, operand) = Box::into_inner(inner) else {
-        panic!(rt; "another expression");
-    };
-    assert!(rt; is_number(&operand, 1));
-    Ok(())
+    let base = selector(&rt, b's', list(&rt, alloc, number(1)));
+    let member = selector(&rt, b'B', Vec::new(alloc));
+    let made = given(&rt, Reference::new(alloc, base, Some(member)));
+    check(&rt, alloc, reference(&rt, alloc, made), b"S@7(1).B@7");
+}
+
+fn list_of_string(rt: &impl Abort, alloc: Global) -> Expression {
+    let text = given(rt, Constant::string(alloc, string(rt, alloc, b'A')));
+    Expression::list(list(rt, alloc, text))
+}
+
+// A location, which is no reference.
+fn location(rt: &impl Abort, alloc: Global) -> Expression {
+    let made = given(rt, Expression::location(alloc, variable(rt, alloc, b'A')));
+    made.into_reference().err().expect(rt, "no reference")
+}
+
+// A variable, which is a reference.
+fn variable_again(rt: &impl Abort, alloc: Global) -> Expression {
+    let made = reference(rt, alloc, variable(rt, alloc, b'A'));
+    let found = made.into_reference().ok().expect(rt, "a reference");
+    reference(rt, alloc, found)
+}
+
+#[test]
+fn leaves(rt: HostRuntime) {
+    let alloc = rt.alloc();
+    check(&rt, alloc, list_of_string(&rt, alloc), b".('A')");
+    check(&rt, alloc, location(&rt, alloc), b".A@7");
+    check(&rt, alloc, variable_again(&rt, alloc), b"A@7");
+}
+
+#[test]
+fn nodes(rt: HostRuntime) {
+    let alloc = rt.alloc();
+    let made = Expression::unary(alloc, UnaryOperator::Negate, number(1));
+    let made = Expression::parenthesized(alloc, given(&rt, made));
+    let made = Expression::binary(alloc, BinaryOperator::Add, number(2), given(&rt, made));
+    let target = variable(&rt, alloc, b'A');
+    let made = Expression::assignment(alloc, target, given(&rt, made));
+    check(&rt, alloc, given(&rt, made), b"(:= A@7 (+ 2 <(- 1)>))");
 }
 
 // A statement without labels.
@@ -134,156 +152,138 @@ fn plain(alloc: Global, kind: StatementKind) -> Statement {
     Statement::new(Vec::new(alloc), kind)
 }
 
-#[test]
-fn statements(rt: HostRuntime) -> Result<(), Fail> {
-    let alloc = rt.alloc();
-    let others = vec![in alloc; variable(rt.alloc(), identifier(&rt, b"B"))?]?;
-    let assignment = StatementKind::assignment(
-        alloc,
-        variable(rt.alloc(), identifier(&rt, b"A"))?,
-        others,
-        number(3),
-    )?;
-    let StatementKind::Assignment(assignment) = assignment else {
-        panic!(rt; "another statement");
-    };
-    assert_eq!(rt; assignment.target.name, identifier(&rt, b"A"));
-    assert_eq!(rt; assignment.others.len(), 1);
-    assert!(rt; is_number(&assignment.value, 3));
-    let procedure = Selector {
-        name: identifier(&rt, b"P"),
-        arguments: vec![in alloc; number(4)]?,
-    };
-    let call = StatementKind::call(alloc, PLACE, procedure)?;
-    assert!(rt;
-        matches!(&call, StatementKind::Call { procedure, .. } if procedure.arguments.len() == 1)
-    );
-    let without = StatementKind::return_value(alloc, PLACE, None)?;
-    assert!(rt; matches!(&without, StatementKind::Return { value: None, .. }));
-    let with = StatementKind::return_value(alloc, PLACE, Some(number(5)))?;
-    assert!(rt;
-        matches!(&with, StatementKind::Return { value: Some(value), .. } if is_number(value, 5))
-    );
-    Ok(())
+// Stops the test where a statement without labels has another shape than this, or a name another place.
+fn check_kind(
+    rt: &impl Abort,
+    alloc: Global,
+    made: Result<StatementKind, AllocError>,
+    wanted: &[u8],
+) {
+    check(rt, alloc, plain(alloc, given(rt, made)), wanted);
+}
+
+fn assignment(rt: &impl Abort, alloc: Global) -> Result<StatementKind, AllocError> {
+    let first = variable(rt, alloc, b'A');
+    let others = list(rt, alloc, variable(rt, alloc, b'B'));
+    StatementKind::assignment(alloc, first, others, number(3))
+}
+
+fn call(rt: &impl Abort, alloc: Global) -> Result<StatementKind, AllocError> {
+    let procedure = selector(rt, b'P', list(rt, alloc, number(4)));
+    StatementKind::call(alloc, PLACE, procedure)
 }
 
 #[test]
-fn labels(rt: HostRuntime) -> Result<(), Fail> {
+fn statements(rt: HostRuntime) {
     let alloc = rt.alloc();
-    let goto = StatementKind::goto(alloc, PLACE, identifier(&rt, b"B"))?;
-    let labels = vec![in alloc; identifier(&rt, b"A"), identifier(&rt, b"B")]?;
-    let statement = Statement::new(labels, goto);
-    assert_eq!(rt; statement.labels.len(), 2);
-    let StatementKind::Goto { label, .. } = &statement.kind else {
-        panic!(rt; "another statement");
-    };
-    assert_eq!(rt; label.name, name(&rt, b"B"));
-    Ok(())
+    check_kind(&rt, alloc, assignment(&rt, alloc), b"(= A@7 B@7 3)");
+    check_kind(&rt, alloc, call(&rt, alloc), b"(CALL P@7(4))");
+    let made = StatementKind::return_value(alloc, PLACE, None);
+    check_kind(&rt, alloc, made, b"(RETURN)");
+    let made = StatementKind::return_value(alloc, PLACE, Some(number(5)));
+    check_kind(&rt, alloc, made, b"(RETURN 5)");
 }
 
 #[test]
-fn branches(rt: HostRuntime) -> Result<(), Fail> {
-    let halt = plain(rt.alloc(), StatementKind::halt(PLACE));
-    let null = plain(rt.alloc(), StatementKind::null(PLACE));
-    let choice = StatementKind::if_then(rt.alloc(), PLACE, number(1), halt, Some(null))?;
-    let StatementKind::If(choice) = choice else {
-        panic!(rt; "another statement");
-    };
-    assert!(rt; is_number(&choice.condition, 1));
-    assert!(rt; matches!(&choice.body.kind, StatementKind::Halt(_)));
-    assert!(rt;
-        matches!(&choice.otherwise, Some(null) if matches!(&null.kind, StatementKind::Null(PLACE)))
-    );
-    Ok(())
+fn labels(rt: HostRuntime) {
+    let alloc = rt.alloc();
+    let names = [identifier(&rt, b'A'), identifier(&rt, b'B')];
+    let labels = Vec::from_array(alloc, names).expect(&rt, "out of memory");
+    let goto = StatementKind::goto(alloc, PLACE, identifier(&rt, b'B'));
+    let statement = Statement::new(labels, given(&rt, goto));
+    check(&rt, alloc, statement, b"A@7: B@7: (GOTO B@7)");
 }
 
 #[test]
-fn groups(rt: HostRuntime) -> Result<(), Fail> {
+fn branches(rt: HostRuntime) {
     let alloc = rt.alloc();
-    let body = vec![in alloc; plain(alloc, StatementKind::halt(PLACE))]?;
-    let held = plain(
-        alloc,
-        StatementKind::do_while(alloc, PLACE, number(1), body)?,
-    );
+    let halt = plain(alloc, StatementKind::halt(PLACE));
+    let null = StatementKind::null(PLACE);
+    hold(&rt, matches!(null, StatementKind::Null(PLACE)));
+    let null = Some(plain(alloc, null));
+    let made = StatementKind::if_then(alloc, PLACE, number(1), halt, null);
+    check_kind(&rt, alloc, made, b"(IF 1 (HALT) ;)");
+}
+
+// A simple DO that holds a DO WHILE.
+fn simple_do(rt: &impl Abort, alloc: Global) -> Result<StatementKind, AllocError> {
+    let halt = plain(alloc, StatementKind::halt(PLACE));
+    let held = StatementKind::do_while(alloc, PLACE, number(1), list(rt, alloc, halt));
     let block = Block {
         declarations: Vec::new(alloc),
-        statements: vec![in alloc; held]?,
+        statements: list(rt, alloc, plain(alloc, given(rt, held))),
     };
-    let StatementKind::Do { block, .. } = StatementKind::simple_do(alloc, PLACE, block)? else {
-        panic!(rt; "another statement");
-    };
-    let [
-        Statement {
-            kind: StatementKind::While(group),
-            ..
-        },
-    ] = block.statements.as_slice()
-    else {
-        panic!(rt; "other statements");
-    };
-    assert_eq!(rt; group.body.len(), 1);
+    StatementKind::simple_do(alloc, PLACE, block)
+}
+
+fn iterative_do(rt: &impl Abort, alloc: Global) -> Result<StatementKind, AllocError> {
     let iteration = Iteration {
-        variable: identifier(&rt, b"I"),
+        variable: identifier(rt, b'I'),
         first: number(1),
         last: number(2),
         step: None,
     };
-    let iterative = StatementKind::iterative_do(alloc, PLACE, iteration, Vec::new(alloc))?;
-    assert!(rt;
-        matches!(&iterative, StatementKind::Iterate(group) if is_number(&group.iteration.last, 2))
-    );
-    let cases = StatementKind::do_case(alloc, PLACE, number(0), Vec::new(alloc))?;
-    assert!(rt; matches!(&cases, StatementKind::Case(group) if is_number(&group.choice, 0)));
-    Ok(())
+    StatementKind::iterative_do(alloc, PLACE, iteration, Vec::new(alloc))
 }
 
 #[test]
-fn declarations(rt: HostRuntime) -> Result<(), Fail> {
+fn groups(rt: HostRuntime) {
     let alloc = rt.alloc();
-    let text = StringLiteral {
-        characters: vec![in alloc; b'1']?,
-        place: PLACE,
-    };
-    let definition = Element::literally(alloc, identifier(&rt, b"ONE"), text)?;
+    check_kind(&rt, alloc, simple_do(&rt, alloc), b"(DO (WHILE 1 (HALT)))");
+    check_kind(&rt, alloc, iterative_do(&rt, alloc), b"(FROM I@7 1 2)");
+    let cases = StatementKind::do_case(alloc, PLACE, number(0), Vec::new(alloc));
+    check_kind(&rt, alloc, cases, b"(CASE 0)");
+}
+
+fn definition(rt: &impl Abort, alloc: Global) -> Element {
+    let text = string(rt, alloc, b'1');
+    given(rt, Element::literally(alloc, identifier(rt, b'N'), text))
+}
+
+fn group(rt: &impl Abort, alloc: Global) -> Element {
     let item = Item {
-        subject: Subject::Group(vec![in alloc; identifier(&rt, b"A")]?),
+        subject: Subject::Group(list(rt, alloc, identifier(rt, b'A'))),
         dimension: None,
         item_type: ItemType::Scalar(ScalarType::Byte),
         linkage: None,
         at: None,
         value_list: None,
     };
-    let elements = vec![in alloc; definition, Element::item(alloc, item)?]?;
-    let Declaration::Declare(elements) = Declaration::declare(elements) else {
-        panic!(rt; "another declaration");
-    };
-    let [Element::Literally(definition), Element::Item(item)] = elements.as_slice() else {
-        panic!(rt; "other elements");
-    };
-    assert_eq!(rt; definition.name, identifier(&rt, b"ONE"));
-    assert_eq!(rt; definition.text.characters.as_slice(), b"1".as_slice());
-    assert!(rt; matches!(&item.subject, Subject::Group(names) if names.len() == 1));
-    Ok(())
+    given(rt, Element::item(alloc, item))
 }
 
 #[test]
-fn procedures(rt: HostRuntime) -> Result<(), Fail> {
-    let heading = Heading {
-        name: identifier(&rt, b"P"),
-        parameters: Vec::new(rt.alloc()),
+fn declarations(rt: HostRuntime) {
+    let alloc = rt.alloc();
+    let elements = Vec::from_array(alloc, [definition(&rt, alloc), group(&rt, alloc)]);
+    let made = Declaration::declare(elements.expect(&rt, "out of memory"));
+    check(
+        &rt,
+        alloc,
+        made,
+        b"(DECLARE (N@7 LITERALLY '1') ((A@7) BYTE))",
+    );
+}
+
+fn heading(rt: &impl Abort, alloc: Global) -> Heading {
+    Heading {
+        name: identifier(rt, b'P'),
+        parameters: Vec::new(alloc),
         result: Some(ScalarType::Byte),
         linkage: Some(Linkage::Public(PLACE)),
         reentrant: None,
-    };
+    }
+}
+
+#[test]
+fn procedures(rt: HostRuntime) {
+    let alloc = rt.alloc();
     let body = Block {
-        declarations: Vec::new(rt.alloc()),
-        statements: Vec::new(rt.alloc()),
+        declarations: Vec::new(alloc),
+        statements: Vec::new(alloc),
     };
-    let end_name = Some(identifier(&rt, b"P"));
-    let made = Declaration::procedure(rt.alloc(), heading, body, end_name)?;
-    let Declaration::Procedure(procedure) = made else {
-        panic!(rt; "another declaration");
-    };
-    assert_eq!(rt; procedure.end_name, Some(procedure.heading.name));
-    Ok(())
+    let end_name = Some(identifier(&rt, b'P'));
+    let made = Declaration::procedure(alloc, heading(&rt, alloc), body, end_name);
+    let wanted = b"(PROCEDURE P@7 BYTE PUBLIC END P@7)";
+    check(&rt, alloc, given(&rt, made), wanted);
 }

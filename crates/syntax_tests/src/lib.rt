@@ -4,9 +4,15 @@
 #[cfg(test)]
 mod accepted;
 #[cfg(test)]
+mod answers;
+#[cfg(test)]
 mod constructors;
 #[cfg(test)]
 mod memory;
 #[cfg(test)]
 mod refused;
+#[cfg(test)]
 mod shape;
+mod source;
+
+pub use source::{LONGEST, beginning};

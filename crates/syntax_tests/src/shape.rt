@@ -1,475 +1,545 @@
-//! The shape of a tree as a text, without places: operators stand before their operands, and a tree that is in parentheses in the
-//! source stands between `<` and `>`. A label stands before its statement, with its colon. `room` bounds how deep the trees go.
+//! The shape of a tree as a text: operators stand before their operands, and a tree that is in parentheses in the source stands
+//! between `<` and `>`. A label stands before its statement, with its colon. The places of names can be shown, as `A@7`.
+//!
+//! Lists are passed as vectors, since `as_slice` makes proofs longer.
 
-use std::fmt;
+use failure::Failure;
+use std::alloc::Global;
+use std::fmt::Display;
+use std::io::Write;
+use std::process::Abort;
+use syntax::Fault;
 use trees::{
-    At, BinaryOperator, Block, Constant, Declaration, Dimension, Element, Expression, Heading,
-    Identifier, Item, ItemType, Iteration, Linkage, Member, Module, Offset, Origin, Procedure,
-    Reference, Restricted, ScalarType, Selector, Sign, Statement, StatementKind, Storage,
-    StringLiteral, Subject, UnaryOperator, ValueList,
+    Assignment, BinaryOperator, Block, Constant, Declaration, Dimension, Element, Expression,
+    Heading, Identifier, IfThen, Item, ItemType, Iteration, Linkage, Member, Module, Number,
+    Offset, Origin, Procedure, Reference, Restricted, ScalarType, Selector, Sign, Statement,
+    StatementKind, Storage, Subject, UnaryOperator, ValueList,
 };
 
-/// How deep a tree may go.
-const ROOM: usize = 300;
+/// The shape of a tree, as far as it is written. Where memory runs out, a part is left out.
+#[derive(Drop)]
+pub struct Shape {
+    text: Vec<u8>,
+    // Whether the place of a name is shown.
+    shows_places: bool,
+}
 
-/// A module, to be written.
-#[derive(Clone, Copy)]
-pub struct Shape<'a>(pub &'a Module);
+/// What has a shape.
+pub trait Shaped {
+    /// Writes the shape.
+    fn write(&self, shape: &mut Shape);
+}
 
-impl fmt::Display for Shape<'_> {
-    fn fmt<W: fmt::Write>(&self, f: &mut fmt::Formatter<W>) -> fmt::Result {
-        let Shape(module) = self;
-        write!(f, "({}", module.name.name)?;
-        block(f, &module.body, ROOM)?;
-        ending(f, module.end_name)?;
-        f.write_str(")")
+impl Shaped for Expression {
+    fn write(&self, shape: &mut Shape) {
+        shape.expression(self);
     }
 }
 
-fn ending<W: fmt::Write>(f: &mut fmt::Formatter<W>, name: Option<Identifier>) -> fmt::Result {
-    match name {
-        Some(found) => write!(f, " END {}", found.name),
-        None => f.write_str(" END"),
+impl Shaped for Statement {
+    fn write(&self, shape: &mut Shape) {
+        shape.statement(self);
     }
 }
 
-#[cycle(statement)]
-fn block<W: fmt::Write>(f: &mut fmt::Formatter<W>, block: &Block, room: usize) -> fmt::Result {
-    if room == 0 {
-        return Err(fmt::Error);
+impl Shaped for Declaration {
+    fn write(&self, shape: &mut Shape) {
+        shape.declaration(self);
     }
-    for declaration in &block.declarations {
-        f.write_str(" ")?;
-        write_declaration(f, declaration, room - 1)?;
-    }
-    statements(f, block.statements.as_slice(), room - 1)
 }
 
-#[cycle(statement)]
-fn statements<W: fmt::Write>(
-    f: &mut fmt::Formatter<W>,
-    statements: &[Statement],
-    room: usize,
-) -> fmt::Result {
-    if room == 0 {
-        return Err(fmt::Error);
+impl Shape {
+    /// A shape of which nothing is written, with or without the places of names.
+    pub fn new(alloc: Global, shows_places: bool) -> Shape {
+        Shape {
+            text: Vec::new(alloc),
+            shows_places,
+        }
     }
-    for statement in statements {
-        f.write_str(" ")?;
-        write_statement(f, statement, room - 1)?;
-    }
-    Ok(())
-}
 
-#[cycle(statement)]
-fn write_statement<W: fmt::Write>(
-    f: &mut fmt::Formatter<W>,
-    statement: &Statement,
-    room: usize,
-) -> fmt::Result {
-    if room == 0 {
-        return Err(fmt::Error);
+    /// Stops the test where another text is written than this.
+    pub fn check(&self, rt: &impl Abort, wanted: &[u8]) {
+        let written = self.text.as_slice();
+        let shown = str::from_utf8(written).unwrap_or("no text");
+        assert!(rt; written == wanted, "found {shown}");
     }
-    for label in &statement.labels {
-        write!(f, "{}: ", label.name)?;
-    }
-    write_kind(f, &statement.kind, room - 1)
-}
 
-#[cycle(statement)]
-fn write_kind<W: fmt::Write>(
-    f: &mut fmt::Formatter<W>,
-    kind: &StatementKind,
-    room: usize,
-) -> fmt::Result {
-    if room == 0 {
-        return Err(fmt::Error);
+    /// A text.
+    pub fn bytes(&mut self, bytes: &[u8]) {
+        let _ = self.text.extend_from_slice(bytes);
     }
-    match kind {
-        StatementKind::Null(_) => f.write_str(";")?,
-        StatementKind::Assignment(assignment) => {
-            f.write_str("(= ")?;
-            write_reference(f, &assignment.target, room - 1)?;
-            for target in &assignment.others {
-                f.write_str(" ")?;
-                write_reference(f, target, room - 1)?;
+
+    /// A character.
+    pub fn byte(&mut self, byte: u8) {
+        let _ = self.text.push(byte);
+    }
+
+    /// What is printed of a number or a name.
+    pub fn printed(&mut self, value: impl Display + Drop) {
+        let _ = write!(self.text, "{value}");
+    }
+
+    fn name(&mut self, name: &Identifier) {
+        self.bytes(name.name.as_slice());
+        if self.shows_places {
+            self.byte(b'@');
+            self.printed(name.place.start);
+        }
+    }
+
+    /// A module.
+    pub fn module(&mut self, module: &Module) {
+        self.byte(b'(');
+        self.name(&module.name);
+        self.block(&module.body);
+        self.ending(&module.end_name);
+    }
+
+    /// The number and the line of a fault, or that memory ran out.
+    pub fn failure(&mut self, failure: Failure<Fault>) {
+        match failure {
+            Failure::Fault(fault) => {
+                self.bytes(fault.number().as_bytes());
+                self.byte(b' ');
+                self.printed(fault.line());
             }
-            f.write_str(" ")?;
-            write_expression(f, &assignment.value, room - 1)?;
-        }
-        StatementKind::Call { procedure, .. } => {
-            f.write_str("(CALL ")?;
-            selector(f, procedure, room - 1)?;
-        }
-        StatementKind::Return { value: None, .. } => f.write_str("(RETURN")?,
-        StatementKind::Return {
-            value: Some(value),
-            ..
-        } => {
-            f.write_str("(RETURN ")?;
-            write_expression(f, value, room - 1)?;
-        }
-        StatementKind::Halt(_) => f.write_str("(HALT")?,
-        StatementKind::Goto { label, .. } => write!(f, "(GOTO {}", label.name)?,
-        StatementKind::If(conditional) => {
-            f.write_str("(IF ")?;
-            write_expression(f, &conditional.condition, room - 1)?;
-            f.write_str(" ")?;
-            write_statement(f, &conditional.body, room - 1)?;
-            if let Some(otherwise) = &conditional.otherwise {
-                f.write_str(" ")?;
-                write_statement(f, otherwise, room - 1)?;
-            }
-        }
-        StatementKind::Do { block: inside, .. } => {
-            f.write_str("(DO")?;
-            block(f, inside, room - 1)?;
-        }
-        StatementKind::While(held) => {
-            f.write_str("(WHILE ")?;
-            write_expression(f, &held.condition, room - 1)?;
-            statements(f, held.body.as_slice(), room - 1)?;
-        }
-        StatementKind::Iterate(held) => {
-            iteration(f, &held.iteration, room - 1)?;
-            statements(f, held.body.as_slice(), room - 1)?;
-        }
-        StatementKind::Case(held) => {
-            f.write_str("(CASE ")?;
-            write_expression(f, &held.choice, room - 1)?;
-            statements(f, held.body.as_slice(), room - 1)?;
+            Failure::Memory => self.bytes(b"out of memory"),
         }
     }
-    if matches!(kind, StatementKind::Null(_)) {
-        Ok(())
-    } else {
-        f.write_str(")")
-    }
-}
 
-fn iteration<W: fmt::Write>(
-    f: &mut fmt::Formatter<W>,
-    iteration: &Iteration,
-    room: usize,
-) -> fmt::Result {
-    write!(f, "(FROM {} ", iteration.variable.name)?;
-    write_expression(f, &iteration.first, room)?;
-    f.write_str(" ")?;
-    write_expression(f, &iteration.last, room)?;
-    if let Some(step) = &iteration.step {
-        f.write_str(" BY ")?;
-        write_expression(f, step, room)?;
+    // END, the name after it, if there is one, and the parenthesis that closes what ends.
+    fn ending(&mut self, name: &Option<Identifier>) {
+        self.bytes(b" END");
+        if let Some(name) = name {
+            self.byte(b' ');
+            self.name(name);
+        }
+        self.byte(b')');
     }
-    Ok(())
-}
 
-fn unary_word(operator: UnaryOperator) -> &'static str {
-    match operator {
-        UnaryOperator::Not => "NOT",
-        UnaryOperator::Negate => "-",
+    #[cycle(statement)]
+    fn block(&mut self, block: &Block) {
+        for declaration in &block.declarations {
+            self.byte(b' ');
+            self.declaration(declaration);
+        }
+        self.statements(&block.statements);
     }
-}
 
-fn binary_word(operator: BinaryOperator) -> &'static str {
-    match operator {
-        BinaryOperator::Or => "OR",
-        BinaryOperator::Xor => "XOR",
-        BinaryOperator::And => "AND",
-        BinaryOperator::Equal => "=",
-        BinaryOperator::Less => "<",
-        BinaryOperator::Greater => ">",
-        BinaryOperator::LessOrEqual => "<=",
-        BinaryOperator::GreaterOrEqual => ">=",
-        BinaryOperator::Unequal => "<>",
-        BinaryOperator::Add => "+",
-        BinaryOperator::Subtract => "-",
-        BinaryOperator::Multiply => "*",
-        BinaryOperator::Divide => "/",
-        BinaryOperator::Modulo => "MOD",
-    }
-}
-
-#[cycle(expression)]
-fn write_expression<W: fmt::Write>(
-    f: &mut fmt::Formatter<W>,
-    expression: &Expression,
-    room: usize,
-) -> fmt::Result {
-    if room == 0 {
-        return Err(fmt::Error);
-    }
-    match expression {
-        Expression::Constant(value) => constant(f, value),
-        Expression::Reference(reference) => write_reference(f, reference, room - 1),
-        Expression::Location(reference) => {
-            f.write_str(".")?;
-            write_reference(f, reference, room - 1)
-        }
-        Expression::List(values) => {
-            f.write_str(".(")?;
-            constants(f, values.as_slice())?;
-            f.write_str(")")
-        }
-        Expression::Parenthesized(inner) => {
-            f.write_str("<")?;
-            write_expression(f, inner, room - 1)?;
-            f.write_str(">")
-        }
-        Expression::Assignment { target, value } => {
-            f.write_str("(:= ")?;
-            write_reference(f, target, room - 1)?;
-            f.write_str(" ")?;
-            write_expression(f, value, room - 1)?;
-            f.write_str(")")
-        }
-        Expression::Unary(operator, operand) => {
-            write!(f, "({} ", unary_word(*operator))?;
-            write_expression(f, operand, room - 1)?;
-            f.write_str(")")
-        }
-        Expression::Binary(operator, left, right) => {
-            write!(f, "({} ", binary_word(*operator))?;
-            write_expression(f, left, room - 1)?;
-            f.write_str(" ")?;
-            write_expression(f, right, room - 1)?;
-            f.write_str(")")
+    #[cycle(statement)]
+    fn statements(&mut self, statements: &Vec<Statement>) {
+        for statement in statements {
+            self.byte(b' ');
+            self.statement(statement);
         }
     }
-}
 
-fn constants<W: fmt::Write>(f: &mut fmt::Formatter<W>, values: &[Constant]) -> fmt::Result {
-    for (place, value) in values.iter().enumerate() {
-        if place > 0 {
-            f.write_str(" ")?;
+    #[cycle(statement)]
+    fn statement(&mut self, statement: &Statement) {
+        for label in &statement.labels {
+            self.name(label);
+            self.bytes(b": ");
         }
-        constant(f, value)?;
-    }
-    Ok(())
-}
-
-fn constant<W: fmt::Write>(f: &mut fmt::Formatter<W>, constant: &Constant) -> fmt::Result {
-    match constant {
-        Constant::Number(number) => write!(f, "{}", number.value),
-        Constant::String(literal) => string(f, literal),
-    }
-}
-
-fn string<W: fmt::Write>(f: &mut fmt::Formatter<W>, literal: &StringLiteral) -> fmt::Result {
-    match str::from_utf8(literal.characters.as_slice()) {
-        Ok(text) => write!(f, "'{text}'"),
-        Err(_) => Err(fmt::Error),
-    }
-}
-
-#[cycle(expression)]
-fn selector<W: fmt::Write>(
-    f: &mut fmt::Formatter<W>,
-    selector: &Selector,
-    room: usize,
-) -> fmt::Result {
-    write!(f, "{}", selector.name.name)?;
-    arguments(f, selector.arguments.as_slice(), room)
-}
-
-#[cycle(expression)]
-fn arguments<W: fmt::Write>(
-    f: &mut fmt::Formatter<W>,
-    arguments: &[Expression],
-    room: usize,
-) -> fmt::Result {
-    if room == 0 {
-        return Err(fmt::Error);
-    }
-    if arguments.is_empty() {
-        return Ok(());
-    }
-    for (place, argument) in arguments.iter().enumerate() {
-        f.write_str(if place == 0 { "(" } else { " " })?;
-        write_expression(f, argument, room - 1)?;
-    }
-    f.write_str(")")
-}
-
-#[cycle(expression)]
-fn write_reference<W: fmt::Write>(
-    f: &mut fmt::Formatter<W>,
-    reference: &Reference,
-    room: usize,
-) -> fmt::Result {
-    if room == 0 {
-        return Err(fmt::Error);
-    }
-    write!(f, "{}", reference.name.name)?;
-    arguments(f, reference.arguments.as_slice(), room - 1)?;
-    if let Some(member) = &reference.member {
-        f.write_str(".")?;
-        selector(f, member, room - 1)?;
-    }
-    Ok(())
-}
-
-#[cycle(statement)]
-fn write_declaration<W: fmt::Write>(
-    f: &mut fmt::Formatter<W>,
-    declaration: &Declaration,
-    room: usize,
-) -> fmt::Result {
-    if room == 0 {
-        return Err(fmt::Error);
-    }
-    match declaration {
-        Declaration::Declare(elements) => {
-            f.write_str("(DECLARE")?;
-            for element in elements {
-                f.write_str(" ")?;
-                write_element(f, element)?;
-            }
-        }
-        Declaration::Procedure(procedure) => {
-            let held: &Procedure = procedure;
-            heading(f, &held.heading)?;
-            block(f, &held.body, room - 1)?;
-            ending(f, held.end_name)?;
+        self.bytes(opening_of_statement(&statement.kind));
+        self.parts(&statement.kind);
+        if !matches!(statement.kind, StatementKind::Null(_)) {
+            self.byte(b')');
         }
     }
-    f.write_str(")")
-}
 
-fn names<W: fmt::Write>(f: &mut fmt::Formatter<W>, names: &[Identifier]) -> fmt::Result {
-    for (place, name) in names.iter().enumerate() {
-        f.write_str(if place == 0 { "(" } else { " " })?;
-        write!(f, "{}", name.name)?;
-    }
-    f.write_str(")")
-}
-
-fn scalar_word(scalar: ScalarType) -> &'static str {
-    match scalar {
-        ScalarType::Byte => "BYTE",
-        ScalarType::Address => "ADDRESS",
-    }
-}
-
-fn linkage_word(linkage: Linkage) -> &'static str {
-    match linkage {
-        Linkage::Public(_) => "PUBLIC",
-        Linkage::External(_) => "EXTERNAL",
-    }
-}
-
-fn heading<W: fmt::Write>(f: &mut fmt::Formatter<W>, heading: &Heading) -> fmt::Result {
-    write!(f, "(PROCEDURE {}", heading.name.name)?;
-    if !heading.parameters.is_empty() {
-        names(f, heading.parameters.as_slice())?;
-    }
-    if let Some(result) = heading.result {
-        write!(f, " {}", scalar_word(result))?;
-    }
-    if let Some(linkage) = heading.linkage {
-        write!(f, " {}", linkage_word(linkage))?;
-    }
-    if heading.reentrant.is_some() {
-        f.write_str(" REENTRANT")?;
-    }
-    Ok(())
-}
-
-fn write_element<W: fmt::Write>(f: &mut fmt::Formatter<W>, element: &Element) -> fmt::Result {
-    match element {
-        Element::Literally(definition) => {
-            write!(f, "({} LITERALLY ", definition.name.name)?;
-            string(f, &definition.text)?;
-        }
-        Element::Item(item) => {
-            f.write_str("(")?;
-            write_item(f, item)?;
-        }
-    }
-    f.write_str(")")
-}
-
-fn write_item<W: fmt::Write>(f: &mut fmt::Formatter<W>, item: &Item) -> fmt::Result {
-    match &item.subject {
-        Subject::Single { name, base: None } => write!(f, "{}", name.name)?,
-        Subject::Single {
-            name,
-            base: Some(base),
-        } => write!(f, "{} BASED {}", name.name, base.name)?,
-        Subject::Group(group) => names(f, group.as_slice())?,
-    }
-    match item.dimension {
-        Some(Dimension::Count(number)) => write!(f, " ({})", number.value)?,
-        Some(Dimension::Implied) => f.write_str(" (*)")?,
-        None => {}
-    }
-    item_type(f, &item.item_type)?;
-    if let Some(linkage) = item.linkage {
-        write!(f, " {}", linkage_word(linkage))?;
-    }
-    if let Some(at) = &item.at {
-        let held: &At = at;
-        f.write_str(" AT ")?;
-        restricted(f, &held.address)?;
-    }
-    if let Some(list) = &item.value_list {
-        value_list(f, list)?;
-    }
-    Ok(())
-}
-
-fn item_type<W: fmt::Write>(f: &mut fmt::Formatter<W>, item_type: &ItemType) -> fmt::Result {
-    match item_type {
-        ItemType::Scalar(scalar) => write!(f, " {}", scalar_word(*scalar)),
-        ItemType::Structure(members) => {
-            f.write_str(" STRUCTURE(")?;
-            for (place, member) in members.iter().enumerate() {
-                if place > 0 {
-                    f.write_str(" ")?;
+    // What stands in a statement between its first word and its end.
+    #[cycle(statement)]
+    fn parts(&mut self, kind: &StatementKind) {
+        match kind {
+            StatementKind::Null(_) | StatementKind::Halt(_) => {}
+            StatementKind::Assignment(assignment) => self.assignment(assignment),
+            StatementKind::Call { procedure, .. } => self.selector(procedure),
+            StatementKind::Return { value, .. } => {
+                if let Some(value) = value {
+                    self.operand(value);
                 }
-                write_member(f, *member)?;
             }
-            f.write_str(")")
+            StatementKind::Goto { label, .. } => self.name(label),
+            StatementKind::If(conditional) => self.branches(conditional),
+            StatementKind::Do { block, .. } => self.block(block),
+            StatementKind::While(held) => {
+                self.expression(&held.condition);
+                self.statements(&held.body);
+            }
+            StatementKind::Iterate(held) => {
+                self.iteration(&held.iteration);
+                self.statements(&held.body);
+            }
+            StatementKind::Case(held) => {
+                self.expression(&held.choice);
+                self.statements(&held.body);
+            }
+        }
+    }
+
+    #[cycle(statement)]
+    fn branches(&mut self, conditional: &IfThen) {
+        self.expression(&conditional.condition);
+        self.byte(b' ');
+        self.statement(&conditional.body);
+        if let Some(otherwise) = &conditional.otherwise {
+            self.byte(b' ');
+            self.statement(otherwise);
+        }
+    }
+
+    #[cycle(statement)]
+    fn declaration_of_procedure(&mut self, procedure: &Procedure) {
+        self.heading(&procedure.heading);
+        self.block(&procedure.body);
+        self.ending(&procedure.end_name);
+    }
+
+    #[cycle(statement)]
+    fn declaration(&mut self, declaration: &Declaration) {
+        match declaration {
+            Declaration::Declare(elements) => self.elements(elements),
+            Declaration::Procedure(procedure) => self.declaration_of_procedure(procedure),
         }
     }
 }
 
-fn write_member<W: fmt::Write>(f: &mut fmt::Formatter<W>, member: Member) -> fmt::Result {
-    write!(f, "{}", member.name.name)?;
-    if let Some(number) = member.dimension {
-        write!(f, "({})", number.value)?;
-    }
-    write!(f, ":{}", scalar_word(member.scalar))
-}
-
-fn value_list<W: fmt::Write>(f: &mut fmt::Formatter<W>, list: &ValueList) -> fmt::Result {
-    f.write_str(match list.storage {
-        Storage::Initial(_) => " INITIAL(",
-        Storage::Data(_) => " DATA(",
-    })?;
-    for (place, value) in list.values.iter().enumerate() {
-        if place > 0 {
-            f.write_str(" ")?;
+impl Shape {
+    fn iteration(&mut self, iteration: &Iteration) {
+        self.name(&iteration.variable);
+        self.operand(&iteration.first);
+        self.operand(&iteration.last);
+        if let Some(step) = &iteration.step {
+            self.bytes(b" BY");
+            self.operand(step);
         }
-        restricted(f, value)?;
     }
-    f.write_str(")")
+
+    fn assignment(&mut self, assignment: &Assignment) {
+        self.reference(&assignment.target);
+        for target in &assignment.others {
+            self.byte(b' ');
+            self.reference(target);
+        }
+        self.operand(&assignment.value);
+    }
+
+    // An expression after another part.
+    fn operand(&mut self, expression: &Expression) {
+        self.byte(b' ');
+        self.expression(expression);
+    }
+
+    #[cycle(expression)]
+    fn expression(&mut self, expression: &Expression) {
+        self.bytes(opening_of_expression(expression));
+        match expression {
+            Expression::Constant(value) => self.constant(value),
+            Expression::Reference(reference) | Expression::Location(reference) => {
+                self.reference(reference);
+            }
+            Expression::List(values) => self.constants(values),
+            Expression::Parenthesized(inner) | Expression::Unary(_, inner) => {
+                self.expression(inner);
+            }
+            Expression::Assignment { target, value } => {
+                self.reference(target);
+                self.byte(b' ');
+                self.expression(value);
+            }
+            Expression::Binary(_, left, right) => {
+                self.expression(left);
+                self.byte(b' ');
+                self.expression(right);
+            }
+        }
+        self.bytes(closing_of_expression(expression));
+    }
+
+    #[cycle(expression)]
+    fn selector(&mut self, selector: &Selector) {
+        self.name(&selector.name);
+        self.arguments(&selector.arguments);
+    }
+
+    #[cycle(expression)]
+    fn arguments(&mut self, arguments: &Vec<Expression>) {
+        let mut before = b'(';
+        for argument in arguments {
+            self.byte(before);
+            self.expression(argument);
+            before = b' ';
+        }
+        if !arguments.is_empty() {
+            self.byte(b')');
+        }
+    }
+
+    #[cycle(expression)]
+    fn reference(&mut self, reference: &Reference) {
+        self.name(&reference.name);
+        self.arguments(&reference.arguments);
+        if let Some(member) = &reference.member {
+            self.byte(b'.');
+            self.selector(member);
+        }
+    }
+
+    fn constant(&mut self, constant: &Constant) {
+        match constant {
+            Constant::Number(number) => self.printed(number.value),
+            Constant::String(literal) => self.string(literal.characters.as_slice()),
+        }
+    }
+
+    fn string(&mut self, characters: &[u8]) {
+        self.byte(b'\'');
+        self.bytes(characters);
+        self.byte(b'\'');
+    }
+
+    // Constants in parentheses, of which the last is not written.
+    fn constants(&mut self, values: &Vec<Constant>) {
+        let mut before = b'(';
+        for value in values {
+            self.byte(before);
+            self.constant(value);
+            before = b' ';
+        }
+    }
 }
 
-fn restricted<W: fmt::Write>(f: &mut fmt::Formatter<W>, restricted: &Restricted) -> fmt::Result {
-    match &restricted.origin {
-        Origin::Constant(value) => constant(f, value)?,
-        Origin::Location(name) => write!(f, ".{}", name.name)?,
+impl Shape {
+    // Names in parentheses, or nothing where there is no name.
+    fn names(&mut self, names: &Vec<Identifier>) {
+        let mut before = b'(';
+        for name in names {
+            self.byte(before);
+            self.name(name);
+            before = b' ';
+        }
+        if !names.is_empty() {
+            self.byte(b')');
+        }
     }
-    for offset in &restricted.offsets {
-        write_offset(f, offset)?;
+
+    fn heading(&mut self, heading: &Heading) {
+        self.bytes(b"(PROCEDURE ");
+        self.name(&heading.name);
+        self.names(&heading.parameters);
+        if let Some(result) = heading.result {
+            self.byte(b' ');
+            self.bytes(scalar_word(result));
+        }
+        self.bytes(linkage_word(heading.linkage));
+        if heading.reentrant.is_some() {
+            self.bytes(b" REENTRANT");
+        }
     }
-    Ok(())
+
+    fn elements(&mut self, elements: &Vec<Element>) {
+        self.bytes(b"(DECLARE");
+        for element in elements {
+            self.byte(b' ');
+            self.element(element);
+        }
+        self.byte(b')');
+    }
+
+    fn element(&mut self, element: &Element) {
+        self.byte(b'(');
+        match element {
+            Element::Literally(definition) => {
+                self.name(&definition.name);
+                self.bytes(b" LITERALLY ");
+                self.string(definition.text.characters.as_slice());
+            }
+            Element::Item(item) => self.item(item),
+        }
+        self.byte(b')');
+    }
+
+    fn item(&mut self, item: &Item) {
+        self.subject(&item.subject);
+        self.dimension(item.dimension);
+        self.item_type(&item.item_type);
+        self.bytes(linkage_word(item.linkage));
+        if let Some(at) = &item.at {
+            self.bytes(b" AT ");
+            self.restricted(&at.address);
+        }
+        if let Some(list) = &item.value_list {
+            self.value_list(list);
+        }
+    }
+
+    fn subject(&mut self, subject: &Subject) {
+        match subject {
+            Subject::Single { name, base } => {
+                self.name(name);
+                if let Some(base) = base {
+                    self.bytes(b" BASED ");
+                    self.name(base);
+                }
+            }
+            Subject::Group(group) => self.names(group),
+        }
+    }
+
+    fn dimension(&mut self, dimension: Option<Dimension>) {
+        match dimension {
+            Some(Dimension::Count(number)) => {
+                self.byte(b' ');
+                self.count(number);
+            }
+            Some(Dimension::Implied) => self.bytes(b" (*)"),
+            None => {}
+        }
+    }
+
+    fn count(&mut self, number: Number) {
+        self.byte(b'(');
+        self.printed(number.value);
+        self.byte(b')');
+    }
+
+    fn item_type(&mut self, item_type: &ItemType) {
+        self.byte(b' ');
+        match item_type {
+            ItemType::Scalar(scalar) => self.bytes(scalar_word(*scalar)),
+            ItemType::Structure(members) => self.members(members),
+        }
+    }
+
+    fn members(&mut self, members: &Vec<Member>) {
+        self.bytes(b"STRUCTURE");
+        let mut before = b'(';
+        for member in members {
+            self.byte(before);
+            self.member(*member);
+            before = b' ';
+        }
+        self.byte(b')');
+    }
+
+    fn member(&mut self, member: Member) {
+        self.name(&member.name);
+        if let Some(number) = member.dimension {
+            self.count(number);
+        }
+        self.byte(b':');
+        self.bytes(scalar_word(member.scalar));
+    }
+
+    fn value_list(&mut self, list: &ValueList) {
+        self.bytes(match list.storage {
+            Storage::Initial(_) => b" INITIAL",
+            Storage::Data(_) => b" DATA",
+        });
+        let mut before = b'(';
+        for value in &list.values {
+            self.byte(before);
+            self.restricted(value);
+            before = b' ';
+        }
+        self.byte(b')');
+    }
+
+    fn restricted(&mut self, restricted: &Restricted) {
+        match &restricted.origin {
+            Origin::Constant(value) => self.constant(value),
+            Origin::Location(name) => {
+                self.byte(b'.');
+                self.name(name);
+            }
+        }
+        for offset in &restricted.offsets {
+            self.offset(offset);
+        }
+    }
+
+    fn offset(&mut self, offset: &Offset) {
+        self.byte(match offset.sign {
+            Sign::Plus => b'+',
+            Sign::Minus => b'-',
+        });
+        self.constant(&offset.constant);
+    }
 }
 
-fn write_offset<W: fmt::Write>(f: &mut fmt::Formatter<W>, offset: &Offset) -> fmt::Result {
-    f.write_str(match offset.sign {
-        Sign::Plus => "+",
-        Sign::Minus => "-",
-    })?;
-    constant(f, &offset.constant)
+fn scalar_word(scalar: ScalarType) -> &'static [u8] {
+    match scalar {
+        ScalarType::Byte => b"BYTE",
+        ScalarType::Address => b"ADDRESS",
+    }
+}
+
+fn linkage_word(linkage: Option<Linkage>) -> &'static [u8] {
+    match linkage {
+        Some(Linkage::Public(_)) => b" PUBLIC",
+        Some(Linkage::External(_)) => b" EXTERNAL",
+        None => b"",
+    }
+}
+
+// What an operator between its operands begins with.
+fn binary_word(operator: BinaryOperator) -> &'static [u8] {
+    match operator {
+        BinaryOperator::Or => b"(OR ",
+        BinaryOperator::Xor => b"(XOR ",
+        BinaryOperator::And => b"(AND ",
+        BinaryOperator::Equal => b"(= ",
+        BinaryOperator::Less => b"(< ",
+        BinaryOperator::Greater => b"(> ",
+        BinaryOperator::LessOrEqual => b"(<= ",
+        BinaryOperator::GreaterOrEqual => b"(>= ",
+        BinaryOperator::Unequal => b"(<> ",
+        BinaryOperator::Add => b"(+ ",
+        BinaryOperator::Subtract => b"(- ",
+        BinaryOperator::Multiply => b"(* ",
+        BinaryOperator::Divide => b"(/ ",
+        BinaryOperator::Modulo => b"(MOD ",
+    }
+}
+
+// What a statement begins with, as far as its kind tells it.
+fn opening_of_statement(kind: &StatementKind) -> &'static [u8] {
+    match kind {
+        StatementKind::Null(_) => b";",
+        StatementKind::Assignment(_) => b"(= ",
+        StatementKind::Call { .. } => b"(CALL ",
+        StatementKind::Return { .. } => b"(RETURN",
+        StatementKind::Halt(_) => b"(HALT",
+        StatementKind::Goto { .. } => b"(GOTO ",
+        StatementKind::If(_) => b"(IF ",
+        StatementKind::Do { .. } => b"(DO",
+        StatementKind::While(_) => b"(WHILE ",
+        StatementKind::Iterate(_) => b"(FROM ",
+        StatementKind::Case(_) => b"(CASE ",
+    }
+}
+
+// What an expression begins with, as far as its kind tells it.
+fn opening_of_expression(expression: &Expression) -> &'static [u8] {
+    match expression {
+        Expression::Constant(_) | Expression::Reference(_) => b"",
+        Expression::Location(_) | Expression::List(_) => b".",
+        Expression::Parenthesized(_) => b"<",
+        Expression::Assignment { .. } => b"(:= ",
+        Expression::Unary(UnaryOperator::Not, _) => b"(NOT ",
+        Expression::Unary(UnaryOperator::Negate, _) => b"(- ",
+        Expression::Binary(operator, _, _) => binary_word(*operator),
+    }
+}
+
+// What an expression ends with, as far as its kind tells it.
+fn closing_of_expression(expression: &Expression) -> &'static [u8] {
+    match expression {
+        Expression::Constant(_) | Expression::Reference(_) | Expression::Location(_) => b"",
+        Expression::Parenthesized(_) => b">",
+        Expression::List(_)
+        | Expression::Assignment { .. }
+        | Expression::Unary(_, _)
+        | Expression::Binary(_, _, _) => b")",
+    }
 }
