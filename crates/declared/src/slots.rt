@@ -64,7 +64,11 @@ impl FrameSlots {
     ghost use Rattle.declared.specs.internal.Cuts.{total};
 
     // No objects yet, and so many procedures.
-    fn without_objects(alloc: Global, objects: usize, procedures: usize) -> Result<FrameSlots, AllocError>
+    fn without_objects(
+        alloc: Global,
+        objects: usize,
+        procedures: usize,
+    ) -> Result<FrameSlots, AllocError>
         ensures { IfOk result (λ slots. slots ≡ record { objects = []; procedures = procedures }) }
     {
         let objects = Vec::with_capacity(alloc, objects)?;
@@ -137,13 +141,16 @@ impl FrameSlots {
         }
     }
 
-    /// The slots of a module. Fails where there is no memory for them, or where an object or a frame takes 4,294,967,295 bytes
-    /// or more.
+    /// The slots of a module. Fails where there is no memory for them, and where an object in a frame takes 4,294,967,295 bytes
+    /// or more, or a frame takes more than that.
     pub fn new(alloc: Global, typed: &Typed) -> Result<FrameSlots, AllocError>
         ensures { IfOk result (λ slots. slots ≡ module_frames (module_view typed.now)) }
     {
-        let mut slots =
-            FrameSlots::without_objects(alloc, typed.objects.len(), typed.procedures.len())?;
+        let mut slots = FrameSlots::without_objects(
+            alloc,
+            typed.objects.len(),
+            typed.procedures.len(),
+        )?;
         for object in typed.objects.as_slice() {
             slots.add(object)?;
         }
