@@ -140,10 +140,11 @@ impl<'a> Frames<'a> {
     pub fn read_scalar(&self, scalar: ScalarType, object: u32, offset: u32) -> u16
         ensures { result ≡ frame_scalar scalar (current_frame self.now) object offset }
     {
-        let low = self.read_at(object, offset as u64) as u16;
+        let first = offset as u64;
+        let low = self.read_at(object, first) as u16;
         match scalar {
             ScalarType::Byte => low,
-            ScalarType::Address => low + 256 * self.read_at(object, offset as u64 + 1) as u16,
+            ScalarType::Address => low + 256 * self.read_at(object, first + 1) as u16,
         }
     }
 
@@ -152,12 +153,11 @@ impl<'a> Frames<'a> {
     pub fn write_scalar(&mut self, scalar: ScalarType, object: u32, offset: u32, number: u16)
         ensures { self.new ≡ with_current (frame_with_scalar scalar object offset number) self.old }
     {
-        self.write_at(object, offset as u64, (number % 256) as u8);
+        let first = offset as u64;
+        self.write_at(object, first, (number % 256) as u8);
         match scalar {
             ScalarType::Byte => (),
-            ScalarType::Address => {
-                self.write_at(object, offset as u64 + 1, (number / 256) as u8);
-            }
+            ScalarType::Address => self.write_at(object, first + 1, (number / 256) as u8),
         }
     }
 }
