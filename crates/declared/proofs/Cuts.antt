@@ -1,6 +1,6 @@
 -- Bytes cut into pieces: a byte of a piece is a byte of the whole.
-use Rattle.std.proofs.Common.{◌≡◌, ℕ, zero, suc, ◌+◌, ◌-◌, ◌<◌, ◌≤◌, min, List, [], ◌∷◌, length, take, drop, get_or, set, map, replicate, refl, ap, sym, subst, ◌∙◌, arith}
-use Rattle.std.proofs.lemmas.List.{length-take, get_or-take, get_or-drop, get_or_past, set_past, take-set-le, drop-set-lt, drop-set-add, take-replicate, drop-replicate}
+use Rattle.std.proofs.Common.{◌≡◌, ℕ, zero, suc, ◌+◌, ◌-◌, ◌<◌, ◌≤◌, min, List, [], ◌∷◌, length, take, drop, get_or, set, replicate, refl, ap, sym, ◌∙◌, arith}
+use Rattle.std.proofs.lemmas.List.{length-take, drop-drop, set_past, take-set-le, drop-set-lt, drop-set-add, take-replicate, drop-replicate}
 use Rattle.std.proofs.Math.Seq.{take-set-lt}
 use Rattle.declared.specs.Frames.{zeroed}
 use Rattle.declared.specs.internal.Cuts.{cut, total}
@@ -8,40 +8,26 @@ use Rattle.declared.specs.internal.Cuts.{cut, total}
 taken_short : (size offset : ℕ) (bytes : List ℕ) → size ≤ offset → length (take size bytes) ≤ offset
 taken_short size offset bytes past = let is : length (take size bytes) ≡ min size (length bytes) = length-take size bytes in omega arith
 
--- a byte of a piece lies within the whole
-pub place_within :
-    (sizes : List ℕ) (object offset : ℕ)
-    → offset < get_or sizes object 0
-    → total (take object sizes) + offset < total sizes
-place_within [] object offset within = absurd (omega arith)
-place_within (size ∷ sizes) zero offset within = omega arith
-place_within (size ∷ sizes) (suc object) offset within =
-    let others : total (take object sizes) + offset < total sizes = place_within sizes object offset within in
+-- a piece lies within the whole
+pub piece_within :
+    (sizes : List ℕ) (object : ℕ)
+    → total (take object sizes) + get_or sizes object 0 ≤ total sizes
+piece_within [] zero = omega arith
+piece_within [] (suc object) = omega arith
+piece_within (size ∷ sizes) zero = omega arith
+piece_within (size ∷ sizes) (suc object) =
+    let others : total (take object sizes) + get_or sizes object 0 ≤ total sizes = piece_within sizes object in
     omega arith
 
-pub read_inside :
-    (sizes bytes : List ℕ) (object offset place : ℕ)
-    → offset < get_or sizes object 0
-    → place ≡ total (take object sizes) + offset
-    → get_or bytes place 0 ≡ get_or (get_or (cut sizes bytes) object []) offset 0
-read_inside [] bytes object offset place within is = absurd (omega arith)
-read_inside (size ∷ sizes) bytes zero offset place within is =
-    let same : place ≡ offset = omega arith in
-    ap (λ k. get_or bytes k 0) same ∙ sym (get_or-take size bytes offset 0 within)
-read_inside (size ∷ sizes) bytes (suc object) offset place within is =
-    let same : place ≡ size + (total (take object sizes) + offset) = omega arith in
-    ap (λ k. get_or bytes k 0) same
-    ∙ sym (get_or-drop size bytes (total (take object sizes) + offset) 0)
-    ∙ read_inside sizes (drop size bytes) object offset (total (take object sizes) + offset) within refl
-
-pub read_outside :
-    (sizes bytes : List ℕ) (object offset : ℕ)
-    → get_or sizes object 0 ≤ offset
-    → 0 ≡ get_or (get_or (cut sizes bytes) object []) offset 0
-read_outside [] bytes object offset past = refl
-read_outside (size ∷ sizes) bytes zero offset past =
-    sym (get_or_past (take size bytes) offset 0 (taken_short size offset bytes past))
-read_outside (size ∷ sizes) bytes (suc object) offset past = read_outside sizes (drop size bytes) object offset past
+-- a piece as a part of the whole
+pub piece_is :
+    (sizes bytes : List ℕ) (object : ℕ)
+    → get_or (cut sizes bytes) object [] ≡ take (get_or sizes object 0) (drop (total (take object sizes)) bytes)
+piece_is [] bytes object = refl
+piece_is (size ∷ sizes) bytes zero = refl
+piece_is (size ∷ sizes) bytes (suc object) =
+    piece_is sizes (drop size bytes) object
+    ∙ ap (take (get_or sizes object 0)) (drop-drop (total (take object sizes)) size bytes)
 
 pub write_inside :
     (sizes bytes : List ℕ) (object offset place byte : ℕ)

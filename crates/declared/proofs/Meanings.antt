@@ -10,7 +10,7 @@ use Rattle.meaning.specs.Outcomes.{Program, State, Outside, Outcome, Gave, Stopp
 use Rattle.meaning.specs.Access.{InMemory, InTheFrame, is_declared, is_constant, read_byte, write_byte, read_scalar, write_scalar}
 use Rattle.meaning.specs.Meaning.{is_frame_of, frame_of}
 use Rattle.declared.specs.Access.{is_declared_at, is_constant_at, byte_read, Written, written, refused, byte_written, next_address, number_of_bytes, scalar_read, then_write, scalar_written}
-use Rattle.declared.specs.Frames.{FrameObject, frame_object_by, frame_object, module_frames, is_procedure, size_in, zeroed_frame, current_frame, with_current, frame_with_byte, frame_scalar, frame_with_scalar}
+use Rattle.declared.specs.Frames.{frame_object_by, frame_object, module_frames, size_in, zeroed_frame, current_frame, with_current, frame_scalar, frame_with_scalar}
 
 -- a part of a run that answers so
 abbrev pub answered : {A : Type 0} → Result A Reason → State → Outcome A

@@ -1,12 +1,12 @@
 -- The slots of objects in frames, one more after another.
-use Rattle.std.proofs.Common.{◌≡◌, ◌≢◌, inl, inr, ℕ, zero, suc, ◌+◌, ◌<◌, ◌≤◌, ◌==◌, eqb, Bool, true, false, cond, List, [], ◌∷◌, ◌++◌, length, take, get_or, set, map, Option, Some, None, refl, ap, sym, subst, ◌∙◌, arith}
+use Rattle.std.proofs.Common.{◌≡◌, ◌≢◌, inl, inr, ℕ, zero, suc, ◌+◌, ◌<◌, ◌≤◌, ◌==◌, eqb, true, false, cond, List, [], ◌∷◌, ◌++◌, length, take, get_or, set, map, Option, Some, None, refl, ap, sym, subst, ◌∙◌, arith}
 use Rattle.std.specs.Option.{option_eq}
-use Rattle.std.proofs.lemmas.List.{length-append, length-set, length-map, get_or_append_left, get_or_push, get_or-set_same, get_or-set_other, take_all}
+use Rattle.std.proofs.lemmas.List.{length-append, length-set, get_or_append_left, get_or_push, get_or-set_same, get_or-set_other}
 use Rattle.std.proofs.lemmas.Bool.Decides.{nat_tests}
 use Rattle.std.proofs.lemmas.Bool.{cases_eq}
 use Rattle.std.proofs.Math.Decide.{dec_le}
 use Rattle.declared.specs.declared.slots.ObjectSlot.{ObjectSlot}
-use Rattle.declared.specs.Frames.{FrameObject, ModuleFrames, is_procedure, size_in, sizes_in}
+use Rattle.declared.specs.Frames.{ModuleFrames, is_procedure, size_in, sizes_in}
 use Rattle.declared.specs.internal.Cuts.{total}
 use Rattle.declared.specs.internal.Slots.{slot_view, slot_sizes, AreSlots}
 
@@ -174,13 +174,9 @@ size_of_other p size (Some other) is = another other p size is
     another : (other p size : ℕ) → eqb other p ≡ false → cond (p == other) size 0 ≡ 0
     another other p size is = grind (arith, nat_tests)
 
-size_at_most : (is_there : Bool) (size : ℕ) → cond is_there size 0 ≤ size
-size_at_most true size = omega arith
-size_at_most false size = omega arith
-
--- what a look-up finds: the object is in the frame of the procedure, and has so many bytes
-pub placed_inside :
-    (slots found : List ObjectSlot) (sizes : List ℕ) (frames : ModuleFrames) (k p offset : ℕ) (slot : ObjectSlot)
+-- what a look-up finds: the object is in the frame of the procedure
+pub part_there :
+    (slots found : List ObjectSlot) (sizes : List ℕ) (frames : ModuleFrames) (k p : ℕ) (slot : ObjectSlot)
     → AreSlots slots sizes
     → record { objects = map slot_view slots; procedures = length sizes } ≡ frames
     → found ≡ slots
@@ -188,50 +184,34 @@ pub placed_inside :
     → slot ≡ get_or found k slot
     → option_eq eqb slot.procedure (Some p) ≡ true
     → p < frames.procedures
-    → offset < slot.size
-    → (offset < get_or (sizes_in p frames.objects) k 0)
-    × (slot.start + offset ≡ total (take k (sizes_in p frames.objects)) + offset)
-placed_inside slots found sizes frames k p offset slot are is_view is_found within is tested p_within inside =
+    → (slot.size ≡ get_or (sizes_in p frames.objects) k 0)
+    × (slot.start ≡ total (take k (sizes_in p frames.objects)))
+part_there slots found sizes frames k p slot are is_view is_found within is tested p_within =
     let of_procedure : slot.procedure ≡ Some p = same_option p slot.procedure tested in
     let here : k < length slots = subst (λ now. k < length now) is_found within in
     let at : slot ≡ get_or slots k slot = is ∙ ap (λ now. get_or now k slot) is_found in
     let known : p < length sizes = subst (λ (now : ModuleFrames). p < now.procedures) (sym is_view) p_within in
-    let whole : get_or (slot_sizes p slots) k 0 ≡ slot.size =
-    size_at slots k p slot here at ∙ same_procedure p slot.size slot.procedure of_procedure in
-    let bound : offset < get_or (slot_sizes p slots) k 0 = omega arith in
     subst
     (λ (now : ModuleFrames).
-    (offset < get_or (sizes_in p now.objects) k 0)
-    × (slot.start + offset ≡ total (take k (sizes_in p now.objects)) + offset))
-    is_view
-    (bound, ap (λ n. n + offset) (are.starts k p slot here at of_procedure known))
+    (slot.size ≡ get_or (sizes_in p now.objects) k 0)
+    × (slot.start ≡ total (take k (sizes_in p now.objects))))
+    is_view (
+      sym (size_at slots k p slot here at ∙ same_procedure p slot.size slot.procedure of_procedure),
+      are.starts k p slot here at of_procedure known,
+    )
 
--- and where the object is not in the frame, or has not so many bytes
-pub placed_nowhere :
-    (slots found : List ObjectSlot) (frames : ModuleFrames) (procedures k p offset : ℕ) (slot : ObjectSlot)
+-- and where the object is not in it
+pub part_not_there :
+    (slots found : List ObjectSlot) (frames : ModuleFrames) (procedures k p : ℕ) (slot : ObjectSlot)
     → record { objects = map slot_view slots; procedures = procedures } ≡ frames
     → found ≡ slots
     → k < length found
     → slot ≡ get_or found k slot
-    → size_in p (slot_view slot) ≤ offset
-    → get_or (sizes_in p frames.objects) k 0 ≤ offset
-placed_nowhere slots found frames procedures k p offset slot is_view is_found within is past =
-    let here : get_or (slot_sizes p slots) k 0 ≡ size_in p (slot_view slot) =
-    size_at slots k p slot (subst (λ now. k < length now) is_found within)
-    (is ∙ ap (λ now. get_or now k slot) is_found) in
-    let bound : get_or (slot_sizes p slots) k 0 ≤ offset = omega arith in
-    subst (λ (now : ModuleFrames). get_or (sizes_in p now.objects) k 0 ≤ offset) is_view bound
-
-pub too_short : (p offset : ℕ) (slot : ObjectSlot) → slot.size ≤ offset → size_in p (slot_view slot) ≤ offset
-too_short p offset slot past =
-    let most : size_in p (slot_view slot) ≤ slot.size =
-    size_at_most (is_procedure p slot.procedure) slot.size in
-    omega arith
-
-pub not_there :
-    (p offset : ℕ) (slot : ObjectSlot)
     → option_eq eqb slot.procedure (Some p) ≡ false
-    → size_in p (slot_view slot) ≤ offset
-not_there p offset slot is =
-    let none : size_in p (slot_view slot) ≡ 0 = size_of_other p slot.size slot.procedure is in
-    omega arith
+    → 0 ≡ get_or (sizes_in p frames.objects) k 0
+part_not_there slots found frames procedures k p slot is_view is_found within is tested =
+    sym
+    (ap (λ (now : ModuleFrames). get_or (sizes_in p now.objects) k 0) (sym is_view)
+    ∙ size_at slots k p slot (subst (λ now. k < length now) is_found within)
+    (is ∙ ap (λ now. get_or now k slot) is_found)
+    ∙ size_of_other p slot.size slot.procedure tested)

@@ -1,8 +1,8 @@
 //! The frames of calls.
 
-ghost use Rattle.std.specs.Prelude.{◌≡◌, ◌++◌, MatchResult, replicate};
+ghost use Rattle.std.specs.Prelude.{◌≡◌, ◌+◌, ◌++◌, ◌≤◌, MatchResult, if◌then◌else◌, length, nat_lt, replicate, slice_index, slice_set};
 
-use crate::slots::FrameSlots;
+use crate::slots::{FrameSlots, Part};
 use std::alloc::{AllocError, Global};
 use std::marker::Model;
 use trees::ScalarType;
@@ -41,6 +41,53 @@ fn add_zeros(bytes: &mut Vec<u8>, count: u32) -> Result<(), AllocError>
 {
     let end = bytes.len() + count as usize;
     bytes.resize(end, 0)
+}
+
+// A byte of some bytes, 0 past their end.
+#[inline(always)]
+fn byte_of(bytes: &[u8], offset: usize) -> u8
+    ensures { result ≡ slice_index bytes.now offset }
+{
+    if offset < bytes.len() {
+        bytes[offset]
+    } else {
+        0
+    }
+}
+
+// Changes a byte of a part of some bytes. Past its end nothing changes.
+#[inline(always)]
+fn set_byte_of(bytes: &mut [u8], part: Part, offset: usize, byte: u8)
+    requires { part.start + part.size ≤ length bytes.old }
+    ensures { bytes.new
+        ≡ (if nat_lt offset part.size then slice_set bytes.old (part.start + offset) byte else bytes.old) }
+{
+    if offset < part.size {
+        bytes[part.start + offset] = byte;
+    }
+}
+
+impl OpenFrame<'_> {
+    ghost use Rattle.std.specs.Prelude.{◌≡◌, ◌+◌, ◌^◌, ◌<◌, ◌≤◌, slice_index, take};
+    ghost use Rattle.declared.specs.internal.Cuts.{total};
+    ghost use Rattle.declared.specs.internal.Nesting.{sizes_of};
+
+    // The bytes of an object among those of all frames: none where it is not in the frame.
+    #[inline(always)]
+    fn part(&self, object: u32) -> Part
+        requires procedure { (self.now).procedure < ((self.now).slots.now).procedures }
+        requires end { (self.now).base + total (sizes_of self.now) < 2 ^ 64 }
+        ensures size { result.size ≡ slice_index (sizes_of self.now) object }
+        ensures start { 0 < result.size
+            → result.start ≡ (self.now).base + total (take object (sizes_of self.now)) }
+        ensures within { result.start + result.size ≤ (self.now).base + total (sizes_of self.now) }
+    {
+        let part = self.slots.part(self.procedure, object);
+        Part {
+            start: self.base + part.start,
+            size: part.size,
+        }
+    }
 }
 
 impl<'a> Frames<'a> {
@@ -92,31 +139,16 @@ impl<'a> Frames<'a> {
         }
     }
 
-    // Reads a byte of an object in the last frame, or 0 where there is none.
+    // The bytes of an object in the last frame: none where it is not there.
     #[inline(always)]
-    fn read_at(&self, object: u32, offset: u64) -> u8
-        ensures { result ≡ slice_index (frame_bytes (current_frame self.now) object) offset }
+    fn bytes_of(&self, object: u32) -> &[u8]
+        ensures { result.now ≡ frame_bytes (current_frame self.now) object }
     {
         let Some(frame) = self.current else {
-            return 0;
+            return &[];
         };
-        match frame.slots.place(frame.procedure, object, offset) {
-            Some(place) => self.bytes[frame.base + place],
-            None => 0,
-        }
-    }
-
-    // Writes a byte of an object in the last frame, where there is one.
-    #[inline(always)]
-    fn write_at(&mut self, object: u32, offset: u64, byte: u8)
-        ensures { self.new ≡ with_current (frame_with_byte object offset byte) self.old }
-    {
-        let Some(frame) = self.current else {
-            return;
-        };
-        if let Some(place) = frame.slots.place(frame.procedure, object, offset) {
-            self.bytes[frame.base + place] = byte;
-        }
+        let part = frame.part(object);
+        &self.bytes[part.start..part.start + part.size]
     }
 
     /// Reads a byte of an object in the last frame, so many bytes after where the object begins: 0 where there is none.
@@ -124,7 +156,7 @@ impl<'a> Frames<'a> {
     pub fn read(&self, object: u32, offset: u32) -> u8
         ensures { result ≡ slice_index (frame_bytes (current_frame self.now) object) offset }
     {
-        self.read_at(object, offset as u64)
+        byte_of(self.bytes_of(object), offset as usize)
     }
 
     /// Writes a byte of an object in the last frame. Where there is none, nothing changes.
@@ -132,7 +164,10 @@ impl<'a> Frames<'a> {
     pub fn write(&mut self, object: u32, offset: u32, byte: u8)
         ensures { self.new ≡ with_current (frame_with_byte object offset byte) self.old }
     {
-        self.write_at(object, offset as u64, byte);
+        let Some(frame) = self.current else {
+            return;
+        };
+        set_byte_of(&mut self.bytes, frame.part(object), offset as usize, byte);
     }
 
     /// Reads a scalar of an object in the last frame; of an ADDRESS the low byte comes first.
@@ -140,11 +175,12 @@ impl<'a> Frames<'a> {
     pub fn read_scalar(&self, scalar: ScalarType, object: u32, offset: u32) -> u16
         ensures { result ≡ frame_scalar scalar (current_frame self.now) object offset }
     {
-        let first = offset as u64;
-        let low = self.read_at(object, first) as u16;
+        let bytes = self.bytes_of(object);
+        let first = offset as usize;
+        let low = byte_of(bytes, first) as u16;
         match scalar {
             ScalarType::Byte => low,
-            ScalarType::Address => low + 256 * self.read_at(object, first + 1) as u16,
+            ScalarType::Address => low + 256 * byte_of(bytes, first + 1) as u16,
         }
     }
 
@@ -153,11 +189,17 @@ impl<'a> Frames<'a> {
     pub fn write_scalar(&mut self, scalar: ScalarType, object: u32, offset: u32, number: u16)
         ensures { self.new ≡ with_current (frame_with_scalar scalar object offset number) self.old }
     {
-        let first = offset as u64;
-        self.write_at(object, first, (number % 256) as u8);
+        let Some(frame) = self.current else {
+            return;
+        };
+        let part = frame.part(object);
+        let first = offset as usize;
+        set_byte_of(&mut self.bytes, part, first, (number % 256) as u8);
         match scalar {
             ScalarType::Byte => (),
-            ScalarType::Address => self.write_at(object, first + 1, (number / 256) as u8),
+            ScalarType::Address => {
+                set_byte_of(&mut self.bytes, part, first + 1, (number / 256) as u8);
+            }
         }
     }
 }

@@ -16,6 +16,15 @@ pub(crate) struct ObjectSlot {
     size: u32,
 }
 
+/// So many bytes, from one of them on.
+#[derive(Clone, Copy)]
+pub(crate) struct Part {
+    pub(crate) start: usize,
+    pub(crate) size: usize,
+}
+
+const NOTHING: Part = Part { start: 0, size: 0 };
+
 /// Where the objects of a module lie in the frames of its procedures, and how many bytes each frame has.
 #[derive(Drop)]
 pub struct FrameSlots {
@@ -58,7 +67,7 @@ fn zeros(alloc: Global, count: usize) -> Result<Vec<u32>, AllocError>
 }
 
 impl FrameSlots {
-    ghost use Rattle.std.specs.Prelude.{◌≡◌, ◌∷◌, ◌++◌, ◌+◌, ◌<◌, ◌≤◌, [], MatchOption, None, Some, OnOk, IfOk, length, slice_index, take};
+    ghost use Rattle.std.specs.Prelude.{◌≡◌, ◌∷◌, ◌++◌, ◌+◌, ◌<◌, ◌≤◌, [], None, Some, OnOk, IfOk, length, slice_index, take};
     ghost use Rattle.typed_trees.specs.Views.{module_view, object_view};
     ghost use Rattle.declared.specs.Frames.{frame_object, module_frames, sizes_in};
     ghost use Rattle.declared.specs.internal.Cuts.{total};
@@ -165,19 +174,25 @@ impl FrameSlots {
         self.frame_sizes[procedure as usize]
     }
 
-    /// Where a byte of an object lies in the frame of a procedure, if the object is in it and has so many bytes.
+    /// The bytes of an object in the frame of a procedure: none where it is not in it.
     #[inline(always)]
-    pub(crate) fn place(&self, procedure: u32, object: u32, offset: u64) -> Option<usize>
+    pub(crate) fn part(&self, procedure: u32, object: u32) -> Part
         requires { procedure < (self.now).procedures }
-        ensures { MatchOption result (slice_index (sizes_in procedure (self.now).objects) object ≤ offset) (λ place.
-            (offset < slice_index (sizes_in procedure (self.now).objects) object)
-            × (place ≡ total (take object (sizes_in procedure (self.now).objects)) + offset)) }
+        ensures size { result.size ≡ slice_index (sizes_in procedure (self.now).objects) object }
+        ensures start { 0 < result.size
+            → result.start ≡ total (take object (sizes_in procedure (self.now).objects)) }
+        ensures within { result.start + result.size ≤ total (sizes_in procedure (self.now).objects) }
     {
-        let slot = self.objects.get(object as usize)?;
-        if slot.procedure == Some(procedure) && offset < slot.size as u64 {
-            Some(slot.start as usize + offset as usize)
+        let Some(slot) = self.objects.get(object as usize) else {
+            return NOTHING;
+        };
+        if slot.procedure == Some(procedure) {
+            Part {
+                start: slot.start as usize,
+                size: slot.size as usize,
+            }
         } else {
-            None
+            NOTHING
         }
     }
 }

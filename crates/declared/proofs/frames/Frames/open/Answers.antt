@@ -1,6 +1,5 @@
-use Rattle.std.proofs.Common.{ap, sym, subst, ◌≡◌, ◌∷◌, ◌∙◌, Some, length, List, ℕ, arith}
+use Rattle.std.proofs.Common.{ap, ◌≡◌, ◌∙◌, Some, length, arith}
 use Rattle.declared.specs.declared.frames.OpenFrame.{OpenFrame}
-use Rattle.declared.specs.Frames.{zeroed_frame}
 use Rattle.declared.specs.internal.Nesting.{frames_in, open_frames}
 use Rattle.declared.proofs.FrameBytes.{opened_first, opened_last}
 use Rattle.declared.proofs.frames.Frames.open.Goals as goal

@@ -1,4 +1,4 @@
-use Rattle.std.proofs.Common.{◌≡◌, length, drop, map, ◌++◌}
+use Rattle.std.proofs.Common.{◌≡◌, drop, map, ◌++◌}
 use Rattle.typed_trees.specs.Views.{object_view}
 use Rattle.declared.specs.Frames.{frame_object}
 use Rattle.declared.proofs.slots.FrameSlots.new.Given as goal
