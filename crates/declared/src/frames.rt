@@ -164,10 +164,7 @@ impl<'a> Frames<'a> {
     pub fn write(&mut self, object: u32, offset: u32, byte: u8)
         ensures { self.new ≡ with_current (frame_with_byte object offset byte) self.old }
     {
-        let Some(frame) = self.current else {
-            return;
-        };
-        set_byte_of(&mut self.bytes, frame.part(object), offset as usize, byte);
+        self.write_scalar(ScalarType::Byte, object, offset, byte as u16);
     }
 
     /// Reads a scalar of an object in the last frame; of an ADDRESS the low byte comes first.
