@@ -1,0 +1,5 @@
+//! A machine that runs stack code.
+#![tactic(auto)]
+
+mod calls;
+mod values;
