@@ -4,5 +4,5 @@
 mod operators;
 mod shifts;
 
-pub use operators::{binary, convert, holds, unary, unary_function, values};
+pub use operators::{binary, convert, holds, unary, unary_function, values, wrapped};
 pub use shifts::shift;

@@ -1,2 +1,4 @@
 -- What only private functions and proofs cite.
+pub mod Arguments
 pub mod Views
+pub mod Performs

@@ -1,7 +1,6 @@
 //! The calls that are under way.
 
-ghost use Rattle.std.specs.Prelude.{◌≡◌, [], ◌∷◌, OnOk};
-ghost use Rattle.stack_machine.specs.internal.Views.{arguments_of, first_call, other_calls};
+ghost use Rattle.std.specs.Prelude.{◌≡◌, [], ◌∷◌, OnOk, MatchOption};
 
 use std::alloc::{AllocError, Global};
 use std::marker::Model;
@@ -31,6 +30,9 @@ impl Model for Calls {
 }
 
 impl Calls {
+    ghost use Rattle.std.specs.Prelude.{◌≡◌, [], ◌∷◌, OnOk, MatchOption};
+    ghost use Rattle.stack_machine.specs.internal.Arguments.{arguments_of};
+
     /// No calls.
     pub fn new(alloc: Global) -> Calls
         ensures { result ≡ [] }
@@ -52,10 +54,9 @@ impl Calls {
 
     /// Takes the last call.
     #[inline(always)]
-    #[tactic(auto, using(crate::proofs::Reversed::popped_first, crate::proofs::Reversed::popped_others, crate::proofs::Reversed::popped_none, crate::proofs::Reversed::popped_no_others))]
+    #[tactic(auto, using(crate::proofs::Reversed::popped_call, crate::proofs::Reversed::popped_none))]
     pub fn pop(&mut self) -> Option<CallRecord>
-        ensures call { result ≡ first_call self.old }
-        ensures rest { self.new ≡ other_calls self.old }
+        ensures { MatchOption result (self.old ≡ []) (λ call. self.old ≡ call ∷ self.new) }
     {
         match self.items.pop() {
             Some(call) => Some(call),
