@@ -1,1 +1,2 @@
 pub mod Reversed
+pub mod Steps

@@ -1,4 +1,5 @@
 -- What only private functions and proofs cite.
 pub mod Arguments
+pub mod Memory
 pub mod Views
 pub mod Performs
