@@ -1,2 +1,3 @@
 pub mod Reversed
 pub mod Steps
+pub mod Copies

@@ -7,8 +7,9 @@ mod calls;
 mod control;
 mod end;
 mod execute;
-mod frames;
 mod machine;
+mod moves;
+mod parts;
 mod values;
 
 pub use end::{RunFault, SourceEnd};

@@ -2,8 +2,8 @@
 
 use crate::calls::Calls;
 use crate::end::SourceEnd;
-use crate::frames::Frames;
 use crate::values::Values;
+use declared::Frames;
 use mem80::Memory;
 
 /// A machine without its ports: which instruction is the next one, the module that runs, the room on the stack, the
