@@ -1,3 +1,6 @@
 pub mod Reversed
 pub mod Steps
 pub mod Copies
+pub mod Accesses
+pub mod Moving
+pub mod Arguing
