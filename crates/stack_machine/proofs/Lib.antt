@@ -4,3 +4,5 @@ pub mod Copies
 pub mod Accesses
 pub mod Moving
 pub mod Arguing
+pub mod ModuleSlots
+pub mod Entering

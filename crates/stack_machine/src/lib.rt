@@ -3,12 +3,14 @@
 
 mod access;
 mod arithmetic;
+mod calling;
 mod calls;
 mod control;
 mod end;
 mod execute;
 mod machine;
 mod moves;
+mod opening;
 mod parts;
 mod values;
 
