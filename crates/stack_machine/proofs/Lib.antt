@@ -6,3 +6,4 @@ pub mod Moving
 pub mod Arguing
 pub mod ModuleSlots
 pub mod Entering
+pub mod Leading

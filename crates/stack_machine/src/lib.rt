@@ -8,10 +8,12 @@ mod calls;
 mod control;
 mod end;
 mod execute;
+mod going;
 mod machine;
 mod moves;
 mod opening;
 mod parts;
+mod port_access;
 mod values;
 
 pub use end::{RunFault, SourceEnd};

@@ -1,6 +1,6 @@
 //! A stack of values.
 
-ghost use Rattle.std.specs.Prelude.{◌≡◌, [], ◌∷◌, OnOk, drop, slice_index};
+ghost use Rattle.std.specs.Prelude.{◌≡◌, [], ◌∷◌, ◌<◌, OnOk, drop, length, slice_index};
 ghost use Rattle.stack_code.specs.Machine.{below, top};
 
 use std::alloc::{AllocError, Global};
@@ -77,6 +77,17 @@ impl Values {
             self.items[count - 1] = value;
             Ok(())
         }
+    }
+
+    /// Puts a value in place of the one on top, where there is one.
+    #[inline(always)]
+    #[tactic(auto, using(crate::proofs::Reversed::replaced, crate::proofs::Reversed::some_from_reverse))]
+    pub fn replace(&mut self, value: u16)
+        requires { 0 < length self.old }
+        ensures { self.new ≡ value ∷ below self.old }
+    {
+        let count = self.items.len();
+        self.items[count - 1] = value;
     }
 
     /// The value below so many others, or 0 where there is none.
