@@ -19,7 +19,7 @@ use stack_code::{Instruction, ModuleTable};
 
 impl<'a> StackMachine<'a> {
     /// Carries out instructions until the program stops.
-    #[tactic(auto, using(crate::proofs::Leading::starts, crate::proofs::Leading::performed, crate::proofs::Leading::performed_stop, crate::proofs::Leading::performed_input, crate::proofs::Leading::performed_output, crate::proofs::Leading::code_ends, crate::proofs::Leading::given_up, crate::proofs::Leading::port_sank))]
+    #[tactic(auto, using(crate::proofs::Leading::starts, crate::proofs::Leading::given_up, crate::proofs::Leading::port_sank))]
     pub fn go_on<P: Ports>(
         &mut self,
         joined: &Joined,
