@@ -7,3 +7,5 @@ pub mod Arguing
 pub mod ModuleSlots
 pub mod Entering
 pub mod Leading
+pub mod SlotLists
+pub mod Starts

@@ -49,8 +49,12 @@ impl<'a> StackMachine<'a> {
             match self.carry_out(joined, placement, slots, code, tables, instruction) {
                 Ok(Remaining::Nothing) => {}
                 Ok(Remaining::Stop(end)) => return Ok(end),
-                Ok(Remaining::Input(port)) => self.input(port, ports)?,
-                Ok(Remaining::Output(port)) => self.output(port, ports)?,
+                Ok(Remaining::Input(port)) => {
+                    self.input(port, ports)?;
+                }
+                Ok(Remaining::Output(port)) => {
+                    self.output(port, ports)?;
+                }
                 Err(_) => return Err(RunFault::Memory),
             }
         }

@@ -14,6 +14,9 @@ mod moves;
 mod opening;
 mod parts;
 mod port_access;
+mod running;
+mod slots;
 mod values;
 
 pub use end::{RunFault, SourceEnd};
+pub use running::run;
