@@ -1,0 +1,9 @@
+pub mod Items
+pub mod PublicNames
+pub mod Sites
+pub mod Storages
+pub mod Arguments
+pub mod JumpsFilled
+pub mod StatementLoops
+pub mod Cases
+pub mod ProcedureLoops

@@ -1,0 +1,12 @@
+//! Joined PL/M-80 programs as stack code.
+#![tactic(auto)]
+
+mod expressions;
+mod jumps;
+mod procedures;
+mod program;
+mod publics;
+mod purpose;
+mod site;
+mod statements;
+mod variables;
