@@ -7,3 +7,6 @@ pub mod JumpsFilled
 pub mod StatementLoops
 pub mod Cases
 pub mod ProcedureLoops
+pub mod RowLoops
+pub mod RowLaws
+pub mod MainModules

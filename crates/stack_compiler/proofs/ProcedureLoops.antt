@@ -1,5 +1,5 @@
 -- The code of parameters, procedures and modules, one by one.
-use Rattle.std.proofs.Common.{◌≡◌, ℕ, suc, ◌+◌, ◌<◌, ◌≤◌, List, [], ◌∷◌, ◌++◌, length, map, drop, get_or, ap, refl, sym, ◌∙◌}
+use Rattle.std.proofs.Common.{◌≡◌, ℕ, suc, ◌+◌, ◌<◌, ◌≤◌, List, [], ◌∷◌, ◌++◌, length, map, drop, get_or, ap, refl, sym, ◌∙◌, arith}
 use Rattle.std.proofs.lemmas.List.{append_assoc, append-nil}
 use Rattle.std.specs.Prelude.{flat_map}
 use Rattle.std.specs.List.{enumerate_from}
@@ -33,11 +33,15 @@ module _ (site : Site) (made total : List Instruction) (scalars : List ScalarTyp
   none_left [] = refl
   none_left (scalar ∷ others) = refl
 
-  pub parameters_short : objects ≡ [] → made ≡ total
-  parameters_short none =
+  no_objects : (given : List ℕ) → length given < 1 → given ≡ []
+  no_objects [] short = refl
+  no_objects (object ∷ others) short = absurd (omega arith)
+
+  pub parameters_short : length objects < 1 → made ≡ total
+  parameters_short short =
       sym (append-nil made)
       ∙ ap (λ code. made ++ code) (sym (none_left (drop i scalars)))
-      ∙ ap (λ left. made ++ parameters_code site i (drop i scalars) left) (sym none)
+      ∙ ap (λ left. made ++ parameters_code site i (drop i scalars) left) (sym (no_objects objects short))
       ∙ rest
 
   pub parameters_emitted : length scalars ≤ i → made ≡ total

@@ -6,3 +6,4 @@ pub mod Parts
 pub mod Loops
 pub mod Openings
 pub mod Sequences
+pub mod Rows

@@ -1,8 +1,9 @@
 //! The code of expressions.
 
-ghost use Rattle.std.specs.Prelude.{◌≡◌, ◌++◌, OnOk};
+ghost use Rattle.std.specs.Prelude.{◌≡◌, ◌++◌, replicate, OnOk};
 ghost use Rattle.typed_trees.specs.Views.{arguments_view, expression_view, reference_view, subscript_view, target_view};
 ghost use Rattle.meaning.specs.Meaning.{callee_in};
+ghost use Rattle.stack_code.specs.declared.instruction.Instruction.TheVariants.{Drop};
 ghost use Rattle.stack_code.specs.Code.{added_to_bytes, arguments_code, called_code, expression_code, index_code, reference_code, scaled_code, summed, surroundings_at, target_code};
 ghost use Rattle.stack_compiler.specs.internal.Parts.{based_code, bytes_code, framed_code, lacks_subscripts, placed_code};
 ghost use Rattle.stack_compiler.specs.internal.Purposes.{purpose_view};
@@ -127,8 +128,24 @@ pub(crate) fn emit_call(
                 arguments,
             },
         ),
-        None => emit(code, Instruction::Push(0)),
+        None => {
+            emit_drops(code, arguments)?;
+            emit(code, Instruction::Push(0))
+        }
     }
+}
+
+// So many values are taken from the stack.
+#[tactic(auto, using(crate::proofs::Arguments::drop_emitted, crate::proofs::Arguments::drops_emitted))]
+fn emit_drops(code: &mut Vec<Instruction>, count: usize) -> Result<(), AllocError>
+    ensures { OnOk result (code.new.items ≡ code.old.items ++ replicate count Drop) }
+{
+    let mut left = count;
+    while left > 0 {
+        emit(code, Instruction::Drop)?;
+        left -= 1;
+    }
+    Ok(())
 }
 
 // A part of an object.

@@ -16,6 +16,13 @@ fn replace(code: &mut Vec<Instruction>, at: usize, instruction: Instruction)
     }
 }
 
+/// Where the next instruction will stand.
+pub(crate) fn next_place(code: &Vec<Instruction>) -> usize
+    ensures { result ≡ length code.now.items }
+{
+    code.len()
+}
+
 /// How many instructions follow one.
 pub(crate) fn count_after(code: &Vec<Instruction>, at: usize) -> usize
     ensures { result ≡ length code.now.items - (at + 1) }

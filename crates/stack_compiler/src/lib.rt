@@ -1,6 +1,7 @@
 //! Joined PL/M-80 programs as stack code.
 #![tactic(auto)]
 
+mod compile;
 mod expressions;
 mod jumps;
 mod procedures;
@@ -9,4 +10,7 @@ mod publics;
 mod purpose;
 mod site;
 mod statements;
+mod tables;
 mod variables;
+
+pub use compile::compile;

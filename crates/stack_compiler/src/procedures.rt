@@ -38,7 +38,7 @@ fn parameter_code(site: &Site<'_>, index: usize, scalar: ScalarType, object: u32
 }
 
 // The arguments go to the parameters, from the first one on.
-#[tactic(auto, using(crate::proofs::ProcedureLoops::parameter_emitted, crate::proofs::Procedures::parameters_short, crate::proofs::Procedures::parameters_emitted))]
+#[tactic(auto, using(crate::proofs::ProcedureLoops::parameter_emitted, crate::proofs::ProcedureLoops::parameters_short, crate::proofs::ProcedureLoops::parameters_emitted))]
 fn emit_parameters(
     site: &Site<'_>,
     code: &mut Vec<Instruction>,
@@ -130,7 +130,7 @@ pub(crate) fn emit_modules(
     for (number_of_module, typed) in modules.iter().enumerate() {
         let site = Site {
             alloc,
-            program,
+            program: &*program,
             number_of_module,
         };
         emit_module(&site, code, typed)?;
@@ -153,7 +153,7 @@ pub(crate) fn emit_main(
 {
     let site = Site {
         alloc,
-        program,
+        program: &*program,
         number_of_module,
     };
     emit_list(&site, code, &typed.main.body)?;

@@ -11,7 +11,7 @@ ghost use Rattle.stack_compiler.specs.internal.Openings.{opened, opening};
 ghost use Rattle.stack_compiler.specs.internal.Sites.{site_view};
 
 use crate::expressions::{emit_arguments, emit_call, emit_expression, emit_target};
-use crate::jumps::{close_cases, close_jump, close_jump_unless, count_after, holes};
+use crate::jumps::{close_cases, close_jump, close_jump_unless, count_after, holes, next_place};
 use crate::purpose::{Purpose, emit};
 use crate::site::Site;
 use crate::variables::variable_code;
@@ -240,12 +240,12 @@ fn emit_if(
         (else_code (site_view site.now) (else_view branch.now.otherwise)))) }
 {
     emit_expression(site, code, &branch.condition)?;
-    let choice = code.len();
+    let choice = next_place(code);
     emit(code, Instruction::JumpUnless(0))?;
     emit_statement(site, code, &branch.body)?;
     match &branch.otherwise {
         Some(otherwise) => {
-            let end = code.len();
+            let end = next_place(code);
             emit(code, Instruction::Jump(0))?;
             close_jump_unless(code, choice);
             emit_statement(site, code, otherwise)?;
@@ -299,7 +299,7 @@ fn emit_while(
         ∷ loop_code (list_code (site_view site.now) (list_view turns.now.body))
         (expression_code (site_view site.now) (expression_view turns.now.condition)))) }
 {
-    let start = code.len();
+    let start = next_place(code);
     emit(code, Instruction::Jump(0))?;
     emit_list(site, code, &turns.body)?;
     close_jump(code, start);
@@ -310,7 +310,6 @@ fn emit_while(
 
 // An iterative DO: the step and the test stand after the body.
 #[cycle(statement)]
-#[tactic(auto, using(crate::proofs::JumpsFilled::iterate_made))]
 fn emit_iterate(
     site: &Site<'_>,
     code: &mut Vec<Instruction>,
@@ -321,11 +320,11 @@ fn emit_iterate(
         (IterateStatement (iteration_view turns.now.head) (list_view turns.now.body))) }
 {
     emit_first(site, code, &turns.head)?;
-    let start = code.len();
+    let start = next_place(code);
     emit(code, Instruction::Jump(0))?;
     emit_list(site, code, &turns.body)?;
     emit_stepping(site, code, &turns.head)?;
-    let leave = code.len();
+    let leave = next_place(code);
     emit(code, Instruction::JumpUnless(0))?;
     close_jump(code, start);
     emit_last(site, code, &turns.head)?;
@@ -359,7 +358,6 @@ fn emit_case(
 
 // A jump to each statement of DO CASE, and one past them; and then the statements, each with a jump past those after it.
 #[cycle(statement)]
-#[tactic(auto, using(crate::proofs::Cases::cases_made))]
 fn cases_of(
     site: &Site<'_>,
     statements: &[TypedStatement],
