@@ -13,12 +13,10 @@ use Rattle.layout.specs.Placement.{Placement}
 use Rattle.meaning.specs.Run.{number_of_main}
 use Rattle.stack_code.specs.declared.instruction.Instruction.{Instruction}
 use Rattle.stack_code.specs.declared.program.StackProgram.{StackProgram}
-use Rattle.stack_code.specs.Code.{main_code, program_code}
+use Rattle.stack_code.specs.Code.{program_code}
 use Rattle.stack_code.specs.Program.{AreTablesOf, IsProgramAt}
 use Rattle.stack_compiler.specs.Compiled.{IsCodeOf, IsCompiled, IsMainOf}
-use Rattle.stack_compiler.specs.internal.Sequences.{modules_code_from}
 use Rattle.stack_compiler.proofs.Items.{at_item, at_end}
-use Rattle.stack_compiler.proofs.ProcedureLoops.{program_made}
 
 -- the number of the first main module from a number on, or 0
 abbrev pub main_from : (number : ℕ) → List TypedModule → ℕ
@@ -53,13 +51,11 @@ module_is modules number typed main is stands = some_is (sym (ap (option_map mod
     some_is : {a b : TypedModule} → Some a ≡ Some b → a ≡ b
     some_is same = cc
 
-pub code_made : (modules : List Typed) (placement : Placement) (number : ℕ) (typed : Typed) (old a new : List Instruction)
-    → number ≡ number_of_main (map module_view modules) → slice_get modules number ≡ Some typed → old ≡ []
-    → a ≡ old ++ main_code (map module_view modules) placement (number, module_view typed)
-    → new ≡ a ++ modules_code_from (map module_view modules) placement 0 (map module_view modules)
-    → IsCodeOf (map module_view modules) placement new
-code_made modules placement number typed old a new numbered found none one two main stands =
-    program_made (map module_view modules) placement number (module_view typed) old a new none one two
+pub code_made : (modules : List Typed) (placement : Placement) (number : ℕ) (typed : Typed) (code : List Instruction)
+    → number ≡ number_of_main (map module_view modules) → slice_get modules number ≡ Some typed
+    → code ≡ program_code (map module_view modules) placement number (module_view typed) → IsCodeOf (map module_view modules) placement code
+code_made modules placement number typed code numbered found is main stands =
+    is
     ∙ ap (λ one. program_code (map module_view modules) placement one (module_view typed)) numbered
     ∙ ap (program_code (map module_view modules) placement (number_of_main (map module_view modules)))
     (module_is modules number typed main found (ap (slice_get (map module_view modules)) numbered ∙ stands))

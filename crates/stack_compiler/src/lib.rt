@@ -1,7 +1,7 @@
 //! Joined PL/M-80 programs as stack code.
 #![tactic(auto)]
 
-mod compile;
+mod compiler;
 mod expressions;
 mod jumps;
 mod procedures;
@@ -13,4 +13,4 @@ mod statements;
 mod tables;
 mod variables;
 
-pub use compile::compile;
+pub use compiler::compile;

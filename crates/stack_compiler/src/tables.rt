@@ -58,7 +58,6 @@ fn first_of(first: usize, second: usize) -> usize
 }
 
 // Zeros up to a count.
-#[tactic(auto, using(crate::proofs::RowLoops::zero_pushed, crate::proofs::RowLoops::zeros_pushed))]
 fn pad_places(places: &mut Vec<usize>, count: usize) -> Result<(), AllocError>
     ensures { OnOk result (places.new.items ≡ padded 0 places.old.items count) }
 {
@@ -135,7 +134,6 @@ fn pad_tables(
 }
 
 // A label of a module stands before a place in the code.
-#[tactic(auto, using(crate::proofs::RowLoops::row_changed))]
 fn note_label_in(
     tables: &mut Vec<ModuleTable>,
     number_of_module: usize,
@@ -152,7 +150,6 @@ fn note_label_in(
 }
 
 // A procedure of a module begins before a place in the code.
-#[tactic(auto, using(crate::proofs::RowLoops::row_changed))]
 fn note_begin_in(
     tables: &mut Vec<ModuleTable>,
     number_of_module: usize,
@@ -191,6 +188,7 @@ fn note(
 }
 
 // Notes what the code tells.
+#[tactic(auto, using(crate::proofs::RowLoops::instruction_noted, crate::proofs::RowLoops::code_noted))]
 fn note_all(
     alloc: Global,
     tables: &mut Vec<ModuleTable>,

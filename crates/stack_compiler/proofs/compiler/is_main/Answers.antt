@@ -1,5 +1,5 @@
 use Rattle.join.proofs.MainModules.{statements_stand}
-use Rattle.stack_compiler.proofs.compile.is_main.Goals as goal
+use Rattle.stack_compiler.proofs.compiler.is_main.Goals as goal
 
 pub returns : goal.returns
 returns c =

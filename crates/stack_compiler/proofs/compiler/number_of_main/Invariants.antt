@@ -1,7 +1,7 @@
 use Rattle.std.proofs.Common.{◌≡◌, drop, map}
 use Rattle.typed_trees.specs.Views.{module_view}
 use Rattle.stack_compiler.proofs.MainModules.{main_from}
-use Rattle.stack_compiler.proofs.compile.number_of_main.Given as goal
+use Rattle.stack_compiler.proofs.compiler.number_of_main.Given as goal
 
 abbrev pub invariant-loop-number : goal.invariant-loop-number
 invariant-loop-number l =

@@ -6,6 +6,7 @@ ghost use Rattle.layout.specs.Joined.{is_main};
 ghost use Rattle.meaning.specs.Run.{number_of_main};
 ghost use Rattle.join.specs.Views.{modules_of};
 ghost use Rattle.placing.specs.Views.{placement_view};
+ghost use Rattle.stack_code.specs.Code.{program_code};
 ghost use Rattle.stack_compiler.specs.Compiled.{IsCodeOf, IsCompiled};
 
 use crate::procedures::{emit_main, emit_modules};
@@ -37,19 +38,38 @@ fn number_of_main(modules: &[Typed]) -> usize
     0
 }
 
-// The code of a program.
+// The code of a program whose main module has a number.
+#[tactic(auto, using(crate::proofs::ProcedureLoops::program_made))]
+fn code_with_main(
+    alloc: Global,
+    program: &Program<'_>,
+    number: usize,
+    main: &Typed,
+) -> Result<Vec<Instruction>, AllocError>
+    ensures { IfOk result (λ code. code.items ≡ program_code (map module_view program.now.modules.now)
+        (placement_view program.now.placement.now) number (module_view main.now)) }
+{
+    let mut code = Vec::new(alloc);
+    emit_main(alloc, program, &mut code, number, main)?;
+    emit_modules(alloc, program, &mut code)?;
+    Ok(code)
+}
+
+// The code of a program, nothing where it has no modules.
 #[tactic(auto, using(crate::proofs::MainModules::code_made, crate::proofs::MainModules::code_of_none))]
 fn code_of(alloc: Global, program: &Program<'_>) -> Result<Vec<Instruction>, AllocError>
     ensures { IfOk result (λ code. IsCodeOf (map module_view program.now.modules.now)
         (placement_view program.now.placement.now) code.items) }
 {
-    let mut code = Vec::new(alloc);
-    let number = number_of_main(program.modules);
-    if let Some(typed) = program.modules.get(number) {
-        emit_main(alloc, program, &mut code, number, typed)?;
-        emit_modules(alloc, program, &mut code)?;
+    let modules = program.modules;
+    let number = number_of_main(modules);
+    match modules.get(number) {
+        Some(main) => {
+            let code = code_with_main(alloc, program, number, main)?;
+            Ok(code)
+        }
+        None => Ok(Vec::new(alloc)),
     }
-    Ok(code)
 }
 
 /// The stack code of a program at a placement, with its tables.
