@@ -1,4 +1,3 @@
 pub mod Levels
 pub mod CommandLemmas
-pub mod RunWords
 pub mod PlmWords

@@ -1,0 +1,42 @@
+use Rattle.std.proofs.Common.{◌≡◌, ◌∙◌, [], Some, None, ap, sym, subst}
+use Rattle.std.specs.Prelude.{option_and_then, option_map}
+use Rattle.clap.specs.Walk.{texts}
+use Rattle.clap.specs.Faults.{is_simple_and_free}
+use Rattle.clap.specs.Kinds.{HasKind}
+use Rattle.clap.specs.Words.{App, app_of, fault_of, is_simple, subcommand_of, subcommand_rows_of}
+use Rattle.command_line.specs.Command.{plm_app, wanted_by, wanted_in, wanted_of_match}
+use Rattle.command_line.specs.declared.reading.Order.{Order}
+use Rattle.command_line.proofs.CommandLemmas.{fault_among}
+use Rattle.command_line.proofs.PlmWords.{order_is_there, plm_is_free, plm_is_simple}
+use Rattle.command_line.proofs.reading.command.Goals as goal
+use Rattle.command_line.proofs.reading.command.Goals.{In-Ok}
+
+no_fault : (c : In-Ok) → fault_of plm_app (texts c.args.words.now) ≡ []
+no_fault c =
+    let plm_is = c.in_ok-plm.ensures in
+    subst (λ (a : App). fault_of a (texts c.args.words.now) ≡ []) plm_is (c.in-Ok.ensures.kinds (ap is_simple_and_free plm_is ∙ plm_is_free))
+
+found : (c : In-Ok) → option_and_then wanted_of_match (subcommand_rows_of c.in-Ok.matches) ≡ wanted_by (texts c.args.words.now)
+found c =
+    let plm_is = c.in_ok-plm.ensures in
+    ap (option_and_then wanted_of_match) ((c.in-Ok.ensures.matches (ap is_simple plm_is ∙ plm_is_simple)).1 ∙ ap (λ (a : App). subcommand_of a (texts c.args.words.now)) plm_is)
+
+pub unreachable-requires : goal.unreachable-requires
+unreachable-requires c =
+    let at = (goal.at.unreachable-requires c).In-Ok in
+    order_is_there (texts c.args.words.now) (no_fault at) (sym (sym (ap (option_map wanted_in) c.in-None.is) ∙ c.in_ok-order.ensures ∙ found at))
+
+pub returns-clause-order : goal.returns-clause-order
+returns-clause-order c =
+    let at = (goal.at.returns-clause-order c).In-Ok in
+    sym (found at) ∙ sym c.in_ok-order.ensures ∙ ap (option_map wanted_in) c.in-Some.is
+
+pub returns-clause-ok : goal.returns-clause-ok
+returns-clause-ok c = no_fault (goal.at.returns-clause-ok c).In-Ok
+
+pub returns-in-Err-clause-fault : goal.returns-in-Err-clause-fault
+returns-in-Err-clause-fault c =
+    let plm_is = c.in_ok-plm.ensures in
+    let has = c.in-Err.ensures.kinds (ap is_simple_and_free plm_is ∙ plm_is_free) in
+    fault_among Order c.in-Err.error c.failure_of.result (fault_of plm_app (texts c.args.words.now))
+    (subst (λ (a : App). HasKind (fault_of a (texts c.args.words.now)) c.in-Err.error) plm_is has) c.failure_of.ensures
