@@ -1,3 +1,5 @@
 pub mod Levels
 pub mod CommandLemmas
 pub mod PlmWords
+pub mod Decimals
+pub mod Inputs

@@ -1,2 +1,3 @@
 pub mod Building
 pub mod Errors
+pub mod Reads

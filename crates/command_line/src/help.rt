@@ -19,7 +19,7 @@ pub(crate) const ABOUT_INTERPRET: &str =
 pub(crate) const RUN_LIMIT: &str = "The most instructions that are run, to 1000000000000";
 
 pub(crate) const INTERPRET_LIMIT: &str =
-    "The budget: the most calls, jumps and further turns of a loop, to 1000000000000";
+    "The budget: the most calls, GOTOs and turns of loops, to 1000000000000";
 
 pub(crate) const PRINTED_BY_RUN: &str = "\
 The sources are the modules of one program, with one main module.
@@ -63,10 +63,10 @@ Prints a line for each byte at a port, and then how the program ended:
   LIMIT             the budget of --limit was used up
   PORT              a port failed
   OUTSIDE DIVIDE    it divided by 0
-  OUTSIDE BYTE      it used a byte of memory that is none of its objects
-  OUTSIDE CONSTANT  it wrote to a constant
-  OUTSIDE STACK     its calls took more than the stack of the plan
-What a program does after it came outside so is not part of its meaning.
+  OUTSIDE BYTE      it read or wrote a byte that nothing declares
+  OUTSIDE CONSTANT  it wrote a byte of a constant
+  OUTSIDE STACK     its calls took more room than --stack-size says
+After OUTSIDE the language promises nothing more of the program.
 
 With --map it first prints where each object lies, by its address and its number of bytes:
   MAP module name aaaa n

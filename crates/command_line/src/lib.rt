@@ -4,5 +4,7 @@
 mod app;
 mod help;
 mod reading;
+mod values;
 
 pub use reading::{Action, LineFault, Order, command};
+pub use values::{InputByte, Plan, Settings, ValueFault};

@@ -24,7 +24,7 @@ pub enum Action {
     Interpret,
 }
 
-/// What the command line asks for. The options are the texts of the words, which `settings` reads.
+/// What the command line asks for. The options are the texts of the words, which `Order::settings` reads.
 #[derive(Debug, Drop)]
 pub struct Order<'a> {
     /// What is done with the sources.
