@@ -1,5 +1,6 @@
 pub mod Levels
 pub mod CommandLemmas
+pub mod Files
 pub mod PlmWords
 pub mod Decimals
 pub mod Inputs

@@ -1,6 +1,7 @@
 -- The command line: what `clap` reads of `plm`, and which order the words give.
-use Rattle.std.specs.Prelude.{◌≡◌, ◌≢◌, Bool, List, [], ◌∷◌, Option, Some, None, codes, false, true}
+use Rattle.std.specs.Prelude.{◌≡◌, ◌≢◌, ◌<◌, ◌++◌, Bool, List, [], ◌∷◌, length, Option, Some, None, codes, false, true}
 use Rattle.std.specs.Prelude.{option_and_then, option_map, unwrap_or, if◌then◌else◌, MatchResult, Result}
+use Rattle.std.specs.List.{AllByRecursion}
 use Rattle.std.specs.Option.{option_map_or}
 use Rattle.std.specs.Str.{bytes_eq}
 use Rattle.clap.specs.Lexer.{strip_byte}
@@ -130,6 +131,66 @@ wanted_in order = record {
 -- the words give this order
 abbrev pub Orders : List Text → Order → Type 0
 Orders words order = wanted_by words ≡ Some (wanted_in order)
+
+-- the name of a command
+abbrev pub name_of_action : Action → Text
+name_of_action Run = codes "run"
+name_of_action Interpret = codes "interpret"
+
+-- a word that is no option: it doesn't begin with a hyphen (45)
+abbrev pub IsBare : Text → Type 0
+IsBare word = strip_byte 45 word ≡ None
+
+-- what a command wants with these files, where no option is given
+abbrev pub usual : Action → List Text → Wanted
+usual action files = record {
+  action = action;
+  files = files;
+  code = codes "256";
+  data_base = codes "16384";
+  stack = codes "61440";
+  stack_size = codes "1024";
+  limit = codes "10000000";
+  input = None;
+  map = false;
+}
+
+-- the options with a value
+pub data ValueOption : Type 0 where
+  Code : ValueOption
+  DataBase : ValueOption
+  Stack : ValueOption
+  StackSize : ValueOption
+  Limit : ValueOption
+  Input : ValueOption
+
+-- the name of an option
+abbrev pub option_name : ValueOption → Text
+option_name Code = codes "code"
+option_name DataBase = codes "data"
+option_name Stack = codes "stack"
+option_name StackSize = codes "stack-size"
+option_name Limit = codes "limit"
+option_name Input = codes "input"
+
+-- what is wanted, with the text of an option
+abbrev pub with_text : ValueOption → Text → Wanted → Wanted
+with_text Code text wanted = record wanted { code = text }
+with_text DataBase text wanted = record wanted { data_base = text }
+with_text Stack text wanted = record wanted { stack = text }
+with_text StackSize text wanted = record wanted { stack_size = text }
+with_text Limit text wanted = record wanted { limit = text }
+with_text Input text wanted = record wanted { input = Some text }
+
+-- the words are a program's name, a command, and then these words and bare files, one at least
+pub record Gives (words : List Text) (name : Text) (action : Action) (first : List Text) (files : List Text) : Type 0 where
+  pub words_are : words ≡ name ∷ name_of_action action ∷ (first ++ files)
+  pub bare : AllByRecursion IsBare files
+  pub some : 0 < length files
+
+-- an option with its text, as two words
+abbrev pub option_words : ValueOption → Text → List Text
+option_words option text = (45 ∷ 45 ∷ option_name option) ∷ text ∷ []
 
 -- the answer is the order that is wanted, unless memory ran out
 abbrev pub IsOrderOf : Wanted → Result Order (Failure LineFault) → Type 0
