@@ -57,7 +57,7 @@ bare_fault s idle word h bare = let (dashes, long, short) = file_word word bare 
 bare_fault s (option id) word h bare = let (dashes, long, short) = file_word word bare in rw (dashes, long, short) refl
 bare_fault s positional word h bare = let (dashes, long, short) = file_word word bare in rw (dashes, long, short) refl
 
-rows_more : (before : List Row) (done : List Text) (last : Text) → has_row (codes "SOURCE") before ≡ false
+pub rows_more : (before : List Row) (done : List Text) (last : Text) → has_row (codes "SOURCE") before ≡ false
     → with_values (codes "SOURCE") (reading_by source_filled) CommandLine (last ∷ []) (before ++ source_rows done) ≡ before ++ source_rows (done ++ last ∷ [])
 rows_more [] [] last none = refl
 rows_more [] (file ∷ files) last none = refl

@@ -1,6 +1,7 @@
 pub mod Levels
 pub mod CommandLemmas
 pub mod Files
+pub mod Begins
 pub mod PlmWords
 pub mod Decimals
 pub mod Inputs

@@ -1,18 +1,23 @@
 -- The words of a whole command line: without a fault they give an order.
-use Rattle.std.proofs.Common.{◌≡◌, ℕ, List, [], ◌∷◌, Option, Some, None, Bool, true, false, ◌⊎◌, inl, inr, refl, sym, subst, codes, drop, is_some, ap, ◌∙◌}
+use Rattle.std.proofs.Common.{◌≡◌, ℕ, List, [], ◌∷◌, Option, Some, None, Bool, true, false, ◌⊎◌, inl, inr, refl, sym, subst, codes, drop, is_some, ap, ◌∙◌, ◌++◌, append_assoc}
 use Rattle.std.specs.Prelude.{find, fold, option_and_then, option_map, if◌then◌else◌, ◌==◌, not, ◌&&◌, ◌||◌}
 use Rattle.std.specs.Option.{option_map_or}
 use Rattle.std.specs.Str.{bytes_eq}
 use Rattle.clap.specs.Words.{App, Kinds, Row, Rule, Shape, Text, fault_of, is_simple}
-use Rattle.clap.specs.Walk.{Names, Waiting, option, positional, waits, done, refused, next, subcommand, plain_word, bundle, long_met, subcommand_or_other, subcommand_met, to_positional, arg_by_index, walked_from, walk, walk_from, nothing_held, answers_to, Held, Walk, Step, Outcome, plain, idle, value, trailing, walked, after_step, word_met, after_flag, short_or_plain, long_or_other, arg_by_long, finished}
+use Rattle.clap.specs.Walk.{Names, rows_after, settled, Waiting, option, positional, waits, done, refused, next, subcommand, plain_word, bundle, long_met, subcommand_or_other, subcommand_met, to_positional, arg_by_index, walked_from, walk, walk_from, nothing_held, answers_to, Held, Walk, Step, Outcome, plain, idle, value, trailing, walked, after_step, word_met, after_flag, short_or_plain, long_or_other, arg_by_long, finished}
 use Rattle.clap.specs.Lexer.{long_of, short_of, strip_byte}
 use Rattle.clap.proofs.OnLiterals.{clap_on_literals}
 use Rattle.clap.specs.Simple.{built, entered, filled, label_of, names_of, rows_at, built_leaf, help_rule, help_shape, new_shape}
-use Rattle.clap.specs.Faults.{level_fault, entered_fault, other_fault, is_simple_and_free, step_fault, turn_fault, walk_fault, word_fault, check_fault}
+use Rattle.clap.specs.Faults.{level_fault, entered_fault, other_fault, is_simple_and_free, step_fault, turn_fault, walk_fault, word_fault, check_fault, defaults_fault, settle_fault}
 use Rattle.clap.specs.Kinds.{or_else}
 use Rattle.clap.specs.declared.error.ErrorKind.{ErrorKind}
-use Rattle.command_line.specs.Command.{command_app, plm_app, wanted_by, wanted_of_match}
+use Rattle.command_line.specs.Command.{Wanted, name_of_action, plm_app, wanted_by, wanted_of, wanted_of_match}
+use Rattle.clap.proofs.FaultLemmas.{stopped_fault}
+use Rattle.std.proofs.lemmas.List.{append-nil}
+use Rattle.command_line.specs.declared.reading.Action.{Action}
+use Rattle.command_line.specs.declared.reading.Action.TheVariants.{Run, Interpret}
 use Rattle.command_line.proofs.CommandLemmas.{same_text_of}
+use Rattle.command_line.proofs.Files.{leaf, rules}
 use Rattle.command_line.proofs.Levels.{level_passes_by, never, none_of_both}
 
 pub plm_is_simple : is_simple plm_app ≡ true
@@ -105,10 +110,10 @@ abbrev top_built : Shape
 top_built = record (new_shape (codes "plm")) { rules = filled help_rule ∷ []; is_leaf = false; subcommand_required = true; is_built = true }
 
 abbrev run_built : Shape
-run_built = built_leaf (command_app (codes "run")).top
+run_built = leaf (codes "run")
 
 abbrev interpret_built : Shape
-interpret_built = built_leaf (command_app (codes "interpret")).top
+interpret_built = leaf (codes "interpret")
 
 abbrev help_built : Shape
 help_built = built_leaf help_shape
@@ -179,3 +184,69 @@ order_is_there words fine missing =
     let passes = level_passes_by top_built (names_of plm_built) nothing_held given (is_some (entered plm_built end.stopped)) (entered_fault plm_built end.stopped) fine in
     entered_order (finished top_built.rules end.held) end.stopped (plm_walk top_built (names_of plm_built) given (walk_from nothing_held) refl tt passes.words_pass)
     passes.check_passes missing
+
+-- the words after a command go to it
+stopped_walk : (c : List Rule) (names : Names) (w : Walk) (name : Text) (seen rest : List Text)
+    → fold (walked c names) (record w { stopped = Some (name, seen) }) rest ≡ record w { stopped = Some (name, seen ++ rest) }
+unfolding walked
+stopped_walk c names w name seen [] = rw (append-nil seen) refl
+stopped_walk c names w name seen (word ∷ rest) = stopped_walk c names w name (seen ++ word ∷ []) rest ∙ rw (append_assoc seen (word ∷ []) rest) refl
+
+command_met : (action : Action) → walked top_built.rules (names_of plm_built) (walk_from nothing_held) (name_of_action action) ≡ record (walk_from nothing_held) { stopped = Some (name_of_action action, []) }
+unfolding clap_on_literals
+command_met Run = refl
+command_met Interpret = refl
+
+command_walk : (action : Action) (rest : List Text)
+    → walk top_built.rules (names_of plm_built) nothing_held (name_of_action action ∷ rest) ≡ record (walk_from nothing_held) { stopped = Some (name_of_action action, rest) }
+command_walk action rest =
+    ap (λ (w : Walk). fold (walked top_built.rules (names_of plm_built)) w rest) (command_met action)
+    ∙ stopped_walk top_built.rules (names_of plm_built) (walk_from nothing_held) (name_of_action action) [] rest
+
+command_turn : (action : Action) → turn_fault top_built (names_of plm_built) (walk_from nothing_held) (name_of_action action) ≡ []
+unfolding clap_on_literals
+command_turn Run = refl
+command_turn Interpret = refl
+
+command_fault : (action : Action) (rest : List Text) → walk_fault top_built (names_of plm_built) (walk_from nothing_held) (name_of_action action ∷ rest) ≡ []
+unfolding walk_fault
+command_fault action rest =
+    ap (λ (k : Kinds). or_else k (walk_fault top_built (names_of plm_built) (walked top_built.rules (names_of plm_built) (walk_from nothing_held) (name_of_action action)) rest)) (command_turn action)
+    ∙ ap (λ (w : Walk). walk_fault top_built (names_of plm_built) w rest) (command_met action)
+    ∙ stopped_fault top_built (names_of plm_built) (walk_from nothing_held) (name_of_action action, []) rest
+
+-- the command that is entered
+abbrev leaf_of : Action → Shape
+leaf_of action = leaf (name_of_action action)
+
+entered_is : (action : Action) (rest : List Text) → entered plm_built (Some (name_of_action action, rest)) ≡ Some (rows_at (leaf_of action) rest)
+entered_is Run rest = refl
+entered_is Interpret rest = refl
+
+entered_fine : (action : Action) (rest : List Text) → level_fault (leaf_of action) [] nothing_held rest false [] ≡ [] → entered_fault plm_built (Some (name_of_action action, rest)) ≡ []
+entered_fine Run rest fine = fine
+entered_fine Interpret rest fine = fine
+
+top_level : (s : Shape) (names : Names) (words : List Text) (inside : Option (Text × List Text) → Bool) (below : Option (Text × List Text) → Kinds) (end : Walk)
+    → walk_fault s names (walk_from nothing_held) words ≡ [] → walk s.rules names nothing_held words ≡ end → below end.stopped ≡ [] → settle_fault s.rules s.args_override_self end.held ≡ []
+    → defaults_fault (settled s.rules end.held).rows s.rules ≡ [] → check_fault s (finished s.rules end.held) (inside end.stopped) ≡ []
+    → (let stop = (walk s.rules names nothing_held words).stopped in level_fault s names nothing_held words (inside stop) (below stop)) ≡ []
+top_level s names words inside below end fine is under settle defaults check = rw (fine, is, under, settle, defaults) check
+
+pub line_fine : (name : Text) (action : Action) (rest : List Text) → level_fault (leaf_of action) [] nothing_held rest false [] ≡ []
+    → fault_of plm_app (name ∷ name_of_action action ∷ rest) ≡ []
+unfolding defaults_fault
+line_fine name action rest fine =
+    top_level top_built (names_of plm_built) (name_of_action action ∷ rest) (λ stop. is_some (entered plm_built stop)) (entered_fault plm_built)
+    (record (walk_from nothing_held) { stopped = Some (name_of_action action, rest) }) (command_fault action rest) (command_walk action rest) (entered_fine action rest fine) refl refl
+    (rw (entered_is action rest) refl)
+
+pub line_wanted : (name : Text) (action : Action) (rest : List Text) (wanted : Wanted) → wanted_of action (rows_after rules [] rest) ≡ wanted
+    → wanted_by (name ∷ name_of_action action ∷ rest) ≡ Some wanted
+line_wanted name action rest wanted gives =
+    ap (λ (w : Walk). option_and_then wanted_of_match (entered plm_built w.stopped)) (command_walk action rest) ∙ ap (option_and_then wanted_of_match) (entered_is action rest)
+    ∙ named action ∙ ap Some gives
+  where
+    named : (action : Action) → wanted_of_match (rows_at (leaf_of action) rest) ≡ Some (wanted_of action (rows_after rules [] rest))
+    named Run = refl
+    named Interpret = refl
