@@ -196,6 +196,24 @@ option_words option text = (45 ∷ 45 ∷ option_name option) ∷ text ∷ []
 abbrev pub IsOrderOf : Wanted → Result Order (Failure LineFault) → Type 0
 IsOrderOf wanted answer = MatchResult answer (λ order. wanted_in order ≡ wanted) (λ failure. failure ≡ Memory)
 
+-- a command with bare files alone wants these
+abbrev pub OrdersFiles : List Text → Result Order (Failure LineFault) → Type 0
+OrdersFiles words answer = (name : Text) (action : Action) (files : List Text)
+    → Gives words name action [] files → IsOrderOf (usual action files) answer
+
+-- with an option before them, it wants its text too
+abbrev pub OrdersText : List Text → Result Order (Failure LineFault) → Type 0
+OrdersText words answer = (name : Text) (action : Action) (option : ValueOption) (text : Text) (files : List Text)
+    → IsBare text
+    → Gives words name action (option_words option text) files
+    → IsOrderOf (with_text option text (usual action files)) answer
+
+-- with the flag before them, it wants a map too
+abbrev pub OrdersMap : List Text → Result Order (Failure LineFault) → Type 0
+OrdersMap words answer = (name : Text) (action : Action) (files : List Text)
+    → Gives words name action (codes "--map" ∷ []) files
+    → IsOrderOf (record (usual action files) { map = true }) answer
+
 -- a fault has one of the kinds that `clap` finds in the words, where Help stands for that of help alone
 abbrev pub IsFaultOf : Kinds → LineFault → Type 0
 IsFaultOf kinds (Help error) = (kind_of error ≡ DisplayHelp) × IsAmong DisplayHelp kinds

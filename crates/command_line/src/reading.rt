@@ -4,7 +4,7 @@ ghost use Rattle.std.specs.Prelude.{◌≡◌, [], IfOk, OnOk, option_and_then, 
 ghost use Rattle.clap.specs.Walk.{texts};
 ghost use Rattle.clap.specs.Words.{all_of, fault_of, first_of, found_of, rows_of, subcommand_rows_of};
 ghost use Rattle.failure.specs.Failure.{IfFault};
-ghost use Rattle.command_line.specs.Command.{IsFaultOf, Orders, action_named, is_set, plm_app, text_of};
+ghost use Rattle.command_line.specs.Command.{IsFaultOf, Orders, OrdersFiles, OrdersMap, OrdersText, action_named, is_set, plm_app, text_of};
 ghost use Rattle.command_line.specs.Command.{wanted_in, wanted_of, wanted_of_match};
 ghost use Rattle.command_line.specs.internal.Errors.{IsFailureFor};
 
@@ -165,6 +165,9 @@ fn order_in<'a>(
 /// The order that the words of the command line give. The first word is the program's name. It answers an order where
 /// `clap` finds no fault in the words, and else one of the faults that it finds, or that memory ran out.
 pub fn command<'a>(alloc: Global, words: &'a [&'a str]) -> Result<Order<'a>, Failure<LineFault>>
+    ensures files { OrdersFiles (texts words.entry.now) result }
+    ensures option { OrdersText (texts words.entry.now) result }
+    ensures map { OrdersMap (texts words.entry.now) result }
     ensures order { IfOk result (λ order. Orders (texts words.entry.now) order) }
     ensures ok { OnOk result (fault_of plm_app (texts words.entry.now) ≡ []) }
     ensures fault { IfFault result (IsFaultOf (fault_of plm_app (texts words.entry.now))) }

@@ -7,6 +7,7 @@ use Rattle.clap.specs.Words.{App, app_of, fault_of, is_simple, subcommand_of, su
 use Rattle.command_line.specs.Command.{plm_app, wanted_by, wanted_in, wanted_of_match}
 use Rattle.command_line.specs.declared.reading.Order.{Order}
 use Rattle.command_line.proofs.CommandLemmas.{fault_among}
+use Rattle.command_line.proofs.Given.{files_failed, files_ordered, map_failed, map_ordered, text_failed, text_ordered}
 use Rattle.command_line.proofs.PlmWords.{order_is_there, plm_is_free, plm_is_simple}
 use Rattle.command_line.proofs.reading.command.Goals as goal
 use Rattle.command_line.proofs.reading.command.Goals.{In-Ok}
@@ -26,17 +27,30 @@ unreachable-requires c =
     let at = (goal.at.unreachable-requires c).In-Ok in
     order_is_there (texts c.args.words.now) (no_fault at) (sym (sym (ap (option_map wanted_in) c.in-None.is) ∙ c.in_ok-order.ensures ∙ found at))
 
-pub returns-clause-order : goal.returns-clause-order
-returns-clause-order c =
-    let at = (goal.at.returns-clause-order c).In-Ok in
-    sym (found at) ∙ sym c.in_ok-order.ensures ∙ ap (option_map wanted_in) c.in-Some.is
+pub returns : goal.returns
+returns c =
+    let at = (goal.at.returns c).In-Ok in
+    let order = sym (found at) ∙ sym c.in_ok-order.ensures ∙ ap (option_map wanted_in) c.in-Some.is in
+    record {
+      files = files_ordered (texts c.args.words.now) c.in-Some.order order;
+      option = text_ordered (texts c.args.words.now) c.in-Some.order order;
+      map = map_ordered (texts c.args.words.now) c.in-Some.order order;
+      order = order;
+      ok = no_fault at;
+      fault = tt;
+    }
 
-pub returns-clause-ok : goal.returns-clause-ok
-returns-clause-ok c = no_fault (goal.at.returns-clause-ok c).In-Ok
-
-pub returns-in-Err-clause-fault : goal.returns-in-Err-clause-fault
-returns-in-Err-clause-fault c =
+has_kind : (c : goal.After-failure_of) → HasKind (fault_of plm_app (texts c.args.words.now)) c.in-Err.error
+has_kind c =
     let plm_is = c.in_ok-plm.ensures in
-    let has = c.in-Err.ensures.kinds (ap is_simple_and_free plm_is ∙ plm_is_free) in
-    fault_among Order c.in-Err.error c.failure_of.result (fault_of plm_app (texts c.args.words.now))
-    (subst (λ (a : App). HasKind (fault_of a (texts c.args.words.now)) c.in-Err.error) plm_is has) c.failure_of.ensures
+    subst (λ (a : App). HasKind (fault_of a (texts c.args.words.now)) c.in-Err.error) plm_is (c.in-Err.ensures.kinds (ap is_simple_and_free plm_is ∙ plm_is_free))
+
+pub returns-in-Err : goal.returns-in-Err
+returns-in-Err c = record {
+  files = files_failed (texts c.args.words.now) c.in-Err.error c.failure_of.result (has_kind c) c.failure_of.ensures;
+  option = text_failed (texts c.args.words.now) c.in-Err.error c.failure_of.result (has_kind c) c.failure_of.ensures;
+  map = map_failed (texts c.args.words.now) c.in-Err.error c.failure_of.result (has_kind c) c.failure_of.ensures;
+  order = tt;
+  ok = tt;
+  fault = fault_among Order c.in-Err.error c.failure_of.result (fault_of plm_app (texts c.args.words.now)) (has_kind c) c.failure_of.ensures;
+}
