@@ -1,6 +1,6 @@
 //! The values of an order's options.
 
-ghost use Rattle.std.specs.Prelude.{◌≡◌, ◌==◌, ◌<◌, IfOk, map, option_map, slice_index};
+ghost use Rattle.std.specs.Prelude.{◌≡◌, ◌==◌, ◌<◌, IfOk, codes, map, option_map, slice_index};
 ghost use Rattle.std.specs.List.{slice_split};
 ghost use Rattle.std.specs.Option.{SomeIff};
 ghost use Rattle.std.specs.Char.{digit_value, is_digit};
@@ -14,6 +14,7 @@ ghost use Rattle.command_line.specs.internal.Reads.{Reads, if_read, in_front};
 use crate::reading::Order;
 use failure::Failure;
 use std::alloc::{AllocError, Global};
+use thiserror::Error;
 
 // The most instructions that are run, and the greatest budget.
 const MOST: u64 = 1_000_000_000_000;
@@ -52,10 +53,20 @@ pub struct Settings {
 }
 
 /// U4: an option has a text that is none of its values.
-#[derive(Clone, Copy, Debug, PartialEq, Eq)]
+#[derive(Clone, Copy, Debug, PartialEq, Eq, Error)]
+#[error("{text} is not a value of its option")]
 pub struct ValueFault<'a> {
     /// The text.
     pub text: &'a str,
+}
+
+impl<'a> ValueFault<'a> {
+    /// The number of the fault, as `plm` prints it.
+    pub fn number(&self) -> &'static str
+        ensures { result.now ≡ codes "U4" }
+    {
+        "U4"
+    }
 }
 
 // Whether a text begins with a plus sign.
