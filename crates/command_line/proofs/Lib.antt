@@ -2,6 +2,7 @@ pub mod Levels
 pub mod CommandLemmas
 pub mod Files
 pub mod Begins
+pub mod Full
 pub mod PlmWords
 pub mod Given
 pub mod Decimals

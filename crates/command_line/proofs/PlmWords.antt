@@ -1,9 +1,9 @@
 -- The words of a whole command line: without a fault they give an order.
-use Rattle.std.proofs.Common.{◌≡◌, ℕ, List, [], ◌∷◌, Option, Some, None, Bool, true, false, ◌⊎◌, inl, inr, refl, sym, subst, codes, drop, is_some, ap, ◌∙◌, ◌++◌, append_assoc}
-use Rattle.std.specs.Prelude.{find, fold, option_and_then, option_map, if◌then◌else◌, ◌==◌, not, ◌&&◌, ◌||◌}
+use Rattle.std.proofs.Common.{◌≡◌, ℕ, List, [], ◌∷◌, Option, Some, None, Bool, true, false, ◌⊎◌, inl, inr, refl, sym, subst, codes, drop, is_some, ap, ◌∙◌, ◌++◌, append_assoc, ◌<◌, length}
+use Rattle.std.specs.Prelude.{unwrap_or, find, fold, option_and_then, option_map, if◌then◌else◌, ◌==◌, not, ◌&&◌, ◌||◌}
 use Rattle.std.specs.Option.{option_map_or}
 use Rattle.std.specs.Str.{bytes_eq}
-use Rattle.clap.specs.Words.{App, Kinds, Row, Rule, Shape, Text, fault_of, is_simple}
+use Rattle.clap.specs.Words.{App, Kinds, Row, Rule, Shape, Text, all_of, fault_of, is_simple}
 use Rattle.clap.specs.Walk.{Names, rows_after, settled, Waiting, option, positional, waits, done, refused, next, subcommand, plain_word, bundle, long_met, subcommand_or_other, subcommand_met, to_positional, arg_by_index, walked_from, walk, walk_from, nothing_held, answers_to, Held, Walk, Step, Outcome, plain, idle, value, trailing, walked, after_step, word_met, after_flag, short_or_plain, long_or_other, arg_by_long, finished}
 use Rattle.clap.specs.Lexer.{long_of, short_of, strip_byte}
 use Rattle.clap.proofs.OnLiterals.{clap_on_literals}
@@ -18,6 +18,7 @@ use Rattle.command_line.specs.declared.reading.Action.{Action}
 use Rattle.command_line.specs.declared.reading.Action.TheVariants.{Run, Interpret}
 use Rattle.command_line.proofs.CommandLemmas.{same_text_of}
 use Rattle.command_line.proofs.Files.{leaf, rules}
+use Rattle.command_line.proofs.Full.{some_source}
 use Rattle.command_line.proofs.Levels.{level_passes_by, never, none_of_both}
 
 pub plm_is_simple : is_simple plm_app ≡ true
@@ -250,3 +251,49 @@ line_wanted name action rest wanted gives =
     named : (action : Action) → wanted_of_match (rows_at (leaf_of action) rest) ≡ Some (wanted_of action (rows_after rules [] rest))
     named Run = refl
     named Interpret = refl
+
+run_files : (name : Text) (rows : List Row) (wanted : Wanted) → name ≡ codes "run" → wanted_of_match (name, rows) ≡ Some wanted
+    → unwrap_or (all_of (codes "SOURCE") rows) [] ≡ wanted.files
+run_files name rows wanted e found =
+    let same : Some (wanted_of Run rows) ≡ Some wanted = rw e at found in
+    let is : wanted_of Run rows ≡ wanted = cc in
+    ap (λ (w : Wanted). w.files) is
+
+interpret_files : (name : Text) (rows : List Row) (wanted : Wanted) → name ≡ codes "interpret" → wanted_of_match (name, rows) ≡ Some wanted
+    → unwrap_or (all_of (codes "SOURCE") rows) [] ≡ wanted.files
+interpret_files name rows wanted e found =
+    let same : Some (wanted_of Interpret rows) ≡ Some wanted = rw e at found in
+    let is : wanted_of Interpret rows ≡ wanted = cc in
+    ap (λ (w : Wanted). w.files) is
+
+-- what a level without a fault gives SOURCE
+abbrev HasSource : Shape → List Text → Type 0
+HasSource s rest = level_fault s [] nothing_held rest false [] ≡ [] → 0 < length (unwrap_or (all_of (codes "SOURCE") (rows_at s rest).1) [])
+
+files_of_one : (x y z : Shape) (name : Text) (rest : List Text) (wanted : Wanted) (o : Option Shape) → x.name ≡ codes "run" → y.name ≡ codes "interpret"
+    → z.name ≡ codes "help" → z.aliases ≡ [] → HasSource x rest → HasSource y rest → AmongThree (λ s. answers_to name (label_of s)) x y z o → bytes_eq name (codes "help") ≡ false
+    → option_map_or (λ s. level_fault s [] nothing_held rest false []) o [] ≡ []
+    → option_and_then wanted_of_match (option_map (λ s. rows_at s rest) o) ≡ Some wanted → 0 < length wanted.files
+files_of_one x y z name rest wanted _ is_run is_interpret is_help no_alias by_run by_interpret first other below found =
+    subst (λ (files : List Text). 0 < length files) (run_files x.name (rows_at x rest).1 wanted is_run found) (by_run below)
+files_of_one x y z name rest wanted _ is_run is_interpret is_help no_alias by_run by_interpret second other below found =
+    subst (λ (files : List Text). 0 < length files) (interpret_files y.name (rows_at y rest).1 wanted is_interpret found) (by_interpret below)
+files_of_one x y z name rest wanted _ is_run is_interpret is_help no_alias by_run by_interpret (third e) other below found =
+    absurd (help_named name (rw (is_help, no_alias) at e) other)
+files_of_one x y z name rest wanted _ is_run is_interpret is_help no_alias by_run by_interpret none other below found = cc
+
+entered_files : (stop : Option (Text × List Text)) (wanted : Wanted) → IsNoHelp stop → entered_fault plm_built stop ≡ []
+    → option_and_then wanted_of_match (entered plm_built stop) ≡ Some wanted → 0 < length wanted.files
+entered_files None wanted other below found = cc
+entered_files (Some (name, rest)) wanted other below found =
+    files_of_one run_built interpret_built help_built name rest wanted (find (λ s. answers_to name (label_of s)) plm_built.subs) refl refl refl refl
+    (some_source (codes "run") rest) (some_source (codes "interpret") rest)
+    (find_three (λ s. answers_to name (label_of s)) run_built interpret_built help_built) other below found
+
+-- words without a fault give a source
+pub some_files : (words : List Text) (wanted : Wanted) → fault_of plm_app words ≡ [] → wanted_by words ≡ Some wanted → 0 < length wanted.files
+some_files words wanted fine found =
+    let given = drop 1 words in
+    let end = walk top_built.rules (names_of plm_built) nothing_held given in
+    let passes = level_passes_by top_built (names_of plm_built) nothing_held given (is_some (entered plm_built end.stopped)) (entered_fault plm_built end.stopped) fine in
+    entered_files end.stopped wanted (plm_walk top_built (names_of plm_built) given (walk_from nothing_held) refl tt passes.words_pass) passes.below_passes found

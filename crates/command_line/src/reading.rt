@@ -1,6 +1,6 @@
 //! The order that the words of a command line give.
 
-ghost use Rattle.std.specs.Prelude.{◌≡◌, [], IfOk, OnOk, option_and_then, option_map, unwrap_or, codes};
+ghost use Rattle.std.specs.Prelude.{◌≡◌, ◌<◌, [], IfOk, OnOk, length, option_and_then, option_map, unwrap_or, codes};
 ghost use Rattle.clap.specs.Walk.{texts};
 ghost use Rattle.clap.specs.Words.{all_of, fault_of, first_of, found_of, rows_of, subcommand_rows_of};
 ghost use Rattle.failure.specs.Failure.{IfFault};
@@ -169,6 +169,7 @@ pub fn command<'a>(alloc: Global, words: &'a [&'a str]) -> Result<Order<'a>, Fai
     ensures option { OrdersText (texts words.entry.now) result }
     ensures map { OrdersMap (texts words.entry.now) result }
     ensures order { IfOk result (λ order. Orders (texts words.entry.now) order) }
+    ensures some { IfOk result (λ order. 0 < length order.files.items) }
     ensures ok { OnOk result (fault_of plm_app (texts words.entry.now) ≡ []) }
     ensures fault { IfFault result (IsFaultOf (fault_of plm_app (texts words.entry.now))) }
 {

@@ -6,9 +6,9 @@ use Rattle.clap.specs.Kinds.{HasKind}
 use Rattle.clap.specs.Words.{App, app_of, fault_of, is_simple, subcommand_of, subcommand_rows_of}
 use Rattle.command_line.specs.Command.{plm_app, wanted_by, wanted_in, wanted_of_match}
 use Rattle.command_line.specs.declared.reading.Order.{Order}
-use Rattle.command_line.proofs.CommandLemmas.{fault_among}
+use Rattle.command_line.proofs.CommandLemmas.{fault_among, some_texts}
 use Rattle.command_line.proofs.Given.{files_failed, files_ordered, map_failed, map_ordered, text_failed, text_ordered}
-use Rattle.command_line.proofs.PlmWords.{order_is_there, plm_is_free, plm_is_simple}
+use Rattle.command_line.proofs.PlmWords.{order_is_there, some_files, plm_is_free, plm_is_simple}
 use Rattle.command_line.proofs.reading.command.Goals as goal
 use Rattle.command_line.proofs.reading.command.Goals.{In-Ok}
 
@@ -36,6 +36,7 @@ returns c =
       option = text_ordered (texts c.args.words.now) c.in-Some.order order;
       map = map_ordered (texts c.args.words.now) c.in-Some.order order;
       order = order;
+      some = some_texts c.in-Some.order.files.items (some_files (texts c.args.words.now) (wanted_in c.in-Some.order) (no_fault at) order);
       ok = no_fault at;
       fault = tt;
     }
@@ -51,6 +52,7 @@ returns-in-Err c = record {
   option = text_failed (texts c.args.words.now) c.in-Err.error c.failure_of.result (has_kind c) c.failure_of.ensures;
   map = map_failed (texts c.args.words.now) c.in-Err.error c.failure_of.result (has_kind c) c.failure_of.ensures;
   order = tt;
+  some = tt;
   ok = tt;
   fault = fault_among Order c.in-Err.error c.failure_of.result (fault_of plm_app (texts c.args.words.now)) (has_kind c) c.failure_of.ensures;
 }
