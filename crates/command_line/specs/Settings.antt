@@ -110,3 +110,9 @@ abbrev pub IsSettingsOf : Read Values → Result Settings (Failure ValueFault) �
 IsSettingsOf read (Ok settings) = read ≡ Ok (values_in settings)
 IsSettingsOf read (Err (Fault fault)) = read ≡ Err fault.text.now
 IsSettingsOf read (Err Memory) = Unit {0}
+
+-- memory did not run out
+abbrev pub HasMemory : Result Settings (Failure ValueFault) → Type 0
+HasMemory (Err Memory) = ⊥
+HasMemory (Err (Fault fault)) = Unit {0}
+HasMemory (Ok settings) = Unit {0}

@@ -1,12 +1,12 @@
 //! The values of an order's options.
 
-ghost use Rattle.std.specs.Prelude.{◌≡◌, ◌==◌, ◌<◌, IfOk, codes, map, option_map, slice_index};
+ghost use Rattle.std.specs.Prelude.{◌≡◌, ◌==◌, ◌<◌, IfOk, IsOk, codes, map, option_map, slice_index};
 ghost use Rattle.std.specs.List.{slice_split};
 ghost use Rattle.std.specs.Option.{SomeIff};
 ghost use Rattle.std.specs.Char.{digit_value, is_digit};
 ghost use Rattle.failure.specs.Failure.{IfFault};
 ghost use Rattle.command_line.specs.Command.{wanted_in};
-ghost use Rattle.command_line.specs.Settings.{IsSettingsOf, byte_of, bytes_for, group_bytes, groups_bytes};
+ghost use Rattle.command_line.specs.Settings.{HasMemory, IsSettingsOf, byte_of, bytes_for, group_bytes, groups_bytes};
 ghost use Rattle.command_line.specs.Settings.{input_bytes, input_read, limit_number, plan_number, plan_read};
 ghost use Rattle.command_line.specs.Settings.{values_read};
 ghost use Rattle.command_line.specs.internal.Reads.{Reads, if_read, in_front};
@@ -229,6 +229,7 @@ fn input<'a>(
         input_read (option_map (λ text. text.now) text.entry) ≡ Ok bytes.items) }
     ensures fault { IfFault result (λ fault.
         input_read (option_map (λ text. text.now) text.entry) ≡ Err fault.text.now) }
+    ensures memory { text.entry ≡ None → IsOk result }
 {
     let Some(text) = text else {
         return Ok(Vec::new(alloc));
@@ -241,9 +242,11 @@ fn input<'a>(
 
 impl<'a> Order<'a> {
     /// The values of the options. It answers U4 only where a text is none of its option's values, with the first such
-    /// text, in the order code, data, stack, stack size, limit, input; else the values, or that memory ran out.
+    /// text, in the order code, data, stack, stack size, limit, input; else the values, or that memory ran out. Only an
+    /// input takes memory.
     pub fn settings(&self, alloc: Global) -> Result<Settings, Failure<ValueFault<'a>>>
-        ensures { IsSettingsOf (values_read (wanted_in self.now)) result }
+        ensures values { IsSettingsOf (values_read (wanted_in self.now)) result }
+        ensures memory { self.now.input ≡ None → HasMemory result }
     {
         let plan = match plan_of(self) {
             Ok(plan) => plan,
