@@ -1,9 +1,9 @@
 -- What may come before the files: nothing, an option with its text, or the flag for a map.
-use Rattle.std.proofs.Common.{◌≡◌, ◌∙◌, ℕ, List, [], ◌∷◌, ◌++◌, Option, Some, None, Bool, true, false, refl, sym, ap, codes}
+use Rattle.std.proofs.Common.{◌≡◌, ◌∙◌, List, [], ◌∷◌, ◌++◌, Some, None, true, false, refl, ap, codes}
 use Rattle.std.specs.Prelude.{fold}
 use Rattle.std.specs.List.{AllByRecursion}
 use Rattle.clap.proofs.OnLiterals.{clap_on_literals}
-use Rattle.clap.specs.Words.{Kinds, Row, Rule, Shape, Text}
+use Rattle.clap.specs.Words.{Kinds, Row, Text}
 use Rattle.clap.specs.Walk.{Held, Walk, idle, option, has_row, nothing_held, reading_by, rows_after, settled, walk, walk_from, walked, with_default}
 use Rattle.clap.specs.Simple.{filled}
 use Rattle.clap.specs.Faults.{check_fault, defaults_fault, level_fault, settle_fault, turn_fault, walk_fault}

@@ -1,5 +1,5 @@
 -- From the matches of the subcommand to the order, and from an error to a failure.
-use Rattle.std.proofs.Common.{◌≡◌, ℕ, List, [], ◌∷◌, Option, Some, None, Bool, true, false, inl, inr, refl, sym, ap, subst, ◌∙◌, arith, Err, Bor, ◌<◌, length}
+use Rattle.std.proofs.Common.{◌≡◌, ℕ, List, [], ◌∷◌, Option, Some, None, Bool, true, inl, inr, refl, sym, ap, subst, ◌∙◌, arith, Err, Bor, ◌<◌, length}
 use Rattle.std.specs.Prelude.{option_map}
 use Rattle.std.specs.Str.{bytes_eq}
 use Rattle.std.specs.Bool.{Decides}

@@ -1,7 +1,7 @@
 -- The words after a command: bare files, after an option or none. They have no fault, and give the files.
-use Rattle.std.proofs.Common.{◌≡◌, ◌∙◌, ℕ, List, [], ◌∷◌, ◌++◌, Option, Some, None, Bool, true, false, refl, sym, ap, codes, append_assoc}
-use Rattle.std.specs.Prelude.{fold, if◌then◌else◌, ◌==◌, ◌||◌}
-use Rattle.std.specs.List.{AllByRecursion, list_any}
+use Rattle.std.proofs.Common.{◌≡◌, ◌∙◌, ℕ, List, [], ◌∷◌, ◌++◌, Some, None, Bool, true, false, refl, ap, codes, append_assoc}
+use Rattle.std.specs.Prelude.{fold, ◌==◌, ◌||◌}
+use Rattle.std.specs.List.{AllByRecursion}
 use Rattle.std.specs.Str.{bytes_eq}
 use Rattle.clap.specs.Lexer.{long_of, short_of, strip_byte}
 use Rattle.clap.specs.Words.{Kinds, Row, Rule, Shape, Text}
@@ -45,7 +45,6 @@ file_word (c ∷ rest) bare = go (c == 45) refl
     go : (t : Bool) → (c == 45) ≡ t → (bytes_eq (c ∷ rest) (45 ∷ 45 ∷ []) ≡ false) × (long_of (c ∷ rest) ≡ None) × (short_of (c ∷ rest) ≡ None)
     go false e = (rw e refl, rw e refl, rw e refl)
     go true e = let bad : Some rest ≡ None = rw e at bare in absurd (let worse : Some rest ≡ None = bad in cc)
-
 
 pub bare_word : (c : List Rule) (waiting : Waiting) (position : ℕ) (word : Text) (h : Held) → IsBare word → word_met c [] false waiting position word h ≡ plain_word c waiting word h
 bare_word c idle position word h bare = let (dashes, long, short) = file_word word bare in rw (dashes, long, short) refl

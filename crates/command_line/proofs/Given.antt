@@ -1,6 +1,5 @@
 -- Command lines of one option at most: they have no fault, and give what is wanted.
-use Rattle.std.proofs.Common.{◌≡◌, ◌∙◌, ℕ, List, [], ◌∷◌, ◌++◌, Some, Ok, Err, codes, sym, arith, ap, true}
-use Rattle.std.specs.Prelude.{Result}
+use Rattle.std.proofs.Common.{◌≡◌, ◌∙◌, List, [], ◌∷◌, ◌++◌, Some, Ok, Err, codes, sym, arith, true}
 use Rattle.clap.specs.Kinds.{HasKind}
 use Rattle.clap.specs.Words.{Text, fault_of}
 use Rattle.clap.specs.declared.error.Error.{Error}
@@ -9,7 +8,7 @@ use Rattle.command_line.specs.declared.reading.Action.{Action}
 use Rattle.command_line.specs.declared.reading.LineFault.{LineFault}
 use Rattle.command_line.specs.declared.reading.Order.{Order}
 use Rattle.command_line.specs.internal.Errors.{IsFailureFor}
-use Rattle.command_line.specs.Command.{Gives, IsBare, IsOrderOf, Orders, OrdersFiles, OrdersMap, OrdersText, ValueOption, Wanted, name_of_action, option_words, plm_app, usual, wanted_by, wanted_in, with_text}
+use Rattle.command_line.specs.Command.{Gives, IsBare, Orders, OrdersFiles, OrdersMap, OrdersText, ValueOption, Wanted, name_of_action, option_words, plm_app, usual, wanted_by, wanted_in, with_text}
 use Rattle.command_line.proofs.Begins.{Line, ends_by, map_begins, map_line, map_row, option_begins, option_line, option_row, plain_begins, plain_line}
 use Rattle.command_line.proofs.CommandLemmas.{only_memory}
 use Rattle.command_line.proofs.PlmWords.{line_fine, line_wanted}

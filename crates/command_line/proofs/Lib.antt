@@ -7,4 +7,3 @@ pub mod PlmWords
 pub mod Given
 pub mod Decimals
 pub mod Inputs
-pub mod Examples

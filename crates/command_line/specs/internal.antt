@@ -1,3 +1,4 @@
 pub mod Building
 pub mod Errors
+pub mod Examples
 pub mod Reads

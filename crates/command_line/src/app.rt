@@ -153,11 +153,7 @@ fn source<'a>(alloc: Global) -> Arg<'a>
 }
 
 // A command by its name and what help says of it.
-fn leaf<'a>(
-    alloc: Global,
-    name: &'a str,
-    teaching: Teaching,
-) -> Result<Command<'a>, AllocError>
+fn leaf<'a>(alloc: Global, name: &'a str, teaching: Teaching) -> Result<Command<'a>, AllocError>
     ensures app { IfOk result (λ command. app_of command ≡ command_app name.entry.now) }
     ensures globals { IfOk result (λ command. (out-Command command).has_globals ≡ false) }
 {

@@ -146,10 +146,7 @@ fn order_of<'a>(
 }
 
 // The order in what a parse found.
-fn order_in<'a>(
-    alloc: Global,
-    matches: &ArgMatches<'a>,
-) -> Result<Option<Order<'a>>, AllocError>
+fn order_in<'a>(alloc: Global, matches: &ArgMatches<'a>) -> Result<Option<Order<'a>>, AllocError>
     ensures { IfOk result (λ order.
         option_map wanted_in order ≡ option_and_then wanted_of_match (subcommand_rows_of matches.now)) }
 {

@@ -54,7 +54,7 @@ pub struct Settings {
 
 /// U4: an option has a text that is none of its values.
 #[derive(Clone, Copy, Debug, PartialEq, Eq, Error)]
-#[error("{text} is not a value of its option")]
+#[error("`{text}` is not a value of its option")]
 pub struct ValueFault<'a> {
     /// The text.
     pub text: &'a str,
@@ -146,11 +146,7 @@ fn byte(high: u8, low: u8) -> Option<u8>
 
 #[tactic(auto, using(crate::proofs::Inputs::one_more, crate::proofs::Inputs::no_byte, crate::proofs::Inputs::bytes_end))]
 // Adds the bytes that digits write for a port, and answers whether all of them were read.
-fn add_bytes(
-    input: &mut Vec<InputByte>,
-    port: u8,
-    digits: &[u8],
-) -> Result<bool, AllocError>
+fn add_bytes(input: &mut Vec<InputByte>, port: u8, digits: &[u8]) -> Result<bool, AllocError>
     ensures { IfOk result (λ is_read.
         in_front input.old.items (bytes_for port digits.now) ≡ if_read is_read input.new.items) }
 {

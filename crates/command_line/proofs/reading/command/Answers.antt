@@ -1,9 +1,9 @@
-use Rattle.std.proofs.Common.{◌≡◌, ◌∙◌, [], Some, None, ap, sym, subst}
+use Rattle.std.proofs.Common.{◌≡◌, ◌∙◌, [], ap, sym, subst}
 use Rattle.std.specs.Prelude.{option_and_then, option_map}
 use Rattle.clap.specs.Walk.{texts}
 use Rattle.clap.specs.Faults.{is_simple_and_free}
 use Rattle.clap.specs.Kinds.{HasKind}
-use Rattle.clap.specs.Words.{App, app_of, fault_of, is_simple, subcommand_of, subcommand_rows_of}
+use Rattle.clap.specs.Words.{App, fault_of, is_simple, subcommand_of, subcommand_rows_of}
 use Rattle.command_line.specs.Command.{plm_app, wanted_by, wanted_in, wanted_of_match}
 use Rattle.command_line.specs.declared.reading.Order.{Order}
 use Rattle.command_line.proofs.CommandLemmas.{fault_among, some_texts}

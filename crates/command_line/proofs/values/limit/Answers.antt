@@ -1,6 +1,6 @@
-use Rattle.std.proofs.Common.{◌≡◌, ◌∙◌, ◌≤◌, sym, true, false, slice_index, arith, lit<}
+use Rattle.std.proofs.Common.{◌≡◌, false, slice_index, lit<}
 use Rattle.std.specs.Prelude.{◌==◌}
-use Rattle.command_line.proofs.Decimals.{number_read, number_refused, number_too_great}
+use Rattle.command_line.proofs.Decimals.{number_read, number_refused}
 use Rattle.command_line.proofs.values.limit.Goals as goal
 
 pub returns-in-Err : goal.returns-in-Err
