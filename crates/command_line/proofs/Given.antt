@@ -53,7 +53,7 @@ pub files_ordered : (words : List Text) (order : Order) → Orders words order �
 files_ordered words order found = λ name action files g. order_is words order (usual action files) found (files_wanted words name action files g)
 
 pub text_ordered : (words : List Text) (order : Order) → Orders words order → OrdersText words (Ok order)
-text_ordered words order found = λ name action option text files bare g.
+text_ordered words order found = λ name action files option text bare g.
     order_is words order (with_text option text (usual action files)) found (text_wanted words name action option text files bare g)
 
 pub map_ordered : (words : List Text) (order : Order) → Orders words order → OrdersMap words (Ok order)
@@ -67,7 +67,7 @@ files_failed words error failure has is = λ name action files g. only_memory er
 
 pub text_failed : (words : List Text) (error : Error) (failure : Failure LineFault) → HasKind (fault_of plm_app words) error → IsFailureFor error failure
     → OrdersText words (Err failure)
-text_failed words error failure has is = λ name action option text files bare g.
+text_failed words error failure has is = λ name action files option text bare g.
     only_memory error failure (fault_of plm_app words) (text_wanted words name action option text files bare g).fine has is
 
 pub map_failed : (words : List Text) (error : Error) (failure : Failure LineFault) → HasKind (fault_of plm_app words) error → IsFailureFor error failure

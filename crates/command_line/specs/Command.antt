@@ -1,5 +1,6 @@
 -- The command line: what `clap` reads of `plm`, and which order the words give.
-use Rattle.std.specs.Prelude.{◌≡◌, ◌≢◌, ◌<◌, ◌++◌, Bool, List, [], ◌∷◌, length, Option, Some, None, codes, false, true}
+use Rattle.std.specs.Prelude.{◌≡◌, ◌≢◌, ◌<◌, ◌++◌, Bool, List, []}
+use Rattle.std.specs.Prelude.{◌∷◌, length, Option, Some, None, codes, false, true}
 use Rattle.std.specs.Prelude.{option_and_then, option_map, unwrap_or, if◌then◌else◌, MatchResult, Result}
 use Rattle.std.specs.List.{AllByRecursion}
 use Rattle.std.specs.Option.{option_map_or}
@@ -183,7 +184,7 @@ with_text Limit text wanted = record wanted { limit = text }
 with_text Input text wanted = record wanted { input = Some text }
 
 -- the words are a program's name, a command, and then these words and bare files, one at least
-pub record Gives (words : List Text) (name : Text) (action : Action) (first : List Text) (files : List Text) : Type 0 where
+pub record Gives (words : List Text) (name : Text) (action : Action) (first files : List Text) : Type 0 where
   pub words_are : words ≡ name ∷ name_of_action action ∷ (first ++ files)
   pub bare : AllByRecursion IsBare files
   pub some : 0 < length files
@@ -203,7 +204,7 @@ OrdersFiles words answer = (name : Text) (action : Action) (files : List Text)
 
 -- with an option before them, it wants its text too
 abbrev pub OrdersText : List Text → Result Order (Failure LineFault) → Type 0
-OrdersText words answer = (name : Text) (action : Action) (option : ValueOption) (text : Text) (files : List Text)
+OrdersText words answer = (name : Text) (action : Action) (files : List Text) (option : ValueOption) (text : Text)
     → IsBare text
     → Gives words name action (option_words option text) files
     → IsOrderOf (with_text option text (usual action files)) answer

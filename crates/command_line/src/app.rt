@@ -4,8 +4,8 @@ ghost use Rattle.std.specs.Prelude.{◌≡◌, IfOk, codes, false};
 ghost use Rattle.clap.specs.Words.{app_of, rule_of, with_rule, with_subcommand};
 ghost use Rattle.clap.specs.declared.builder.command.Command.TheViews.{out-Command};
 ghost use Rattle.command_line.specs.internal.Building.{KeepsGlobals};
-ghost use Rattle.command_line.specs.Command.{bare_app, command_app, default_rule, map_rule, option_rule, plm_app, source_rule};
-ghost use Rattle.command_line.specs.Command.{with_plan, with_run};
+ghost use Rattle.command_line.specs.Command.{bare_app, command_app, default_rule, map_rule};
+ghost use Rattle.command_line.specs.Command.{option_rule, plm_app, source_rule, with_plan, with_run};
 
 use crate::help::{
     ABOUT, ABOUT_INTERPRET, ABOUT_RUN, EXAMPLE, INTERPRET_LIMIT, PRINTED_BY_INTERPRET,

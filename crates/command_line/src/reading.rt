@@ -1,10 +1,12 @@
 //! The order that the words of a command line give.
 
-ghost use Rattle.std.specs.Prelude.{◌≡◌, ◌<◌, [], IfOk, OnOk, length, option_and_then, option_map, unwrap_or, codes};
+ghost use Rattle.std.specs.Prelude.{◌≡◌, ◌<◌, [], IfOk, OnOk, length, codes};
+ghost use Rattle.std.specs.Prelude.{option_and_then, option_map, unwrap_or};
 ghost use Rattle.clap.specs.Walk.{texts};
 ghost use Rattle.clap.specs.Words.{all_of, fault_of, first_of, found_of, rows_of, subcommand_rows_of};
 ghost use Rattle.failure.specs.Failure.{IfFault};
-ghost use Rattle.command_line.specs.Command.{IsFaultOf, Orders, OrdersFiles, OrdersMap, OrdersText, action_named, is_set, plm_app, text_of};
+ghost use Rattle.command_line.specs.Command.{IsFaultOf, Orders, OrdersFiles, OrdersMap, OrdersText};
+ghost use Rattle.command_line.specs.Command.{action_named, is_set, plm_app, text_of};
 ghost use Rattle.command_line.specs.Command.{wanted_in, wanted_of, wanted_of_match};
 ghost use Rattle.command_line.specs.internal.Errors.{IsFailureFor};
 
@@ -159,8 +161,8 @@ fn order_in<'a>(alloc: Global, matches: &ArgMatches<'a>) -> Result<Option<Order<
     }
 }
 
-/// The order that the words of the command line give. The first word is the program's name. It answers an order where
-/// `clap` finds no fault in the words, and else one of the faults that it finds, or that memory ran out.
+/// The order that the words of the command line give. The first word is the program's name. It answers an order
+/// where `clap` finds no fault in the words, and else one of the faults that it finds, or that memory ran out.
 pub fn command<'a>(alloc: Global, words: &'a [&'a str]) -> Result<Order<'a>, Failure<LineFault>>
     ensures files { OrdersFiles (texts words.entry.now) result }
     ensures option { OrdersText (texts words.entry.now) result }

@@ -6,7 +6,8 @@ ghost use Rattle.std.specs.Option.{SomeIff};
 ghost use Rattle.std.specs.Char.{digit_value, is_digit};
 ghost use Rattle.failure.specs.Failure.{IfFault};
 ghost use Rattle.command_line.specs.Command.{wanted_in};
-ghost use Rattle.command_line.specs.Settings.{HasMemory, IsSettingsOf, byte_of, bytes_for, group_bytes, groups_bytes};
+ghost use Rattle.command_line.specs.Settings.{HasMemory, IsSettingsOf, byte_of, bytes_for, group_bytes};
+ghost use Rattle.command_line.specs.Settings.{groups_bytes};
 ghost use Rattle.command_line.specs.Settings.{input_bytes, input_read, limit_number, plan_number, plan_read};
 ghost use Rattle.command_line.specs.Settings.{values_read};
 ghost use Rattle.command_line.specs.internal.Reads.{Reads, if_read, in_front};
@@ -144,7 +145,7 @@ fn byte(high: u8, low: u8) -> Option<u8>
     Some(high * 16 + low)
 }
 
-#[tactic(auto, using(crate::proofs::Inputs::one_more, crate::proofs::Inputs::no_byte, crate::proofs::Inputs::bytes_end))]
+#[tactic(auto, using(crate::proofs::Inputs::no_byte, crate::proofs::Inputs::bytes_end))]
 // Adds the bytes that digits write for a port, and answers whether all of them were read.
 fn add_bytes(input: &mut Vec<InputByte>, port: u8, digits: &[u8]) -> Result<bool, AllocError>
     ensures { IfOk result (λ is_read.
@@ -178,7 +179,7 @@ fn add_group(input: &mut Vec<InputByte>, group: &[u8]) -> Result<bool, AllocErro
     }
 }
 
-#[tactic(auto, using(crate::proofs::Inputs::one_more_group, crate::proofs::Inputs::no_group, crate::proofs::Inputs::groups_end))]
+#[tactic(auto, using(crate::proofs::Inputs::no_group, crate::proofs::Inputs::groups_end))]
 // Adds the bytes of groups, and answers whether all of them were read.
 fn add_groups(input: &mut Vec<InputByte>, groups: &[&str]) -> Result<bool, AllocError>
     ensures { IfOk result (λ is_read.
@@ -237,9 +238,9 @@ fn input<'a>(
 }
 
 impl<'a> Order<'a> {
-    /// The values of the options. It answers U4 only where a text is none of its option's values, with the first such
-    /// text, in the order code, data, stack, stack size, limit, input; else the values, or that memory ran out. Only an
-    /// input takes memory.
+    /// The values of the options. It answers U4 only where a text is none of its option's values, with the first
+    /// such text, in the order code, data, stack, stack size, limit, input; else the values, or that memory ran
+    /// out. Only an input takes memory.
     pub fn settings(&self, alloc: Global) -> Result<Settings, Failure<ValueFault<'a>>>
         ensures values { IsSettingsOf (values_read (wanted_in self.now)) result }
         ensures memory { self.now.input ≡ None → HasMemory result }

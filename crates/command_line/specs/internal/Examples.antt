@@ -1,11 +1,15 @@
 -- Texts of options that are values, and some that are none.
-use Rattle.std.specs.Prelude.{◌≡◌, [], ◌∷◌, Some, None, Ok, Err, codes, refl}
+use Rattle.std.specs.Prelude.{◌≡◌, ℕ, [], ◌∷◌, Some, None, Ok, Err, codes, refl}
 use Rattle.command_line.specs.declared.reading.Action.TheVariants.{Run}
+use Rattle.command_line.specs.declared.values.InputByte.{InputByte}
 use Rattle.command_line.specs.Command.{usual}
 use Rattle.command_line.specs.Settings.{input_bytes, limit_number, plan_number, values_read}
 
-usual_values : values_read (usual Run [])
-    ≡ Ok (record { plan = record { code = 256; data_base = 16384; stack = 61440; stack_size = 1024 }; limit = 10000000; input = [] })
+usual_values : values_read (usual Run []) ≡ Ok (record {
+  plan = record { code = 256; data_base = 16384; stack = 61440; stack_size = 1024 };
+  limit = 10000000;
+  input = [];
+})
 usual_values = refl
 
 greatest : plan_number (codes "65535") ≡ Ok 65535
@@ -35,11 +39,15 @@ greatest_limit = refl
 too_great_limit : limit_number (codes "1000000000001") ≡ Err (codes "1000000000001")
 too_great_limit = refl
 
+-- a byte of a port
+abbrev of_port : ℕ → ℕ → InputByte
+of_port port byte = record { port = port; byte = byte }
+
 two_ports : input_bytes (codes "01:0904/02:FF")
-    ≡ Some (record { port = 1; byte = 9 } ∷ record { port = 1; byte = 4 } ∷ record { port = 2; byte = 255 } ∷ [])
+    ≡ Some (of_port 1 9 ∷ of_port 1 4 ∷ of_port 2 255 ∷ [])
 two_ports = refl
 
-one_port_again : input_bytes (codes "fE:0a/00:/Fe:0B") ≡ Some (record { port = 254; byte = 10 } ∷ record { port = 254; byte = 11 } ∷ [])
+one_port_again : input_bytes (codes "fE:0a/00:/Fe:0B") ≡ Some (of_port 254 10 ∷ of_port 254 11 ∷ [])
 one_port_again = refl
 
 no_bytes : input_bytes (codes "01:") ≡ Some []

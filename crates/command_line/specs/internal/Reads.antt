@@ -1,5 +1,6 @@
 -- What the functions that read a text answer.
-use Rattle.std.specs.Prelude.{◌≡◌, ◌++◌, Bool, List, Option, Some, None, option_map, Result, Ok, Err, if◌then◌else◌}
+use Rattle.std.specs.Prelude.{◌≡◌, ◌++◌, Bool, List, Option, Some}
+use Rattle.std.specs.Prelude.{None, option_map, Result, Ok, Err, if◌then◌else◌}
 use Rattle.command_line.specs.Settings.{Read}
 use Rattle.command_line.specs.declared.values.InputByte.{InputByte}
 use Rattle.command_line.specs.declared.values.ValueFault.{ValueFault}
