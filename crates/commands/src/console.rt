@@ -6,7 +6,7 @@ use crate::answers::{Ending, refuse, refuse_memory, refuse_output};
 use crate::interpreting::interpret_sources;
 use crate::loading::{read_files, sources_of};
 use crate::running::run_sources;
-use command_line::{Action, LineFault, Order, Settings, command, settings};
+use command_line::{Action, LineFault, Order, Settings, command};
 use failure::Failure;
 use files::Files;
 use std::alloc::Global;
@@ -54,7 +54,7 @@ fn carry_out<F: Files, O: Write, E: Write>(
     out: &mut O,
     err: &mut E,
 ) -> Ending {
-    match settings(alloc, order) {
+    match order.settings(alloc) {
         Ok(values) => load(alloc, order, &values, files, out, err),
         Err(Failure::Fault(fault)) => refuse("U4", fault.text, 0, err),
         Err(Failure::Memory) => refuse_memory(err),
