@@ -52,10 +52,10 @@ pub fn write_byte(
     byte: u8,
 ) -> Result<(), Reason>
     requires { HasTable joined.now placement.now }
-    ensures answer { result
-        ≡ (byte_written (modules_in joined.now) (placement_view placement.now) memory.old address byte).answer }
-    ensures memory { memory.new
-        ≡ (byte_written (modules_in joined.now) (placement_view placement.now) memory.old address byte).memory }
+    ensures answer { result ≡ (byte_written (modules_in joined.now) (placement_view placement.now)
+        memory.old address byte).answer }
+    ensures memory { memory.new ≡ (byte_written (modules_in joined.now) (placement_view placement.now)
+        memory.old address byte).memory }
 {
     match kind_of(joined, placement, address) {
         ByteKind::Undeclared => Err(Reason::Byte),

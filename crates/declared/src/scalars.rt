@@ -46,10 +46,10 @@ pub fn write_scalar(
     number: u16,
 ) -> Result<(), Reason>
     requires { HasTable joined.now placement.now }
-    ensures answer { result ≡ (scalar_written (modules_in joined.now) (placement_view placement.now) memory.old
-        scalar address number).answer }
-    ensures memory { memory.new ≡ (scalar_written (modules_in joined.now) (placement_view placement.now) memory.old
-        scalar address number).memory }
+    ensures answer { result ≡ (scalar_written (modules_in joined.now) (placement_view placement.now)
+        memory.old scalar address number).answer }
+    ensures memory { memory.new ≡ (scalar_written (modules_in joined.now) (placement_view placement.now)
+        memory.old scalar address number).memory }
 {
     write_byte(joined, placement, memory, address, (number % 256) as u8)?;
     match scalar {
