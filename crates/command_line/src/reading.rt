@@ -162,7 +162,8 @@ fn order_in<'a>(alloc: Global, matches: &ArgMatches<'a>) -> Result<Option<Order<
 }
 
 /// The order that the words of the command line give. The first word is the program's name. It answers an order
-/// where `clap` finds no fault in the words, and else one of the faults that it finds, or that memory ran out.
+/// where `clap` finds no fault in the words, and else one of the faults that it finds, or that memory ran out. An
+/// order has one file at least.
 pub fn command<'a>(alloc: Global, words: &'a [&'a str]) -> Result<Order<'a>, Failure<LineFault>>
     ensures files { OrdersFiles (texts words.entry.now) result }
     ensures option { OrdersText (texts words.entry.now) result }
