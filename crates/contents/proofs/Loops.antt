@@ -1,5 +1,5 @@
 -- The loops over bytes and over values.
-use Rattle.std.proofs.Common.{◌≡◌, ℕ, ◌+◌, ◌<◌, ◌≤◌, List, [], ◌∷◌, ◌++◌, length, set, drop, get_or, ap, sym, ◌∙◌, arith}
+use Rattle.std.proofs.Common.{◌≡◌, ℕ, ◌+◌, ◌<◌, ◌≤◌, List, [], ◌∷◌, ◌++◌, length, set, drop, get_or, refl, ap, sym, ◌∙◌, arith}
 use Rattle.std.specs.Prelude.{flat_map}
 use Rattle.std.proofs.lemmas.List.{at_drop_more}
 use Rattle.mem80.specs.declared.memory.TheConstants.{MEMORY_SIZE}
@@ -21,7 +21,7 @@ module _ (memory total first others new : List ℕ) (address : ℕ) (rest : writ
   ends : IsMemory new → MEMORY_SIZE ≤ address + length first → new ≡ total
   ends memory past =
       sym (written_past new others (address + length first) (let e : length new ≤ address + length first = omega (arith, memory.size) in e))
-      ∙ goes_on (address + length first) (Rattle.std.proofs.Common.refl)
+      ∙ goes_on (address + length first) refl
 
 module _ (memory total : List ℕ) (address : ℕ) (bytes : List ℕ) (i : ℕ)
     (rest : written memory address (drop i bytes) ≡ total) where

@@ -1,5 +1,5 @@
 -- One pass over the modules of a program.
-use Rattle.std.proofs.Common.{◌≡◌, ℕ, zero, suc, ◌+◌, ◌<◌, ◌≤◌, List, [], ◌∷◌, ◌++◌, length, drop, get_or, map, zip, flat_map, Option, None, Some, option_map, vec_items, length-drop, refl, ap, sym, ◌∙◌, arith, add-one}
+use Rattle.std.proofs.Common.{◌≡◌, ℕ, ◌+◌, ◌≤◌, List, [], ◌∷◌, ◌++◌, length, drop, map, zip, flat_map, Option, None, Some, option_map, vec_items, length-drop, refl, ap, sym, ◌∙◌, arith}
 use Rattle.std.specs.Prelude.{slice_get}
 use Rattle.std.specs.List.{enumerate_from}
 use Rattle.std.specs.Option.{option_map_or}
@@ -9,7 +9,7 @@ use Rattle.typed_trees.specs.declared.module.Typed.{Typed}
 use Rattle.typed_trees.specs.TypedTrees.{TypedModule}
 use Rattle.typed_trees.specs.Views.{module_view, object_view}
 use Rattle.layout.specs.Placement.{ModulePlacement}
-use Rattle.layout.specs.StartingMemory.{Contents, address_of_object, contents_of, contents_of_list, contents_of_module, contents_of_object, starting_memory, written}
+use Rattle.layout.specs.StartingMemory.{Contents, address_of_object, contents_of_list, contents_of_module, contents_of_object, starting_memory}
 use Rattle.placing.specs.declared.placement.ModulePlacement.{ModulePlacement as CodePlacement}
 use Rattle.placing.specs.Views.{module_placement_view}
 use Rattle.placing.proofs.Passes.{found_first, found_none, zip_nothing}
@@ -17,8 +17,8 @@ use Rattle.meaning.specs.Outcomes.{Program}
 use Rattle.meaning.specs.Access.{Surroundings, address_of}
 use Rattle.resolving.specs.declared.site.Site.{Site}
 use Rattle.resolving.specs.Views.{site_view}
-use Rattle.contents.specs.internal.Contents.{contents_at, contents_from, module_in, with_all, with_contents}
-use Rattle.contents.proofs.Items.{at_item, at_end}
+use Rattle.contents.specs.internal.Contents.{contents_at, contents_from, module_in, with_all}
+use Rattle.contents.proofs.Items.{at_end}
 use Rattle.contents.proofs.Written.{all_after}
 
 -- the objects of a module and then its lists are its contents

@@ -1,6 +1,6 @@
 -- Bytes that are written one after another, and contents that are.
-use Rattle.std.proofs.Common.{◌≡◌, ℕ, suc, ◌+◌, ◌≤◌, List, [], ◌∷◌, ◌++◌, length, set, refl, ap, ◌∙◌, arith}
-use Rattle.std.proofs.lemmas.List.{length-set, set_past}
+use Rattle.std.proofs.Common.{◌≡◌, ℕ, ◌+◌, ◌≤◌, List, [], ◌∷◌, ◌++◌, length, set, refl, ap, ◌∙◌, arith}
+use Rattle.std.proofs.lemmas.List.{set_past}
 use Rattle.layout.specs.StartingMemory.{Contents, written}
 use Rattle.contents.specs.internal.Contents.{with_contents, with_all}
 

@@ -20,7 +20,12 @@ fn put_module(site: &Site<'_>, memory: &mut Memory, placed: &ModulePlacement)
     let Some(typed) = site.program.modules.get(site.number_of_module) else {
         return;
     };
-    put_objects(site, memory, typed.objects.as_slice(), placed.objects.as_slice());
+    put_objects(
+        site,
+        memory,
+        typed.objects.as_slice(),
+        placed.objects.as_slice(),
+    );
     put_lists(memory, typed.lists.as_slice(), placed.lists.as_slice());
 }
 

@@ -13,12 +13,7 @@ use resolving::Site;
 use typed_trees::InitialValue;
 
 // Puts a value at an address, and gives the address after it, if there is one.
-fn put_value(
-    site: &Site<'_>,
-    memory: &mut Memory,
-    address: u16,
-    value: InitialValue,
-) -> Option<u16>
+fn put_value(site: &Site<'_>, memory: &mut Memory, address: u16, value: InitialValue) -> Option<u16>
     ensures memory { IsMemory memory.new }
     ensures value { memory.new
         ≡ written memory.old address (bytes_of_value (address_of (site_view site.now)) value) }
@@ -28,19 +23,18 @@ fn put_value(
         InitialValue::ByteValue(byte) => put_byte(memory, address, byte),
         InitialValue::WordValue(word) => put_word(memory, address, word),
         InitialValue::LocationValue { object, offset } => {
-            put_word(memory, address, site.address_of(object).wrapping_add(offset))
+            put_word(
+                memory,
+                address,
+                site.address_of(object).wrapping_add(offset),
+            )
         }
     }
 }
 
 /// Puts values one after another, from an address on.
 #[tactic(auto, using(crate::proofs::Loops::value_put, crate::proofs::Loops::values_put))]
-pub(crate) fn put_values(
-    site: &Site<'_>,
-    memory: &mut Memory,
-    start: u16,
-    values: &[InitialValue],
-)
+pub(crate) fn put_values(site: &Site<'_>, memory: &mut Memory, start: u16, values: &[InitialValue])
     ensures { memory.new
         ≡ written memory.old start (flat_map (bytes_of_value (address_of (site_view site.now))) values.now) }
 {
