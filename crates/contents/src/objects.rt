@@ -20,7 +20,7 @@ fn put_object(site: &Site<'_>, memory: &mut Memory, object: &TypedObject, addres
 {
     match &object.home {
         Home::Data(values) => put_values(site, memory, address, values.as_slice()),
-        Home::Constant(_) => (),
+        Home::Constant(values) => put_values(site, memory, address, values.as_slice()),
         Home::At(_) | Home::Based(_) | Home::External | Home::Absent | Home::Frame(_) => (),
     }
 }
