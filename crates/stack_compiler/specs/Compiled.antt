@@ -1,5 +1,5 @@
 -- Programs compiled to stack code.
-use Rattle.std.specs.Prelude.{◌≡◌, ℕ, List, Some, slice_get}
+use Rattle.std.specs.Prelude.{◌≡◌, List, Some, slice_get}
 use Rattle.typed_trees.specs.TypedTrees.{TypedModule}
 use Rattle.layout.specs.Placement.{Placement}
 use Rattle.meaning.specs.Run.{number_of_main}

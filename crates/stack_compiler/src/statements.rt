@@ -19,8 +19,8 @@ use stack_code::Instruction;
 use std::alloc::AllocError;
 use trees::{BinaryOperator, ScalarType};
 use typed_trees::{
-    TypedAssignment, TypedCase, TypedExpression, TypedIf, TypedIterate, TypedIteration, TypedList, TypedMove,
-    TypedStatement, TypedTarget, TypedWhile,
+    TypedAssignment, TypedCase, TypedExpression, TypedIf, TypedIterate, TypedIteration, TypedList,
+    TypedMove, TypedStatement, TypedTarget, TypedWhile,
 };
 
 // A value goes to targets, one by one.
@@ -229,11 +229,7 @@ pub(crate) fn emit_statement(
 // IF with ELSE, or without.
 #[cycle(statement)]
 #[tactic(auto, using(crate::proofs::JumpsFilled::if_without, crate::proofs::JumpsFilled::if_with))]
-fn emit_if(
-    site: &Site<'_>,
-    code: &mut Vec<Instruction>,
-    branch: &TypedIf,
-) -> Result<(), AllocError>
+fn emit_if(site: &Site<'_>, code: &mut Vec<Instruction>, branch: &TypedIf) -> Result<(), AllocError>
     ensures { OnOk result (code.new.items ≡ code.old.items
         ++ (expression_code (site_view site.now) (expression_view branch.now.condition)
         ++ choice_code (statement_code (site_view site.now) (statement_view branch.now.body))
@@ -358,10 +354,7 @@ fn emit_case(
 
 // A jump to each statement of DO CASE, and one past them; and then the statements, each with a jump past those after it.
 #[cycle(statement)]
-fn cases_of(
-    site: &Site<'_>,
-    statements: &[TypedStatement],
-) -> Result<Vec<Instruction>, AllocError>
+fn cases_of(site: &Site<'_>, statements: &[TypedStatement]) -> Result<Vec<Instruction>, AllocError>
     ensures { IfOk result (λ cases. cases.items
         ≡ entries_code (site_view site.now) (count_of_statements (statements_view statements.now)) 0
         (statements_view statements.now)

@@ -116,11 +116,7 @@ fn note_begin(table: &mut ModuleTable, number: usize, after: usize)
 
 // Empty tables up to a count.
 #[tactic(auto, using(crate::proofs::RowLoops::empty_pushed, crate::proofs::RowLoops::empties_pushed))]
-fn pad_tables(
-    alloc: Global,
-    tables: &mut Vec<ModuleTable>,
-    number: usize,
-) -> Result<(), AllocError>
+fn pad_tables(alloc: Global, tables: &mut Vec<ModuleTable>, number: usize) -> Result<(), AllocError>
     ensures { OnOk result (map row_view tables.new.items
         ≡ padded empty_row (map row_view tables.old.items) (suc number)) }
 {
