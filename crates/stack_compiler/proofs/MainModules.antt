@@ -15,7 +15,8 @@ use Rattle.stack_code.specs.declared.instruction.Instruction.{Instruction}
 use Rattle.stack_code.specs.declared.program.StackProgram.{StackProgram}
 use Rattle.stack_code.specs.Code.{program_code}
 use Rattle.stack_code.specs.Program.{AreTablesOf}
-use Rattle.stack_compiler.specs.Compiled.{IsCodeOf, IsCompiled}
+use Rattle.stack_compiler.specs.Compiled.{IsCompiled}
+use Rattle.stack_compiler.specs.internal.MainCode.{IsCodeOf}
 use Rattle.stack_compiler.proofs.Items.{at_item, at_end}
 
 -- the number of the first main module from a number on, or 0

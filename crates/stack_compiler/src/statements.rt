@@ -48,7 +48,8 @@ fn emit_assignment(
 ) -> Result<(), AllocError>
     ensures { OnOk result (code.new.items ≡ code.old.items
         ++ (expression_code (site_view site.now) (expression_view assignment.now.value)
-        ++ (targets_code (site_view site.now) (map target_view assignment.now.targets.items) ++ (Drop ∷ [])))) }
+        ++ (targets_code (site_view site.now) (map target_view assignment.now.targets.items)
+        ++ (Drop ∷ [])))) }
 {
     emit_expression(site, code, &assignment.value)?;
     emit_targets(site, code, assignment.targets.as_slice())?;
@@ -377,7 +378,8 @@ fn open_cases(
     statements: &[TypedStatement],
 ) -> Result<(), AllocError>
     ensures { OnOk result (opening cases.new.items ends.new.items
-        ≡ opened (site_view site.now) 0 (opening cases.old.items ends.old.items) (statements_view statements.now)) }
+        ≡ opened (site_view site.now) 0 (opening cases.old.items ends.old.items)
+        (statements_view statements.now)) }
 {
     for (entry, statement) in statements.iter().enumerate() {
         close_jump(cases, entry);
