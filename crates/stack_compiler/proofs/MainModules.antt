@@ -1,5 +1,5 @@
 -- The main module: its number, and the code of a program.
-use Rattle.std.proofs.Common.{◌≡◌, ℕ, suc, ◌+◌, ◌<◌, ◌≤◌, Bool, true, false, cond, List, [], ◌∷◌, ◌++◌, length, map, drop, get_or, Option, None, Some, option_map, ap, refl, sym, ◌∙◌, arith}
+use Rattle.std.proofs.Common.{◌≡◌, ℕ, ◌+◌, ◌<◌, ◌≤◌, Bool, true, false, cond, List, length, map, drop, get_or, None, Some, option_map, ap, sym, ◌∙◌}
 use Rattle.std.specs.Prelude.{slice_get}
 use Rattle.std.specs.List.{position_from}
 use Rattle.std.specs.Option.{option_map_or}
@@ -14,8 +14,9 @@ use Rattle.meaning.specs.Run.{number_of_main}
 use Rattle.stack_code.specs.declared.instruction.Instruction.{Instruction}
 use Rattle.stack_code.specs.declared.program.StackProgram.{StackProgram}
 use Rattle.stack_code.specs.Code.{program_code}
-use Rattle.stack_code.specs.Program.{AreTablesOf, IsProgramAt}
-use Rattle.stack_compiler.specs.Compiled.{IsCodeOf, IsCompiled, IsMainOf}
+use Rattle.stack_code.specs.Program.{AreTablesOf}
+use Rattle.stack_compiler.specs.Compiled.{IsCompiled}
+use Rattle.stack_compiler.specs.internal.MainCode.{IsCodeOf}
 use Rattle.stack_compiler.proofs.Items.{at_item, at_end}
 
 -- the number of the first main module from a number on, or 0

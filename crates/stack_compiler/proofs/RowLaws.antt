@@ -14,7 +14,7 @@ use Rattle.stack_code.specs.declared.instruction.Instruction.TheVariants.{Begin,
 use Rattle.stack_code.specs.declared.program.Entry.{Entry}
 use Rattle.stack_code.specs.declared.program.ModuleTable.{ModuleTable}
 use Rattle.stack_code.specs.Machine.{after_first, is_begin, is_mark}
-use Rattle.stack_code.specs.Program.{AreTablesOf, entry_in, entry_of, label_in}
+use Rattle.stack_code.specs.Program.{AreTablesOf, entry_in, label_in}
 use Rattle.stack_compiler.specs.internal.Rows.{Row, row_view, empty_row, started_entry, started_row, first_of, padded, updated, with_label, row_labelled, entry_begun, row_begun, noted, noted_all}
 use Rattle.stack_compiler.proofs.RowLoops.{first_stands}
 

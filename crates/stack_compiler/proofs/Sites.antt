@@ -1,12 +1,11 @@
 -- What names and numbers mean where a part of a program stands.
-use Rattle.std.proofs.Common.{◌≡◌, ℕ, List, map, Option, None, Some, option_map, refl, ap, sym, ◌∙◌}
+use Rattle.std.proofs.Common.{◌≡◌, ℕ, Option, None, Some, refl, ap, sym, ◌∙◌}
 use Rattle.std.specs.Option.{option_map_or}
 use Rattle.std.specs.Prelude.{slice_get}
-use Rattle.std.proofs.lemmas.Option.{slice_get-map}
-use Rattle.typed_trees.specs.TypedTrees.{TypedModule, TypedObject, Home}
+use Rattle.typed_trees.specs.TypedTrees.{TypedModule}
 use Rattle.layout.specs.Joined.{InProgram}
 use Rattle.layout.specs.StartingMemory.{address_in, meant_in}
-use Rattle.meaning.specs.Access.{address_of, home_of}
+use Rattle.meaning.specs.Access.{address_of}
 use Rattle.stack_code.specs.Code.{Site, surroundings_at}
 use Rattle.stack_compiler.specs.internal.Sites.{meant_at}
 

@@ -7,3 +7,4 @@ pub mod Loops
 pub mod Openings
 pub mod Sequences
 pub mod Rows
+pub mod MainCode

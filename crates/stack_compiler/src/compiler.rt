@@ -7,7 +7,8 @@ ghost use Rattle.meaning.specs.Run.{number_of_main};
 ghost use Rattle.join.specs.Views.{modules_of};
 ghost use Rattle.placing.specs.Views.{placement_view};
 ghost use Rattle.stack_code.specs.Code.{program_code};
-ghost use Rattle.stack_compiler.specs.Compiled.{IsCodeOf, IsCompiled};
+ghost use Rattle.stack_compiler.specs.Compiled.{IsCompiled};
+ghost use Rattle.stack_compiler.specs.internal.MainCode.{IsCodeOf};
 
 use crate::procedures::{emit_main, emit_modules};
 use crate::program::Program;

@@ -84,7 +84,8 @@ impl<'a> Site<'a> {
 
     // Where an object of the program lies.
     fn address_at(&self, found: Found) -> u16
-        ensures { result ≡ address_in (placement_view (self.now.program.now.placement.now)) (found_view found) }
+        ensures { result
+            ≡ address_in (placement_view (self.now.program.now.placement.now)) (found_view found) }
     {
         match self.program.placement.modules().get(found.number_of_module) {
             Some(placed) => match placed.objects.get(found.number) {

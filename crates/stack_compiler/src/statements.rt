@@ -19,8 +19,8 @@ use stack_code::Instruction;
 use std::alloc::AllocError;
 use trees::{BinaryOperator, ScalarType};
 use typed_trees::{
-    TypedAssignment, TypedCase, TypedExpression, TypedIf, TypedIterate, TypedIteration, TypedList, TypedMove,
-    TypedStatement, TypedTarget, TypedWhile,
+    TypedAssignment, TypedCase, TypedExpression, TypedIf, TypedIterate, TypedIteration, TypedList,
+    TypedMove, TypedStatement, TypedTarget, TypedWhile,
 };
 
 // A value goes to targets, one by one.
@@ -48,7 +48,8 @@ fn emit_assignment(
 ) -> Result<(), AllocError>
     ensures { OnOk result (code.new.items ≡ code.old.items
         ++ (expression_code (site_view site.now) (expression_view assignment.now.value)
-        ++ (targets_code (site_view site.now) (map target_view assignment.now.targets.items) ++ (Drop ∷ [])))) }
+        ++ (targets_code (site_view site.now) (map target_view assignment.now.targets.items)
+        ++ (Drop ∷ [])))) }
 {
     emit_expression(site, code, &assignment.value)?;
     emit_targets(site, code, assignment.targets.as_slice())?;
@@ -229,11 +230,7 @@ pub(crate) fn emit_statement(
 // IF with ELSE, or without.
 #[cycle(statement)]
 #[tactic(auto, using(crate::proofs::JumpsFilled::if_without, crate::proofs::JumpsFilled::if_with))]
-fn emit_if(
-    site: &Site<'_>,
-    code: &mut Vec<Instruction>,
-    branch: &TypedIf,
-) -> Result<(), AllocError>
+fn emit_if(site: &Site<'_>, code: &mut Vec<Instruction>, branch: &TypedIf) -> Result<(), AllocError>
     ensures { OnOk result (code.new.items ≡ code.old.items
         ++ (expression_code (site_view site.now) (expression_view branch.now.condition)
         ++ choice_code (statement_code (site_view site.now) (statement_view branch.now.body))
@@ -358,10 +355,7 @@ fn emit_case(
 
 // A jump to each statement of DO CASE, and one past them; and then the statements, each with a jump past those after it.
 #[cycle(statement)]
-fn cases_of(
-    site: &Site<'_>,
-    statements: &[TypedStatement],
-) -> Result<Vec<Instruction>, AllocError>
+fn cases_of(site: &Site<'_>, statements: &[TypedStatement]) -> Result<Vec<Instruction>, AllocError>
     ensures { IfOk result (λ cases. cases.items
         ≡ entries_code (site_view site.now) (count_of_statements (statements_view statements.now)) 0
         (statements_view statements.now)
@@ -384,7 +378,8 @@ fn open_cases(
     statements: &[TypedStatement],
 ) -> Result<(), AllocError>
     ensures { OnOk result (opening cases.new.items ends.new.items
-        ≡ opened (site_view site.now) 0 (opening cases.old.items ends.old.items) (statements_view statements.now)) }
+        ≡ opened (site_view site.now) 0 (opening cases.old.items ends.old.items)
+        (statements_view statements.now)) }
 {
     for (entry, statement) in statements.iter().enumerate() {
         close_jump(cases, entry);

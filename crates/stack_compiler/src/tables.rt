@@ -114,13 +114,9 @@ fn note_begin(table: &mut ModuleTable, number: usize, after: usize)
     note_entry(&mut table.procedures, number, after);
 }
 
-// Empty tables up to a count.
+// Tables up to that of a module, empty ones for modules that have none.
 #[tactic(auto, using(crate::proofs::RowLoops::empty_pushed, crate::proofs::RowLoops::empties_pushed))]
-fn pad_tables(
-    alloc: Global,
-    tables: &mut Vec<ModuleTable>,
-    number: usize,
-) -> Result<(), AllocError>
+fn pad_tables(alloc: Global, tables: &mut Vec<ModuleTable>, number: usize) -> Result<(), AllocError>
     ensures { OnOk result (map row_view tables.new.items
         ≡ padded empty_row (map row_view tables.old.items) (suc number)) }
 {

@@ -14,6 +14,7 @@ pub record Opening : Type 0 where
   pub code : List Instruction
   pub ends : List ℕ
 
+-- code so far with such places
 abbrev pub opening : List Instruction → List ℕ → Opening
 opening code ends = record { code = code; ends = ends }
 
@@ -25,6 +26,7 @@ passing code at = slice_set code at (Jump (length code - (at + 1)))
 abbrev pub with_case : Site → List Instruction → TypedStatement → List Instruction
 with_case site code statement = (code ++ statement_code site statement) ++ (Jump 0 ∷ [])
 
+-- the same, and its jump among the first ones filled in
 abbrev pub opened_by : Site → (entry : ℕ) → Opening → TypedStatement → Opening
 opened_by site entry before statement = record {
   code = with_case site (passing before.code entry) statement;

@@ -2,7 +2,7 @@
 use Rattle.std.specs.Prelude.{ℕ, ◌+◌, ◌%◌, Bool, true, false, List, [], ◌∷◌, ◌++◌}
 use Rattle.mem80.specs.declared.memory.TheConstants.{MEMORY_SIZE}
 use Rattle.trees.specs.declared.declaration.ScalarType.TheVariants.{Address}
-use Rattle.typed_trees.specs.TypedTrees.{TypedReference, PartOf, Subscript, NoSubscript, At}
+use Rattle.typed_trees.specs.TypedTrees.{TypedReference, PartOf, Subscript, NoSubscript}
 use Rattle.meaning.specs.Access.{address_of}
 use Rattle.stack_code.specs.declared.instruction.Instruction.{Instruction}
 use Rattle.stack_code.specs.declared.instruction.Instruction.TheVariants.{Advance}

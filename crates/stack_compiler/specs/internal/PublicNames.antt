@@ -6,12 +6,15 @@ use Rattle.typed_trees.specs.TypedTrees.{TypedObject, TypedProcedure, TypedModul
 use Rattle.layout.specs.Joined.{InProgram, is_public_procedure}
 use Rattle.stack_compiler.specs.declared.publics.Found.{Found}
 
+-- names with what they stand for
 abbrev pub Table : Type 0
 Table = List (List ℕ × Found)
 
+-- what a name stands for, as the definitions have it
 abbrev pub found_view : Found → InProgram
 found_view found = record { number_of_module = found.number_of_module; number = found.number }
 
+-- an object or a procedure by its module and its number
 abbrev pub found_at : (number_of_module number : ℕ) → Found
 found_at number_of_module number = record { number_of_module = number_of_module; number = number }
 
@@ -43,6 +46,7 @@ with_modules is_public name_of items_of table number_of_module (typed ∷ others
     with_modules is_public name_of items_of
     (with_items is_public name_of table number_of_module 0 (items_of typed)) (number_of_module + 1) others
 
+-- what the tables are filled with
 abbrev pub is_public_object : TypedObject → Bool
 is_public_object object = object.is_public
 
@@ -61,6 +65,7 @@ objects_of typed = typed.objects
 abbrev pub procedures_of : TypedModule → List TypedProcedure
 procedures_of typed = typed.procedures
 
+-- a table with the PUBLICs of a module, or of modules, from a number on
 unfoldable pub with_objects : Table → (number_of_module number : ℕ) → List TypedObject → Table
 with_objects table number_of_module number objects =
     with_items is_public_object name_of_object table number_of_module number objects

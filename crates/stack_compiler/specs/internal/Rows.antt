@@ -13,9 +13,11 @@ pub record Row : Type 0 where
   pub entries : List Entry
   pub labels : List ℕ
 
+-- the table of a module in the code, as such a row
 abbrev pub row_view : ModuleTable → Row
 row_view table = record { entries = table.procedures.items; labels = table.labels.items }
 
+-- a table with nothing in it
 abbrev pub empty_row : Row
 empty_row = record { entries = []; labels = [] }
 
@@ -42,12 +44,14 @@ abbrev pub updated : {A : Type 0} → (A → A) → List A → (number : ℕ) �
 updated change items number =
     option_map_or (λ item. slice_set items number (change item)) (slice_get items number) items
 
+-- the places of labels with one more, if the label has none
 abbrev pub with_label : List ℕ → (label after : ℕ) → List ℕ
 with_label labels label after = updated (λ place. first_of place after) (padded 0 labels (label + 1)) label
 
 abbrev pub row_labelled : (label after : ℕ) → Row → Row
 row_labelled label after row = record { entries = row.entries; labels = with_label row.labels label after }
 
+-- an entry with a place, if it has none, and the same in a table
 abbrev pub entry_begun : (after : ℕ) → Entry → Entry
 entry_begun after entry = record { begin = first_of entry.begin after; charge = entry.charge }
 
@@ -62,6 +66,7 @@ noted rows after (Mark number_of_module label) =
 noted rows after (Begin number_of_module number) = updated (row_begun number after) rows number_of_module
 noted rows after instruction = rows
 
+-- what a list of instructions tells, which stand from a place on
 abbrev pub noted_all : List Row → (at : ℕ) → List Instruction → List Row
 noted_all rows at [] = rows
 noted_all rows at (first ∷ others) = noted_all (noted rows (at + 1) first) (at + 1) others
