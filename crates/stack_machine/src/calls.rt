@@ -1,7 +1,5 @@
 //! The calls that are under way.
 
-ghost use Rattle.std.specs.Prelude.{◌≡◌, [], ◌∷◌, OnOk, MatchOption};
-
 use std::alloc::{AllocError, Global};
 use std::marker::Model;
 

@@ -23,9 +23,11 @@ pub fn copy(
 ) -> Result<(), Reason>
     requires { HasTable joined.now placement.now }
     ensures answer { result
-        ≡ (bytes_moved (modules_in joined.now) (placement_view placement.now) memory.old count source destination).answer }
+        ≡ (bytes_moved (modules_in joined.now) (placement_view placement.now) memory.old
+        count source destination).answer }
     ensures memory { memory.new
-        ≡ (bytes_moved (modules_in joined.now) (placement_view placement.now) memory.old count source destination).memory }
+        ≡ (bytes_moved (modules_in joined.now) (placement_view placement.now) memory.old
+        count source destination).memory }
 {
     let mut left = count;
     let mut from = source;

@@ -44,12 +44,14 @@ pub fn run<P: Ports>(
         (program.now).instructions.items
         (program.now).modules.items }
     ensures ended { IfOk result (λ end. Stops (stack_run (program.now).instructions.items (module_view main.now)
-        (start_surroundings (modules_in joined.now) (placement_view placement.now) (P.script ports.old) number_of_main room)
+        (start_surroundings (modules_in joined.now) (placement_view placement.now) (P.script ports.old)
+        number_of_main room)
         (state_at_start memory (P.events ports.old) budget))
         (stop_of end) (P.events ports.new)) }
     ensures count { OnOk result (P.failures ports.new ≡ P.failures ports.old) }
     ensures reached { OnErr result (Reaches (stack_run (program.now).instructions.items (module_view main.now)
-        (start_surroundings (modules_in joined.now) (placement_view placement.now) (P.script ports.old) number_of_main room)
+        (start_surroundings (modules_in joined.now) (placement_view placement.now) (P.script ports.old)
+        number_of_main room)
         (state_at_start memory (P.events ports.old) budget))
         (P.events ports.new)) }
     ensures failed { IfErr result (λ fault. FaultCounts fault (P.failures ports.old) (P.failures ports.new)) }

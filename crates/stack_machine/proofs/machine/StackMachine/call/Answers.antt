@@ -1,5 +1,5 @@
 -- Calls, by what the tables have.
-use Rattle.std.proofs.Common.{◌≡◌, ◌<◌, ◌≤◌, Bool, false, arith, rules}
+use Rattle.std.proofs.Common.{◌≡◌, ◌<◌, false, arith, rules}
 use Rattle.std.specs.Prelude.{◌==◌}
 use Rattle.placing.specs.Views.{placement_view}
 use Rattle.declared.specs.Access.{modules_in}
