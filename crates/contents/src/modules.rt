@@ -12,7 +12,7 @@ use placing::ModulePlacement;
 use resolving::{Program, Site};
 
 // Puts what a module has where it lies.
-#[tactic(auto, using(crate::proofs::ModuleLoops::module_put, crate::proofs::ModuleLoops::no_module_put))]
+#[tactic(auto, using(crate::proofs::ModuleLoops::no_module_put))]
 fn put_module(site: &Site<'_>, memory: &mut Memory, placed: &ModulePlacement)
     ensures { memory.new
         ≡ with_all memory.old (contents_at (site_view site.now) (module_placement_view placed.now)) }

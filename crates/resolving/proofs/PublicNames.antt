@@ -1,5 +1,5 @@
 -- The tables of PUBLICs: how they are filled, and that they have the first one of each name.
-use Rattle.std.proofs.Common.{◌≡◌, ℕ, suc, ◌+◌, ◌<◌, ◌≤◌, Bool, true, false, ◌&&◌, cond, List, [], ◌∷◌, ◌++◌, map, length, drop, get_or, is_some, Option, None, Some, option_map, if◌then◌else◌, refl, ap, sym, subst, ◌∙◌, true≢false, arith}
+use Rattle.std.proofs.Common.{◌≡◌, ℕ, ◌+◌, ◌<◌, ◌≤◌, Bool, true, false, ◌&&◌, cond, List, [], ◌∷◌, ◌++◌, map, length, drop, get_or, is_some, Option, None, Some, option_map, if◌then◌else◌, refl, ap, sym, subst, ◌∙◌, true≢false}
 use Rattle.std.specs.List.{position, position_from}
 use Rattle.std.specs.Map.{lookup}
 use Rattle.std.specs.Option.{option_or}
