@@ -30,10 +30,10 @@ module _ (total : Option (ℕ × TypedModule)) (modules : List Typed) (i : ℕ) 
   no_main past = sym (at_end (λ left. found_from i (map module_view left)) modules i past) ∙ rest
 
 -- what is found is the first main module, by its number
-module_of : (found : Option (ℕ × TypedModule)) → Option TypedModule
+abbrev module_of : (found : Option (ℕ × TypedModule)) → Option TypedModule
 module_of found = option_map (λ (one : ℕ × TypedModule). one.1) found
 
-number_in : (found : Option (ℕ × TypedModule)) → Option ℕ
+abbrev number_in : (found : Option (ℕ × TypedModule)) → Option ℕ
 number_in found = option_map (λ (one : ℕ × TypedModule). one.0) found
 
 find_by : (test : Bool) (number : ℕ) (first : TypedModule) (others : List TypedModule) → module_of (found_from (number + 1) others) ≡ find is_main others
@@ -59,7 +59,7 @@ main_is modules number main found = sym (find_from 0 modules) ∙ ap module_of f
 
 pub number_is : (modules : List TypedModule) (number : ℕ) (main : TypedModule) → found_from 0 modules ≡ Some (number, main) → number_of_main modules ≡ number
 number_is modules number main found =
-    ap (λ one. option_map_or (λ at. at) one 0) (sym (position_from-zero is_main modules) ∙ sym (position_is 0 modules) ∙ ap number_in found)
+    ap (λ one. option_map_or (λ at. at) one 0) (position_from-zero is_main modules ∙ sym (position_is 0 modules) ∙ ap number_in found)
 
 pub main_is_none : (modules : List TypedModule) → found_from 0 modules ≡ None → find is_main modules ≡ None
 main_is_none modules found = sym (find_from 0 modules) ∙ ap module_of found
