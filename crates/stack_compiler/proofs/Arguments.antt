@@ -7,8 +7,8 @@ use Rattle.stack_code.specs.declared.instruction.Instruction.{Instruction}
 use Rattle.stack_code.specs.declared.instruction.Instruction.TheVariants.{Drop, Push}
 use Rattle.layout.specs.Joined.{InProgram}
 use Rattle.stack_code.specs.Code.{Site, arguments_code, called_code, count_of_arguments, expression_code}
-use Rattle.stack_compiler.specs.declared.publics.Found.{Found}
-use Rattle.stack_compiler.specs.internal.PublicNames.{found_view}
+use Rattle.resolving.specs.declared.publics.Found.{Found}
+use Rattle.resolving.specs.Views.{found_view}
 use Rattle.stack_compiler.proofs.Items.{at_item, at_end}
 
 pub arguments_count : (items : List TypedExpression) → count_of_arguments (arguments_view items) ≡ length items

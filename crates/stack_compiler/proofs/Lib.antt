@@ -1,6 +1,4 @@
 pub mod Items
-pub mod PublicNames
-pub mod Sites
 pub mod Storages
 pub mod Arguments
 pub mod JumpsFilled

@@ -7,9 +7,9 @@ use Rattle.meaning.specs.Access.{address_of, home_of}
 use Rattle.stack_code.specs.declared.instruction.Instruction.{Instruction}
 use Rattle.stack_code.specs.declared.instruction.Instruction.TheVariants.{Advance, FrameParameter, Parameter}
 use Rattle.stack_code.specs.Code.{Site, Purpose, surroundings_at, instruction_at, instruction_of_address, instruction_of_frame, whole_in_frame, scalar_code, variable_code, parameter_code, part_at, part_code, index_code, reference_code}
-use Rattle.stack_compiler.specs.declared.site.Storage.{Storage}
-use Rattle.stack_compiler.specs.declared.site.Storage.TheVariants.{Frame, Base, Memory}
-use Rattle.stack_compiler.specs.internal.Storage.{storage_by}
+use Rattle.resolving.specs.declared.site.Storage.{Storage}
+use Rattle.resolving.specs.declared.site.Storage.TheVariants.{Frame, Base, Memory}
+use Rattle.resolving.specs.Storage.{storage_by}
 use Rattle.stack_compiler.specs.internal.Parts.{bytes_code, framed_code, based_code, placed_code, lacks_subscripts}
 
 -- a scalar by what it is found by

@@ -1,5 +1,3 @@
-pub mod PublicNames
-pub mod Storage
 pub mod Sites
 pub mod Purposes
 pub mod Parts

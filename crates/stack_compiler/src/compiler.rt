@@ -11,10 +11,10 @@ ghost use Rattle.stack_compiler.specs.Compiled.{IsCompiled};
 ghost use Rattle.stack_compiler.specs.internal.MainCode.{IsCodeOf};
 
 use crate::procedures::{emit_main, emit_modules};
-use crate::program::Program;
 use crate::tables::tables_of;
 use join::Joined;
 use placing::Placement;
+use resolving::Program;
 use stack_code::{Instruction, StackProgram};
 use std::alloc::{AllocError, Global};
 use typed_trees::Typed;

@@ -12,8 +12,9 @@ ghost use Rattle.stack_compiler.specs.internal.Sites.{site_view};
 use crate::purpose::{
     Purpose, emit, emit_at_address, instruction_at, instruction_of_frame, part_of,
 };
-use crate::site::{Site, Storage};
+use crate::site::Site;
 use crate::variables::{address_after, variable_code, wrapped};
+use resolving::Storage;
 use stack_code::Instruction;
 use std::alloc::AllocError;
 use trees::ScalarType;

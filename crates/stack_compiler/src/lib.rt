@@ -5,8 +5,6 @@ mod compiler;
 mod expressions;
 mod jumps;
 mod procedures;
-mod program;
-mod publics;
 mod purpose;
 mod site;
 mod statements;

@@ -8,10 +8,10 @@ ghost use Rattle.stack_code.specs.Code.{main_code, parameter_code, parameters_co
 ghost use Rattle.stack_compiler.specs.internal.Sequences.{modules_code_from, procedures_code_from};
 ghost use Rattle.stack_compiler.specs.internal.Sites.{site_view};
 
-use crate::program::Program;
 use crate::purpose::emit;
-use crate::site::{Site, Storage};
+use crate::site::Site;
 use crate::statements::emit_list;
+use resolving::{Program, Storage};
 use stack_code::Instruction;
 use std::alloc::{AllocError, Global};
 use trees::ScalarType;

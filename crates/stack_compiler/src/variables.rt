@@ -8,8 +8,9 @@ ghost use Rattle.stack_compiler.specs.internal.Purposes.{purpose_view};
 ghost use Rattle.stack_compiler.specs.internal.Sites.{site_view};
 
 use crate::purpose::{Purpose, instruction_at, instruction_of_frame, whole_in_frame};
-use crate::site::{Site, Storage};
+use crate::site::Site;
 use mem80::MEMORY_SIZE;
+use resolving::Storage;
 use stack_code::Instruction;
 
 /// What is done with a scalar without subscripts that is not BASED.
