@@ -41,7 +41,8 @@ impl<'a> StackMachine<'a> {
             (machine_view (program_of (modules_in joined.now) (placement_view placement.now) (P.script ports.old))
             (P.events ports.old) self.old))
             (P.events ports.new)) }
-        ensures failed { IfErr result (λ fault. FaultCounts fault (P.failures ports.old) (P.failures ports.new)) }
+        ensures failed { IfErr result (λ fault.
+            FaultCounts fault (P.failures ports.old) (P.failures ports.new)) }
         ensures script { P.script ports.new ≡ P.script ports.old }
     {
         while self.at < code.len() {

@@ -22,7 +22,8 @@ impl<'a> StackMachine<'a> {
             (read_event port (input_value (P.script ports.old) (P.events ports.old) port))) }
         ensures count { OnOk result (P.failures ports.new ≡ P.failures ports.old) }
         ensures none { OnErr result (P.events ports.new ≡ P.events ports.old) }
-        ensures failed { IfErr result (λ fault. FaultCounts fault (P.failures ports.old) (P.failures ports.new)) }
+        ensures failed { IfErr result (λ fault.
+            FaultCounts fault (P.failures ports.old) (P.failures ports.new)) }
         ensures script { P.script ports.new ≡ P.script ports.old }
     {
         if let Err(_) = self.values.push(0) {
@@ -46,7 +47,8 @@ impl<'a> StackMachine<'a> {
             (write_event port (top self.old.values % 256))) }
         ensures count { OnOk result (P.failures ports.new ≡ P.failures ports.old) }
         ensures none { OnErr result (P.events ports.new ≡ P.events ports.old) }
-        ensures failed { IfErr result (λ fault. FaultCounts fault (P.failures ports.old) (P.failures ports.new)) }
+        ensures failed { IfErr result (λ fault.
+            FaultCounts fault (P.failures ports.old) (P.failures ports.new)) }
         ensures script { P.script ports.new ≡ P.script ports.old }
     {
         let byte = (self.values.top() % 256) as u8;

@@ -43,7 +43,8 @@ pub fn run<P: Ports>(
         (modules_in joined.now)
         (program.now).instructions.items
         (program.now).modules.items }
-    ensures ended { IfOk result (λ end. Stops (stack_run (program.now).instructions.items (module_view main.now)
+    ensures ended { IfOk result (λ end.
+        Stops (stack_run (program.now).instructions.items (module_view main.now)
         (start_surroundings (modules_in joined.now) (placement_view placement.now) (P.script ports.old)
         number_of_main room)
         (state_at_start memory (P.events ports.old) budget))
