@@ -14,7 +14,7 @@ use tool::{Source, ToolFault};
 use typed_trees::Typed;
 
 /// Reads each source, in the order given.
-#[tactic(auto, using(crate::proofs::Readings::none_readable, crate::proofs::Readings::one_more_readable, crate::proofs::Readings::goes_on, crate::proofs::Readings::all_read, crate::proofs::Readings::text_at, crate::proofs::Readings::within_texts, crate::proofs::Readings::fault_of_one, crate::proofs::Readings::first_of_one))]
+#[tactic(auto, using(crate::proofs::ReadSources::none_readable, crate::proofs::ReadSources::one_more_readable, crate::proofs::ReadSources::goes_on, crate::proofs::ReadSources::all_read, crate::proofs::ReadSources::text_at, crate::proofs::ReadSources::within_texts, crate::proofs::ReadSources::fault_of_one, crate::proofs::ReadSources::first_of_one))]
 pub(crate) fn read_all(
     alloc: Global,
     sources: &[Source],
@@ -32,7 +32,7 @@ pub(crate) fn read_all(
 }
 
 // Reads one source.
-#[tactic(auto, using(crate::proofs::Readings::is_read_as))]
+#[tactic(auto, using(crate::proofs::ReadSources::is_read_as))]
 fn read_one(alloc: Global, file: usize, text: &[u8]) -> Result<SourceModule, Failure<ToolFault>>
     ensures read { IfOk result (IsReadAs text.now) }
     ensures refused { IfFault result (λ fault. HasFaultOf fault file text.now) }

@@ -1,6 +1,6 @@
 use Rattle.std.proofs.Common.{◌<◌, length}
 use Rattle.tool.specs.Sources.{texts_of}
-use Rattle.interpretation.proofs.Readings.{all_read, goes_on, one_more_readable, past_texts, text_at, within_texts}
+use Rattle.interpretation.proofs.ReadSources.{all_read, goes_on, one_more_readable, past_texts, text_at, within_texts}
 use Rattle.interpretation.proofs.readings.read_all.Goals as goal
 
 pub loop-file-preserved : goal.loop-file-preserved

@@ -1,7 +1,7 @@
 use Rattle.std.proofs.Common.{length}
 use Rattle.tool.specs.Sources.{texts_of}
 use Rattle.interpretation.specs.Programs.{AreReadable}
-use Rattle.interpretation.proofs.Readings.{GoesOn}
+use Rattle.interpretation.proofs.ReadSources.{GoesOn}
 use Rattle.interpretation.proofs.readings.read_all.Given as goal
 
 -- what is left decides, and the texts so far are sources
