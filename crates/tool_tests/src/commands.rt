@@ -1,59 +1,19 @@
-//! The command line, on sources of a line or a few.
+//! Wrong command lines, and help.
 
 use crate::one_file::OneFile;
-use crate::runs::{check_refusals, check_runs};
 use std::test::Fail;
-use tool::run_command;
-
-static PROGRAMS: [(&str, &str); 5] = [
-    ("M: DO; OUTPUT(1) = 42; END M;", "OUT 01 2A\nHALT\n"),
-    ("M: DO; OUTPUT(1) = 300; END M;", "OUT 01 2C\nHALT\n"),
-    ("M:DO;OUTPUT(255)=65535;END;", "OUT FF FF\nHALT\n"),
-    (
-        "first$one: do;\n\toutput(0)=0FFH; Out$put(1$0) = 1010B;\r\nend FIRSTONE;",
-        "OUT 00 FF\nOUT 0A 0A\nHALT\n",
-    ),
-    (
-        "/* two */ M: DO; /* a port */ OUTPUT(2) = 1; OUTPUT(2) = 0; END M; /* no more */",
-        "OUT 02 01\nOUT 02 00\nHALT\n",
-    ),
-];
-
-#[test]
-fn programs_that_run(rt: HostRuntime) -> Result<(), Fail> {
-    check_runs(&rt, &PROGRAMS)
-}
-
-// A fault of each call that a source goes through, in their order, and then of what comes after them.
-static REFUSALS: [(&str, &str); 9] = [
-    ("M: DO; ? END M;", "C1 a.plm 1\n"),
-    ("M: DO; DECLARE A LITERALLY 'A';\nA;", "C5 a.plm 2\n"),
-    ("M: DO;\nOUTPUT(1) = 2\n", "C7 a.plm 2\n"),
-    ("M: DO; OUTPUT(1) = A; HALT; END M;", "C11 a.plm 1\n"),
-    ("M: DO; OUTPUT(256) = 1; HALT; END M;", "C15 a.plm 1\n"),
-    (
-        "M: DO; DECLARE A (65535) BYTE, B BYTE; END M;",
-        "C18 a.plm 0\n",
-    ),
-    ("M: DO; END M;", "J4 - 0\n"),
-    ("M: DO; DECLARE A LITERALLY '1'; END M;", "J4 - 0\n"),
-    ("M: DO; DECLARE A BYTE; END M;", "N1 a.plm 1\n"),
-];
-
-#[test]
-fn sources_that_are_refused(rt: HostRuntime) -> Result<(), Fail> {
-    check_refusals(&rt, &REFUSALS)
-}
+use commands::run_command;
 
 #[test]
 fn wrong_command_lines_and_files(rt: HostRuntime) -> Result<(), Fail> {
     let source = "M: DO; OUTPUT(1) = 42; END M;";
-    let lines: [(&[&str], u8); 7] = [
+    let lines: [(&[&str], u8); 8] = [
         (&["plm"], 2),
         (&["plm", "run"], 2),
-        (&["plm", "run", "a.plm", "a.plm"], 2),
+        (&["plm", "interpret"], 2),
         (&["plm", "compile", "a.plm", "a.obj"], 2),
-        (&["plm", "run", "--limit", "3", "a.plm"], 2),
+        (&["plm", "run", "--speed", "3", "a.plm"], 2),
+        (&["plm", "interpret", "--help"], 0),
         (&["plm", "--help"], 0),
         (&["plm", "run", "--help"], 0),
     ];

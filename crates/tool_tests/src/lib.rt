@@ -9,16 +9,6 @@ mod commands;
 mod depths;
 pub mod one_file;
 #[cfg(test)]
-mod productions;
-#[cfg(test)]
-mod programs;
-#[cfg(test)]
-mod reserved;
-#[cfg(test)]
 mod runs;
 #[cfg(test)]
-mod single_words;
-#[cfg(test)]
 mod texts;
-#[cfg(test)]
-mod unserved;

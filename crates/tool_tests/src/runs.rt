@@ -3,7 +3,7 @@
 use crate::one_file::OneFile;
 use std::process::Abort;
 use std::test::Fail;
-use tool::run_command;
+use commands::run_command;
 
 /// What the source prints to standard output and to standard error, and the exit status.
 fn check<R: Abort + AllocGlobal>(

@@ -3,7 +3,7 @@
 use anyhow::Result;
 use std::alloc::Global;
 use std::fmt;
-use tool::run_command;
+use commands::run_command;
 use tool_tests::one_file::OneFile;
 
 // The name that a source goes by.

@@ -1,0 +1,5 @@
+pub mod TableKinds
+pub mod Meanings
+pub mod Cuts
+pub mod SlotSums
+pub mod FrameBytes
