@@ -40,12 +40,12 @@ hexadecimal digits: 01:0904/02:FF gives 09 and then 04 at port 01, and FF at por
 
 Exit status:
   0  the program halted, or help was asked for
-  1  a source or a value was refused, memory ran out, or a file can't be read
-  2  the command line is wrong
+  1  a source was refused, memory ran out, or a file can't be read
+  2  the command line is wrong, or a value in it
   3  LIMIT
   4  ILLEGAL or PORT
 
-A refused source prints `number file line` to standard error, and a refused value `U4 value 0`.
+A refused source prints `number file line` to standard error, and a refused value `U4 - 0`.
 
 Example: a file with the line
   M: DO; OUTPUT(1) = 42; END M;
@@ -76,13 +76,13 @@ hexadecimal digits: 01:0904/02:FF gives 09 and then 04 at port 01, and FF at por
 
 Exit status:
   0  the program ended, or help was asked for
-  1  a source or a value was refused, memory ran out, or a file can't be read
-  2  the command line is wrong
+  1  a source was refused, memory ran out, or a file can't be read
+  2  the command line is wrong, or a value in it
   3  LIMIT
   4  PORT
   5  OUTSIDE
 
-A refused source prints `number file line` to standard error, and a refused value `U4 value 0`.
+A refused source prints `number file line` to standard error, and a refused value `U4 - 0`.
 
 Example: a file with the line
   M: DO; OUTPUT(1) = 42; END M;

@@ -1,5 +1,7 @@
 //! How commands end, and what they print where they are refused.
 
+use command_line::ValueFault;
+use std::io;
 use std::io::Write;
 use tool::ToolFault;
 
@@ -8,9 +10,9 @@ use tool::ToolFault;
 pub(crate) enum Ending {
     /// The program ended, or help was printed.
     Done = 0,
-    /// Sources or a value were refused, memory ran out, or a file could not be read or written.
+    /// Sources were refused, memory ran out, or a file could not be read or written.
     Refused = 1,
-    /// The command line is wrong.
+    /// The command line is wrong, or a value in it.
     WrongLine = 2,
     /// The limit was met.
     Limit = 3,
@@ -42,9 +44,23 @@ fn file_of<'a>(fault: &ToolFault, files: &[&'a str]) -> &'a str {
     }
 }
 
+/// Prints that an option has a text that is none of its values.
+pub(crate) fn refuse_value<E: Write>(fault: &ValueFault, err: &mut E) -> Ending {
+    let _refused = refuse(fault.number(), "-", 0, err);
+    Ending::WrongLine
+}
+
 /// Standard output could not be written.
 pub(crate) fn refuse_output<E: Write>(err: &mut E) -> Ending {
     refuse("U3", "-", 0, err)
+}
+
+/// What was written to standard output was not taken, or memory ran out there.
+pub(crate) fn refuse_write<E: Write>(error: &io::Error, err: &mut E) -> Ending {
+    match error.kind() {
+        io::ErrorKind::OutOfMemory => refuse_memory(err),
+        _ => refuse_output(err),
+    }
 }
 
 /// Memory ran out.

@@ -1,8 +1,9 @@
 //! Carrying out a command line.
 
 ghost use Rattle.std.specs.Prelude.{◌≤◌};
+ghost use Rattle.files.specs.Files.{KeepsFiles};
 
-use crate::answers::{Ending, refuse, refuse_memory, refuse_output};
+use crate::answers::{Ending, refuse, refuse_memory, refuse_value, refuse_write};
 use crate::interpreting::interpret_sources;
 use crate::loading::{read_files, sources_of};
 use crate::running::run_sources;
@@ -22,7 +23,8 @@ pub fn run_command<F: Files, O: Write, E: Write>(
     out: &mut O,
     err: &mut E,
 ) -> u8
-    ensures { result ≤ 5 }
+    ensures status { result ≤ 5 }
+    ensures kept { KeepsFiles (F.files files.old) (F.files files.new) }
 {
     let ending = match command(alloc, words) {
         Ok(order) => carry_out(alloc, &order, files, out, err),
@@ -37,7 +39,7 @@ fn end_line<O: Write, E: Write>(fault: &LineFault, out: &mut O, err: &mut E) -> 
     match fault {
         LineFault::Help(_) => match write!(out, "{fault}") {
             Ok(()) => Ending::Done,
-            Err(_) => refuse_output(err),
+            Err(error) => refuse_write(&error, err),
         },
         LineFault::Wrong(_) => {
             let _ = write!(err, "{fault}");
@@ -47,16 +49,19 @@ fn end_line<O: Write, E: Write>(fault: &LineFault, out: &mut O, err: &mut E) -> 
 }
 
 // Carries out an order, once the values of its options are known.
+#[tactic(auto, using(crate::proofs::KeptFiles::stays))]
 fn carry_out<F: Files, O: Write, E: Write>(
     alloc: Global,
     order: &Order,
     files: &mut F,
     out: &mut O,
     err: &mut E,
-) -> Ending {
+) -> Ending
+    ensures kept { KeepsFiles (F.files files.old) (F.files files.new) }
+{
     match order.settings(alloc) {
         Ok(values) => load(alloc, order, &values, files, out, err),
-        Err(Failure::Fault(fault)) => refuse("U4", fault.text, 0, err),
+        Err(Failure::Fault(fault)) => refuse_value(&fault, err),
         Err(Failure::Memory) => refuse_memory(err),
     }
 }
@@ -69,7 +74,9 @@ fn load<F: Files, O: Write, E: Write>(
     files: &mut F,
     out: &mut O,
     err: &mut E,
-) -> Ending {
+) -> Ending
+    ensures kept { KeepsFiles (F.files files.old) (F.files files.new) }
+{
     let names = order.files.as_slice();
     let texts = match read_files(alloc, names, files) {
         Ok(texts) => texts,

@@ -1,6 +1,13 @@
 //! Programs that are interpreted.
 
-use crate::answers::{Ending, refuse_memory, refuse_output, refuse_sources};
+ghost use Rattle.std.specs.Prelude.{All};
+ghost use Rattle.typed_trees.specs.Jumps.{JumpsAreSound};
+ghost use Rattle.layout.specs.Placement.{pieces_of};
+ghost use Rattle.placing.specs.Tables.{IsTableOf};
+ghost use Rattle.placing.specs.Views.{placement_view};
+ghost use Rattle.tool.specs.Construction.{program_modules};
+
+use crate::answers::{Ending, refuse_memory, refuse_output, refuse_sources, refuse_write};
 use crate::loading::script_of;
 use crate::map::print_map;
 use command_line::{Order, Settings};
@@ -15,6 +22,7 @@ use std::io::Write;
 use tool::{Plan, Source};
 
 /// Reads the program of sources, and interprets it from a memory of zeros.
+#[tactic(auto, using(crate::proofs::ReadPrograms::has_table, crate::proofs::ReadPrograms::has_sound_jumps))]
 pub(crate) fn interpret_sources<O: Write, E: Write>(
     alloc: Global,
     order: &Order,
@@ -44,9 +52,16 @@ fn interpret_program<O: Write, E: Write>(
     readied: &Readied,
     out: &mut O,
     err: &mut E,
-) -> Ending {
-    if order.map && print_map(&readied.program, &readied.placement, out).is_err() {
-        return refuse_output(err);
+) -> Ending
+    requires table { IsTableOf
+        (pieces_of (program_modules readied.now.program) (placement_view readied.now.placement))
+        readied.now.placement.kinds.value }
+    requires jumps { All JumpsAreSound (program_modules readied.now.program) }
+{
+    if order.map
+        && let Err(error) = print_map(&readied.program, &readied.placement, out)
+    {
+        return refuse_write(&error, err);
     }
     let Ok(memory) = Memory::new(alloc) else {
         return refuse_memory(err);
@@ -68,7 +83,8 @@ fn interpret_program<O: Write, E: Write>(
     }
     match report(script.events(), word_of(end), out) {
         Ok(()) => ending_of(end),
-        Err(_) => refuse_output(err),
+        Err(Failure::Fault(_)) => refuse_output(err),
+        Err(Failure::Memory) => refuse_memory(err),
     }
 }
 

@@ -1,5 +1,7 @@
 //! Files, inputs and memory that a command needs.
 
+ghost use Rattle.files.specs.Files.{KeepsFiles};
+
 use command_line::InputByte;
 use failure::Failure;
 use files::{FileFault, Files};
@@ -8,11 +10,14 @@ use std::alloc::Global;
 use tool::Source;
 
 /// Reads files, in the order given. A fault comes with the name of its file.
+#[tactic(auto, using(crate::proofs::KeptFiles::stays, crate::proofs::KeptFiles::stays_on))]
 pub(crate) fn read_files<'a, F: Files>(
     alloc: Global,
     names: &[&'a str],
     files: &mut F,
-) -> Result<Vec<Vec<u8>>, Failure<(FileFault, &'a str)>> {
+) -> Result<Vec<Vec<u8>>, Failure<(FileFault, &'a str)>>
+    ensures kept { KeepsFiles (F.files files.old) (F.files files.new) }
+{
     let mut texts = Vec::new(alloc);
     for name in names {
         match files.read_file(name) {

@@ -1,6 +1,6 @@
 //! Runs of programs on the 8080.
 
-use crate::answers::{Ending, refuse_memory, refuse_output, refuse_sources};
+use crate::answers::{Ending, refuse_memory, refuse_output, refuse_sources, refuse_write};
 use crate::loading::script_of;
 use crate::map::print_map;
 use command_line::{Order, Settings};
@@ -43,8 +43,10 @@ fn run_built<O: Write, E: Write>(
     out: &mut O,
     err: &mut E,
 ) -> Ending {
-    if order.map && print_map(built.program(), built.placement(), out).is_err() {
-        return refuse_output(err);
+    if order.map
+        && let Err(error) = print_map(built.program(), built.placement(), out)
+    {
+        return refuse_write(&error, err);
     }
     let Ok(memory) = Memory::new(alloc) else {
         return refuse_memory(err);
@@ -55,7 +57,8 @@ fn run_built<O: Write, E: Write>(
     let (end, machine) = execute(built, memory, script, settings.limit);
     match report(machine.ports().events(), word_of(end), out) {
         Ok(()) => ending_of(end),
-        Err(_) => refuse_output(err),
+        Err(Failure::Fault(_)) => refuse_output(err),
+        Err(Failure::Memory) => refuse_memory(err),
     }
 }
 

@@ -1,6 +1,6 @@
 //! Programs that can be interpreted.
 
-ghost use Rattle.std.specs.Prelude.{◌≡◌, All, length, map, IfOk};
+ghost use Rattle.std.specs.Prelude.{◌≡◌, ◌<◌, All, Err, length, map, IfOk};
 ghost use Rattle.failure.specs.Failure.{IfFault};
 ghost use Rattle.typed_trees.specs.Jumps.{JumpsAreSound};
 ghost use Rattle.typed_trees.specs.Storable.{IsStorable};
@@ -26,7 +26,6 @@ pub struct Readied {
 }
 
 /// Reads the sources, joins their modules and places the program as planned. Its code segments hold the constants alone.
-#[tactic(auto, using(crate::proofs::Programs::program_readied, crate::proofs::Programs::program_cause, crate::proofs::Programs::program_first, crate::proofs::Programs::fault_is_cause, crate::proofs::Programs::storages_fit, crate::proofs::Programs::lengths_fit, crate::proofs::Programs::storable_all, crate::proofs::Programs::jumps_all))]
 pub fn read_program(
     alloc: Global,
     sources: &[Source],
@@ -35,10 +34,25 @@ pub fn read_program(
     ensures readied { IfOk result (IsReadied (texts_of sources.now) plan.now) }
     ensures refused { IfFault result (λ fault. HasCause fault (texts_of sources.now) plan.now) }
     ensures order { IfFault result (λ fault. IsFirst fault (texts_of sources.now)) }
+    ensures too_many { MOST_SOURCES < length sources.now
+        → result ≡ Err (Failure.Fault ToolFault.TooManySources) }
 {
     if sources.len() > MOST_SOURCES {
         return Err(Failure::Fault(ToolFault::TooManySources));
     }
+    read_few(alloc, sources, plan)
+}
+
+// Reads the program of at most as many sources as there may be.
+fn read_few(
+    alloc: Global,
+    sources: &[Source],
+    plan: &Plan,
+) -> Result<Readied, Failure<ToolFault>>
+    ensures readied { IfOk result (IsReadied (texts_of sources.now) plan.now) }
+    ensures refused { IfFault result (λ fault. HasCause fault (texts_of sources.now) plan.now) }
+    ensures order { IfFault result (λ fault. IsFirst fault (texts_of sources.now)) }
+{
     let read = read_all(alloc, sources)?;
     let parts = parts_of(alloc, read)?;
     let readied = place_program(alloc, parts, plan)?;

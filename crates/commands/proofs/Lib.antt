@@ -1,0 +1,2 @@
+pub mod KeptFiles
+pub mod ReadPrograms
