@@ -10,11 +10,18 @@ use Rattle.typed_trees.specs.Views.{module_view}
 use Rattle.layout.specs.declared.slot.Layout.{Layout}
 use Rattle.layout.specs.Storage.{Storage, storage_with}
 use Rattle.layout.specs.Views.{layout_view}
+use Rattle.layout.specs.Joined.{IsJoined}
+use Rattle.layout.specs.Lawful.{IsLawful}
+use Rattle.layout.specs.Placement.{pieces_of}
+use Rattle.layout.specs.Placing.{placement_by}
 use Rattle.placing.specs.declared.plan.Plan.{Plan}
 use Rattle.placing.specs.Segments.{HoldsConstants, HaveStorage}
+use Rattle.placing.specs.Tables.{IsTableOf}
+use Rattle.placing.specs.Views.{placement_view, plan_view}
 use Rattle.frontend.specs.declared.read.SourceModule.{SourceModule}
 use Rattle.tool.specs.declared.fault.ToolFault.{ToolFault}
 use Rattle.tool.specs.declared.fault.ToolFault.TheVariants.{TooManySources, Source, CodeTooLong, NotServed, Join, Placement}
+use Rattle.tool.specs.Construction.{program_modules}
 use Rattle.tool.specs.Sources.{AreSourcesOf, text_of}
 use Rattle.interpretation.specs.declared.program.Readied.{Readied}
 use Rattle.interpretation.specs.Programs.{AreReadable, HasCause, HasFault, IsFirst, IsReadable, IsReadied, constant_lengths}
@@ -90,6 +97,22 @@ have_storage modules lengths is storable =
       storable = storable;
       constants = All-from_recursion HoldsConstants (zip modules (constant_lengths modules)) (constants_each modules);
     })
+
+pub is_placed : (modules : List TypedModule) (plan : Plan) (lengths : List ℕ) (readied : Readied) → program_modules readied.program ≡ modules → IsJoined modules → lengths ≡ constant_lengths modules → All IsStorable modules
+    → placement_view readied.placement ≡ placement_by (plan_view plan) (program_modules readied.program) lengths
+    → IsTableOf (pieces_of (program_modules readied.program) (placement_view readied.placement)) readied.placement.kinds.value
+    → (HaveStorage (program_modules readied.program) lengths → IsLawful (program_modules readied.program) (placement_view readied.placement))
+    → IsPlaced modules plan readied
+is_placed modules plan lengths readied is joined its storable placed table lawful =
+    let here : HaveStorage (program_modules readied.program) lengths =
+    have_storage (program_modules readied.program) lengths (its ∙ ap constant_lengths (sym is)) (subst (All IsStorable) (sym is) storable) in
+    record {
+      program = is;
+      joined = joined;
+      as_planned = placed ∙ ap (λ ms. placement_by (plan_view plan) ms lengths) is ∙ ap (placement_by (plan_view plan) modules) its;
+      lawful = subst (λ ms. IsLawful ms (placement_view readied.placement)) is (lawful here);
+      table = subst (λ ms. IsTableOf (pieces_of ms (placement_view readied.placement)) readied.placement.kinds.value) is table;
+    }
 
 pub program_readied : (texts : List (List ℕ)) (plan : Plan) (read : List SourceModule) (modules : List Typed) (readied : Readied) → AreReadAs texts read → modules ≡ map typed_in read → IsPlaced (map module_view modules) plan readied
     → IsReadied texts plan readied

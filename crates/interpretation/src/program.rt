@@ -60,7 +60,6 @@ fn read_few(
 }
 
 // Joins modules, and places the program.
-#[tactic(auto, using(crate::proofs::Programs::have_storage))]
 fn place_program(
     alloc: Global,
     parts: Parts,
