@@ -11,16 +11,16 @@ pub returns-in_default-clause-performs : goal.returns-in_default-clause-performs
 returns-in_default-clause-performs c =
     let some : (c.args.self.now.budget == 0) ≡ false = search (rules, c.if-self-eq0.false) in
     λ script events.
-    call_ends (program_of (modules_in c.args.joined.now) (placement_view c.args.placement.now) script) c.args.code.now
-    c.args.tables.now events c.args.self.now _ c.args.number_of_module c.args.procedure c.args.arguments
+    call_ends (program_of (modules_in c.args.loaded.joined.now) (placement_view c.args.loaded.placement.now) script)
+    c.args.loaded.code.now c.args.loaded.tables.now events c.args.self.now _ c.args.number_of_module c.args.procedure c.args.arguments
     c.requires.tables some c.in_default.ensures
 
 pub returns-then-self-entry-clause-performs : goal.returns-then-self-entry-clause-performs
 returns-then-self-entry-clause-performs c =
     let some : (c.args.self.now.budget == 0) ≡ false = search (rules, c.if-self-eq0.false) in
     λ script events.
-    call_stops (program_of (modules_in c.args.joined.now) (placement_view c.args.placement.now) script) c.args.code.now
-    c.args.tables.now events c.args.self.now _ c.args.number_of_module c.args.procedure c.args.arguments
+    call_stops (program_of (modules_in c.args.loaded.joined.now) (placement_view c.args.loaded.placement.now) script)
+    c.args.loaded.code.now c.args.loaded.tables.now events c.args.self.now _ c.args.number_of_module c.args.procedure c.args.arguments
     c.in-Some.entry c.requires.tables some c.in-Some.ensures c.if-self-entry.true
 
 pub returns-clause-performs : goal.returns-clause-performs
@@ -29,6 +29,6 @@ returns-clause-performs c =
     let fits : c.args.self.now.room < 65536 = omega arith in
     λ script events.
     rw (c.in_ok-push.ensures, c.in_ok-open_frame.ensures)
-    (enters (program_of (modules_in c.args.joined.now) (placement_view c.args.placement.now) script) c.args.code.now
-    c.args.tables.now events c.args.self.now c.args.number_of_module c.args.procedure c.args.arguments c.in-Some.entry
+    (enters (program_of (modules_in c.args.loaded.joined.now) (placement_view c.args.loaded.placement.now) script)
+    c.args.loaded.code.now c.args.loaded.tables.now events c.args.self.now c.args.number_of_module c.args.procedure c.args.arguments c.in-Some.entry
     c.requires.tables some c.in-Some.ensures c.if-self-entry.false fits)
