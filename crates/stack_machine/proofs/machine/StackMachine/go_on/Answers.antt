@@ -32,8 +32,8 @@ loop-self-preserved-in-Continue-1 g c =
     record {
       leads =
           performed_input (modules_in c.args.loaded.joined.now) (placement_view c.args.loaded.placement.now)
-          c.args.loaded.code.now (g.P.Ports.script c.args.ports.now) (g.P.Ports.script c.loop-self.ports) c.args.self.now c.loop-self.self
-          c.carry_out.new.self c.input.new.self (g.P.Ports.events c.args.ports.now)
+          c.args.loaded.code.now (g.P.Ports.script c.args.ports.now) (g.P.Ports.script c.loop-self.ports)
+          c.args.self.now c.loop-self.self c.carry_out.new.self c.input.new.self (g.P.Ports.events c.args.ports.now)
           (g.P.Ports.events c.loop-self.ports) (g.P.Ports.events c.input.new.ports) c.in-Ok-Input.field-0
           c.in-Ok-Input.port i.leads c.loop-self-test.true c.in-Ok-Input.field-0-is c.in-Ok-Input.ensures.performs
           i.script h.after h.event;
@@ -59,5 +59,5 @@ loop-self-preserved g c =
 pub returns-clause-ended : goal.returns-clause-ended
 returns-clause-ended g c =
     code_ends (modules_in c.args.loaded.joined.now) (placement_view c.args.loaded.placement.now)
-    c.args.loaded.code.now (g.P.Ports.script c.args.ports.now) c.args.self.now c.loop-self.self (g.P.Ports.events c.args.ports.now)
-    (g.P.Ports.events c.loop-self.ports) c.loop-self.invariant.leads c.loop-self-test.false
+    c.args.loaded.code.now (g.P.Ports.script c.args.ports.now) c.args.self.now c.loop-self.self
+    (g.P.Ports.events c.args.ports.now) (g.P.Ports.events c.loop-self.ports) c.loop-self.invariant.leads c.loop-self-test.false
