@@ -1,6 +1,6 @@
 -- The bytes of the last frame, among those of all frames.
-use Rattle.std.proofs.Common.{◌≡◌, ℕ, zero, suc, ◌+◌, ◌-◌, ◌<◌, ◌≤◌, Bool, if◌then◌else◌, nat_lt, lt-ltb, le-ltb, List, [], ◌∷◌, ◌++◌, length, reverse, take, drop, get_or, set, slice_range, replicate, Option, Some, None, refl, ap, sym, subst, ◌∙◌, arith}
-use Rattle.std.proofs.lemmas.List.{drop-drop, take-set-le, drop-set-add, take_at, drop_at, reverse-append}
+use Rattle.std.proofs.Common.{◌≡◌, ℕ, zero, suc, ◌+◌, ◌-◌, ◌<◌, ◌≤◌, min, Bool, if◌then◌else◌, nat_lt, lt-ltb, le-ltb, List, [], ◌∷◌, ◌++◌, length, reverse, take, drop, get_or, set, slice_range, replicate, Option, Some, None, refl, ap, sym, subst, ◌∙◌, arith}
+use Rattle.std.proofs.lemmas.List.{drop-drop, get_or_past, take-set-le, drop-set-add, take_at, drop_at, reverse-append}
 use Rattle.std.proofs.Math.Decide.{dec_le}
 use Rattle.meaning.specs.Access.{frame_bytes}
 use Rattle.declared.specs.declared.frames.OpenFrame.{OpenFrame}
@@ -112,6 +112,44 @@ part_written current callers bytes after frames frame object offset start size b
     ∙ ap (λ now. with_current (frame_with_byte object offset byte) (frames_in (open_frames now callers) bytes))
     (sym is)
     ∙ ap (with_current (frame_with_byte object offset byte)) is_view
+
+-- the place after the greatest number is past the end, as that number is
+pub next_written :
+    (bytes after : List ℕ) (offset next start size byte : ℕ)
+    → next ≡ min (offset + 1) 18446744073709551615
+    → size ≤ 18446744073709551615
+    → after ≡ (if nat_lt next size then set bytes (start + next) byte else bytes)
+    → after ≡ (if nat_lt (offset + 1) size then set bytes (start + (offset + 1)) byte else bytes)
+next_written bytes after offset next start size byte is_next fits is_after =
+    is_after
+    ∙ elim (dec_le (offset + 1) 18446744073709551615) [
+      | yes within ↦
+          let same : next ≡ offset + 1 = omega (arith, within, is_next) in
+          ap (λ k. if nat_lt k size then set bytes (start + k) byte else bytes) same
+      | no past ↦
+          let next_past : size ≤ next = omega (arith, past, is_next, fits) in
+          let offset_past : size ≤ offset + 1 = omega (arith, past, fits) in
+          ap (λ (is : Bool). if is then set bytes (start + next) byte else bytes) (le-ltb next size next_past)
+          ∙ sym
+          (ap (λ (is : Bool). if is then set bytes (start + (offset + 1)) byte else bytes)
+          (le-ltb (offset + 1) size offset_past))
+    ]
+
+pub next_read :
+    (bytes : List ℕ) (offset next byte : ℕ)
+    → next ≡ min (offset + 1) 18446744073709551615
+    → length bytes ≤ 18446744073709551615
+    → byte ≡ get_or bytes next 0
+    → byte ≡ get_or bytes (offset + 1) 0
+next_read bytes offset next byte is_next fits is_byte =
+    is_byte
+    ∙ elim (dec_le (offset + 1) 18446744073709551615) [
+      | yes within ↦
+          let same : next ≡ offset + 1 = omega (arith, within, is_next) in ap (λ k. get_or bytes k 0) same
+      | no past ↦
+          get_or_past bytes next 0 (omega (arith, past, is_next, fits))
+          ∙ sym (get_or_past bytes (offset + 1) 0 (omega (arith, past, fits)))
+    ]
 
 -- one change of the last frame after another
 pub changed_twice :

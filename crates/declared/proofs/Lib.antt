@@ -3,3 +3,4 @@ pub mod Meanings
 pub mod Cuts
 pub mod SlotSums
 pub mod FrameBytes
+pub mod MemberSums

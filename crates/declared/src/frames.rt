@@ -11,7 +11,7 @@ use trees::ScalarType;
 #[derive(Clone, Copy)]
 pub(crate) struct OpenFrame<'a> {
     slots: &'a FrameSlots,
-    procedure: u32,
+    procedure: usize,
     base: usize,
 }
 
@@ -35,11 +35,13 @@ impl<'a> Model for Frames<'a> {
 }
 
 // Adds so many zeros.
-fn add_zeros(bytes: &mut Vec<u8>, count: u32) -> Result<(), AllocError>
+fn add_zeros(bytes: &mut Vec<u8>, count: usize) -> Result<(), AllocError>
     ensures { MatchResult result (λ _. bytes.new.items ≡ bytes.old.items ++ replicate count 0)
         (λ _. bytes.new.items ≡ bytes.old.items) }
 {
-    let end = bytes.len() + count as usize;
+    let Some(end) = bytes.len().checked_add(count) else {
+        return Err(AllocError);
+    };
     bytes.resize(end, 0)
 }
 
@@ -108,7 +110,7 @@ impl<'a> Frames<'a> {
 
     /// Opens the frame of a call of a procedure, each of its bytes 0. Fails where there is no memory for it, and then nothing
     /// changes.
-    pub fn open(&mut self, slots: &'a FrameSlots, procedure: u32) -> Result<(), AllocError>
+    pub fn open(&mut self, slots: &'a FrameSlots, procedure: usize) -> Result<(), AllocError>
         requires { procedure < (slots.now).procedures }
         ensures { MatchResult result (λ _. self.new ≡ zeroed_frame procedure slots.now ∷ self.old)
             (λ _. self.new ≡ self.old) }
@@ -153,15 +155,15 @@ impl<'a> Frames<'a> {
 
     /// Reads a byte of an object in the last frame, so many bytes after where the object begins: 0 where there is none.
     #[inline(always)]
-    pub fn read(&self, object: u32, offset: u32) -> u8
+    pub fn read(&self, object: u32, offset: usize) -> u8
         ensures { result ≡ slice_index (frame_bytes (current_frame self.now) object) offset }
     {
-        byte_of(self.bytes_of(object), offset as usize)
+        byte_of(self.bytes_of(object), offset)
     }
 
     /// Writes a byte of an object in the last frame. Where there is none, nothing changes.
     #[inline(always)]
-    pub fn write(&mut self, object: u32, offset: u32, byte: u8)
+    pub fn write(&mut self, object: u32, offset: usize, byte: u8)
         ensures { self.new ≡ with_current (frame_with_byte object offset byte) self.old }
     {
         self.write_scalar(ScalarType::Byte, object, offset, byte as u16);
@@ -169,33 +171,33 @@ impl<'a> Frames<'a> {
 
     /// Reads a scalar of an object in the last frame; of an ADDRESS the low byte comes first.
     #[inline(always)]
-    pub fn read_scalar(&self, scalar: ScalarType, object: u32, offset: u32) -> u16
+    #[tactic(auto, using(crate::proofs::FrameBytes::next_read))]
+    pub fn read_scalar(&self, scalar: ScalarType, object: u32, offset: usize) -> u16
         ensures { result ≡ frame_scalar scalar (current_frame self.now) object offset }
     {
         let bytes = self.bytes_of(object);
-        let first = offset as usize;
-        let low = byte_of(bytes, first) as u16;
+        let low = byte_of(bytes, offset) as u16;
         match scalar {
             ScalarType::Byte => low,
-            ScalarType::Address => low + 256 * byte_of(bytes, first + 1) as u16,
+            ScalarType::Address => low + 256 * byte_of(bytes, offset.saturating_add(1)) as u16,
         }
     }
 
     /// Writes a scalar of an object in the last frame; of a BYTE the low byte of the number.
     #[inline(always)]
-    pub fn write_scalar(&mut self, scalar: ScalarType, object: u32, offset: u32, number: u16)
+    pub fn write_scalar(&mut self, scalar: ScalarType, object: u32, offset: usize, number: u16)
         ensures { self.new ≡ with_current (frame_with_scalar scalar object offset number) self.old }
     {
         let Some(frame) = self.current else {
             return;
         };
         let part = frame.part(object);
-        let first = offset as usize;
-        set_byte_of(&mut self.bytes, part, first, (number % 256) as u8);
+        set_byte_of(&mut self.bytes, part, offset, (number % 256) as u8);
         match scalar {
             ScalarType::Byte => (),
             ScalarType::Address => {
-                set_byte_of(&mut self.bytes, part, first + 1, (number / 256) as u8);
+                let next = offset.saturating_add(1);
+                set_byte_of(&mut self.bytes, part, next, (number / 256) as u8);
             }
         }
     }

@@ -1,19 +1,20 @@
 //! Where objects lie in the frames of calls.
 
-ghost use Rattle.std.specs.Prelude.{◌≡◌, [], IfOk, length, replicate};
-ghost use Rattle.typed_trees.specs.Sizes.{size_of_object};
+ghost use Rattle.std.specs.Prelude.{◌≡◌, [], IfOk, length, replicate, sum_by};
+ghost use Rattle.typed_trees.specs.Sizes.{size_of_member, size_of_object};
 ghost use Rattle.typed_trees.specs.Views.{object_view};
 
 use std::alloc::{AllocError, Global};
 use std::marker::Model;
-use typed_trees::{Home, Typed, TypedObject};
+use trees::ScalarType;
+use typed_trees::{Home, Members, ObjectType, Typed, TypedObject};
 
 /// An object: the procedure whose frame it is in, if any, where it begins there, and how many bytes it has there.
 #[derive(Clone, Copy)]
 pub(crate) struct ObjectSlot {
-    procedure: Option<u32>,
-    start: u32,
-    size: u32,
+    procedure: Option<usize>,
+    start: usize,
+    size: usize,
 }
 
 /// So many bytes, from one of them on.
@@ -29,7 +30,7 @@ const NOTHING: Part = Part { start: 0, size: 0 };
 #[derive(Drop)]
 pub struct FrameSlots {
     objects: Vec<ObjectSlot>,
-    frame_sizes: Vec<u32>,
+    frame_sizes: Vec<usize>,
 }
 
 impl Model for FrameSlots {
@@ -47,19 +48,43 @@ impl Model for FrameSlots {
     ghost invariant = { λ slots. AreSlots slots.objects.items slots.frame_sizes.items };
 }
 
-// How many bytes an object takes. Fails where its size does not fit 32 bits.
-fn exact_size(object: &TypedObject) -> Result<u32, AllocError>
-    ensures { IfOk result (λ size. size ≡ size_of_object (object_view object.now)) }
+// How many bytes the members of a structure take together.
+fn size_of_members(members: &Members) -> Result<usize, AllocError>
+    ensures { IfOk result (λ size. size ≡ sum_by size_of_member members.now) }
 {
-    let size = object.size();
-    if size == u32::MAX {
-        return Err(AllocError);
+    let mut size: usize = 0;
+    for position in 0..members.len() {
+        if let Some(member) = members.get(position) {
+            let Some(sum) = size.checked_add(member.size() as usize) else {
+                return Err(AllocError);
+            };
+            size = sum;
+        }
     }
     Ok(size)
 }
 
+// How many bytes an object takes.
+fn exact_size(object: &TypedObject) -> Result<usize, AllocError>
+    ensures { IfOk result (λ size. size ≡ size_of_object (object_view object.now)) }
+{
+    let element = match &object.object_type {
+        ObjectType::Scalar(ScalarType::Byte) => 1,
+        ObjectType::Scalar(ScalarType::Address) => 2,
+        ObjectType::Structure(members) => size_of_members(members)?,
+    };
+    let count = match object.dimension {
+        Some(count) => count as usize,
+        None => 1,
+    };
+    match count.checked_mul(element) {
+        Some(size) => Ok(size),
+        None => Err(AllocError),
+    }
+}
+
 // So many zeros.
-fn zeros(alloc: Global, count: usize) -> Result<Vec<u32>, AllocError>
+fn zeros(alloc: Global, count: usize) -> Result<Vec<usize>, AllocError>
     ensures { IfOk result (λ zeros. zeros.items ≡ replicate count 0) }
 {
     let zeros = vec![in alloc; 0; count]?;
@@ -102,14 +127,13 @@ impl FrameSlots {
         Ok(())
     }
 
-    // Adds an object of so many bytes in the frame of a procedure. Fails where the frame gets too large.
-    fn add_inside(&mut self, procedure: u32, size: u32) -> Result<(), AllocError>
+    // Adds an object of so many bytes in the frame of a procedure.
+    fn add_inside(&mut self, procedure: usize, size: usize) -> Result<(), AllocError>
         ensures { OnOk result (self.new ≡ record self.old {
           objects = self.old.objects ++ record { procedure = Some procedure; size = size } ∷ [];
         }) }
     {
-        let number = procedure as usize;
-        if number >= self.frame_sizes.len() {
+        if procedure >= self.frame_sizes.len() {
             self.objects.push(ObjectSlot {
                 procedure: Some(procedure),
                 start: 0,
@@ -117,7 +141,7 @@ impl FrameSlots {
             })?;
             return Ok(());
         }
-        let start = self.frame_sizes[number];
+        let start = self.frame_sizes[procedure];
         let Some(end) = start.checked_add(size) else {
             return Err(AllocError);
         };
@@ -126,7 +150,7 @@ impl FrameSlots {
             start,
             size,
         })?;
-        self.frame_sizes[number] = end;
+        self.frame_sizes[procedure] = end;
         Ok(())
     }
 
@@ -139,7 +163,7 @@ impl FrameSlots {
         match object.home {
             Home::Frame(procedure) => {
                 let size = exact_size(object)?;
-                self.add_inside(procedure, size)
+                self.add_inside(procedure as usize, size)
             }
             Home::Data(_)
             | Home::Constant(_)
@@ -150,8 +174,7 @@ impl FrameSlots {
         }
     }
 
-    /// The slots of a module. Fails where there is no memory for them, and where an object in a frame takes 4,294,967,295 bytes
-    /// or more, or a frame takes more than that.
+    /// The slots of a module. Fails where there is no memory for them, and where a frame has more bytes than a computer can have.
     pub fn new(alloc: Global, typed: &Typed) -> Result<FrameSlots, AllocError>
         ensures { IfOk result (λ slots. slots ≡ module_frames (module_view typed.now)) }
     {
@@ -167,16 +190,16 @@ impl FrameSlots {
     }
 
     /// How many bytes the frame of a procedure has.
-    pub(crate) fn frame_size(&self, procedure: u32) -> u32
+    pub(crate) fn frame_size(&self, procedure: usize) -> usize
         requires { procedure < (self.now).procedures }
         ensures { result ≡ total (sizes_in procedure (self.now).objects) }
     {
-        self.frame_sizes[procedure as usize]
+        self.frame_sizes[procedure]
     }
 
     /// The bytes of an object in the frame of a procedure: none where it is not in it.
     #[inline(always)]
-    pub(crate) fn part(&self, procedure: u32, object: u32) -> Part
+    pub(crate) fn part(&self, procedure: usize, object: u32) -> Part
         requires { procedure < (self.now).procedures }
         ensures size { result.size ≡ slice_index (sizes_in procedure (self.now).objects) object }
         ensures start { 0 < result.size
@@ -188,8 +211,8 @@ impl FrameSlots {
         };
         if slot.procedure == Some(procedure) {
             Part {
-                start: slot.start as usize,
-                size: slot.size as usize,
+                start: slot.start,
+                size: slot.size,
             }
         } else {
             NOTHING

@@ -12,7 +12,8 @@ use typed_trees::{Typed, TypedProcedure, charge_of};
 // Entries of procedures that are not yet found in the code.
 #[tactic(auto, using(crate::proofs::RowLoops::entry_started, crate::proofs::RowLoops::entries_started))]
 fn started_entries(alloc: Global, procedures: &[TypedProcedure]) -> Result<Vec<Entry>, AllocError>
-    ensures { IfOk result (λ entries. entries.items ≡ map started_entry (map procedure_view procedures.now)) }
+    ensures { IfOk result (λ entries.
+        entries.items ≡ map started_entry (map procedure_view procedures.now)) }
 {
     let mut entries = Vec::with_capacity(alloc, procedures.len())?;
     for procedure in procedures {

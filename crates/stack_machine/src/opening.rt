@@ -6,7 +6,6 @@ ghost use Rattle.declared.specs.Frames.{module_frames};
 ghost use Rattle.meaning.specs.Meaning.{procedure_at};
 ghost use Rattle.stack_machine.specs.internal.Opened.{IsThere, frame_opened};
 
-use crate::parts::in_32_bits;
 use declared::{FrameSlots, Frames};
 use join::Joined;
 use std::alloc::AllocError;
@@ -28,7 +27,6 @@ pub fn open_frame<'a>(
         ∷ frames.old) }
 {
     let _program = joined;
-    let number = in_32_bits(procedure as u64)?;
     let slots = &slots[number_of_module];
-    frames.open(slots, number)
+    frames.open(slots, procedure)
 }

@@ -1,16 +1,15 @@
 //! Parts of the frame.
 
-ghost use Rattle.std.specs.Prelude.{◌≡◌, IfOk};
+ghost use Rattle.std.specs.Prelude.{◌≡◌};
 ghost use Rattle.stack_code.specs.Machine.{top, without_index, without_indices};
 ghost use Rattle.stack_machine.specs.internal.Parts.{IsDisplacement, IsPart};
 
 use crate::values::Values;
 use stack_code::{FramePart, FrameSubscript};
-use std::alloc::AllocError;
 
 // Takes a subscript: how many bytes it leads on, or `None` where it is not below its dimension.
 #[inline(always)]
-fn take_subscript(values: &mut Values, subscript: FrameSubscript) -> Option<u64>
+fn take_subscript(values: &mut Values, subscript: FrameSubscript) -> Option<usize>
     ensures after { values.new ≡ without_index subscript values.old }
     ensures bytes { IsDisplacement subscript (top values.old) result }
 {
@@ -19,7 +18,7 @@ fn take_subscript(values: &mut Values, subscript: FrameSubscript) -> Option<u64>
         FrameSubscript::Present { stride, count } => {
             let index = values.pop();
             if (index as u32) < count {
-                Some(stride as u64 * index as u64)
+                Some(stride as usize * index as usize)
             } else {
                 None
             }
@@ -30,7 +29,7 @@ fn take_subscript(values: &mut Values, subscript: FrameSubscript) -> Option<u64>
 /// Takes the subscripts of a part: how many bytes after the beginning of its object it lies, or `None` where a subscript is
 /// not below its dimension.
 #[inline(always)]
-pub fn take_part(values: &mut Values, part: FramePart) -> Option<u64>
+pub fn take_part(values: &mut Values, part: FramePart) -> Option<usize>
     ensures after { values.new ≡ without_indices part values.old }
     ensures bytes { IsPart part values.old result }
 {
@@ -38,17 +37,5 @@ pub fn take_part(values: &mut Values, part: FramePart) -> Option<u64>
     let first = take_subscript(values, part.first);
     let first = first?;
     let second = second?;
-    Some(first + part.offset as u64 + second)
-}
-
-/// A number of bytes in 32 bits.
-#[inline(always)]
-pub fn in_32_bits(bytes: u64) -> Result<u32, AllocError>
-    ensures { IfOk result (λ offset. offset ≡ bytes) }
-{
-    if bytes < 4294967296 {
-        Ok(bytes as u32)
-    } else {
-        Err(AllocError)
-    }
+    Some(first + part.offset as usize + second)
 }

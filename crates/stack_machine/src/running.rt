@@ -10,6 +10,7 @@ ghost use Rattle.stack_machine.specs.Runs.{FaultCounts, Reaches, Stops, state_at
 
 use crate::calls::Calls;
 use crate::end::{RunFault, SourceEnd};
+use crate::loaded::Loaded;
 use crate::machine::StackMachine;
 use crate::slots::slots_of;
 use crate::values::Values;
@@ -26,11 +27,11 @@ use typed_trees::{Typed, charge_of};
 /// Runs a program from its main module on, which has this number: from a memory, with so much room on the stack and a budget
 /// of turns of loops, jumps and calls. The charge of the main module is taken first.
 #[tactic(auto, using(crate::proofs::Starts::refused, crate::proofs::Starts::given_up, crate::proofs::Starts::runs_on, crate::proofs::Starts::stays))]
-pub fn run<P: Ports>(
+pub fn run<'a, P: Ports>(
     alloc: Global,
-    program: &StackProgram,
-    joined: &Joined,
-    placement: &Placement,
+    program: &'a StackProgram,
+    joined: &'a Joined,
+    placement: &'a Placement,
     main: &Typed,
     number_of_main: usize,
     room: u16,
@@ -75,12 +76,12 @@ pub fn run<P: Ports>(
         memory,
         frames: Frames::new(alloc),
     };
-    machine.go_on(
+    let loaded = Loaded {
         joined,
         placement,
-        slots.as_slice(),
-        program.instructions.as_slice(),
-        program.modules.as_slice(),
-        ports,
-    )
+        slots: slots.as_slice(),
+        code: program.instructions.as_slice(),
+        tables: program.modules.as_slice(),
+    };
+    machine.go_on(loaded, ports)
 }

@@ -3,8 +3,8 @@ use Rattle.std.proofs.lemmas.List.{get_or_read}
 use Rattle.declared.proofs.SlotSums.{inside_added, unknown_added}
 use Rattle.declared.proofs.slots.FrameSlots.add_inside.Goals as goal
 
-pub invariant_of-self-then-number-len : goal.invariant_of-self-then-number-len
-invariant_of-self-then-number-len c =
+pub invariant_of-self-then-procedure-len : goal.invariant_of-self-then-procedure-len
+invariant_of-self-then-procedure-len c =
     rw c.in_ok-push.ensures.items
     (unknown_added c.self.inside.objects.items c.self.inside.frame_sizes.items c.args.procedure c.args.size
     c.self.invariant (omega arith))

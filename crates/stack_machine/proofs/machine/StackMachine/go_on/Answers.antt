@@ -10,8 +10,8 @@ loop-self-preserved-in-Ok-Nothing g c =
     let i = c.loop-self.invariant in
     record {
       leads =
-          performed (modules_in c.args.joined.now) (placement_view c.args.placement.now) c.args.code.now
-          (g.P.Ports.script c.args.ports.now) c.args.self.now c.loop-self.self c.carry_out.new.self
+          performed (modules_in c.args.loaded.joined.now) (placement_view c.args.loaded.placement.now)
+          c.args.loaded.code.now (g.P.Ports.script c.args.ports.now) c.args.self.now c.loop-self.self c.carry_out.new.self
           (g.P.Ports.events c.args.ports.now) (g.P.Ports.events c.loop-self.ports) c.in-Ok-Nothing.field-0 i.leads
           c.loop-self-test.true c.in-Ok-Nothing.field-0-is c.in-Ok-Nothing.ensures.performs;
       script = i.script;
@@ -20,8 +20,8 @@ loop-self-preserved-in-Ok-Nothing g c =
 
 pub returns-in-Ok-Stop-clause-ended : goal.returns-in-Ok-Stop-clause-ended
 returns-in-Ok-Stop-clause-ended g c =
-    performed_stop (modules_in c.args.joined.now) (placement_view c.args.placement.now) c.args.code.now
-    (g.P.Ports.script c.args.ports.now) c.args.self.now c.loop-self.self c.carry_out.new.self
+    performed_stop (modules_in c.args.loaded.joined.now) (placement_view c.args.loaded.placement.now)
+    c.args.loaded.code.now (g.P.Ports.script c.args.ports.now) c.args.self.now c.loop-self.self c.carry_out.new.self
     (g.P.Ports.events c.args.ports.now) (g.P.Ports.events c.loop-self.ports) c.in-Ok-Stop.field-0 c.in-Ok-Stop.end
     c.loop-self.invariant.leads c.loop-self-test.true c.in-Ok-Stop.field-0-is c.in-Ok-Stop.ensures.performs
 
@@ -31,9 +31,9 @@ loop-self-preserved-in-Continue-1 g c =
     let h = c.in_ok-input-in-Ok-Input.ensures in
     record {
       leads =
-          performed_input (modules_in c.args.joined.now) (placement_view c.args.placement.now) c.args.code.now
-          (g.P.Ports.script c.args.ports.now) (g.P.Ports.script c.loop-self.ports) c.args.self.now c.loop-self.self
-          c.carry_out.new.self c.input.new.self (g.P.Ports.events c.args.ports.now)
+          performed_input (modules_in c.args.loaded.joined.now) (placement_view c.args.loaded.placement.now)
+          c.args.loaded.code.now (g.P.Ports.script c.args.ports.now) (g.P.Ports.script c.loop-self.ports)
+          c.args.self.now c.loop-self.self c.carry_out.new.self c.input.new.self (g.P.Ports.events c.args.ports.now)
           (g.P.Ports.events c.loop-self.ports) (g.P.Ports.events c.input.new.ports) c.in-Ok-Input.field-0
           c.in-Ok-Input.port i.leads c.loop-self-test.true c.in-Ok-Input.field-0-is c.in-Ok-Input.ensures.performs
           i.script h.after h.event;
@@ -47,8 +47,8 @@ loop-self-preserved g c =
     let h = c.in_ok-output-in-Ok-Output.ensures in
     record {
       leads =
-          performed_output (modules_in c.args.joined.now) (placement_view c.args.placement.now) c.args.code.now
-          (g.P.Ports.script c.args.ports.now) c.args.self.now c.loop-self.self c.carry_out.new.self
+          performed_output (modules_in c.args.loaded.joined.now) (placement_view c.args.loaded.placement.now)
+          c.args.loaded.code.now (g.P.Ports.script c.args.ports.now) c.args.self.now c.loop-self.self c.carry_out.new.self
           c.output.new.self (g.P.Ports.events c.args.ports.now) (g.P.Ports.events c.loop-self.ports)
           (g.P.Ports.events c.output.new.ports) c.in-Ok-Output.field-0 c.in-Ok-Output.port i.leads
           c.loop-self-test.true c.in-Ok-Output.field-0-is c.in-Ok-Output.ensures.performs h.after h.event;
@@ -58,6 +58,6 @@ loop-self-preserved g c =
 
 pub returns-clause-ended : goal.returns-clause-ended
 returns-clause-ended g c =
-    code_ends (modules_in c.args.joined.now) (placement_view c.args.placement.now) c.args.code.now
-    (g.P.Ports.script c.args.ports.now) c.args.self.now c.loop-self.self (g.P.Ports.events c.args.ports.now)
-    (g.P.Ports.events c.loop-self.ports) c.loop-self.invariant.leads c.loop-self-test.false
+    code_ends (modules_in c.args.loaded.joined.now) (placement_view c.args.loaded.placement.now)
+    c.args.loaded.code.now (g.P.Ports.script c.args.ports.now) c.args.self.now c.loop-self.self
+    (g.P.Ports.events c.args.ports.now) (g.P.Ports.events c.loop-self.ports) c.loop-self.invariant.leads c.loop-self-test.false

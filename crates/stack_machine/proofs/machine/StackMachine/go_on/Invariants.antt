@@ -9,11 +9,12 @@ use Rattle.stack_machine.proofs.machine.StackMachine.go_on.Given as goal
 abbrev pub invariant-loop-self : goal.invariant-loop-self
 invariant-loop-self g l =
     record {
-      leads : LeadsTo (modules_in l.joined) (placement_view l.placement) l.code (g.P.Ports.script l.fn.ports) l.fn.self
-          (g.P.Ports.events l.fn.ports) l.self (g.P.Ports.events l.ports);
+      leads : LeadsTo (modules_in l.loaded.joined.now) (placement_view l.loaded.placement.now) l.loaded.code.now
+          (g.P.Ports.script l.fn.ports) l.fn.self (g.P.Ports.events l.fn.ports) l.self
+          (g.P.Ports.events l.ports);
       script : g.P.Ports.script l.ports ≡ g.P.Ports.script l.fn.ports;
       failures : g.P.Ports.failures l.ports ≡ g.P.Ports.failures l.fn.ports;
     }
 
 abbrev pub decreases-loop-self : goal.decreases-loop-self
-decreases-loop-self g l = weight_of (length l.code) l.self
+decreases-loop-self g l = weight_of (length l.loaded.code.now) l.self
