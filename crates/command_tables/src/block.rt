@@ -105,6 +105,12 @@ fn text(bytes: &[u8]) -> &str {
 
 impl fmt::Display for Answer {
     fn fmt<W: fmt::Write>(&self, f: &mut fmt::Formatter<W>) -> fmt::Result {
-        write!(f, "status {}\n{}{}", self.status, text(self.out.as_slice()), text(self.err.as_slice()))
+        write!(
+            f,
+            "status {}\n{}{}",
+            self.status,
+            text(self.out.as_slice()),
+            text(self.err.as_slice())
+        )
     }
 }

@@ -3,7 +3,8 @@
 //! lines of its text, where a last line that ends in `\` has no line feed; then what is printed, a line after `> `, and as faults, a line after `! `; then the exit status
 //! after `= `; and at last a line `====`.
 //!
-//! What is said was written by hand from the rules of the language in `docs/language.md`.
+//! What is said was written by hand from the rules of the language in `docs/language.md`, or computed from them by another
+//! program that shares nothing with this one.
 #![tactic(auto)]
 
 mod block;

@@ -5,6 +5,8 @@
 mod codes;
 mod faulty;
 #[cfg(test)]
+mod interpreting;
+#[cfg(test)]
 mod machine;
 #[cfg(test)]
 mod operations;
