@@ -1,2 +1,1 @@
 pub mod KeptFiles
-pub mod ReadPrograms

@@ -22,7 +22,7 @@ use std::io::Write;
 use tool::{Plan, Source};
 
 /// Reads the program of sources, and interprets it from a memory of zeros.
-#[tactic(auto, using(crate::proofs::ReadPrograms::has_table, crate::proofs::ReadPrograms::has_sound_jumps))]
+#[tactic(auto, using(interpretation::proofs::Programs::has_table, interpretation::proofs::Programs::has_sound_jumps))]
 pub(crate) fn interpret_sources<O: Write, E: Write>(
     alloc: Global,
     order: &Order,

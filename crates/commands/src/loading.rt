@@ -10,7 +10,6 @@ use std::alloc::Global;
 use tool::Source;
 
 /// Reads files, in the order given. A fault comes with the name of its file.
-#[tactic(auto, using(crate::proofs::KeptFiles::stays, crate::proofs::KeptFiles::stays_on))]
 pub(crate) fn read_files<'a, F: Files>(
     alloc: Global,
     names: &[&'a str],

@@ -5,8 +5,6 @@
 mod codes;
 mod faulty;
 #[cfg(test)]
-mod interpreting;
-#[cfg(test)]
 mod machine;
 #[cfg(test)]
 mod operations;

@@ -15,7 +15,7 @@ fn machine_with(alloc: Global, bytes: &[u8; 16]) -> Result<Machine<Script>, Fail
     Ok(Machine::new(memory, Script::new(alloc), 0x100))
 }
 
-pub(crate) const fn written(port: u8, value: u8) -> Event {
+const fn written(port: u8, value: u8) -> Event {
     Event {
         write: true,
         port,
@@ -23,7 +23,7 @@ pub(crate) const fn written(port: u8, value: u8) -> Event {
     }
 }
 
-pub(crate) const fn read(port: u8, value: u8) -> Event {
+const fn read(port: u8, value: u8) -> Event {
     Event {
         write: false,
         port,

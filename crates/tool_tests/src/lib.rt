@@ -7,6 +7,8 @@ mod building;
 mod commands;
 #[cfg(test)]
 mod depths;
+#[cfg(test)]
+mod interpreting;
 pub mod one_file;
 #[cfg(test)]
 mod runs;

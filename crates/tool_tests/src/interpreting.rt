@@ -1,17 +1,33 @@
 //! Programs that are interpreted: over ports of which a read fails, and after memory was refused.
 
-use crate::faulty::FaultyPorts;
-use crate::machine::{read, written};
 use failure::Failure;
 use interpretation::read_program;
 use interpreter::{RunFault, SourceEnd, interpret};
+use machine_tests::FaultyPorts;
 use mem80::Memory;
-use ports::{Ports, Script};
+use ports::{Event, Ports, Script};
 use std::alloc::Global;
 use std::test::Fail;
 use tool::{Plan, Source, ToolFault};
 
+const fn written(port: u8, value: u8) -> Event {
+    Event {
+        write: true,
+        port,
+        value,
+    }
+}
+
+const fn read(port: u8, value: u8) -> Event {
+    Event {
+        write: false,
+        port,
+        value,
+    }
+}
+
 // How a source ends that is interpreted over these ports, or why it is no program.
+#[tactic(auto, using(interpretation::proofs::Programs::has_table, interpretation::proofs::Programs::has_sound_jumps))]
 fn interpreted<P: Ports>(
     alloc: Global,
     text: &[u8],
