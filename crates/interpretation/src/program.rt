@@ -44,11 +44,7 @@ pub fn read_program(
 }
 
 // Reads the program of at most as many sources as there may be.
-fn read_few(
-    alloc: Global,
-    sources: &[Source],
-    plan: &Plan,
-) -> Result<Readied, Failure<ToolFault>>
+fn read_few(alloc: Global, sources: &[Source], plan: &Plan) -> Result<Readied, Failure<ToolFault>>
     ensures readied { IfOk result (IsReadied (texts_of sources.now) plan.now) }
     ensures refused { IfFault result (λ fault. HasCause fault (texts_of sources.now) plan.now) }
     ensures order { IfFault result (λ fault. IsFirst fault (texts_of sources.now)) }
@@ -60,11 +56,7 @@ fn read_few(
 }
 
 // Joins modules, and places the program.
-fn place_program(
-    alloc: Global,
-    parts: Parts,
-    plan: &Plan,
-) -> Result<Readied, Failure<ToolFault>>
+fn place_program(alloc: Global, parts: Parts, plan: &Plan) -> Result<Readied, Failure<ToolFault>>
     requires storages { map layout_view parts.storages.items
         ≡ map (λ typed. storage_with (module_view typed)) parts.modules.items }
     requires lengths { parts.lengths.items ≡ constant_lengths (map module_view parts.modules.items) }

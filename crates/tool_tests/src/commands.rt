@@ -1,8 +1,8 @@
 //! Wrong command lines, and help.
 
 use crate::one_file::OneFile;
-use std::test::Fail;
 use commands::run_command;
+use std::test::Fail;
 
 #[test]
 fn wrong_command_lines_and_files(rt: HostRuntime) -> Result<(), Fail> {

@@ -1,9 +1,9 @@
 //! Runs of `plm` on one source, and what they print.
 
 use crate::one_file::OneFile;
+use commands::run_command;
 use std::process::Abort;
 use std::test::Fail;
-use commands::run_command;
 
 /// What the source prints to standard output and to standard error, and the exit status.
 fn check<R: Abort + AllocGlobal>(

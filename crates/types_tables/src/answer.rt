@@ -1,9 +1,9 @@
 //! What `plm` answers to a source.
 
 use anyhow::Result;
+use commands::run_command;
 use std::alloc::Global;
 use std::fmt;
-use commands::run_command;
 use tool_tests::one_file::OneFile;
 
 // The name that a source goes by.
