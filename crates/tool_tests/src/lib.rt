@@ -4,7 +4,7 @@
 #[cfg(test)]
 mod building;
 #[cfg(test)]
-mod commands;
+mod command_lines;
 #[cfg(test)]
 mod depths;
 #[cfg(test)]
