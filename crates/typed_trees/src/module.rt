@@ -63,7 +63,6 @@ pub struct TypedProcedure {
 }
 
 /// A typed module. Its tables are in the order of the text.
-#[derive(Drop)]
 pub struct Typed {
     pub name: Name,
     pub objects: Vec<TypedObject>,
@@ -76,6 +75,21 @@ pub struct Typed {
     pub globals: Vec<GlobalItem>,
     /// The statements at the outer level.
     pub main: TypedProcedure,
+}
+
+// Written out, so that what a module holds is let go here, and each crate that lets a module go calls this.
+impl Drop for Typed {
+    fn drop(self) {
+        let Typed {
+            name: _name,
+            objects: _objects,
+            procedures: _procedures,
+            lists: _lists,
+            constants: _constants,
+            globals: _globals,
+            main: _main,
+        } = self;
+    }
 }
 
 impl ObjectType {
