@@ -1,7 +1,8 @@
 //! Carries out the command lines of standard input over files in memory, and prints those that answer otherwise than is said
 //! of them. A block begins with the words of a command line after `$ `. Then come its files, each a line `@ NAME` and the
-//! lines of its text, where a last line that ends in `\` has no line feed; then what is printed, a line after `> `, and as faults, a line after `! `; then the exit status
-//! after `= `; and at last a line `====`.
+//! lines of its text, where a last line that ends in `\` has no line feed; then what is printed, a line after `> `, and as
+//! faults, a line after `! `; then the exit status after `= `; and at last a line `====`. So no line of a text begins with
+//! one of these marks and a blank. Of the carriage returns that end a line the last one is no part of it.
 //!
 //! What is said was written by hand from the rules of the language in `docs/language.md`, or computed from them by another
 //! program that shares nothing with this one.

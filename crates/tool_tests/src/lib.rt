@@ -12,5 +12,3 @@ mod interpreting;
 pub mod one_file;
 #[cfg(test)]
 mod runs;
-#[cfg(test)]
-mod texts;

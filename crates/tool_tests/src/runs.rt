@@ -39,19 +39,3 @@ pub fn check_run<R: Abort + AllocGlobal>(rt: &R, source: &str, out: &str) -> Res
 pub fn check_refusal<R: Abort + AllocGlobal>(rt: &R, source: &str, err: &str) -> Result<(), Fail> {
     check(rt, source, "", err, 1)
 }
-
-/// Each source runs and prints the lines beside it.
-pub fn check_runs<R: Abort + AllocGlobal>(rt: &R, rows: &[(&str, &str)]) -> Result<(), Fail> {
-    for (source, out) in rows {
-        check_run(rt, source, out)?;
-    }
-    Ok(())
-}
-
-/// Each source is refused with the fault beside it.
-pub fn check_refusals<R: Abort + AllocGlobal>(rt: &R, rows: &[(&str, &str)]) -> Result<(), Fail> {
-    for (source, err) in rows {
-        check_refusal(rt, source, err)?;
-    }
-    Ok(())
-}
