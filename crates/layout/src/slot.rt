@@ -20,10 +20,22 @@ pub struct Slot {
 
 /// Where the objects and the constant lists of a module lie, by their numbers, and how many bytes the data segment and
 /// the constants have. An object with AT, BASED, in a frame or in another module lies in no segment.
-#[derive(Debug, Drop)]
+#[derive(Debug)]
 pub struct Layout {
     pub objects: Vec<Option<Slot>>,
     pub lists: Vec<Slot>,
     pub data_size: u32,
     pub constant_size: u32,
+}
+
+// Written out, so that what it holds is let go here, and each crate that lets one go calls this.
+impl Drop for Layout {
+    fn drop(self) {
+        let Layout {
+            objects: _,
+            lists: _,
+            data_size: _,
+            constant_size: _,
+        } = self;
+    }
 }

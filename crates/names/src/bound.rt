@@ -14,7 +14,6 @@ use trees::Module;
 
 /// A module, and what each use of a name in it is bound to, in the order of the text. Names of members and names after
 /// END are no uses.
-#[derive(Drop)]
 pub struct Bound {
     pub parsed: Module,
     pub bindings: Vec<Binding>,
@@ -39,4 +38,14 @@ fn bindings_of(alloc: Global, parsed: &Module) -> Result<Vec<Binding>, Failure<F
     let mut binder = Binder::new(alloc);
     binder.module(&parsed.body)?;
     Ok(binder.into_bindings())
+}
+
+// Written out, so that what it holds is let go here, and each crate that lets one go calls this.
+impl Drop for Bound {
+    fn drop(self) {
+        let Bound {
+            parsed: _,
+            bindings: _,
+        } = self;
+    }
 }

@@ -25,14 +25,12 @@ pub struct Number {
 }
 
 /// A string as it stands in a source: the bytes that it stands for.
-#[derive(Drop)]
 pub struct StringLiteral {
     pub characters: Vec<u8>,
     pub place: Place,
 }
 
 /// A number or a string.
-#[derive(Drop)]
 pub enum Constant {
     Number(Number),
     String(Box<StringLiteral>),
@@ -55,5 +53,23 @@ impl Constant {
         ensures view { IfOk result (λ made. constant_tree made ≡ StringConstant (string_tree literal)) }
     {
         Ok(Constant::String(Box::new(alloc, literal)?))
+    }
+}
+
+// Written out, so that what these hold is let go here, and each crate that lets one go calls this.
+impl Drop for StringLiteral {
+    fn drop(self) {
+        let StringLiteral {
+            characters: _,
+            place: _,
+        } = self;
+    }
+}
+
+impl Drop for Constant {
+    fn drop(self) {
+        match self {
+            Constant::Number(_) | Constant::String(_) => {}
+        }
     }
 }

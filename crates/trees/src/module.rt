@@ -16,10 +16,10 @@ pub struct Module {
 impl Drop for Module {
     fn drop(self) {
         let Module {
-            name: _name,
-            place: _place,
-            body: _body,
-            end_name: _end_name,
+            name: _,
+            place: _,
+            body: _,
+            end_name: _,
         } = self;
     }
 }

@@ -28,7 +28,6 @@ pub(crate) struct Entry {
 }
 
 /// The members of a structure, in their order.
-#[derive(Drop)]
 pub struct Members {
     entries: IndexMap<Name, Entry>,
     size: u32,
@@ -132,5 +131,15 @@ fn member_at(name: &Name, entry: &Entry) -> TypedMember
         name: *name,
         dimension: entry.dimension,
         scalar: entry.scalar,
+    }
+}
+
+// Written out, so that what they hold is let go here, and each crate that lets members go calls this.
+impl Drop for Members {
+    fn drop(self) {
+        let Members {
+            entries: _,
+            size: _,
+        } = self;
     }
 }
