@@ -1,0 +1,12 @@
+pub use Rattle.omf80.specs.Records
+pub use Rattle.mem80.specs.Range
+pub mod Module
+pub mod Parts
+pub mod Reading
+pub mod Rules
+pub mod Spelling
+pub mod Text
+pub mod Moving
+pub mod Merge
+pub mod Image
+pub mod internal
