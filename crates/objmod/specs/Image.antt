@@ -1,7 +1,7 @@
 -- A module placed in memory by a plan, or why it can't be.
-use Rattle.std.specs.Prelude.{◌≡◌, ℕ, ◌+◌, ◌-◌, ◌%◌, ◌==◌, ◌<◌, Bool, true, not, ◌&&◌, ◌||◌, IsTrue, nat_lt, nat_le, if◌then◌else◌, min, max, List, [], ◌∷◌, ◌++◌, length, map, find, slice_get, slice_index, Option, Some, None, option_map, unwrap_or, Result}
+use Rattle.std.specs.Prelude.{◌≡◌, ℕ, ◌+◌, ◌-◌, ◌%◌, ◌==◌, ◌<◌, Bool, true, not, ◌&&◌, ◌||◌, IsTrue, nat_lt, nat_le, if◌then◌else◌, min, max, List, [], ◌∷◌, length, map, find, slice_get, slice_index, Option, None, option_map, unwrap_or, Result}
 use Rattle.std.specs.List.{list_any}
-use Rattle.std.specs.Option.{option_or, option_and_then, option_flatten, is_none}
+use Rattle.std.specs.Option.{option_or, option_flatten, is_none}
 use Rattle.mem80.specs.declared.memory.TheConstants.{MEMORY_SIZE}
 use Rattle.mem80.specs.declared.range.Piece.{Piece}
 use Rattle.mem80.specs.declared.range.Range.{Range}
@@ -12,7 +12,7 @@ use Rattle.objmod.specs.declared.segment.Target.{Target}
 use Rattle.objmod.specs.declared.segment.Target.TheVariants.{InSegment, External}
 use Rattle.objmod.specs.Module.{SetByte, Public, ObjectModule, places_of, length_of, alignment_of, is_page}
 use Rattle.objmod.specs.Moving.{moved, high_targets}
-use Rattle.objmod.specs.Rules.{is_empty}
+use Rattle.objmod.specs.Before.{is_empty}
 use Rattle.objmod.specs.Merge.{unless_refused}
 
 -- where code, data and stack are to begin, and how many bytes the stack has, whatever the module says of that
@@ -121,11 +121,17 @@ abbrev pub placement_refusals : Plan → ObjectModule → List (Bool × Placemen
 placement_refusals plan object =
     (not (is_empty object.externals), ExternalLeft)
     ∷ (is_none object.start, NoStart)
-    ∷ (passes_memory (code_range plan object) || passes_memory (data_range plan object)
-    || passes_memory (stack_range plan), PassesMemory)
-    ∷ (ranges_meet (code_range plan object) (data_range plan object)
-    || ranges_meet (code_range plan object) (stack_range plan)
-    || ranges_meet (data_range plan object) (stack_range plan), SegmentsMeet)
+    ∷ (
+      passes_memory (code_range plan object) || passes_memory (data_range plan object)
+          || passes_memory (stack_range plan),
+      PassesMemory,
+    )
+    ∷ (
+      ranges_meet (code_range plan object) (data_range plan object)
+          || ranges_meet (code_range plan object) (stack_range plan)
+          || ranges_meet (data_range plan object) (stack_range plan),
+      SegmentsMeet,
+    )
     ∷ (breaks_page plan object Code || breaks_page plan object Data, PageBroken)
     ∷ (list_any (λ target. not (gain_at plan target % 256 == 0)) (high_targets object), HighByteBroken)
     ∷ []

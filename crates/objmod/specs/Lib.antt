@@ -3,10 +3,13 @@ pub use Rattle.mem80.specs.Range
 pub mod Module
 pub mod Parts
 pub mod Reading
+pub mod Before
 pub mod Rules
 pub mod Spelling
+pub mod Walking
 pub mod Text
 pub mod Moving
+pub mod Pieces
 pub mod Merge
 pub mod Image
 pub mod internal

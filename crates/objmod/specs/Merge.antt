@@ -1,19 +1,16 @@
 -- The merge of modules, or why there is none.
-use Rattle.std.specs.Prelude.{ℕ, ◌+◌, ◌-◌, ◌*◌, ◌/◌, ◌%◌, ◌==◌, Bool, true, false, not, ◌||◌, nat_lt, if◌then◌else◌, List, [], ◌∷◌, ◌++◌, length, map, flat_map, filter_map, find, sum_by, replicate, slice_get, Option, Some, None, option_map, Result, Ok, Err}
+use Rattle.std.specs.Prelude.{ℕ, ◌+◌, ◌-◌, ◌%◌, ◌==◌, Bool, not, ◌||◌, nat_lt, if◌then◌else◌, List, [], ◌∷◌, ◌++◌, length, map, flat_map, filter_map, find, sum_by, replicate, slice_get, Option, Some, None, option_map, Result, Ok, Err}
 use Rattle.std.specs.List.{list_any}
-use Rattle.std.specs.Option.{option_or, option_map_or, option_and_then}
-use Rattle.std.specs.Str.{bytes_eq}
+use Rattle.std.specs.Option.{option_or, option_map_or}
 use Rattle.mem80.specs.declared.memory.TheConstants.{MEMORY_SIZE}
 use Rattle.omf80.specs.Records.{first_that_holds}
 use Rattle.objmod.specs.declared.segment.Alignment.{Alignment}
 use Rattle.objmod.specs.declared.segment.Alignment.TheVariants.{Byte, Page}
 use Rattle.objmod.specs.declared.segment.Segment.{Segment}
-use Rattle.objmod.specs.declared.segment.Segment.TheVariants.{Absolute, Code, Data, Stack}
-use Rattle.objmod.specs.declared.segment.Target.{Target}
-use Rattle.objmod.specs.declared.segment.Target.TheVariants.{InSegment, External}
 use Rattle.objmod.specs.declared.segment.TheConstants.{SEGMENT_LIMIT}
-use Rattle.objmod.specs.Module.{SetByte, Places, Public, ObjectModule, is_page, is_among, is_movable}
+use Rattle.objmod.specs.Module.{SetByte, Places, Public, ObjectModule, is_page, is_among}
 use Rattle.objmod.specs.Moving.{moved, high_targets}
+use Rattle.objmod.specs.Pieces.{Linked, code_end, data_end, linked_modules, displacement_in, all_publics, gain_in, target_kept}
 
 -- why modules can't be merged
 pub data LinkRefusal : Type 0 where
@@ -27,83 +24,6 @@ pub data LinkRefusal : Type 0 where
   NotOneMain : LinkRefusal
   -- a high byte is fixed to what moves by no multiple of 256
   HighByteMoves : LinkRefusal
-
--- a page begins at the next multiple of 256
-abbrev pub start_after : (end : ℕ) → Alignment → ℕ
-start_after end Byte = end
-start_after end Page = (end + 255) / 256 * 256
-
--- a module, and where its pieces of the code and the data begin in those of the merge
-pub record Linked : Type 0 where
-  pub object : ObjectModule
-  pub code_start : ℕ
-  pub data_start : ℕ
-
-abbrev pub code_end : Linked → ℕ
-code_end linked = linked.code_start + length (linked.object).code.places
-
-abbrev pub data_end : Linked → ℕ
-data_end linked = linked.data_start + length (linked.object).data_places.places
-
--- a module whose pieces come after what ends here
-abbrev pub linked_after : (code_before data_before : ℕ) → ObjectModule → Linked
-linked_after code_before data_before object = record {
-  object = object;
-  code_start = start_after code_before object.code.alignment;
-  data_start = start_after data_before object.data_places.alignment;
-}
-
--- each piece begins where the one before it ends, or at the page after that
-abbrev pub linked_from : (code_before data_before : ℕ) → List ObjectModule → List Linked
-linked_from code_before data_before [] = []
-linked_from code_before data_before (object ∷ others) =
-    linked_after code_before data_before object
-    ∷ linked_from (code_end (linked_after code_before data_before object))
-    (data_end (linked_after code_before data_before object)) others
-
-abbrev pub linked_modules : List ObjectModule → List Linked
-linked_modules objects = linked_from 0 0 objects
-
--- by how much the offsets of a segment grow; absolute addresses and what is fixed to the stack stay
-abbrev pub start_in : Linked → Segment → ℕ
-start_in linked Absolute = 0
-start_in linked Code = linked.code_start
-start_in linked Data = linked.data_start
-start_in linked Stack = 0
-
-abbrev pub public_moved : Linked → Public → Public
-public_moved linked public =
-    record public { offset = (public.offset + start_in linked public.segment) % MEMORY_SIZE }
-
-abbrev pub publics_moved : Linked → List Public
-publics_moved linked = map (public_moved linked) (linked.object).publics
-
--- the publics of the merge, module by module
-abbrev pub all_publics : List Linked → List Public
-all_publics linked = flat_map publics_moved linked
-
--- the public with a name
-abbrev pub public_named : List Public → (name : List ℕ) → Option Public
-public_named publics name = find (λ (public : Public). bytes_eq name public.name) publics
-
--- the public that an external name of a module stands for
-abbrev pub public_meant : List Public → ObjectModule → (number : ℕ) → Option Public
-public_meant publics object number = option_and_then (public_named publics) (slice_get object.externals number)
-
--- what a fixed place of a module gains: how far its target moves, or the merged address of the public
-abbrev pub gain_in : List Public → Linked → Target → ℕ
-gain_in publics linked (InSegment segment) = start_in linked segment
-gain_in publics linked (External number) =
-    option_map_or (λ (public : Public). public.offset) (public_meant publics linked.object number) 0
-
--- a place that is fixed to a public stays fixed to its segment, unless that address is absolute
-abbrev pub target_of_public : Public → Option Target
-target_of_public public = if is_movable public.segment then Some (InSegment public.segment) else None
-
-abbrev pub target_kept : List Public → Linked → Target → Option Target
-target_kept publics linked (InSegment segment) = Some (InSegment segment)
-target_kept publics linked (External number) =
-    option_and_then target_of_public (public_meant publics linked.object number)
 
 -- the pieces of a merged segment one after another; nothing is set between them
 abbrev pub joined_after : (end : ℕ) → List (ℕ × List (Option SetByte)) → List (Option SetByte)
@@ -216,4 +136,4 @@ merge_of objects =
 -- where the piece of a segment of the module of this number begins
 abbrev pub start_of : List ObjectModule → (number : ℕ) → Segment → ℕ
 start_of objects number segment =
-    option_map_or (λ (one : Linked). start_in one segment) (slice_get (linked_modules objects) number) 0
+    option_map_or (λ (one : Linked). displacement_in one segment) (slice_get (linked_modules objects) number) 0

@@ -1,5 +1,5 @@
 -- What becomes of the bytes of a segment when the targets of its fixes move.
-use Rattle.std.specs.Prelude.{ℕ, ◌+◌, ◌*◌, ◌/◌, ◌%◌, Bool, if◌then◌else◌, List, [], ◌∷◌, ◌++◌, flat_map, filter_map, Option, Some, None, option_map}
+use Rattle.std.specs.Prelude.{ℕ, ◌+◌, ◌*◌, ◌/◌, ◌%◌, List, [], ◌∷◌, ◌++◌, filter_map, Option, Some, None, option_map}
 use Rattle.std.specs.Option.{option_and_then}
 use Rattle.objmod.specs.declared.segment.FixKind.{FixKind}
 use Rattle.objmod.specs.declared.segment.FixKind.TheVariants.{Low, High, Both}

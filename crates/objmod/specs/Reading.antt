@@ -6,7 +6,7 @@ use Rattle.objmod.specs.declared.segment.Segment.{Segment}
 use Rattle.objmod.specs.declared.segment.Segment.TheVariants.{Absolute, Code, Data, Stack}
 use Rattle.objmod.specs.declared.segment.FixKind.{FixKind}
 use Rattle.objmod.specs.declared.segment.FixKind.TheVariants.{Low, High, Both}
-use Rattle.objmod.specs.Parts.{SegmentEntry, Definition, Reference, Content, Part, HeaderPart, ExternalNamesPart, PublicsPart, ContentPart, ExternalReferencesPart, RelocationPart, IntersegmentPart, ModuleEndPart, EndOfFilePart, segment_number, fix_kind_number}
+use Rattle.objmod.specs.Parts.{SegmentEntry, Definition, Reference, Part, HeaderPart, ExternalNamesPart, PublicsPart, ContentPart, ExternalReferencesPart, RelocationPart, IntersegmentPart, ModuleEndPart, EndOfFilePart, segment_number, fix_kind_number}
 
 -- the segment with a number
 abbrev pub segment_of : (number : ℕ) → Option Segment

@@ -1,5 +1,5 @@
 -- Which object module a file spells, and what the first fault of another file is.
-use Rattle.std.specs.Prelude.{◌≡◌, ℕ, ◌+◌, ◌-◌, ◌==◌, Bool, ◌&&◌, IsTrue, nat_lt, nat_le, if◌then◌else◌, List, [], ◌∷◌, ◌++◌, length, map, flat_map, filter_map, find, reverse, slice_get, slice_index, Option, Some, None, option_map}
+use Rattle.std.specs.Prelude.{◌≡◌, ℕ, ◌-◌, ◌==◌, Bool, ◌&&◌, IsTrue, nat_lt, nat_le, if◌then◌else◌, List, [], ◌∷◌, ◌++◌, map, flat_map, filter_map, find, reverse, slice_get, slice_index, Option, Some, None, option_map}
 use Rattle.std.specs.List.{range_with_len}
 use Rattle.std.specs.Option.{option_map_or}
 use Rattle.objmod.specs.declared.fault.Fault.{Fault}
@@ -10,7 +10,8 @@ use Rattle.objmod.specs.declared.segment.Segment.{Segment}
 use Rattle.objmod.specs.declared.segment.Segment.TheVariants.{Code, Data, Stack}
 use Rattle.objmod.specs.Module.{SetByte, Places, Public, ObjectModule}
 use Rattle.objmod.specs.Parts.{SegmentEntry, Definition, Content, Part, HeaderPart, PublicsPart, ContentPart, ModuleEndPart, part_bytes}
-use Rattle.objmod.specs.Rules.{same_segment, entries_of, externals_of, stated_length_of, content_end, leading_fixes, is_ended, are_accepted, fault_at}
+use Rattle.objmod.specs.Before.{same_segment, entries_of, externals_of, stated_length_of, content_end, leading_fixes, is_ended}
+use Rattle.objmod.specs.Rules.{are_accepted, fault_at}
 
 -- a content and the fixes that stand after it
 pub record FixedContent : Type 0 where
@@ -77,32 +78,41 @@ start_of_end part = None
 abbrev pub first_in : {A : Type 0} → List A → Option A
 first_in found = slice_get found 0
 
+-- the name of the module, and where it starts
+abbrev pub name_in : List Part → List ℕ
+name_in parts = option_map_or (λ name. name) (first_in (filter_map name_of_header parts)) []
+
+abbrev pub start_in : List Part → Option ℕ
+start_in parts = first_in (filter_map start_of_end parts)
+
 -- the module that the parts of a file are
 unfoldable pub module_of : List Part → ObjectModule
 module_of parts = record {
-  name = option_map_or (λ name. name) (first_in (filter_map name_of_header parts)) [];
+  name = name_in parts;
   code = places_in parts Code;
   data_places = places_in parts Data;
   stack_length = stated_length_of Stack parts;
   publics = flat_map publics_of parts;
   externals = flat_map externals_of parts;
-  start = first_in (filter_map start_of_end parts);
+  start = start_in parts;
 }
 
--- A file spells an object module: it is the bytes of parts that each may stand where it stands, the last of which ends
--- the file, and the module is what they say.
-pub record Spells (bytes : List ℕ) (object : ObjectModule) : Type 0 where
-  pub parts : List Part
+-- A file has these parts: it is their bytes, each may stand where it stands, and the last one ends the file.
+pub record IsFileOf (bytes : List ℕ) (parts : List Part) : Type 0 where
   pub accepted : IsTrue (are_accepted [] parts)
   pub ended : IsTrue (is_ended (reverse parts))
-  pub bytes_of_parts : bytes ≡ flat_map part_bytes parts
+  pub spelled : bytes ≡ flat_map part_bytes parts
+
+-- A file spells an object module: it has parts, and the module is what they say.
+pub record Spells (bytes : List ℕ) (object : ObjectModule) : Type 0 where
+  pub parts : List Part
+  pub file : IsFileOf bytes parts
   pub said : object ≡ module_of parts
 
--- A file has a fault, its first: parts that may stand there stand before it, and it is at the front of the bytes after
--- them.
+-- A file has a fault, its first: it is at the front of the bytes after parts that each may stand where they stand.
 pub record HasFirstFault (bytes : List ℕ) (fault : Fault) : Type 0 where
   pub before : List Part
   pub rest : List ℕ
   pub accepted : IsTrue (are_accepted [] before)
-  pub bytes_of_parts : bytes ≡ flat_map part_bytes before ++ rest
+  pub spelled : bytes ≡ flat_map part_bytes before ++ rest
   pub at_rest : fault_at (reverse before) rest ≡ Some fault

@@ -1,7 +1,6 @@
 -- The one file that is written for an object module.
-use Rattle.std.specs.Prelude.{ℕ, ◌+◌, ◌-◌, ◌==◌, ◌/◌, Bool, true, false, not, ◌&&◌, ◌||◌, nat_lt, if◌then◌else◌, List, [], ◌∷◌, ◌++◌, length, map, flat_map, filter, filter_map, Option, Some, None, option_map}
+use Rattle.std.specs.Prelude.{ℕ, ◌+◌, ◌-◌, ◌==◌, Bool, not, nat_lt, if◌then◌else◌, List, [], ◌∷◌, ◌++◌, length, map, flat_map, filter, filter_map, Option, Some, None}
 use Rattle.std.specs.List.{onto_first}
-use Rattle.std.specs.Option.{option_map_or, option_and_then}
 use Rattle.omf80.specs.declared.kind.TheConstants.{BODY_LIMIT}
 use Rattle.objmod.specs.declared.segment.Alignment.{Alignment}
 use Rattle.objmod.specs.declared.segment.Alignment.TheVariants.{Byte, Page}
@@ -13,8 +12,8 @@ use Rattle.objmod.specs.declared.segment.Segment.TheVariants.{Absolute, Code, Da
 use Rattle.objmod.specs.declared.segment.Target.{Target}
 use Rattle.objmod.specs.declared.segment.Target.TheVariants.{InSegment, External}
 use Rattle.objmod.specs.Module.{Fixup, SetByte, Public, ObjectModule, places_of, length_of, alignment_of, begins_word}
-use Rattle.objmod.specs.Parts.{SegmentEntry, Definition, Reference, Part, HeaderPart, ExternalNamesPart, PublicsPart, ContentPart, ExternalReferencesPart, RelocationPart, IntersegmentPart, ModuleEndPart, EndOfFilePart, part_bytes, segment_number, fix_kind_number, listed_name_bytes, definition_bytes}
-use Rattle.objmod.specs.Rules.{is_empty, same_segment}
+use Rattle.objmod.specs.Parts.{SegmentEntry, Definition, Reference, Part, HeaderPart, ExternalNamesPart, PublicsPart, ContentPart, ExternalReferencesPart, RelocationPart, IntersegmentPart, ModuleEndPart, EndOfFilePart, part_bytes, fix_kind_number, listed_name_bytes, definition_bytes}
+use Rattle.objmod.specs.Before.{same_segment}
 
 -- how many data bytes a content has at most
 abbrev pub content_limit : ℕ

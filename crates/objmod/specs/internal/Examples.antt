@@ -1,9 +1,6 @@
 -- Worked objects, computed on the definitions: what each file spells, and what is written for each module.
-use Rattle.std.specs.Prelude.{◌≡◌, ℕ, List, [], ◌∷◌, ◌++◌, map, replicate, Ok, Some, None, take, length, codes, refl}
+use Rattle.std.specs.Prelude.{◌≡◌, Ok, refl}
 use Rattle.omf80.specs.Records.{record_bytes, record_fault}
-use Rattle.objmod.specs.declared.segment.Alignment.TheVariants.{Byte, Page}
-use Rattle.objmod.specs.Module.{ObjectModule}
-use Rattle.objmod.specs.Parts.{Part}
 use Rattle.objmod.specs.Reading.{part_in}
 use Rattle.objmod.specs.Rules.{fault_at}
 use Rattle.objmod.specs.Spelling.{module_of}
@@ -68,4 +65,3 @@ d_is_written = refl
 pub c_d_is_written : text_of module_c_d ≡ merge_c_d
 unfolding record_bytes written_parts
 c_d_is_written = refl
-

@@ -83,8 +83,8 @@ at_a_page_file = concat (
     ∷ [])
 
 pub at_a_page : judgement_of at_a_page_file ≡ Ok (record module_a {
-        code = record { alignment = Page; places = module_a.code.places };
-    })
+  code = record { alignment = Page; places = module_a.code.places };
+})
 unfolding record_fault part_in fault_at module_of parts_of
 at_a_page = refl
 

@@ -1,5 +1,5 @@
 -- Worked merges, computed on the definitions.
-use Rattle.std.specs.Prelude.{◌≡◌, ℕ, List, [], ◌∷◌, ◌++◌, map, replicate, codes, Option, Ok, Some, None, refl}
+use Rattle.std.specs.Prelude.{◌≡◌, ℕ, List, [], ◌∷◌, map, replicate, codes, Option, Ok, Some, None, refl}
 use Rattle.objmod.specs.declared.segment.Alignment.TheVariants.{Byte}
 use Rattle.objmod.specs.declared.segment.Segment.TheVariants.{Code}
 use Rattle.objmod.specs.Module.{SetByte, ObjectModule}

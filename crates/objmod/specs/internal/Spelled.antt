@@ -1,11 +1,11 @@
 -- A file that is spelled, one with a fault, and how longer lists are cut.
-use Rattle.std.specs.Prelude.{◌≡◌, ℕ, List, [], ◌∷◌, ◌++◌, map, length, replicate, codes, Option, Some, None, refl}
+use Rattle.std.specs.Prelude.{◌≡◌, ℕ, List, [], ◌∷◌, ◌++◌, map, length, replicate, codes, Some, None, refl}
 use Rattle.omf80.specs.Records.{record_bytes}
 use Rattle.objmod.specs.declared.fault.Fault.TheVariants.{OutOfOrder}
 use Rattle.objmod.specs.declared.segment.FixKind.TheVariants.{Low, Both}
 use Rattle.objmod.specs.declared.segment.Segment.TheVariants.{Code, Stack}
 use Rattle.objmod.specs.declared.segment.Target.TheVariants.{InSegment}
-use Rattle.objmod.specs.Module.{Fixup, SetByte}
+use Rattle.objmod.specs.Module.{SetByte}
 use Rattle.objmod.specs.Parts.{Part, HeaderPart, ExternalNamesPart, ContentPart, ExternalReferencesPart, ModuleEndPart, EndOfFilePart}
 use Rattle.objmod.specs.Rules.{fault_at}
 use Rattle.objmod.specs.Spelling.{module_of, Spells, HasFirstFault}
@@ -27,9 +27,7 @@ pub a_is_spelled : Spells object_a module_a
 unfolding record_bytes module_of
 a_is_spelled = record {
   parts = parts_of_a;
-  accepted = refl;
-  ended = refl;
-  bytes_of_parts = refl;
+  file = record { accepted = refl; ended = refl; spelled = refl };
   said = refl;
 }
 
@@ -39,7 +37,7 @@ a_and_a_byte = record {
   before = parts_of_a;
   rest = 0 ∷ [];
   accepted = refl;
-  bytes_of_parts = refl;
+  spelled = refl;
   at_rest = refl;
 }
 
