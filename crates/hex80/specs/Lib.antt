@@ -1,4 +1,5 @@
 pub use Rattle.mem80.specs.Range
+pub use Rattle.mem80.specs.Pieces
 pub mod Lines
 pub mod Spelling
 pub mod internal

@@ -1,11 +1,9 @@
 -- Lines of Intel HEX, and the text that is written for pieces (Intel Hexadecimal Object File Format Specification,
 -- "General record format", "Data record" and "End of file record").
-use Rattle.std.specs.Prelude.{◌≡◌, ℕ, zero, suc, ◌+◌, ◌-◌, ◌/◌, ◌%◌, ◌≤◌, Bool, true, ◌&&◌, IsTrue, nat_lt, nat_le, if◌then◌else◌, List, [], ◌∷◌, ◌++◌, length, flat_map, sum, codes, All, AllPairs, IsPermutation}
+use Rattle.std.specs.Prelude.{◌≡◌, ℕ, zero, suc, ◌+◌, ◌-◌, ◌/◌, ◌%◌, Bool, true, ◌&&◌, IsTrue, nat_lt, nat_le, if◌then◌else◌, List, [], ◌∷◌, ◌++◌, length, flat_map, sum, codes, All, AllPairs, IsPermutation}
 use Rattle.std.specs.List.{onto_first}
-use Rattle.mem80.specs.declared.memory.TheConstants.{MEMORY_SIZE}
 use Rattle.mem80.specs.declared.range.Piece.{Piece}
-use Rattle.mem80.specs.declared.range.Range.{Range}
-use Rattle.mem80.specs.Range.{Meets}
+use Rattle.mem80.specs.Pieces.{EndsInMemory, AreApart}
 use Rattle.hex80.specs.declared.fault.TheConstants.{BYTES_IN_LINE}
 
 -- the upper-case hexadecimal digit of a number below 16
@@ -63,17 +61,6 @@ lines_of_piece piece = lines_from piece.start (rows_of piece.bytes)
 -- the lines of pieces in this order, and the end line
 abbrev pub lines_of : List Piece → List ℕ
 lines_of pieces = flat_map lines_of_piece pieces ++ ended_line end_line
-
-abbrev pub range_of : Piece → Range
-range_of piece = record { start = piece.start; len = length piece.bytes }
-
--- a piece ends with the end of memory or before it
-abbrev pub EndsInMemory : Piece → Type 0
-EndsInMemory piece = piece.start + length piece.bytes ≤ MEMORY_SIZE
-
--- no address has bytes of two pieces
-abbrev pub AreApart : Piece → Piece → Type 0
-AreApart left right = ¬ Meets (range_of left) (range_of right)
 
 -- pieces that can be written: each in memory, and no two with an address in common
 pub record AreWritable (pieces : List Piece) : Type 0 where

@@ -1,2 +1,3 @@
 pub mod Memory
 pub mod Range
+pub mod Pieces

@@ -75,11 +75,16 @@ abbrev pub content_of : Part → Option Content
 content_of (ContentPart content) = Some content
 content_of part = None
 
--- the stated length of a segment
+-- the entry of a segment
+abbrev pub entry_in : List SegmentEntry → Segment → Option SegmentEntry
+entry_in entries segment = find (λ (entry : SegmentEntry). same_segment entry.segment segment) entries
+
+-- the stated length of a segment; one that is left out has none
+abbrev pub length_in : List SegmentEntry → Segment → ℕ
+length_in entries segment = option_map_or (λ (entry : SegmentEntry). entry.length) (entry_in entries segment) 0
+
 abbrev pub stated_length_of : Segment → List Part → ℕ
-stated_length_of segment before =
-    option_map_or (λ (entry : SegmentEntry). entry.length)
-    (find (λ (entry : SegmentEntry). same_segment entry.segment segment) (flat_map entries_of before)) 0
+stated_length_of segment before = length_in (flat_map entries_of before) segment
 
 -- the latest of the contents
 abbrev pub latest_content : (before : List Part) → Option Content

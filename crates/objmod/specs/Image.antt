@@ -1,9 +1,8 @@
 -- A module placed in memory by a plan, or why it can't be.
-use Rattle.std.specs.Prelude.{◌≡◌, ℕ, ◌+◌, ◌-◌, ◌%◌, ◌==◌, ◌<◌, Bool, true, not, ◌&&◌, ◌||◌, IsTrue, nat_lt, nat_le, if◌then◌else◌, min, max, List, [], ◌∷◌, length, map, find, slice_get, slice_index, Option, None, option_map, unwrap_or, Result}
+use Rattle.std.specs.Prelude.{ℕ, ◌+◌, ◌-◌, ◌%◌, ◌==◌, Bool, not, ◌&&◌, ◌||◌, nat_lt, if◌then◌else◌, min, max, List, [], ◌∷◌, map, slice_get, Option, None, option_map, unwrap_or, Result}
 use Rattle.std.specs.List.{list_any}
 use Rattle.std.specs.Option.{option_or, option_flatten, is_none}
 use Rattle.mem80.specs.declared.memory.TheConstants.{MEMORY_SIZE}
-use Rattle.mem80.specs.declared.range.Piece.{Piece}
 use Rattle.mem80.specs.declared.range.Range.{Range}
 use Rattle.omf80.specs.Records.{first_that_holds}
 use Rattle.objmod.specs.declared.segment.Segment.{Segment}
@@ -142,33 +141,3 @@ placement_refusal plan object = first_that_holds (placement_refusals plan object
 -- the image of a module at a plan
 abbrev pub image_of : Plan → ObjectModule → Result Image PlacementRefusal
 image_of plan object = unless_refused (placed plan object) (placement_refusal plan object)
-
--- the byte that one of the pieces has at an address
-abbrev pub has_address : (address : ℕ) → Piece → Bool
-has_address address piece =
-    nat_le piece.start address && nat_lt address (piece.start + length piece.bytes)
-
-abbrev pub byte_in : List Piece → (address : ℕ) → Option ℕ
-byte_in pieces address =
-    option_map (λ (piece : Piece). slice_index piece.bytes (address - piece.start))
-    (find (has_address address) pieces)
-
--- each piece has bytes, and ends before the address where the next one begins
-abbrev pub are_runs : List Piece → Bool
-are_runs [] = true
-are_runs (piece ∷ []) = not (is_empty piece.bytes)
-are_runs (piece ∷ next ∷ others) =
-    not (is_empty piece.bytes) && nat_lt (piece.start + length piece.bytes) next.start
-    && are_runs (next ∷ others)
-
--- Pieces are the longest runs of set bytes of an image, by address: where one ends, nothing is set.
-pub record AreLongestRuns (pieces : List Piece) (byte_at : ℕ → Option ℕ) : Type 0 where
-  pub runs : IsTrue (are_runs pieces)
-  pub bytes : (address : ℕ) → byte_in pieces address ≡ byte_at address
-
--- a memory has an image at its places, and is as another elsewhere
-pub record IsLoaded (byte_at : ℕ → Option ℕ) (before after : List ℕ) : Type 0 where
-  pub size : length after ≡ length before
-  pub bytes :
-      (address : ℕ) → address < MEMORY_SIZE
-      → slice_index after address ≡ unwrap_or (byte_at address) (slice_index before address)

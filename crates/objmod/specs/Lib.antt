@@ -1,5 +1,6 @@
 pub use Rattle.omf80.specs.Records
 pub use Rattle.mem80.specs.Range
+pub use Rattle.mem80.specs.Pieces
 pub mod Module
 pub mod Parts
 pub mod Reading
@@ -9,7 +10,7 @@ pub mod Spelling
 pub mod Walking
 pub mod Text
 pub mod Moving
-pub mod Pieces
+pub mod Displacements
 pub mod Merge
 pub mod Image
 pub mod internal

@@ -10,7 +10,7 @@ use Rattle.objmod.specs.declared.segment.Segment.{Segment}
 use Rattle.objmod.specs.declared.segment.TheConstants.{SEGMENT_LIMIT}
 use Rattle.objmod.specs.Module.{SetByte, Places, Public, ObjectModule, is_page, is_among}
 use Rattle.objmod.specs.Moving.{moved, high_targets}
-use Rattle.objmod.specs.Pieces.{Linked, code_end, data_end, linked_modules, displacement_in, all_publics, gain_in, target_kept}
+use Rattle.objmod.specs.Displacements.{Linked, code_end, data_end, linked_modules, displacement_in, all_publics, gain_in, target_kept}
 
 -- why modules can't be merged
 pub data LinkRefusal : Type 0 where

@@ -10,7 +10,7 @@ use Rattle.objmod.specs.declared.segment.Segment.{Segment}
 use Rattle.objmod.specs.declared.segment.Segment.TheVariants.{Code, Data, Stack}
 use Rattle.objmod.specs.Module.{SetByte, Places, Public, ObjectModule}
 use Rattle.objmod.specs.Parts.{SegmentEntry, Definition, Content, Part, HeaderPart, PublicsPart, ContentPart, ModuleEndPart, part_bytes}
-use Rattle.objmod.specs.Before.{same_segment, entries_of, externals_of, stated_length_of, content_end, leading_fixes, is_ended}
+use Rattle.objmod.specs.Before.{same_segment, entries_of, entry_in, externals_of, stated_length_of, content_end, leading_fixes, is_ended}
 use Rattle.objmod.specs.Rules.{are_accepted, fault_at}
 
 -- a content and the fixes that stand after it
@@ -47,14 +47,12 @@ set_in contents segment offset = option_map (set_at offset) (find (holds_place s
 abbrev pub alignment_with : SegmentEntry → Alignment
 alignment_with entry = if entry.alignment == 1 && nat_lt 0 entry.length then Page else Byte
 
-abbrev pub stated_alignment_of : Segment → List Part → Alignment
-stated_alignment_of segment parts =
-    option_map_or alignment_with
-    (find (λ (entry : SegmentEntry). same_segment entry.segment segment) (flat_map entries_of parts)) Byte
+abbrev pub alignment_in : List SegmentEntry → Segment → Alignment
+alignment_in entries segment = option_map_or alignment_with (entry_in entries segment) Byte
 
 abbrev pub places_in : List Part → Segment → Places
 places_in parts segment = record {
-  alignment = stated_alignment_of segment parts;
+  alignment = alignment_in (flat_map entries_of parts) segment;
   places =
       map (set_in (fixed_contents parts) segment) (range_with_len 0 (stated_length_of segment parts));
 }

@@ -1,19 +1,16 @@
 -- What is left to be told of a file whose parts are handed out one after another.
 use Rattle.std.specs.Prelude.{◌≡◌, ℕ, List, [], ◌∷◌, flat_map, Option, Some, None}
-use Rattle.objmod.specs.declared.segment.Alignment.{Alignment}
 use Rattle.objmod.specs.declared.segment.Fix.{Fix}
-use Rattle.objmod.specs.declared.segment.Segment.{Segment}
-use Rattle.objmod.specs.Before.{externals_of, stated_length_of}
+use Rattle.objmod.specs.Before.{entries_of, externals_of}
 use Rattle.objmod.specs.Module.{Public}
-use Rattle.objmod.specs.Parts.{Content, Part}
-use Rattle.objmod.specs.Spelling.{FixedContent, IsFileOf, fixed_contents, name_in, publics_of, start_in, stated_alignment_of}
+use Rattle.objmod.specs.Parts.{SegmentEntry, Content, Part}
+use Rattle.objmod.specs.Spelling.{FixedContent, IsFileOf, fixed_contents, name_in, publics_of, start_in}
 
--- What a walk tells at any time, and what it has not handed out yet, in the order of the file: names, publics, contents,
--- and the fixes of the content that it handed out last.
+-- What a walk tells at any time, and what it has not handed out yet, in the order of the file: external names, publics,
+-- contents, and the fixes of the content that it handed out last.
 pub record Walking : Type 0 where
   pub name : List ℕ
-  pub length : Segment → ℕ
-  pub alignment : Segment → Alignment
+  pub entries : List SegmentEntry
   pub start : Option ℕ
   pub externals : List (List ℕ)
   pub publics : List Public
@@ -24,8 +21,7 @@ pub record Walking : Type 0 where
 unfoldable pub walk_over : List Part → Walking
 walk_over parts = record {
   name = name_in parts;
-  length = λ segment. stated_length_of segment parts;
-  alignment = λ segment. stated_alignment_of segment parts;
+  entries = flat_map entries_of parts;
   start = start_in parts;
   externals = flat_map externals_of parts;
   publics = flat_map publics_of parts;

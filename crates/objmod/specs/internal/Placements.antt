@@ -1,6 +1,8 @@
 -- Worked placements, computed on the definitions.
-use Rattle.std.specs.Prelude.{◌≡◌, ℕ, List, [], ◌∷◌, ◌++◌, map, codes, Option, Some, None, refl}
+use Rattle.std.specs.Prelude.{◌≡◌, ℕ, true, List, [], ◌∷◌, ◌++◌, map, codes, Option, Some, None, refl}
 use Rattle.std.specs.List.{range_with_len}
+use Rattle.mem80.specs.declared.range.Piece.{Piece}
+use Rattle.mem80.specs.Pieces.{byte_in, are_runs}
 use Rattle.objmod.specs.declared.segment.FixKind.TheVariants.{Both}
 use Rattle.objmod.specs.declared.segment.Segment.TheVariants.{Stack}
 use Rattle.objmod.specs.declared.segment.Target.TheVariants.{InSegment}
@@ -35,6 +37,20 @@ a_b_symbols = refl
 pub a_b_refusal : placement_refusal (code_at 0x100) module_a_b ≡ None
 unfolding placement_refusal
 a_b_refusal = refl
+
+-- the pieces of that image have its bytes there
+abbrev pub a_b_pieces : List Piece
+a_b_pieces = record {
+  start = 0x100;
+  bytes = 0xCD ∷ 0x04 ∷ 0x01 ∷ 0x76 ∷ 0x3E ∷ 0x08 ∷ 0xD3 ∷ 0x04 ∷ 0xC9 ∷ [];
+} ∷ []
+
+pub a_b_runs : are_runs a_b_pieces ≡ true
+a_b_runs = refl
+
+pub a_b_bytes : map (byte_in a_b_pieces) (range_with_len 0xFF 11) ≡ bytes_from (code_at 0x100) module_a_b 0xFF 11
+unfolding image_at
+a_b_bytes = refl
 
 -- C and D at 0100H: S lies at 0200H
 pub c_d_placed :
