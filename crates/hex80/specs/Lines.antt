@@ -1,5 +1,5 @@
--- Lines of Intel HEX, and the text that is written for pieces (Intel Hexadecimal Object File Format Specification,
--- "General record format", "Data record" and "End of file record").
+-- Lines of Intel HEX, and the text that is written for pieces (Intel Hexadecimal Object File Format
+-- Specification, "General record format", "Data record" and "End of file record").
 use Rattle.std.specs.Prelude.{◌≡◌, ℕ, zero, suc, ◌+◌, ◌-◌, ◌/◌, ◌%◌, Bool, true, ◌&&◌, IsTrue, nat_lt, nat_le, if◌then◌else◌, List, [], ◌∷◌, ◌++◌, length, flat_map, sum, codes, All, AllPairs, IsPermutation}
 use Rattle.std.specs.List.{onto_first}
 use Rattle.mem80.specs.declared.range.Piece.{Piece}
@@ -53,7 +53,8 @@ ended_line line = line ++ 10 ∷ []
 abbrev pub lines_from : (address : ℕ) → List (List ℕ) → List ℕ
 lines_from address [] = []
 lines_from address (row ∷ others) =
-    ended_line (data_line (record { start = address; bytes = row })) ++ lines_from (address + length row) others
+    ended_line (data_line (record { start = address; bytes = row }))
+    ++ lines_from (address + length row) others
 
 abbrev pub lines_of_piece : Piece → List ℕ
 lines_of_piece piece = lines_from piece.start (rows_of piece.bytes)

@@ -55,7 +55,8 @@ read_line line =
 -- some address has bytes of both
 abbrev pub share_an_address : Piece → Piece → Bool
 share_an_address left right =
-    nat_lt (max left.start right.start) (min (left.start + length left.bytes) (right.start + length right.bytes))
+    nat_lt (max left.start right.start)
+    (min (left.start + length left.bytes) (right.start + length right.bytes))
 
 -- a line of data has a wrong sum, or else an address that another piece has
 abbrev pub fault_of_data : (before : List Piece) → Piece × List ℕ → Option Fault
@@ -71,7 +72,8 @@ abbrev pub is_empty : List (List ℕ) → Bool
 is_empty [] = true
 is_empty (line ∷ others) = false
 
--- the fault at the front of the lines after those of these pieces, if there is one; after the end line there are none
+-- the fault at the front of the lines after those of these pieces, if there is one; after the end line there
+-- are none
 unfoldable pub fault_at : (before : List Piece) → List (List ℕ) → Option Fault
 fault_at before [] = Some NoEnd
 fault_at before (line ∷ others) =
@@ -90,13 +92,14 @@ are_line_pieces before [] = true
 are_line_pieces before (piece ∷ others) =
     is_line_piece before piece && are_line_pieces (before ++ piece ∷ []) others
 
--- A text spells pieces: its lines are their data lines in this order, and the end line. A line ends with LF, or CR and
--- LF, which the last one may lack.
+-- A text spells pieces: its lines are their data lines in this order, and the end line. A line ends with LF,
+-- or CR and LF, which the last one may lack.
 pub record Spells (text : List ℕ) (pieces : List Piece) : Type 0 where
   pub lines_of_text : lines text ≡ map data_line pieces ++ end_line ∷ []
   pub accepted : IsTrue (are_line_pieces [] pieces)
 
--- A text has a fault, its first: data lines of pieces stand before it, and it is at the front of the lines after them.
+-- A text has a fault, its first: data lines of pieces stand before it, and it is at the front of the lines
+-- after them.
 pub record HasFirstFault (text : List ℕ) (fault : Fault) : Type 0 where
   pub before : List Piece
   pub rest : List (List ℕ)

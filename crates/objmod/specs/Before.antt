@@ -1,4 +1,5 @@
--- What the records before a place in an object file tell of it. Of those records, the latest stands first in a list.
+-- What the records before a place in an object file tell of it. Of those records, the latest stands first in
+-- a list.
 use Rattle.std.specs.Prelude.{ℕ, ◌+◌, ◌==◌, Bool, true, false, not, ◌&&◌, ◌||◌, nat_le, if◌then◌else◌, List, [], ◌∷◌, length, map, flat_map, find, take_while, Option, Some, None}
 use Rattle.std.specs.Option.{option_or, option_map_or}
 use Rattle.omf80.specs.declared.kind.RecordKind.{RecordKind}
@@ -33,8 +34,8 @@ is_fix_record kinds.Relocation = true
 is_fix_record kinds.IntersegmentReferences = true
 is_fix_record kind = false
 
--- what may come right after a record of a kind: a fix record only where there is a content that it belongs to, and the
--- end of the file only after the end of the module, of which there is one
+-- what may come right after a record of a kind: a fix record only where there is a content that it belongs
+-- to, and the end of the file only after the end of the module, of which there is one
 abbrev pub may_come_after : (latest : RecordKind) → RecordKind → Bool
 may_come_after latest kinds.Header = false
 may_come_after latest kinds.EndOfFile = rank_of latest == 4
@@ -81,7 +82,8 @@ entry_in entries segment = find (λ (entry : SegmentEntry). same_segment entry.s
 
 -- the stated length of a segment; one that is left out has none
 abbrev pub length_in : List SegmentEntry → Segment → ℕ
-length_in entries segment = option_map_or (λ (entry : SegmentEntry). entry.length) (entry_in entries segment) 0
+length_in entries segment =
+    option_map_or (λ (entry : SegmentEntry). entry.length) (entry_in entries segment) 0
 
 abbrev pub stated_length_of : Segment → List Part → ℕ
 stated_length_of segment before = length_in (flat_map entries_of before) segment

@@ -1,4 +1,5 @@
--- Where the pieces of modules begin in their merge, and what their publics and their fixed places become there.
+-- Where the pieces of modules begin in their merge, and what their publics and their fixed places become
+-- there.
 use Rattle.std.specs.Prelude.{ℕ, ◌+◌, ◌*◌, ◌/◌, ◌%◌, if◌then◌else◌, List, [], ◌∷◌, length, map, flat_map, find, slice_get, Option, Some, None}
 use Rattle.std.specs.Option.{option_map_or, option_and_then}
 use Rattle.std.specs.Str.{bytes_eq}
@@ -47,7 +48,8 @@ linked_from code_before data_before (object ∷ others) =
 abbrev pub linked_modules : List ObjectModule → List Linked
 linked_modules objects = linked_from 0 0 objects
 
--- by how much the offsets of a segment of a module grow; absolute addresses and what is fixed to the stack stay
+-- by how much the offsets of a segment of a module grow; absolute addresses and what is fixed to the stack
+-- stay
 abbrev pub displacement_in : Linked → Segment → ℕ
 displacement_in linked Absolute = 0
 displacement_in linked Code = linked.code_start
@@ -71,7 +73,8 @@ public_named publics name = find (λ (public : Public). bytes_eq name public.nam
 
 -- the public that an external name of a module stands for
 abbrev pub public_meant : List Public → ObjectModule → (number : ℕ) → Option Public
-public_meant publics object number = option_and_then (public_named publics) (slice_get object.externals number)
+public_meant publics object number =
+    option_and_then (public_named publics) (slice_get object.externals number)
 
 -- what a fixed place of a module gains: how far its target moves, or the merged address of the public
 abbrev pub gain_in : List Public → Linked → Target → ℕ

@@ -136,4 +136,5 @@ merge_of objects =
 -- where the piece of a segment of the module of this number begins
 abbrev pub start_of : List ObjectModule → (number : ℕ) → Segment → ℕ
 start_of objects number segment =
-    option_map_or (λ (one : Linked). displacement_in one segment) (slice_get (linked_modules objects) number) 0
+    option_map_or (λ (one : Linked). displacement_in one segment)
+    (slice_get (linked_modules objects) number) 0

@@ -24,8 +24,8 @@ pub record SetByte : Type 0 where
   pub value : ℕ
   pub fixup : Option Fixup
 
--- a segment, place by place from offset 0 on: the byte that is set there, or none; there are as many places as the
--- segment is long
+-- a segment, place by place from offset 0 on: the byte that is set there, or none; there are as many places
+-- as the segment is long
 pub record Places : Type 0 where
   pub alignment : Alignment
   pub places : List (Option SetByte)
@@ -36,8 +36,8 @@ pub record Public : Type 0 where
   pub offset : ℕ
   pub name : List ℕ
 
--- An object module. External names have their numbers by their order, from 0. A main module has a start, an offset in
--- its code.
+-- An object module. External names have their numbers by their order, from 0. A main module has a start, an
+-- offset in its code.
 pub record ObjectModule : Type 0 where
   pub name : List ℕ
   pub code : Places

@@ -7,8 +7,8 @@ use Rattle.objmod.specs.declared.segment.Segment.TheVariants.{Code, Data}
 use Rattle.objmod.specs.declared.segment.Target.{Target}
 use Rattle.objmod.specs.Module.{Fixup, SetByte, ObjectModule, places_of}
 
--- the first byte of a fix whose target moves by a number: the low byte of an address gains its low byte, and a high byte
--- its high byte
+-- the first byte of a fix whose target moves by a number: the low byte of an address gains its low byte, and
+-- a high byte its high byte
 abbrev pub first_byte_moved : FixKind → (value gain : ℕ) → ℕ
 first_byte_moved Low value gain = (value + gain) % 256
 first_byte_moved High value gain = (value + gain / 256) % 256
@@ -52,7 +52,8 @@ byte_moved gain_of kept before here = record {
   fixup = option_and_then (fixup_moved kept) here.fixup;
 }
 
--- Places after one place, where targets gain numbers and some stay targets. A place where nothing is set stays so.
+-- Places after one place, where targets gain numbers and some stay targets. A place where nothing is set
+-- stays so.
 abbrev pub moved_after :
     (gain_of : Target → ℕ) → (kept : Target → Option Target) → (before : Option SetByte)
     → List (Option SetByte) → List (Option SetByte)
@@ -60,7 +61,9 @@ moved_after gain_of kept before [] = []
 moved_after gain_of kept before (here ∷ others) =
     option_map (byte_moved gain_of kept before) here ∷ moved_after gain_of kept here others
 
-abbrev pub moved : (gain_of : Target → ℕ) → (kept : Target → Option Target) → List (Option SetByte) → List (Option SetByte)
+abbrev pub moved :
+    (gain_of : Target → ℕ) → (kept : Target → Option Target)
+    → List (Option SetByte) → List (Option SetByte)
 moved gain_of kept places = moved_after gain_of kept None places
 
 -- the target of a fix of a high byte

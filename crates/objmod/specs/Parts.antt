@@ -1,5 +1,5 @@
--- What each record of an object file says, and the body that says it (Intel's 8080 relocatable object module format,
--- "Record formats").
+-- What each record of an object file says, and the body that says it (Intel's 8080 relocatable object module
+-- format, "Record formats").
 use Rattle.std.specs.Prelude.{ℕ, List, [], ◌∷◌, ◌++◌, length, flat_map, Option, Some, None}
 use Rattle.omf80.specs.declared.kind.RecordKind.{RecordKind}
 use Rattle.omf80.specs.declared.kind.RecordKind.TheVariants as kinds
@@ -31,7 +31,8 @@ pub record Content : Type 0 where
   pub offset : ℕ
   pub bytes : List ℕ
 
--- what a record says; the two bytes after a module's name tell of its translator, and nothing here looks at them
+-- what a record says; the two bytes after a module's name tell of its translator, and nothing here looks at
+-- them
 pub data Part : Type 0 where
   HeaderPart : (name : List ℕ) → (translator version : ℕ) → List SegmentEntry → Part
   ExternalNamesPart : List (List ℕ) → Part

@@ -1,5 +1,5 @@
--- The rules of an object file, record by record, and the fault that breaking each of them is. A record is judged by the
--- records before it, of which the latest stands first.
+-- The rules of an object file, record by record, and the fault that breaking each of them is. A record is
+-- judged by the records before it, of which the latest stands first.
 use Rattle.std.specs.Prelude.{ℕ, ◌+◌, ◌-◌, ◌==◌, Bool, true, false, not, ◌&&◌, ◌||◌, nat_lt, nat_le, if◌then◌else◌, List, [], ◌∷◌, length, flat_map, take, drop, slice_index, Option, Some, None, option_map}
 use Rattle.std.specs.List.{list_all, list_any}
 use Rattle.std.specs.Option.{option_or, option_map_or, option_and_then}
@@ -82,7 +82,8 @@ fit_content before part (Some content) =
     list_all (is_within content) (fixes_of content.segment part)
     && are_apart (fixes_of content.segment part) (leading_fixes content.segment before)
 
--- What can be wrong with a part that may stand here, and the fault that it is, in the order in which it is judged.
+-- What can be wrong with a part that may stand here, and the fault that it is, in the order in which it is
+-- judged.
 abbrev pub part_faults : (before : List Part) → Part → List (Bool × Fault)
 part_faults before part =
     (not (is_body before part), WrongBody)
@@ -121,8 +122,8 @@ fault_from_record record_faults.UnknownType = UnknownType
 abbrev pub first_body : List ℕ → List ℕ
 first_body bytes = drop HEADING_SIZE (take (record_end bytes - 1) bytes)
 
--- The fault at the front of bytes that stand after these records, if there is one: a record is judged as such first. After
--- the end of the file there are no records, and any byte is out of order.
+-- The fault at the front of bytes that stand after these records, if there is one: a record is judged as such
+-- first. After the end of the file there are no records, and any byte is out of order.
 unfoldable pub fault_at : (before : List Part) → (bytes : List ℕ) → Option Fault
 fault_at before bytes =
     if is_ended before then (if is_empty bytes then None else Some OutOfOrder)

@@ -107,7 +107,8 @@ pub record Spells (bytes : List ℕ) (object : ObjectModule) : Type 0 where
   pub file : IsFileOf bytes parts
   pub said : object ≡ module_of parts
 
--- A file has a fault, its first: it is at the front of the bytes after parts that each may stand where they stand.
+-- A file has a fault, its first: it is at the front of the bytes after parts that each may stand where they
+-- stand.
 pub record HasFirstFault (bytes : List ℕ) (fault : Fault) : Type 0 where
   pub before : List Part
   pub rest : List ℕ

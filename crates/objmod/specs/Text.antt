@@ -19,8 +19,9 @@ use Rattle.objmod.specs.Before.{same_segment}
 abbrev pub content_limit : ℕ
 content_limit = BODY_LIMIT - 3
 
--- Lists cut into groups, each as long as there is room: an item goes into the group before it where the room that is
--- left there is at least what it needs, and takes room from it. The first of the groups goes on one that is begun.
+-- Lists cut into groups, each as long as there is room: an item goes into the group before it where the room
+-- that is left there is at least what it needs, and takes room from it. The first of the groups goes on one
+-- that is begun.
 abbrev pub groups_after : {A : Type 0} → (needs takes : A → ℕ) → (limit room : ℕ) → List A → List (List A)
 groups_after needs takes limit room [] = [] ∷ []
 groups_after needs takes limit room (item ∷ others) =
@@ -56,7 +57,8 @@ header_for object = HeaderPart object.name 0 0 (filter_map (entry_for object) (C
 
 -- Names fill records as far as whole entries fit.
 abbrev pub external_parts : List (List ℕ) → List Part
-external_parts names = map ExternalNamesPart (packed (λ name. length (listed_name_bytes name)) BODY_LIMIT names)
+external_parts names =
+    map ExternalNamesPart (packed (λ name. length (listed_name_bytes name)) BODY_LIMIT names)
 
 -- the publics of a segment, in their order
 abbrev pub publics_in_segment : Segment → List Public → List Public

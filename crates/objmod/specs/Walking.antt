@@ -6,8 +6,8 @@ use Rattle.objmod.specs.Module.{Public}
 use Rattle.objmod.specs.Parts.{SegmentEntry, Content, Part}
 use Rattle.objmod.specs.Spelling.{FixedContent, IsFileOf, fixed_contents, name_in, publics_of, start_in}
 
--- What a walk tells at any time, and what it has not handed out yet, in the order of the file: external names, publics,
--- contents, and the fixes of the content that it handed out last.
+-- What a walk tells at any time, and what it has not handed out yet, in the order of the file: external
+-- names, publics, contents, and the fixes of the content that it handed out last.
 pub record Walking : Type 0 where
   pub name : List ℕ
   pub entries : List SegmentEntry
@@ -40,7 +40,8 @@ abbrev pub HandsOut : {A : Type 0} → (old new : List A) → Option A → Type 
 HandsOut old new (Some first) = old ≡ first ∷ new
 HandsOut old new None = (old ≡ []) × (new ≡ [])
 
--- the next content is handed out, and its fixes are those to be handed out; where there is none, nothing changes
+-- the next content is handed out, and its fixes are those to be handed out; where there is none, nothing
+-- changes
 abbrev pub HandsOutContent : (old new : Walking) → Option Content → Type 0
 HandsOutContent old new (Some content) =
     (old.contents ≡ record { content = content; fixes = new.fixes } ∷ new.contents)

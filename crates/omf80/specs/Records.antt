@@ -68,8 +68,8 @@ stated_length bytes = slice_index bytes 1 + 256 * slice_index bytes 2
 abbrev pub record_end : List ℕ → ℕ
 record_end bytes = HEADING_SIZE + stated_length bytes
 
--- What can be wrong with the record that the bytes begin with, and the fault that each is, in the order in which they
--- are judged. A later line matters only where no line above it holds.
+-- What can be wrong with the record that the bytes begin with, and the fault that each is, in the order in
+-- which they are judged. A later line matters only where no line above it holds.
 abbrev pub record_faults : List ℕ → List (Bool × Fault)
 record_faults bytes =
     (nat_lt (length bytes) HEADING_SIZE, Truncated)

@@ -15,7 +15,8 @@ abbrev pub first_part : List ℕ → Option Part
 first_part bytes =
     option_and_then (λ kind. part_in kind (first_body bytes)) (kind_of_type (slice_index bytes 0))
 
--- the fault that there is, or the part in front and what is judged after it; nothing comes after the end of the file
+-- the fault that there is, or the part in front and what is judged after it; nothing comes after the end of
+-- the file
 abbrev pub judged_by :
     (judged_next : List Part → Result (List Part) Fault) → (before : List Part) → Option Fault → Option Part
     → Result (List Part) Fault
@@ -27,8 +28,8 @@ judged_by judged_next before None (Some part) = judged_next (part ∷ before)
 abbrev pub judged_after : (count : ℕ) → (before : List Part) → (bytes : List ℕ) → Result (List Part) Fault
 judged_after zero before bytes = Err OutOfOrder
 judged_after (suc count) before bytes =
-    judged_by (λ parts. judged_after count parts (drop (record_end bytes) bytes)) before (fault_at before bytes)
-    (first_part bytes)
+    judged_by (λ parts. judged_after count parts (drop (record_end bytes) bytes)) before
+    (fault_at before bytes) (first_part bytes)
 
 -- the parts of a file; each record has a byte at least
 unfoldable pub parts_of : List ℕ → Result (List Part) Fault

@@ -48,7 +48,8 @@ a_b_pieces = record {
 pub a_b_runs : are_runs a_b_pieces ≡ true
 a_b_runs = refl
 
-pub a_b_bytes : map (byte_in a_b_pieces) (range_with_len 0xFF 11) ≡ bytes_from (code_at 0x100) module_a_b 0xFF 11
+pub a_b_bytes :
+    map (byte_in a_b_pieces) (range_with_len 0xFF 11) ≡ bytes_from (code_at 0x100) module_a_b 0xFF 11
 unfolding image_at
 a_b_bytes = refl
 

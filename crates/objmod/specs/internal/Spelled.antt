@@ -63,7 +63,8 @@ cut items =
 abbrev pub content_at : (offset size : ℕ) → Run ℕ
 content_at offset size = record { offset = offset; items = size ∷ [] }
 
--- 1030 bytes: a word at 1023 goes whole into the second content; a word at 1022 and a low byte at 1023 end the first
+-- 1030 bytes: a word at 1023 goes whole into the second content; a word at 1022 and a low byte at 1023 end
+-- the first
 pub word_at_the_end : cut (plain 1023 ++ word ++ plain 5) ≡ content_at 0 1023 ∷ content_at 1023 7 ∷ []
 word_at_the_end = refl
 
