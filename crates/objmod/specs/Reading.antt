@@ -31,14 +31,15 @@ name_in_front [] = None
 name_in_front (size ∷ rest) =
     if nat_le size (length rest) then Some (take size rest, drop size rest) else None
 
+-- a name, and the bytes after it without a byte of 0 in front
+abbrev pub ended_name : List ℕ → List ℕ → Front (List ℕ)
+ended_name name [] = None
+ended_name name (last ∷ rest) = if last == 0 then Some (name, rest) else None
+
 -- a name that a byte of 0 ends
 abbrev pub listed_name_in_front : List ℕ → Front (List ℕ)
-listed_name_in_front bytes = option_and_then (λ (named : List ℕ × List ℕ). ended named.0 named.1)
-    (name_in_front bytes)
-  where
-    ended : List ℕ → List ℕ → Front (List ℕ)
-    ended name [] = None
-    ended name (last ∷ rest) = if last == 0 then Some (name, rest) else None
+listed_name_in_front bytes =
+    option_and_then (λ (named : List ℕ × List ℕ). ended_name named.0 named.1) (name_in_front bytes)
 
 abbrev pub segment_entry_in_front : List ℕ → Front SegmentEntry
 segment_entry_in_front (number ∷ low ∷ high ∷ alignment ∷ rest) =
