@@ -5,16 +5,13 @@ use Rattle.std.proofs.lemmas.Bool.{eqb-true, leb-true}
 use Rattle.std.proofs.lemmas.List.{length-take, take-append-drop, append_assoc}
 use Rattle.std.proofs.lemmas.Option.{none-some, same_Some, cond_some, option_and_then_some, some_pair_parts}
 use Rattle.omf80.specs.Records.{word_bytes}
+use Rattle.omf80.proofs.Conditions.{IsBytes, find_passes, word_is}
 use Rattle.objmod.specs.declared.segment.Segment.{Segment}
 use Rattle.objmod.specs.declared.segment.Segment.TheVariants.{Absolute, Code, Data, Stack}
 use Rattle.objmod.specs.declared.segment.FixKind.{FixKind}
 use Rattle.objmod.specs.declared.segment.FixKind.TheVariants.{Low, High, Both}
 use Rattle.objmod.specs.Parts.{SegmentEntry, Definition, Reference, segment_number, fix_kind_number, name_bytes, listed_name_bytes, segment_entry_bytes, definition_bytes, reference_bytes}
 use Rattle.objmod.specs.Reading.{Front, segment_of, fix_kind_of, word_in_front, name_in_front, ended_name, listed_name_in_front, segment_entry_in_front, definition_in_front, reference_in_front, at_most, all_in}
-
--- each number is a byte
-abbrev pub IsBytes : List ℕ → Type 0
-IsBytes bytes = AllByRecursion (λ byte. byte < 256) bytes
 
 -- what is read from the front of bytes is what they begin with
 abbrev pub ReadsBack : {A : Type 0} → (A → List ℕ) → (List ℕ → Front A) → Type 0
@@ -37,14 +34,6 @@ pub option_map_some :
 option_map_some f None y h k = absurd (none-some y h)
 option_map_some f (Some x) y h k = k x refl (same_Some (f x) y h)
 
-pub find_passes : {A : Type 0} (p : A → Bool) (xs : List A) (y : A) → find p xs ≡ Some y → p y ≡ true
-find_passes p [] y h = absurd (none-some y h)
-find_passes {A} p (x ∷ xs) y h = go (p x) refl (find_passes p xs y) h
-  where
-    go : (b : Bool) → p x ≡ b → (find p xs ≡ Some y → p y ≡ true) → cond b (Some x) (find p xs) ≡ Some y → p y ≡ true
-    go true e others is = subst (λ z. p z ≡ true) (same_Some x y is) e
-    go false e others is = others is
-
 pub segment_is : (number : ℕ) (segment : Segment) → segment_of number ≡ Some segment → segment_number segment ≡ number
 segment_is number segment h = eqb-true (segment_number segment) number 
     (find_passes (λ s. segment_number s == number) (Absolute ∷ Code ∷ Data ∷ Stack ∷ []) segment h)
@@ -52,13 +41,6 @@ segment_is number segment h = eqb-true (segment_number segment) number
 pub fix_kind_is : (number : ℕ) (kind : FixKind) → fix_kind_of number ≡ Some kind → fix_kind_number kind ≡ number
 fix_kind_is number kind h = eqb-true (fix_kind_number kind) number 
     (find_passes (λ k. fix_kind_number k == number) (Low ∷ High ∷ Both ∷ []) kind h)
-
--- the bytes of a word
-pub word_is : (low high : ℕ) → low < 256 → high < 256 → word_bytes (low + 256 * high) ≡ low ∷ high ∷ []
-word_is low high l h =
-    let a : (low + 256 * high) % 256 ≡ low = omega arith in
-    let b : (low + 256 * high) / 256 ≡ high = omega arith in
-    ap (λ x. x ∷ (low + 256 * high) / 256 ∷ []) a ∙ ap (λ x. low ∷ x ∷ []) b
 
 pub word_back : ReadsBack word_bytes word_in_front
 word_back [] x rest all h = absurd (none-some (x, rest) h)

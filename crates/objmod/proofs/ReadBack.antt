@@ -5,11 +5,12 @@ use Rattle.std.proofs.lemmas.Option.{none-some, same_Some, option_and_then_some}
 use Rattle.omf80.specs.declared.kind.RecordKind.{RecordKind}
 use Rattle.omf80.specs.declared.kind.RecordKind.TheVariants as kinds
 use Rattle.omf80.specs.Records.{word_bytes}
+use Rattle.omf80.proofs.Conditions.{IsBytes, word_is}
 use Rattle.objmod.specs.declared.segment.Segment.{Segment}
 use Rattle.objmod.specs.declared.segment.FixKind.{FixKind}
 use Rattle.objmod.specs.Parts.{SegmentEntry, Definition, Reference, Content, Part, HeaderPart, ExternalNamesPart, PublicsPart, ContentPart, ExternalReferencesPart, RelocationPart, IntersegmentPart, ModuleEndPart, EndOfFilePart, kind_of_part, body_of, segment_number, fix_kind_number, name_bytes, listed_name_bytes, segment_entry_bytes, definition_bytes, reference_bytes}
 use Rattle.objmod.specs.Reading.{segment_of, fix_kind_of, word_in_front, name_in_front, listed_name_in_front, segment_entry_in_front, definition_in_front, reference_in_front, all_in, header_after_name, module_end_by, part_in}
-use Rattle.objmod.proofs.Fronts.{IsBytes, option_map_some, segment_is, fix_kind_is, word_is, word_back, name_back, listed_name_back, segment_entry_back, definition_back, reference_back, all_back}
+use Rattle.objmod.proofs.Fronts.{option_map_some, segment_is, fix_kind_is, word_back, name_back, listed_name_back, segment_entry_back, definition_back, reference_back, all_back}
 
 -- a part is one of a kind and spells a body
 abbrev pub IsPartOf : RecordKind → List ℕ → Part → Type 0

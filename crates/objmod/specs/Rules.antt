@@ -7,7 +7,7 @@ use Rattle.omf80.specs.declared.fault.Fault.{Fault as RecordFault}
 use Rattle.omf80.specs.declared.fault.Fault.TheVariants as record_faults
 use Rattle.omf80.specs.declared.kind.RecordKind.{RecordKind}
 use Rattle.omf80.specs.declared.kind.TheConstants.{HEADING_SIZE, BODY_LIMIT}
-use Rattle.omf80.specs.Records.{kind_of_type, record_end, record_fault, first_that_holds}
+use Rattle.omf80.specs.Records.{kind_of_type, first_body, record_fault, first_that_holds}
 use Rattle.objmod.specs.declared.fault.Fault.{Fault}
 use Rattle.objmod.specs.declared.fault.Fault.TheVariants.{Truncated, WrongSum, WrongLength, UnknownType, OutOfOrder, WrongBody, ContentMisplaced, FixMisplaced, WrongAlignment}
 use Rattle.objmod.specs.declared.segment.Fix.{Fix}
@@ -117,10 +117,6 @@ fault_from_record record_faults.Truncated = Truncated
 fault_from_record record_faults.WrongSum = WrongSum
 fault_from_record record_faults.WrongLength = WrongLength
 fault_from_record record_faults.UnknownType = UnknownType
-
--- the body of the record that bytes begin with
-abbrev pub first_body : List ℕ → List ℕ
-first_body bytes = drop HEADING_SIZE (take (record_end bytes - 1) bytes)
 
 -- The fault at the front of bytes that stand after these records, if there is one: a record is judged as such
 -- first. After the end of the file there are no records, and any byte is out of order.

@@ -1,5 +1,5 @@
 -- Records as bytes (Intel's 8080 relocatable object module format, "Record formats").
-use Rattle.std.specs.Prelude.{◌≡◌, ℕ, ◌+◌, ◌-◌, ◌*◌, ◌/◌, ◌%◌, ◌==◌, ◌≤◌, Bool, not, ◌||◌, nat_lt, List, [], ◌∷◌, ◌++◌, length, take, sum, find, slice_index, Option, is_none, option_map}
+use Rattle.std.specs.Prelude.{◌≡◌, ℕ, ◌+◌, ◌-◌, ◌*◌, ◌/◌, ◌%◌, ◌==◌, ◌≤◌, Bool, not, ◌||◌, nat_lt, List, [], ◌∷◌, ◌++◌, length, take, drop, sum, find, slice_index, Option, is_none, option_map}
 use Rattle.omf80.specs.declared.fault.Fault.{Fault}
 use Rattle.omf80.specs.declared.fault.Fault.TheVariants.{Truncated, WrongSum, WrongLength, UnknownType}
 use Rattle.omf80.specs.declared.kind.RecordKind.{RecordKind}
@@ -67,6 +67,10 @@ stated_length bytes = slice_index bytes 1 + 256 * slice_index bytes 2
 -- where the record ends that the bytes begin with
 abbrev pub record_end : List ℕ → ℕ
 record_end bytes = HEADING_SIZE + stated_length bytes
+
+-- its body
+abbrev pub first_body : List ℕ → List ℕ
+first_body bytes = drop HEADING_SIZE (take (record_end bytes - 1) bytes)
 
 -- What can be wrong with the record that the bytes begin with, and the fault that each is, in the order in
 -- which they are judged. A later line matters only where no line above it holds.
