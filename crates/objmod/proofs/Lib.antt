@@ -1,3 +1,4 @@
 pub mod Fronts
+pub mod FrontsAgain
 pub mod ReadBack
 pub mod Judged

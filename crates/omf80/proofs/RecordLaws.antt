@@ -9,7 +9,7 @@ use Rattle.omf80.specs.declared.kind.RecordKind.{RecordKind}
 use Rattle.omf80.specs.Records.{type_byte, kinds, kind_of_type, word_bytes, checksum_of, record_bytes, record_end, first_body, record_faults, record_fault, first_that_holds}
 use Rattle.omf80.proofs.Conditions.{IsBytes, find_passes, none_holds, word_is}
 
-fold_append : (xs ys : List ℕ) (a : ℕ) → fold (λ (b x : ℕ). b + x) a (xs ++ ys) ≡ fold (λ (b x : ℕ). b + x) (fold (λ (b x : ℕ). b + x) a xs) ys
+pub fold_append : (xs ys : List ℕ) (a : ℕ) → fold (λ (b x : ℕ). b + x) a (xs ++ ys) ≡ fold (λ (b x : ℕ). b + x) (fold (λ (b x : ℕ). b + x) a xs) ys
 fold_append [] ys a = refl
 fold_append (x ∷ xs) ys a = fold_append xs ys (a + x)
 
