@@ -1,4 +1,6 @@
 pub mod Fronts
 pub mod FrontsAgain
 pub mod ReadBack
+pub mod PartsAgain
 pub mod Judged
+pub mod FilesAgain

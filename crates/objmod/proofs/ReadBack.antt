@@ -34,7 +34,7 @@ header_back front name (translator ∷ version ∷ rest) part all h =
     (all_back segment_entry_bytes segment_entry_in_front segment_entry_back rest entries all.1.1 found)))
 
 -- two tests that both pass
-both : (a b : Bool) → (a && b) ≡ true → (a ≡ true) × (b ≡ true)
+pub both : (a b : Bool) → (a && b) ≡ true → (a ≡ true) × (b ≡ true)
 both true true h = (refl, refl)
 both true false h = absurd (let bad : false ≡ true = h in cc)
 both false true h = absurd (let bad : false ≡ true = h in cc)
