@@ -4,3 +4,4 @@ pub mod ReadBack
 pub mod PartsAgain
 pub mod Judged
 pub mod FilesAgain
+pub mod Unique
