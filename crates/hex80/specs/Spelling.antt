@@ -84,7 +84,7 @@ fault_at before (line ∷ others) =
 abbrev pub is_line_piece : (before : List Piece) → Piece → Bool
 is_line_piece before piece =
     nat_lt (length piece.bytes) 256 && list_all (λ byte. nat_lt byte 256) piece.bytes
-    && nat_le (piece.start + length piece.bytes) MEMORY_SIZE
+    && nat_lt piece.start MEMORY_SIZE && nat_le (piece.start + length piece.bytes) MEMORY_SIZE
     && not (list_any (share_an_address piece) before)
 
 abbrev pub are_line_pieces : (before : List Piece) → List Piece → Bool
