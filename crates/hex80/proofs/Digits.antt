@@ -1,10 +1,10 @@
 -- Digits, bytes in two digits, and the bytes of a line.
-use Rattle.std.proofs.Common.{◌≡◌, ℕ, zero, suc, ◌+◌, ◌-◌, ◌*◌, ◌/◌, ◌%◌, ◌<◌, ◌≤◌, Bool, true, false, cond, ◌==◌, ◌&&◌, nat_lt, nat_le, List, [], ◌∷◌, ◌++◌, length, flat_map, Option, Some, None, option_map, option_and_then, refl, ap, sym, subst, ◌∙◌, arith}
+use Rattle.std.proofs.Common.{◌≡◌, ℕ, ◌+◌, ◌-◌, ◌*◌, ◌/◌, ◌%◌, ◌<◌, ◌≤◌, Bool, true, false, cond, ◌&&◌, nat_lt, nat_le, List, [], ◌∷◌, ◌++◌, flat_map, Option, Some, None, option_map, option_and_then, refl, ap, sym, subst, ◌∙◌, arith}
 use Rattle.std.specs.List.{AllByRecursion}
-use Rattle.std.proofs.lemmas.Bool.{eqb-true, leb-true, le-leb, lt-leb, ltb-true, ltb-false, lt-ltb, le-ltb}
-use Rattle.std.proofs.lemmas.Option.{none-some, same_Some, cond_some, option_and_then_some}
+use Rattle.std.proofs.lemmas.Bool.{leb-true, le-leb, lt-leb, ltb-true, ltb-false, lt-ltb, le-ltb}
+use Rattle.std.proofs.lemmas.Option.{none-some, same_Some, option_and_then_some}
 use Rattle.hex80.specs.Lines.{digit_of, digits_of}
-use Rattle.hex80.specs.Spelling.{digit_value, bytes_in, bytes_of_line}
+use Rattle.hex80.specs.Spelling.{digit_value, bytes_in}
 
 -- each number is a byte
 abbrev pub IsBytes : List ℕ → Type 0
@@ -108,11 +108,12 @@ bytes_back (high ∷ low ∷ rest) bytes h =
     let r = bytes_back rest others third in
     let top : (16 * a + b) / 16 ≡ a = omega arith in
     let bottom : (16 * a + b) % 16 ≡ b = omega arith in
-    subst (λ c. (high ∷ low ∷ rest ≡ flat_map digits_of c) × IsBytes c) is
-    (ap (λ c. c ∷ low ∷ rest) (x.0 ∙ ap digit_of (sym top))
-    ∙ ap (λ c. digit_of ((16 * a + b) / 16) ∷ c ∷ rest) (y.0 ∙ ap digit_of (sym bottom))
-    ∙ ap (λ c. digits_of (16 * a + b) ++ c) r.0,
-    (let z : 16 * a + b < 256 = omega arith in z, r.1)))))
+    subst (λ c. (high ∷ low ∷ rest ≡ flat_map digits_of c) × IsBytes c) is (
+      ap (λ c. c ∷ low ∷ rest) (x.0 ∙ ap digit_of (sym top))
+          ∙ ap (λ c. digit_of ((16 * a + b) / 16) ∷ c ∷ rest) (y.0 ∙ ap digit_of (sym bottom))
+          ∙ ap (λ c. digits_of (16 * a + b) ++ c) r.0,
+      (let z : 16 * a + b < 256 = omega arith in z, r.1),
+    ))))
 
 pub bytes_again : (bytes : List ℕ) → IsBytes bytes → bytes_in (flat_map digits_of bytes) ≡ Some bytes
 bytes_again [] all = refl

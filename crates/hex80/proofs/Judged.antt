@@ -1,20 +1,20 @@
 -- What the judgement of a text gives: the pieces that it spells, or its first fault; and a text has one of these.
-use Rattle.std.proofs.Common.{◌≡◌, ℕ, ◌+◌, ◌%◌, ◌<◌, ◌≤◌, Bool, true, false, cond, not, ◌==◌, ◌&&◌, nat_lt, nat_le, List, [], ◌∷◌, ◌++◌, length, map, sum, Option, Some, None, Result, Ok, Err, refl, ap, sym, subst, ◌∙◌, arith}
+use Rattle.std.proofs.Common.{◌≡◌, ℕ, ◌+◌, ◌%◌, Bool, true, false, cond, not, ◌==◌, ◌&&◌, nat_lt, nat_le, List, [], ◌∷◌, ◌++◌, length, map, sum, Option, Some, None, Result, Ok, Err, refl, ap, sym, subst, ◌∙◌}
 use Rattle.std.specs.List.{list_all, list_any}
 use Rattle.std.specs.Option.{option_map_or}
 use Rattle.std.specs.Str.{bytes_eq}
 use Rattle.std.specs.Str.Lines.{lines}
-use Rattle.std.proofs.lemmas.Bool.{eqb-true, eq-eqb, ltb-true, lt-ltb, leb-true, le-leb, not-true, not-false}
+use Rattle.std.proofs.lemmas.Bool.{eqb-true, ltb-true, lt-ltb, leb-true, le-leb, not-true, not-false}
 use Rattle.std.proofs.lemmas.List.{append_assoc, append-nil}
 use Rattle.std.proofs.lemmas.Slice.Eq.{bytes_eq-Decides}
 use Rattle.mem80.specs.declared.range.Piece.{Piece}
 use Rattle.hex80.specs.declared.fault.Fault.{Fault}
-use Rattle.hex80.specs.declared.fault.Fault.TheVariants.{BadLine, WrongSum, NoEnd, Overlap}
+use Rattle.hex80.specs.declared.fault.Fault.TheVariants.{BadLine, WrongSum, Overlap}
 use Rattle.hex80.specs.Lines.{data_line, end_line}
 use Rattle.hex80.specs.Spelling.{read_line, share_an_address, fault_of_data, fault_of_line, is_empty, fault_at, is_line_piece, are_line_pieces, Spells, HasFirstFault}
 use Rattle.hex80.specs.internal.Judgement.{judged_by, judged_after, judgement_of}
 use Rattle.hex80.proofs.Digits.{IsBytes, both}
-use Rattle.hex80.proofs.LineLaws.{IsLine, line_back, line_again, all_bytes, adds_up}
+use Rattle.hex80.proofs.LineLaws.{IsLine, line_back}
 
 -- tests of bytes
 all_small : (bytes : List ℕ) → IsBytes bytes → list_all (λ byte. nat_lt byte 256) bytes ≡ true
@@ -42,22 +42,24 @@ line_piece before piece is apart =
     (le-leb (piece.start + length piece.bytes) 65536 is.in_memory)
     ∙ ap not apart
 
-piece_line : (before : List Piece) (piece : Piece) → is_line_piece before piece ≡ true → IsLine piece × (list_any (share_an_address piece) before ≡ false)
+pub piece_line : (before : List Piece) (piece : Piece) → is_line_piece before piece ≡ true → IsLine piece × (list_any (share_an_address piece) before ≡ false)
 piece_line before piece h =
     let d = both (nat_lt (length piece.bytes) 256 && list_all (λ byte. nat_lt byte 256) piece.bytes
-        && nat_lt piece.start 65536 && nat_le (piece.start + length piece.bytes) 65536)
-        (not (list_any (share_an_address piece) before)) h in
+    && nat_lt piece.start 65536 && nat_le (piece.start + length piece.bytes) 65536)
+    (not (list_any (share_an_address piece) before)) h in
     let c = both (nat_lt (length piece.bytes) 256 && list_all (λ byte. nat_lt byte 256) piece.bytes
-        && nat_lt piece.start 65536) (nat_le (piece.start + length piece.bytes) 65536) d.0 in
+    && nat_lt piece.start 65536) (nat_le (piece.start + length piece.bytes) 65536) d.0 in
     let b = both (nat_lt (length piece.bytes) 256 && list_all (λ byte. nat_lt byte 256) piece.bytes)
-        (nat_lt piece.start 65536) c.0 in
-    let a = both (nat_lt (length piece.bytes) 256) (list_all (λ byte. nat_lt byte 256) piece.bytes) b.0 in
-    (record {
-      short = ltb-true (length piece.bytes) 256 a.0;
-      bytes = small_all piece.bytes a.1;
-      start = ltb-true piece.start 65536 b.1;
-      in_memory = leb-true (piece.start + length piece.bytes) 65536 c.1;
-    }, not-true (list_any (share_an_address piece) before) d.1)
+    (nat_lt piece.start 65536) c.0 in
+    let a = both (nat_lt (length piece.bytes) 256) (list_all (λ byte. nat_lt byte 256) piece.bytes) b.0 in (
+      record {
+        short = ltb-true (length piece.bytes) 256 a.0;
+        bytes = small_all piece.bytes a.1;
+        start = ltb-true piece.start 65536 b.1;
+        in_memory = leb-true (piece.start + length piece.bytes) 65536 c.1;
+      },
+      not-true (list_any (share_an_address piece) before) d.1,
+    )
 
 -- a line without a fault, and what was read of it
 pub record Next (before : List Piece) (line : List ℕ) : Type 0 where

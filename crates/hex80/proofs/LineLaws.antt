@@ -1,12 +1,11 @@
 -- A data line that is read is the line of its piece, and the line of a piece is read.
-use Rattle.std.proofs.Common.{◌≡◌, ℕ, zero, suc, ◌+◌, ◌-◌, ◌*◌, ◌/◌, ◌%◌, ◌<◌, ◌≤◌, min, Bool, true, false, cond, ◌==◌, ◌&&◌, nat_lt, nat_le, List, [], ◌∷◌, ◌++◌, length, take, flat_map, sum, Option, Some, None, option_map, option_and_then, refl, ap, sym, subst, ◌∙◌, arith}
+use Rattle.std.proofs.Common.{◌≡◌, ℕ, zero, suc, ◌+◌, ◌*◌, ◌/◌, ◌%◌, ◌<◌, ◌≤◌, min, Bool, true, false, cond, ◌==◌, ◌&&◌, nat_le, List, [], ◌∷◌, ◌++◌, length, take, flat_map, sum, Some, None, option_map, option_and_then, refl, ap, sym, subst, ◌∙◌, arith}
 use Rattle.std.specs.List.{fold}
 use Rattle.std.proofs.lemmas.Bool.{eqb-true, eq-eqb, leb-true, le-leb}
 use Rattle.std.proofs.lemmas.List.{length-append, length-take, take_at}
-use Rattle.std.proofs.lemmas.Option.{none-some, cond_some, option_and_then_some, same_Some, some_pair_parts}
-use Rattle.mem80.specs.declared.memory.TheConstants.{MEMORY_SIZE}
+use Rattle.std.proofs.lemmas.Option.{none-some, cond_some, option_and_then_some, some_pair_parts}
 use Rattle.mem80.specs.declared.range.Piece.{Piece}
-use Rattle.hex80.specs.Lines.{digits_of, checksum_of, data_line_bytes, line_of_bytes, data_line}
+use Rattle.hex80.specs.Lines.{digits_of, checksum_of, data_line_bytes, data_line}
 use Rattle.hex80.specs.Spelling.{bytes_in, bytes_of_line, has_form, piece_in, read_line}
 use Rattle.hex80.proofs.Digits.{IsBytes, both, option_map_some, bytes_back, bytes_again}
 
@@ -82,22 +81,23 @@ piece_back (count ∷ high ∷ low ∷ type ∷ rest) piece all h adds =
     let top : start / 256 ≡ high = omega arith in
     let bottom : start % 256 ≡ low = omega arith in
     let front_is : data_line_bytes made ≡ front =
-        ap (λ n. n ∷ start / 256 ∷ start % 256 ∷ 0 ∷ take count rest) long
-        ∙ ap (λ n. count ∷ n ∷ start % 256 ∷ 0 ∷ take count rest) top
-        ∙ ap (λ n. count ∷ high ∷ n ∷ 0 ∷ take count rest) bottom in
+    ap (λ n. n ∷ start / 256 ∷ start % 256 ∷ 0 ∷ take count rest) long
+    ∙ ap (λ n. count ∷ n ∷ start % 256 ∷ 0 ∷ take count rest) top
+    ∙ ap (λ n. count ∷ high ∷ n ∷ 0 ∷ take count rest) bottom in
     let whole : count ∷ high ∷ low ∷ type ∷ rest ≡ front ++ l.item ∷ [] =
-        ap (λ t. count ∷ high ∷ low ∷ t ∷ rest) data_type
-        ∙ ap (λ r. count ∷ high ∷ low ∷ 0 ∷ r) l.whole in
+    ap (λ t. count ∷ high ∷ low ∷ t ∷ rest) data_type
+    ∙ ap (λ r. count ∷ high ∷ low ∷ 0 ∷ r) l.whole in
     let sum_is : l.item ≡ checksum_of front =
-        checksum_is front l.item (l.is_byte all.1.1.1.1) (ap (λ b. sum b % 256) (sym whole) ∙ adds) in
-    subst (IsPieceOf (count ∷ high ∷ low ∷ type ∷ rest)) found.1
-    (whole ∙ ap (λ s. front ++ s ∷ []) sum_is ∙ ap (λ f. f ++ checksum_of f ∷ []) (sym front_is),
-    record {
-      short = omega arith;
-      bytes = l.others all.1.1.1.1;
-      start = omega arith;
-      in_memory = omega arith;
-    })
+    checksum_is front l.item (l.is_byte all.1.1.1.1) (ap (λ b. sum b % 256) (sym whole) ∙ adds) in
+    subst (IsPieceOf (count ∷ high ∷ low ∷ type ∷ rest)) found.1 (
+      whole ∙ ap (λ s. front ++ s ∷ []) sum_is ∙ ap (λ f. f ++ checksum_of f ∷ []) (sym front_is),
+      record {
+        short = omega arith;
+        bytes = l.others all.1.1.1.1;
+        start = omega arith;
+        in_memory = omega arith;
+      },
+    )
 
 -- what is read of a line that adds up
 pub line_back :
@@ -118,9 +118,11 @@ line_back (first ∷ rest) piece bytes h adds =
     go true e read one p two is =
         let digits = bytes_back rest read one in
         let k = piece_back read p digits.1 two (ap (λ b. sum b % 256) is.1 ∙ adds) in
-        subst (λ q. (first ∷ rest ≡ data_line q) × IsLine q) is.0
-        (ap (λ c. c ∷ rest) (eqb-true first 58 e)
-        ∙ ap (λ r. 58 ∷ r) (digits.0 ∙ ap (flat_map digits_of) k.0), k.1)
+        subst (λ q. (first ∷ rest ≡ data_line q) × IsLine q) is.0 (
+          ap (λ c. c ∷ rest) (eqb-true first 58 e)
+              ∙ ap (λ r. 58 ∷ r) (digits.0 ∙ ap (flat_map digits_of) k.0),
+          k.1,
+        )
 
 bytes_append : (xs ys : List ℕ) → IsBytes xs → IsBytes ys → IsBytes (xs ++ ys)
 bytes_append [] ys a b = b
@@ -137,9 +139,13 @@ line_bytes : (piece : Piece) → IsLine piece → IsBytes (all_bytes piece)
 line_bytes piece is =
     let short : length piece.bytes < 256 = is.short in
     let start : piece.start < 65536 = is.start in
-    bytes_append (data_line_bytes piece) (checksum_of (data_line_bytes piece) ∷ [])
-    (short, ((let z : piece.start / 256 < 256 = omega arith in z),
-    ((let z : piece.start % 256 < 256 = omega arith in z), ((let z : 0 < 256 = omega arith in z), is.bytes))))
+    bytes_append (data_line_bytes piece) (checksum_of (data_line_bytes piece) ∷ []) (
+      short,
+      (
+        (let z : piece.start / 256 < 256 = omega arith in z),
+        ((let z : piece.start % 256 < 256 = omega arith in z), ((let z : 0 < 256 = omega arith in z), is.bytes)),
+      ),
+    )
     (checksum_below (data_line_bytes piece), tt)
 
 piece_again : (piece : Piece) → IsLine piece → piece_in (all_bytes piece) ≡ Some piece
