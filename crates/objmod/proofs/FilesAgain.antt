@@ -1,11 +1,11 @@
 -- A file with parts is judged as these, and one with a first fault as that: so there is one answer for each file.
-use Rattle.std.proofs.Common.{◌≡◌, ℕ, zero, suc, ◌+◌, ◌<◌, ◌≤◌, Bool, true, false, cond, ◌==◌, ◌&&◌, nat_le, List, [], ◌∷◌, ◌++◌, length, drop, flat_map, reverse, slice_index, Option, Some, None, option_map, option_and_then, Result, Ok, Err, refl, ap, sym, subst, ◌∙◌, arith}
+use Rattle.std.proofs.Common.{◌≡◌, ℕ, zero, suc, ◌+◌, ◌<◌, ◌≤◌, true, false, cond, ◌==◌, ◌&&◌, nat_le, List, [], ◌∷◌, ◌++◌, length, drop, flat_map, reverse, slice_index, Option, Some, None, option_map, option_and_then, Ok, Err, refl, ap, sym, ◌∙◌, arith}
 use Rattle.std.specs.Option.{option_or, option_map_or}
 use Rattle.std.proofs.lemmas.Bool.{leb-true}
 use Rattle.std.proofs.lemmas.List.{append_assoc, append-nil, reverse-append, reverse-reverse, length-append}
 use Rattle.omf80.specs.declared.kind.RecordKind.{RecordKind}
 use Rattle.omf80.specs.declared.kind.RecordKind.TheVariants as kinds
-use Rattle.omf80.specs.Records.{kind_of_type, record_end, first_body, record_bytes, record_fault, type_byte}
+use Rattle.omf80.specs.Records.{kind_of_type, record_end, first_body, record_bytes, record_fault}
 use Rattle.omf80.proofs.RecordsAgain.{ReadAgain, read_again}
 use Rattle.objmod.specs.declared.fault.Fault.{Fault}
 use Rattle.objmod.specs.declared.fault.Fault.TheVariants.{OutOfOrder, WrongBody}
@@ -59,14 +59,14 @@ unfolding fault_at
 judged_again before part rest bytes accepted r =
     let kind : RecordKind = kind_of_part part in
     let first = both (nat_le (length (body_of part)) 1027 && may_follow before kind)
-        (option_map_or (λ (_ : Fault). false) (part_fault before part) true) accepted in
+    (option_map_or (λ (_ : Fault). false) (part_fault before part) true) accepted in
     let second = both (nat_le (length (body_of part)) 1027) (may_follow before kind) first.0 in
     let no_fault : part_fault before part ≡ None = no_fault_there (part_fault before part) first.1 in
     let of_record : fault_of_record before kind (body_of part) ≡ None =
-        ap (λ follows.
-        cond follows (option_map_or (part_fault before) (part_in kind (body_of part)) (Some WrongBody))
-        (Some OutOfOrder)) second.1
-        ∙ ap (λ read. option_map_or (part_fault before) read (Some WrongBody)) (part_again part) ∙ no_fault in
+    ap (λ follows.
+    cond follows (option_map_or (part_fault before) (part_in kind (body_of part)) (Some WrongBody))
+    (Some OutOfOrder)) second.1
+    ∙ ap (λ read. option_map_or (part_fault before) read (Some WrongBody)) (part_again part) ∙ no_fault in
     record {
       no_fault =
           ap (λ ended.
@@ -89,7 +89,7 @@ judged_again before part rest bytes accepted r =
 limit_of : (before : List Part) (part : Part) → is_accepted before part ≡ true → length (body_of part) ≤ 1027
 limit_of before part accepted =
     let first = both (nat_le (length (body_of part)) 1027 && may_follow before (kind_of_part part))
-        (option_map_or (λ (_ : Fault). false) (part_fault before part) true) accepted in
+    (option_map_or (λ (_ : Fault). false) (part_fault before part) true) accepted in
     let second = both (nat_le (length (body_of part)) 1027) (may_follow before (kind_of_part part)) first.0 in
     leb-true (length (body_of part)) 1027 second.0
 
@@ -100,7 +100,7 @@ onward :
 onward count before part rest accepted =
     let bytes : List ℕ = part_bytes part ++ rest in
     let j = judged_again before part rest bytes accepted
-        (read_again (kind_of_part part) (body_of part) rest (limit_of before part accepted)) in
+    (read_again (kind_of_part part) (body_of part) rest (limit_of before part accepted)) in
     ap (λ fault.
     judged_by (λ parts. judged_after count parts (drop (record_end bytes) bytes)) before fault (first_part bytes))
     j.no_fault
@@ -128,9 +128,9 @@ onward_past (part ∷ later) before rest (suc count) accepted h =
     let t = both (is_accepted before part) (are_accepted (part ∷ before) later) accepted in
     let after : List ℕ = flat_map part_bytes later ++ rest in
     let grouped : (part_bytes part ++ flat_map part_bytes later) ++ rest ≡ part_bytes part ++ after =
-        append_assoc (part_bytes part) (flat_map part_bytes later) rest in
+    append_assoc (part_bytes part) (flat_map part_bytes later) rest in
     let longer : length ((part_bytes part ++ flat_map part_bytes later) ++ rest) ≡ length (part_bytes part) + length after =
-        ap length grouped ∙ length-append (part_bytes part) after in
+    ap length grouped ∙ length-append (part_bytes part) after in
     let some : 0 < length (part_bytes part) = has_bytes part in
     let o = onward_past later (part ∷ before) rest count t.1 (omega arith) in
     record {

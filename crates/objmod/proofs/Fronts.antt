@@ -1,6 +1,5 @@
 -- What bytes begin with, once it is read, is spelled by them.
-use Rattle.std.proofs.Common.{◌≡◌, ℕ, zero, suc, ◌+◌, ◌*◌, ◌/◌, ◌%◌, ◌<◌, ◌≤◌, min, Bool, true, false, cond, ◌==◌, nat_le, List, [], ◌∷◌, ◌++◌, length, take, drop, flat_map, find, Option, Some, None, option_map, option_and_then, refl, ap, sym, subst, ◌∙◌, arith}
-use Rattle.std.specs.List.{AllByRecursion}
+use Rattle.std.proofs.Common.{◌≡◌, ℕ, zero, suc, ◌+◌, ◌*◌, ◌≤◌, min, ◌==◌, nat_le, List, [], ◌∷◌, ◌++◌, length, take, drop, flat_map, Option, Some, None, option_map, refl, ap, sym, subst, ◌∙◌, arith}
 use Rattle.std.proofs.lemmas.Bool.{eqb-true, leb-true}
 use Rattle.std.proofs.lemmas.List.{length-take, take-append-drop, append_assoc}
 use Rattle.std.proofs.lemmas.Option.{none-some, same_Some, cond_some, option_and_then_some, some_pair_parts}
@@ -10,7 +9,7 @@ use Rattle.objmod.specs.declared.segment.Segment.{Segment}
 use Rattle.objmod.specs.declared.segment.Segment.TheVariants.{Absolute, Code, Data, Stack}
 use Rattle.objmod.specs.declared.segment.FixKind.{FixKind}
 use Rattle.objmod.specs.declared.segment.FixKind.TheVariants.{Low, High, Both}
-use Rattle.objmod.specs.Parts.{SegmentEntry, Definition, Reference, segment_number, fix_kind_number, name_bytes, listed_name_bytes, segment_entry_bytes, definition_bytes, reference_bytes}
+use Rattle.objmod.specs.Parts.{segment_number, fix_kind_number, name_bytes, listed_name_bytes, segment_entry_bytes, definition_bytes, reference_bytes}
 use Rattle.objmod.specs.Reading.{Front, segment_of, fix_kind_of, word_in_front, name_in_front, ended_name, listed_name_in_front, segment_entry_in_front, definition_in_front, reference_in_front, at_most, all_in}
 
 -- what is read from the front of bytes is what they begin with
@@ -35,11 +34,11 @@ option_map_some f None y h k = absurd (none-some y h)
 option_map_some f (Some x) y h k = k x refl (same_Some (f x) y h)
 
 pub segment_is : (number : ℕ) (segment : Segment) → segment_of number ≡ Some segment → segment_number segment ≡ number
-segment_is number segment h = eqb-true (segment_number segment) number 
+segment_is number segment h = eqb-true (segment_number segment) number
     (find_passes (λ s. segment_number s == number) (Absolute ∷ Code ∷ Data ∷ Stack ∷ []) segment h)
 
 pub fix_kind_is : (number : ℕ) (kind : FixKind) → fix_kind_of number ≡ Some kind → fix_kind_number kind ≡ number
-fix_kind_is number kind h = eqb-true (fix_kind_number kind) number 
+fix_kind_is number kind h = eqb-true (fix_kind_number kind) number
     (find_passes (λ k. fix_kind_number k == number) (Low ∷ High ∷ Both ∷ []) kind h)
 
 pub word_back : ReadsBack word_bytes word_in_front
@@ -73,10 +72,12 @@ ended_back name [] x rest all h = absurd (none-some (x, rest) h)
 ended_back name (last ∷ others) x rest all h =
     let c = cond_some (last == 0) (name, others) (x, rest) h in
     let is_zero : last ≡ 0 = eqb-true last 0 c.0 in
-    let p : (name ≡ x) × (others ≡ rest) = some_pair_parts name x others rest (ap Some c.1) in
-    (ap (λ b. name ++ b ∷ others) is_zero ∙ sym (append_assoc name (0 ∷ []) others)
-    ∙ ap (λ n. (n ++ 0 ∷ []) ++ others) p.0 ∙ ap (λ r. (x ++ 0 ∷ []) ++ r) p.1,
-    p.0, subst IsBytes p.1 all.1)
+    let p : (name ≡ x) × (others ≡ rest) = some_pair_parts name x others rest (ap Some c.1) in (
+      ap (λ b. name ++ b ∷ others) is_zero ∙ sym (append_assoc name (0 ∷ []) others)
+          ∙ ap (λ n. (n ++ 0 ∷ []) ++ others) p.0 ∙ ap (λ r. (x ++ 0 ∷ []) ++ r) p.1,
+      p.0,
+      subst IsBytes p.1 all.1,
+    )
 
 pub listed_name_back : ReadsBack listed_name_bytes listed_name_in_front
 listed_name_back bytes x rest all h =

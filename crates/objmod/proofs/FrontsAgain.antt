@@ -1,13 +1,13 @@
 -- What is spelled in front of bytes is read from their front.
-use Rattle.std.proofs.Common.{◌≡◌, ℕ, zero, suc, ◌+◌, ◌*◌, ◌/◌, ◌%◌, ◌<◌, ◌≤◌, Bool, true, false, cond, ◌==◌, nat_le, List, [], ◌∷◌, ◌++◌, length, take, drop, flat_map, Option, Some, None, option_map, option_and_then, refl, ap, sym, ◌∙◌, arith}
+use Rattle.std.proofs.Common.{◌≡◌, ℕ, zero, suc, ◌+◌, ◌*◌, ◌/◌, ◌%◌, ◌<◌, ◌≤◌, cond, List, [], ◌∷◌, ◌++◌, length, take, drop, flat_map, Some, None, option_map, option_and_then, refl, ap, ◌∙◌, arith}
 use Rattle.std.proofs.lemmas.Bool.{le-leb}
-use Rattle.std.proofs.lemmas.List.{length-append, append_assoc, append-nil, take_at, drop_at}
+use Rattle.std.proofs.lemmas.List.{length-append, append_assoc, take_at, drop_at}
 use Rattle.omf80.specs.Records.{word_bytes}
 use Rattle.objmod.specs.declared.segment.Segment.{Segment}
 use Rattle.objmod.specs.declared.segment.Segment.TheVariants.{Absolute, Code, Data, Stack}
 use Rattle.objmod.specs.declared.segment.FixKind.{FixKind}
 use Rattle.objmod.specs.declared.segment.FixKind.TheVariants.{Low, High, Both}
-use Rattle.objmod.specs.Parts.{SegmentEntry, Definition, Reference, segment_number, fix_kind_number, name_bytes, listed_name_bytes, segment_entry_bytes, definition_bytes, reference_bytes}
+use Rattle.objmod.specs.Parts.{segment_number, fix_kind_number, name_bytes, listed_name_bytes, segment_entry_bytes, definition_bytes, reference_bytes}
 use Rattle.objmod.specs.Reading.{Front, segment_of, fix_kind_of, word_in_front, name_in_front, ended_name, listed_name_in_front, segment_entry_in_front, definition_in_front, reference_in_front, at_most, all_in}
 
 -- what is spelled is read, and the bytes after it are left; it has a byte at least
@@ -55,12 +55,14 @@ pub segment_entry_again : ReadsAgain segment_entry_bytes segment_entry_in_front
 segment_entry_again = record {
   again = λ entry rest.
       ap (option_map
-      (λ (segment : Segment).
-      (record {
-        segment = segment;
-        length = entry.length % 256 + 256 * (entry.length / 256);
-        alignment = entry.alignment;
-      }, rest))) (segment_again entry.segment)
+      (λ (segment : Segment). (
+        record {
+          segment = segment;
+          length = entry.length % 256 + 256 * (entry.length / 256);
+          alignment = entry.alignment;
+        },
+        rest,
+      ))) (segment_again entry.segment)
       ∙ ap (λ n. Some (record { segment = entry.segment; length = n; alignment = entry.alignment }, rest))
       (word_of entry.length);
   some = λ entry. omega arith;
@@ -109,12 +111,12 @@ at_most_again :
 at_most_again spell front r [] count h = at_most_nothing front count
 at_most_again spell front r (x ∷ xs) zero h =
     let longer : length (spell x ++ flat_map spell xs) ≡ length (spell x) + length (flat_map spell xs) =
-        length-append (spell x) (flat_map spell xs) in
+    length-append (spell x) (flat_map spell xs) in
     let some : 0 < length (spell x) = r.some x in
     absurd (omega arith)
 at_most_again {A} spell front r (x ∷ xs) (suc count) h =
     let longer : length (spell x ++ flat_map spell xs) ≡ length (spell x) + length (flat_map spell xs) =
-        length-append (spell x) (flat_map spell xs) in
+    length-append (spell x) (flat_map spell xs) in
     let some : 0 < length (spell x) = r.some x in
     at_most_step front count (spell x ++ flat_map spell xs) x (flat_map spell xs) (omega arith)
     (r.again x (flat_map spell xs))

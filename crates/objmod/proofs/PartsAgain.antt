@@ -1,9 +1,9 @@
 -- The body of a part is read as that part.
-use Rattle.std.proofs.Common.{◌≡◌, ℕ, ◌+◌, ◌*◌, ◌/◌, ◌%◌, List, [], ◌∷◌, ◌++◌, flat_map, Option, Some, None, option_map, option_and_then, refl, ap, sym, ◌∙◌, arith}
+use Rattle.std.proofs.Common.{◌≡◌, ℕ, ◌+◌, ◌*◌, ◌/◌, ◌%◌, List, ◌∷◌, flat_map, Some, None, option_map, option_and_then, refl, ap, ◌∙◌}
 use Rattle.omf80.specs.Records.{word_bytes}
 use Rattle.objmod.specs.declared.segment.Segment.{Segment}
 use Rattle.objmod.specs.declared.segment.FixKind.{FixKind}
-use Rattle.objmod.specs.Parts.{Content, Part, HeaderPart, ExternalNamesPart, PublicsPart, ContentPart, ExternalReferencesPart, RelocationPart, IntersegmentPart, ModuleEndPart, EndOfFilePart, kind_of_part, body_of, listed_name_bytes, segment_entry_bytes, definition_bytes, reference_bytes, fix_kind_number}
+use Rattle.objmod.specs.Parts.{Part, HeaderPart, ExternalNamesPart, PublicsPart, ContentPart, ExternalReferencesPart, RelocationPart, IntersegmentPart, ModuleEndPart, EndOfFilePart, kind_of_part, body_of, listed_name_bytes, segment_entry_bytes, definition_bytes, reference_bytes, fix_kind_number}
 use Rattle.objmod.specs.Reading.{fix_kind_of, word_in_front, listed_name_in_front, segment_entry_in_front, definition_in_front, reference_in_front, all_in, header_after_name, part_in}
 use Rattle.objmod.proofs.FrontsAgain.{segment_again, fix_kind_again, word_of, word_again, name_again, listed_name_again, segment_entry_again, definition_again, reference_again, all_again}
 

@@ -1,14 +1,12 @@
 -- A part that is read of a body spells that body.
-use Rattle.std.proofs.Common.{◌≡◌, ℕ, ◌+◌, ◌*◌, ◌<◌, Bool, true, false, cond, ◌==◌, ◌&&◌, if◌then◌else◌, List, [], ◌∷◌, ◌++◌, length, flat_map, Option, Some, None, option_map, option_and_then, refl, ap, sym, subst, ◌∙◌, arith}
+use Rattle.std.proofs.Common.{◌≡◌, ℕ, ◌+◌, ◌*◌, ◌<◌, Bool, true, false, cond, ◌==◌, ◌&&◌, List, [], ◌∷◌, ◌++◌, Some, None, refl, ap, sym, subst, ◌∙◌, arith}
 use Rattle.std.proofs.lemmas.Bool.{eqb-true}
 use Rattle.std.proofs.lemmas.Option.{none-some, same_Some, option_and_then_some}
 use Rattle.omf80.specs.declared.kind.RecordKind.{RecordKind}
 use Rattle.omf80.specs.declared.kind.RecordKind.TheVariants as kinds
 use Rattle.omf80.specs.Records.{word_bytes}
 use Rattle.omf80.proofs.Conditions.{IsBytes, word_is}
-use Rattle.objmod.specs.declared.segment.Segment.{Segment}
-use Rattle.objmod.specs.declared.segment.FixKind.{FixKind}
-use Rattle.objmod.specs.Parts.{SegmentEntry, Definition, Reference, Content, Part, HeaderPart, ExternalNamesPart, PublicsPart, ContentPart, ExternalReferencesPart, RelocationPart, IntersegmentPart, ModuleEndPart, EndOfFilePart, kind_of_part, body_of, segment_number, fix_kind_number, name_bytes, listed_name_bytes, segment_entry_bytes, definition_bytes, reference_bytes}
+use Rattle.objmod.specs.Parts.{Part, HeaderPart, ExternalNamesPart, PublicsPart, ContentPart, ExternalReferencesPart, RelocationPart, IntersegmentPart, ModuleEndPart, EndOfFilePart, kind_of_part, body_of, segment_number, fix_kind_number, name_bytes, listed_name_bytes, segment_entry_bytes, definition_bytes, reference_bytes}
 use Rattle.objmod.specs.Reading.{segment_of, fix_kind_of, word_in_front, name_in_front, listed_name_in_front, segment_entry_in_front, definition_in_front, reference_in_front, all_in, header_after_name, module_end_by, part_in}
 use Rattle.objmod.proofs.Fronts.{option_map_some, segment_is, fix_kind_is, word_back, name_back, listed_name_back, segment_entry_back, definition_back, reference_back, all_back}
 
@@ -28,10 +26,11 @@ header_back front name (translator ∷ version ∷ rest) part all h =
     option_map_some (HeaderPart name translator version) (all_in segment_entry_in_front rest) part h
     (λ entries found is.
     part_is kinds.Header (name_bytes name ++ translator ∷ version ∷ rest) (HeaderPart name translator version entries)
-    part is
-    (refl,
-    ap (λ r. name_bytes name ++ translator ∷ version ∷ r)
-    (all_back segment_entry_bytes segment_entry_in_front segment_entry_back rest entries all.1.1 found)))
+    part is (
+      refl,
+      ap (λ r. name_bytes name ++ translator ∷ version ∷ r)
+          (all_back segment_entry_bytes segment_entry_in_front segment_entry_back rest entries all.1.1 found),
+    ))
 
 -- two tests that both pass
 pub both : (a b : Bool) → (a && b) ≡ true → (a ≡ true) × (b ≡ true)
@@ -60,19 +59,21 @@ module_end_back flag segment low high part l h found =
         let low_0 : low ≡ 0 = omega arith in
         let high_0 : high ≡ 0 = omega arith in
         part_is kinds.ModuleEnd (flag ∷ segment ∷ low ∷ high ∷ []) (ModuleEndPart None) part
-        (same_Some (ModuleEndPart None) part is)
-        (refl,
-        ap (λ x. x ∷ segment ∷ low ∷ high ∷ []) flag_0 ∙ ap (λ x. 0 ∷ x ∷ low ∷ high ∷ []) segment_0
-        ∙ ap (λ x. 0 ∷ 0 ∷ x ∷ high ∷ []) low_0 ∙ ap (λ x. 0 ∷ 0 ∷ 0 ∷ x ∷ []) high_0)
+        (same_Some (ModuleEndPart None) part is) (
+          refl,
+          ap (λ x. x ∷ segment ∷ low ∷ high ∷ []) flag_0 ∙ ap (λ x. 0 ∷ x ∷ low ∷ high ∷ []) segment_0
+              ∙ ap (λ x. 0 ∷ 0 ∷ x ∷ high ∷ []) low_0 ∙ ap (λ x. 0 ∷ 0 ∷ 0 ∷ x ∷ []) high_0,
+        )
     go false e true f is =
         let u = both (flag == 1) (segment == 1) f in
         let flag_1 : flag ≡ 1 = eqb-true flag 1 u.0 in
         let segment_1 : segment ≡ 1 = eqb-true segment 1 u.1 in
         part_is kinds.ModuleEnd (flag ∷ segment ∷ low ∷ high ∷ []) (ModuleEndPart (Some (low + 256 * high))) part
-        (same_Some (ModuleEndPart (Some (low + 256 * high))) part is)
-        (refl,
-        ap (λ x. x ∷ segment ∷ low ∷ high ∷ []) flag_1 ∙ ap (λ x. 1 ∷ x ∷ low ∷ high ∷ []) segment_1
-        ∙ ap (λ w. 1 ∷ 1 ∷ w) (sym (word_is low high l h)))
+        (same_Some (ModuleEndPart (Some (low + 256 * high))) part is) (
+          refl,
+          ap (λ x. x ∷ segment ∷ low ∷ high ∷ []) flag_1 ∙ ap (λ x. 1 ∷ x ∷ low ∷ high ∷ []) segment_1
+              ∙ ap (λ w. 1 ∷ 1 ∷ w) (sym (word_is low high l h)),
+        )
     go false e false f is = absurd (none-some part is)
 
 -- each kind of record
@@ -97,11 +98,12 @@ part_back kinds.Publics (number ∷ rest) part all h =
     (λ segment first second.
     option_map_some (PublicsPart segment) (all_in definition_in_front rest) part second
     (λ definitions found is.
-    part_is kinds.Publics (number ∷ rest) (PublicsPart segment definitions) part is
-    (refl,
-    ap (λ n. n ∷ rest) (sym (segment_is number segment first))
-    ∙ ap (λ r. segment_number segment ∷ r)
-    (all_back definition_bytes definition_in_front definition_back rest definitions all.1 found))))
+    part_is kinds.Publics (number ∷ rest) (PublicsPart segment definitions) part is (
+      refl,
+      ap (λ n. n ∷ rest) (sym (segment_is number segment first))
+          ∙ ap (λ r. segment_number segment ∷ r)
+          (all_back definition_bytes definition_in_front definition_back rest definitions all.1 found),
+    )))
 part_back kinds.Content [] part all h = absurd (none-some part h)
 part_back kinds.Content (a ∷ []) part all h = absurd (none-some part h)
 part_back kinds.Content (a ∷ b ∷ []) part all h = absurd (none-some part h)
@@ -109,31 +111,34 @@ part_back kinds.Content (number ∷ low ∷ high ∷ bytes) part all h =
     option_map_some _ (segment_of number) part h
     (λ segment found is.
     part_is kinds.Content (number ∷ low ∷ high ∷ bytes)
-    (ContentPart (record { segment = segment; offset = low + 256 * high; bytes = bytes })) part is
-    (refl,
-    ap (λ n. n ∷ low ∷ high ∷ bytes) (sym (segment_is number segment found))
-    ∙ ap (λ w. (segment_number segment ∷ w) ++ bytes) (sym (word_is low high all.1.0 all.1.1.0))))
+    (ContentPart (record { segment = segment; offset = low + 256 * high; bytes = bytes })) part is (
+      refl,
+      ap (λ n. n ∷ low ∷ high ∷ bytes) (sym (segment_is number segment found))
+          ∙ ap (λ w. (segment_number segment ∷ w) ++ bytes) (sym (word_is low high all.1.0 all.1.1.0)),
+    ))
 part_back kinds.ExternalReferences [] part all h = absurd (none-some part h)
 part_back kinds.ExternalReferences (number ∷ rest) part all h =
     option_and_then_some _ (fix_kind_of number) part h
     (λ kind first second.
     option_map_some (ExternalReferencesPart kind) (all_in reference_in_front rest) part second
     (λ references found is.
-    part_is kinds.ExternalReferences (number ∷ rest) (ExternalReferencesPart kind references) part is
-    (refl,
-    ap (λ n. n ∷ rest) (sym (fix_kind_is number kind first))
-    ∙ ap (λ r. fix_kind_number kind ∷ r)
-    (all_back reference_bytes reference_in_front reference_back rest references all.1 found))))
+    part_is kinds.ExternalReferences (number ∷ rest) (ExternalReferencesPart kind references) part is (
+      refl,
+      ap (λ n. n ∷ rest) (sym (fix_kind_is number kind first))
+          ∙ ap (λ r. fix_kind_number kind ∷ r)
+          (all_back reference_bytes reference_in_front reference_back rest references all.1 found),
+    )))
 part_back kinds.Relocation [] part all h = absurd (none-some part h)
 part_back kinds.Relocation (number ∷ rest) part all h =
     option_and_then_some _ (fix_kind_of number) part h
     (λ kind first second.
     option_map_some (RelocationPart kind) (all_in word_in_front rest) part second
     (λ offsets found is.
-    part_is kinds.Relocation (number ∷ rest) (RelocationPart kind offsets) part is
-    (refl,
-    ap (λ n. n ∷ rest) (sym (fix_kind_is number kind first))
-    ∙ ap (λ r. fix_kind_number kind ∷ r) (all_back word_bytes word_in_front word_back rest offsets all.1 found))))
+    part_is kinds.Relocation (number ∷ rest) (RelocationPart kind offsets) part is (
+      refl,
+      ap (λ n. n ∷ rest) (sym (fix_kind_is number kind first))
+          ∙ ap (λ r. fix_kind_number kind ∷ r) (all_back word_bytes word_in_front word_back rest offsets all.1 found),
+    )))
 part_back kinds.IntersegmentReferences [] part all h = absurd (none-some part h)
 part_back kinds.IntersegmentReferences (a ∷ []) part all h = absurd (none-some part h)
 part_back kinds.IntersegmentReferences (target ∷ number ∷ rest) part all h =
@@ -143,12 +148,13 @@ part_back kinds.IntersegmentReferences (target ∷ number ∷ rest) part all h =
     (λ kind first second.
     option_map_some (IntersegmentPart segment kind) (all_in word_in_front rest) part second
     (λ offsets found is.
-    part_is kinds.IntersegmentReferences (target ∷ number ∷ rest) (IntersegmentPart segment kind offsets) part is
-    (refl,
-    ap (λ n. n ∷ number ∷ rest) (sym (segment_is target segment zeroth))
-    ∙ ap (λ n. segment_number segment ∷ n ∷ rest) (sym (fix_kind_is number kind first))
-    ∙ ap (λ r. segment_number segment ∷ fix_kind_number kind ∷ r)
-    (all_back word_bytes word_in_front word_back rest offsets all.1.1 found)))))
+    part_is kinds.IntersegmentReferences (target ∷ number ∷ rest) (IntersegmentPart segment kind offsets) part is (
+      refl,
+      ap (λ n. n ∷ number ∷ rest) (sym (segment_is target segment zeroth))
+          ∙ ap (λ n. segment_number segment ∷ n ∷ rest) (sym (fix_kind_is number kind first))
+          ∙ ap (λ r. segment_number segment ∷ fix_kind_number kind ∷ r)
+          (all_back word_bytes word_in_front word_back rest offsets all.1.1 found),
+    ))))
 part_back kinds.ModuleEnd [] part all h = absurd (none-some part h)
 part_back kinds.ModuleEnd (a ∷ []) part all h = absurd (none-some part h)
 part_back kinds.ModuleEnd (a ∷ b ∷ []) part all h = absurd (none-some part h)

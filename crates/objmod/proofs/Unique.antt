@@ -33,7 +33,7 @@ spells_one bytes left right l r =
 pub no_fault : (bytes : List ℕ) (object : ObjectModule) (fault : Fault) → Spells bytes object → HasFirstFault bytes fault → ⊥
 no_fault bytes object fault s h =
     let bad : ◌≡◌ {A = Result (List Part) Fault} (Ok s.parts) (Err fault) =
-        sym (parts_are bytes s.parts s.file) ∙ fault_is bytes fault h in
+    sym (parts_are bytes s.parts s.file) ∙ fault_is bytes fault h in
     cc
 
 pub one_fault : (bytes : List ℕ) (left right : Fault) → HasFirstFault bytes left → HasFirstFault bytes right → left ≡ right

@@ -1,12 +1,12 @@
 -- The rules of an object file, record by record, and the fault that breaking each of them is. A record is
 -- judged by the records before it, of which the latest stands first.
-use Rattle.std.specs.Prelude.{ℕ, ◌+◌, ◌-◌, ◌==◌, Bool, true, false, not, ◌&&◌, ◌||◌, nat_lt, nat_le, if◌then◌else◌, List, [], ◌∷◌, length, flat_map, take, drop, slice_index, Option, Some, None, option_map}
+use Rattle.std.specs.Prelude.{ℕ, ◌+◌, ◌==◌, Bool, true, false, not, ◌&&◌, ◌||◌, nat_lt, nat_le, if◌then◌else◌, List, [], ◌∷◌, length, flat_map, slice_index, Option, Some, None, option_map}
 use Rattle.std.specs.List.{list_all, list_any}
 use Rattle.std.specs.Option.{option_or, option_map_or, option_and_then}
 use Rattle.omf80.specs.declared.fault.Fault.{Fault as RecordFault}
 use Rattle.omf80.specs.declared.fault.Fault.TheVariants as record_faults
 use Rattle.omf80.specs.declared.kind.RecordKind.{RecordKind}
-use Rattle.omf80.specs.declared.kind.TheConstants.{HEADING_SIZE, BODY_LIMIT}
+use Rattle.omf80.specs.declared.kind.TheConstants.{BODY_LIMIT}
 use Rattle.omf80.specs.Records.{kind_of_type, first_body, record_fault, first_that_holds}
 use Rattle.objmod.specs.declared.fault.Fault.{Fault}
 use Rattle.objmod.specs.declared.fault.Fault.TheVariants.{Truncated, WrongSum, WrongLength, UnknownType, OutOfOrder, WrongBody, ContentMisplaced, FixMisplaced, WrongAlignment}

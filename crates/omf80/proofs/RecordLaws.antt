@@ -6,7 +6,7 @@ use Rattle.std.proofs.lemmas.List.{length-take, length-drop, append_assoc}
 use Rattle.omf80.specs.declared.fault.Fault.{Fault}
 use Rattle.omf80.specs.declared.fault.Fault.TheVariants.{Truncated, WrongSum, WrongLength, UnknownType}
 use Rattle.omf80.specs.declared.kind.RecordKind.{RecordKind}
-use Rattle.omf80.specs.Records.{type_byte, kinds, kind_of_type, word_bytes, checksum_of, record_bytes, record_end, first_body, record_faults, record_fault, first_that_holds}
+use Rattle.omf80.specs.Records.{type_byte, kinds, kind_of_type, word_bytes, checksum_of, record_bytes, record_end, first_body, record_fault}
 use Rattle.omf80.proofs.Conditions.{IsBytes, find_passes, none_holds, word_is}
 
 pub fold_append : (xs ys : List ℕ) (a : ℕ) → fold (λ (b x : ℕ). b + x) a (xs ++ ys) ≡ fold (λ (b x : ℕ). b + x) (fold (λ (b x : ℕ). b + x) a xs) ys
@@ -85,16 +85,16 @@ begins_at type low high m tail kind all stated limit fits adds found =
     let long : length (take m tail) ≡ m = omega arith in
     let front : List ℕ = type ∷ low ∷ high ∷ take m tail in
     let whole : sum (front ++ s.item ∷ []) % 256 ≡ 0 =
-        ap (λ r. sum (type ∷ low ∷ high ∷ r) % 256) (sym s.before) ∙ adds in
+    ap (λ r. sum (type ∷ low ∷ high ∷ r) % 256) (sym s.before) ∙ adds in
     let sum_is : s.item ≡ checksum_of front = checksum_is front s.item (s.is_byte all.1.1.1) whole in
     let type_is : type_byte kind ≡ type = eqb-true (type_byte kind) type (find_passes (λ k. type_byte k == type) kinds kind found) in
     let word : word_bytes (length (take m tail) + 1) ≡ low ∷ high ∷ [] =
-        ap word_bytes (let w : length (take m tail) + 1 ≡ low + 256 * high = omega arith in w)
-        ∙ word_is low high all.1.0 all.1.1.0 in
+    ap word_bytes (let w : length (take m tail) + 1 ≡ low + 256 * high = omega arith in w)
+    ∙ word_is low high all.1.0 all.1.1.0 in
     let made : record_bytes (type_byte kind) (take m tail) ≡ front ++ s.item ∷ [] =
-        ap (λ t. record_bytes t (take m tail)) type_is
-        ∙ ap (λ w. (type ∷ w ++ take m tail) ++ checksum_of (type ∷ w ++ take m tail) ∷ []) word
-        ∙ ap (λ c. front ++ c ∷ []) (sym sum_is) in
+    ap (λ t. record_bytes t (take m tail)) type_is
+    ∙ ap (λ w. (type ∷ w ++ take m tail) ++ checksum_of (type ∷ w ++ take m tail) ∷ []) word
+    ∙ ap (λ c. front ++ c ∷ []) (sym sum_is) in
     record {
       kind = kind;
       of_type = found;
@@ -133,7 +133,7 @@ begins (type ∷ low ∷ high ∷ tail) all h =
     let limit : stated ≤ 1028 = ltb-false 1028 stated limits.1 in
     let fits : record_end bytes ≤ length bytes = ltb-false (length bytes) (record_end bytes) third.0 in
     let adds : sum (take (record_end bytes) bytes) % 256 ≡ 0 =
-        eqb-true (sum (take (record_end bytes) bytes) % 256) 0 (not-false (sum (take (record_end bytes) bytes) % 256 == 0) fourth.0) in
+    eqb-true (sum (take (record_end bytes) bytes) % 256) 0 (not-false (sum (take (record_end bytes) bytes) % 256 == 0) fourth.0) in
     let kind = kind_there (kind_of_type type) fifth.0 in
     go stated refl positive limit fits adds kind
   where

@@ -1,6 +1,5 @@
 -- What begins with the bytes of a record has no fault of records, and is read as that record.
-use Rattle.std.proofs.Common.{◌≡◌, ℕ, zero, suc, ◌+◌, ◌-◌, ◌*◌, ◌/◌, ◌%◌, ◌<◌, ◌≤◌, Bool, true, false, not, ◌||◌, ◌==◌, nat_lt, List, [], ◌∷◌, ◌++◌, length, take, drop, sum, Option, Some, None, is_none, slice_index, refl, ap, sym, subst, ◌∙◌, arith}
-use Rattle.std.specs.List.{fold}
+use Rattle.std.proofs.Common.{◌≡◌, ℕ, suc, ◌+◌, ◌-◌, ◌*◌, ◌/◌, ◌%◌, ◌≤◌, Bool, false, not, ◌||◌, ◌==◌, nat_lt, List, [], ◌∷◌, ◌++◌, length, take, drop, sum, Some, None, is_none, slice_index, refl, ap, sym, subst, ◌∙◌, arith}
 use Rattle.std.proofs.lemmas.Bool.{eq-eqb, ne_eqb, le-ltb}
 use Rattle.std.proofs.lemmas.List.{length-append, append_assoc, take_at, drop_at}
 use Rattle.omf80.specs.declared.fault.Fault.{Fault}
@@ -61,27 +60,27 @@ read_spelled kind body rest limit =
     let longer : length tail ≡ length (body ++ last ∷ []) + length rest = length-append (body ++ last ∷ []) rest in
     let with_last : length (body ++ last ∷ []) ≡ suc (length body) = with_sum body last in
     let cut : take (suc (length body)) tail ≡ body ++ last ∷ [] =
-        take_at (body ++ last ∷ []) rest (suc (length body)) with_last in
+    take_at (body ++ last ∷ []) rest (suc (length body)) with_last in
     let whole : take (record_end bytes) bytes ≡ front ++ last ∷ [] =
-        ap (λ n. take n bytes) end ∙ ap (λ t. type_byte kind ∷ low ∷ high ∷ t) cut in
+    ap (λ n. take n bytes) end ∙ ap (λ t. type_byte kind ∷ low ∷ high ∷ t) cut in
     let added : sum (front ++ last ∷ []) ≡ sum front + last = fold_append front (last ∷ []) 0 in
     let adds : sum (take (record_end bytes) bytes) % 256 ≡ 0 =
-        ap (λ b. sum b % 256) whole ∙ (let z : sum (front ++ last ∷ []) % 256 ≡ 0 = omega arith in z) in
+    ap (λ b. sum b % 256) whole ∙ (let z : sum (front ++ last ∷ []) % 256 ≡ 0 = omega arith in z) in
     let is_wrong : Bool = not (sum (take (record_end bytes) bytes) % 256 == 0) in
     let from_fifth : List (Bool × Fault) = (is_none (kind_of_type (type_byte kind)), UnknownType) ∷ [] in
     let from_fourth : List (Bool × Fault) = (is_wrong, WrongSum) ∷ from_fifth in
     let from_third : List (Bool × Fault) = (nat_lt (length bytes) (record_end bytes), Truncated) ∷ from_fourth in
     let from_second : List (Bool × Fault) = (stated == 0 || nat_lt 1028 stated, WrongLength) ∷ from_third in
     let fifth : first_that_holds from_fifth ≡ None =
-        none_of (is_none (kind_of_type (type_byte kind))) UnknownType [] (ap is_none (kind_again kind)) refl in
+    none_of (is_none (kind_of_type (type_byte kind))) UnknownType [] (ap is_none (kind_again kind)) refl in
     let fourth : first_that_holds from_fourth ≡ None =
-        none_of is_wrong WrongSum from_fifth (ap not (eq-eqb (sum (take (record_end bytes) bytes) % 256) 0 adds)) fifth in
+    none_of is_wrong WrongSum from_fifth (ap not (eq-eqb (sum (take (record_end bytes) bytes) % 256) 0 adds)) fifth in
     let third : first_that_holds from_third ≡ None =
-        none_of (nat_lt (length bytes) (record_end bytes)) Truncated from_fourth
-        (le-ltb (length bytes) (record_end bytes) (omega arith)) fourth in
+    none_of (nat_lt (length bytes) (record_end bytes)) Truncated from_fourth
+    (le-ltb (length bytes) (record_end bytes) (omega arith)) fourth in
     let second : first_that_holds from_second ≡ None =
-        none_of (stated == 0 || nat_lt 1028 stated) WrongLength from_third
-        (ap (λ b. b || nat_lt 1028 stated) (ne_eqb stated 0 (λ e. omega arith)) ∙ le-ltb 1028 stated (omega arith)) third in
+    none_of (stated == 0 || nat_lt 1028 stated) WrongLength from_third
+    (ap (λ b. b || nat_lt 1028 stated) (ne_eqb stated 0 (λ e. omega arith)) ∙ le-ltb 1028 stated (omega arith)) third in
     record {
       no_fault =
           none_of (nat_lt (length bytes) 3) Truncated from_second (le-ltb (length bytes) 3 (omega arith)) second;
