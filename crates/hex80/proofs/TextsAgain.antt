@@ -5,7 +5,7 @@ use Rattle.std.specs.Option.{option_map_or}
 use Rattle.std.specs.Str.{bytes_eq}
 use Rattle.std.proofs.lemmas.Bool.{eq-eqb}
 use Rattle.std.proofs.lemmas.List.{append_assoc, append-nil}
-use Rattle.std.proofs.lemmas.Option.{none-some, same_Some}
+use Rattle.std.proofs.lemmas.Option.{none-some, same_Some, some_pair_parts}
 use Rattle.std.proofs.lemmas.Slice.Eq.{bytes_eq-Decides}
 use Rattle.mem80.specs.declared.range.Piece.{Piece}
 use Rattle.hex80.specs.declared.fault.Fault.{Fault}
@@ -88,3 +88,31 @@ no_fault text pieces fault s h =
     let bad : ◌≡◌ {A = Result (List Piece) Fault} (Ok pieces) (Err fault) =
     sym (pieces_are text pieces s) ∙ fault_is text fault h in
     cc
+
+same_Ok : {A E : Type 0} (x y : A) → ◌≡◌ {A = Result A E} (Ok x) (Ok y) → x ≡ y
+same_Ok {A} {E} x y h = ap value h
+  where
+    value : Result A E → A
+    value (Ok v) = v
+    value (Err e) = x
+
+same_Err : {A E : Type 0} (x y : E) → ◌≡◌ {A = Result A E} (Err x) (Err y) → x ≡ y
+same_Err {A} {E} x y h = ap fault h
+  where
+    fault : Result A E → E
+    fault (Ok v) = x
+    fault (Err e) = e
+
+-- it spells one row of pieces at most
+pub one_spelled : (text : List ℕ) (left right : List Piece) → Spells text left → Spells text right → left ≡ right
+one_spelled text left right a b = same_Ok {E = Fault} left right (sym (pieces_are text left a) ∙ pieces_are text right b)
+
+-- and has one first fault at most
+pub one_fault : (text : List ℕ) (left right : Fault) → HasFirstFault text left → HasFirstFault text right → left ≡ right
+one_fault text left right a b = same_Err {A = List Piece} left right (sym (fault_is text left a) ∙ fault_is text right b)
+
+-- the line of a piece is that of no other
+pub one_piece : (left right : Piece) → IsLine left → IsLine right → data_line left ≡ data_line right → left ≡ right
+one_piece left right a b same =
+    (some_pair_parts left right (all_bytes left) (all_bytes right)
+    (sym (line_again left a) ∙ ap read_line same ∙ line_again right b)).0

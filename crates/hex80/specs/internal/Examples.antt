@@ -1,9 +1,9 @@
 -- Worked texts, computed on the definitions.
-use Rattle.std.specs.Prelude.{◌≡◌, ℕ, List, [], ◌∷◌, ◌++◌, codes, replicate, Ok, Err, refl}
+use Rattle.std.specs.Prelude.{◌≡◌, ℕ, true, false, List, [], ◌∷◌, ◌++◌, codes, replicate, Ok, Err, refl}
 use Rattle.mem80.specs.declared.range.Piece.{Piece}
 use Rattle.hex80.specs.declared.fault.Fault.TheVariants.{BadLine, WrongSum, NoEnd, Overlap}
 use Rattle.hex80.specs.Lines.{ended_line, lines_of, end_line}
-use Rattle.hex80.specs.Spelling.{fault_at, Spells}
+use Rattle.hex80.specs.Spelling.{fault_at, are_line_pieces, Spells}
 use Rattle.hex80.specs.internal.Judgement.{judgement_of}
 
 abbrev pub piece_at : ℕ → List ℕ → Piece
@@ -90,3 +90,14 @@ carriage_return_alone = refl
 pub past_memory : judgement_of (ended_line (codes ":02FFFF00A5A5B6") ++ end_line) ≡ Err BadLine
 unfolding fault_at judgement_of
 past_memory = refl
+
+-- an address of 65536 has no digits: G stands for no number
+pub no_digits : judgement_of (ended_line (codes ":00G0000000") ++ end_line) ≡ Err BadLine
+unfolding fault_at judgement_of
+no_digits = refl
+
+pub past_the_last_address : are_line_pieces [] (piece_at 65536 [] ∷ []) ≡ false
+past_the_last_address = refl
+
+pub at_the_last_address : are_line_pieces [] (piece_at 65535 [] ∷ []) ≡ true
+at_the_last_address = refl
