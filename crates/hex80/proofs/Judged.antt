@@ -8,10 +8,11 @@ use Rattle.std.proofs.lemmas.Bool.{eqb-true, ltb-true, lt-ltb, leb-true, le-leb,
 use Rattle.std.proofs.lemmas.List.{append_assoc, append-nil}
 use Rattle.std.proofs.lemmas.Slice.Eq.{bytes_eq-Decides}
 use Rattle.mem80.specs.declared.range.Piece.{Piece}
+use Rattle.mem80.specs.Pieces.{pieces_meet}
 use Rattle.hex80.specs.declared.fault.Fault.{Fault}
 use Rattle.hex80.specs.declared.fault.Fault.TheVariants.{BadLine, WrongSum, Overlap}
 use Rattle.hex80.specs.Lines.{data_line, end_line}
-use Rattle.hex80.specs.Spelling.{read_line, share_an_address, fault_of_data, fault_of_line, is_empty, fault_at, is_line_piece, are_line_pieces, Spells, HasFirstFault}
+use Rattle.hex80.specs.Spelling.{read_line, fault_of_data, fault_of_line, is_empty, fault_at, is_line_piece, are_line_pieces, Spells, HasFirstFault}
 use Rattle.hex80.specs.internal.Judgement.{judged_by, judged_after, judgement_of}
 use Rattle.hex80.proofs.Digits.{IsBytes, both}
 use Rattle.hex80.proofs.LineLaws.{IsLine, line_back}
@@ -29,24 +30,24 @@ small_all (byte ∷ others) h =
     (ltb-true byte 256 t.0, small_all others t.1)
 
 -- the tests of a piece of a line
-line_piece : (before : List Piece) (piece : Piece) → IsLine piece → list_any (share_an_address piece) before ≡ false → is_line_piece before piece ≡ true
+line_piece : (before : List Piece) (piece : Piece) → IsLine piece → list_any (pieces_meet piece) before ≡ false → is_line_piece before piece ≡ true
 line_piece before piece is apart =
     ap (λ t. t && list_all (λ byte. nat_lt byte 256) piece.bytes && nat_lt piece.start 65536
-    && nat_le (piece.start + length piece.bytes) 65536 && not (list_any (share_an_address piece) before))
+    && nat_le (piece.start + length piece.bytes) 65536 && not (list_any (pieces_meet piece) before))
     (lt-ltb (length piece.bytes) 256 is.short)
     ∙ ap (λ t. t && nat_lt piece.start 65536 && nat_le (piece.start + length piece.bytes) 65536
-    && not (list_any (share_an_address piece) before)) (all_small piece.bytes is.bytes)
+    && not (list_any (pieces_meet piece) before)) (all_small piece.bytes is.bytes)
     ∙ ap (λ t. t && nat_le (piece.start + length piece.bytes) 65536
-    && not (list_any (share_an_address piece) before)) (lt-ltb piece.start 65536 is.start)
-    ∙ ap (λ t. t && not (list_any (share_an_address piece) before))
+    && not (list_any (pieces_meet piece) before)) (lt-ltb piece.start 65536 is.start)
+    ∙ ap (λ t. t && not (list_any (pieces_meet piece) before))
     (le-leb (piece.start + length piece.bytes) 65536 is.in_memory)
     ∙ ap not apart
 
-pub piece_line : (before : List Piece) (piece : Piece) → is_line_piece before piece ≡ true → IsLine piece × (list_any (share_an_address piece) before ≡ false)
+pub piece_line : (before : List Piece) (piece : Piece) → is_line_piece before piece ≡ true → IsLine piece × (list_any (pieces_meet piece) before ≡ false)
 piece_line before piece h =
     let d = both (nat_lt (length piece.bytes) 256 && list_all (λ byte. nat_lt byte 256) piece.bytes
     && nat_lt piece.start 65536 && nat_le (piece.start + length piece.bytes) 65536)
-    (not (list_any (share_an_address piece) before)) h in
+    (not (list_any (pieces_meet piece) before)) h in
     let c = both (nat_lt (length piece.bytes) 256 && list_all (λ byte. nat_lt byte 256) piece.bytes
     && nat_lt piece.start 65536) (nat_le (piece.start + length piece.bytes) 65536) d.0 in
     let b = both (nat_lt (length piece.bytes) 256 && list_all (λ byte. nat_lt byte 256) piece.bytes)
@@ -58,7 +59,7 @@ piece_line before piece h =
         start = ltb-true piece.start 65536 b.1;
         in_memory = leb-true (piece.start + length piece.bytes) 65536 c.1;
       },
-      not-true (list_any (share_an_address piece) before) d.1,
+      not-true (list_any (pieces_meet piece) before) d.1,
     )
 
 -- a line without a fault, and what was read of it
@@ -73,7 +74,7 @@ next before line h = go (read_line line) refl h
   where
     tests : (read : Piece × List ℕ) → read_line line ≡ Some read
         → (wrong : Bool) → not (sum read.1 % 256 == 0) ≡ wrong
-        → (shared : Bool) → list_any (share_an_address read.0) before ≡ shared
+        → (shared : Bool) → list_any (pieces_meet read.0) before ≡ shared
         → cond wrong (Some WrongSum) (cond shared (Some Overlap) None) ≡ None → Next before line
     tests read found true e shared f is = absurd (let bad : Some WrongSum ≡ None = is in cc)
     tests read found false e true f is = absurd (let bad : Some Overlap ≡ None = is in cc)
@@ -86,7 +87,7 @@ next before line h = go (read_line line) refl h
         → option_map_or (fault_of_data before) read (Some BadLine) ≡ None → Next before line
     go None e is = absurd (let bad : Some BadLine ≡ None = is in cc)
     go (Some read) e is =
-        tests read e (not (sum read.1 % 256 == 0)) refl (list_any (share_an_address read.0) before) refl is
+        tests read e (not (sum read.1 % 256 == 0)) refl (list_any (pieces_meet read.0) before) refl is
 
 -- what a judgement says of the lines after some pieces
 pub record TextAfter (before : List Piece) (rows : List (List ℕ)) (all : List Piece) : Type 0 where

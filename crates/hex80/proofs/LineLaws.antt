@@ -1,11 +1,12 @@
 -- A data line that is read is the line of its piece, and the line of a piece is read.
 use Rattle.std.proofs.Common.{◌≡◌, ℕ, zero, suc, ◌+◌, ◌*◌, ◌/◌, ◌%◌, ◌<◌, ◌≤◌, min, Bool, true, false, cond, ◌==◌, ◌&&◌, nat_le, List, [], ◌∷◌, ◌++◌, length, take, flat_map, sum, Some, None, option_map, option_and_then, refl, ap, sym, subst, ◌∙◌, arith}
-use Rattle.std.specs.List.{fold}
 use Rattle.std.proofs.lemmas.Bool.{eqb-true, eq-eqb, leb-true, le-leb}
 use Rattle.std.proofs.lemmas.List.{length-append, length-take, take_at}
 use Rattle.std.proofs.lemmas.Option.{none-some, cond_some, option_and_then_some, some_pair_parts}
 use Rattle.mem80.specs.declared.range.Piece.{Piece}
-use Rattle.hex80.specs.Lines.{digits_of, checksum_of, data_line_bytes, data_line}
+use Rattle.mem80.specs.Sums.{checksum_of}
+use Rattle.mem80.proofs.Sums.{checksum_is, checksum_below}
+use Rattle.hex80.specs.Lines.{digits_of, data_line_bytes, data_line}
 use Rattle.hex80.specs.Spelling.{bytes_in, bytes_of_line, has_form, piece_in, read_line}
 use Rattle.hex80.proofs.Digits.{IsBytes, both, option_map_some, bytes_back, bytes_again}
 
@@ -15,21 +16,6 @@ pub record IsLine (piece : Piece) : Type 0 where
   pub bytes : IsBytes piece.bytes
   pub start : piece.start < 65536
   pub in_memory : piece.start + length piece.bytes ≤ 65536
-
-fold_append : (xs ys : List ℕ) (a : ℕ) → fold (λ (b x : ℕ). b + x) a (xs ++ ys) ≡ fold (λ (b x : ℕ). b + x) (fold (λ (b x : ℕ). b + x) a xs) ys
-fold_append [] ys a = refl
-fold_append (x ∷ xs) ys a = fold_append xs ys (a + x)
-
-checksum_is : (front : List ℕ) (last : ℕ) → last < 256 → sum (front ++ last ∷ []) % 256 ≡ 0 → last ≡ checksum_of front
-checksum_is front last byte h =
-    let whole : sum (front ++ last ∷ []) ≡ sum front + last = fold_append front (last ∷ []) 0 in
-    omega arith
-
-pub adds_up : (front : List ℕ) → sum (front ++ checksum_of front ∷ []) % 256 ≡ 0
-adds_up front =
-    let last : ℕ = checksum_of front in
-    let whole : sum (front ++ last ∷ []) ≡ sum front + last = fold_append front (last ∷ []) 0 in
-    omega arith
 
 -- the last of some bytes
 pub record Last (xs : List ℕ) (n : ℕ) : Type 0 where
@@ -127,9 +113,6 @@ line_back (first ∷ rest) piece bytes h adds =
 bytes_append : (xs ys : List ℕ) → IsBytes xs → IsBytes ys → IsBytes (xs ++ ys)
 bytes_append [] ys a b = b
 bytes_append (x ∷ xs) ys a b = (a.0, bytes_append xs ys a.1 b)
-
-checksum_below : (front : List ℕ) → checksum_of front < 256
-checksum_below front = omega arith
 
 -- all bytes of the line of a piece
 abbrev pub all_bytes : Piece → List ℕ

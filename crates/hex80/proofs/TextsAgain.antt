@@ -8,13 +8,15 @@ use Rattle.std.proofs.lemmas.List.{append_assoc, append-nil}
 use Rattle.std.proofs.lemmas.Option.{none-some, same_Some, some_pair_parts}
 use Rattle.std.proofs.lemmas.Slice.Eq.{bytes_eq-Decides}
 use Rattle.mem80.specs.declared.range.Piece.{Piece}
+use Rattle.mem80.specs.Pieces.{pieces_meet}
+use Rattle.mem80.proofs.Sums.{adds_up}
 use Rattle.hex80.specs.declared.fault.Fault.{Fault}
 use Rattle.hex80.specs.declared.fault.Fault.TheVariants.{BadLine, WrongSum, NoEnd, Overlap}
 use Rattle.hex80.specs.Lines.{data_line_bytes, data_line, end_line}
-use Rattle.hex80.specs.Spelling.{read_line, share_an_address, fault_of_data, fault_of_line, is_empty, fault_at, is_line_piece, are_line_pieces, Spells, HasFirstFault}
+use Rattle.hex80.specs.Spelling.{read_line, fault_of_data, fault_of_line, is_empty, fault_at, is_line_piece, are_line_pieces, Spells, HasFirstFault}
 use Rattle.hex80.specs.internal.Judgement.{judged_by, judged_after, judgement_of}
 use Rattle.hex80.proofs.Digits.{both}
-use Rattle.hex80.proofs.LineLaws.{IsLine, line_again, all_bytes, adds_up}
+use Rattle.hex80.proofs.LineLaws.{IsLine, line_again, all_bytes}
 use Rattle.hex80.proofs.Judged.{piece_line}
 
 -- the line of a piece is not the end line
@@ -37,7 +39,7 @@ line_without_fault before piece rest h =
     ap (λ last. cond last (cond (is_empty rest) None (Some BadLine)) (fault_of_line before (data_line piece)))
     (not_the_end piece p.0)
     ∙ ap (λ read. option_map_or (fault_of_data before) read (Some BadLine)) (line_again piece p.0)
-    ∙ ap (λ b. cond (not b) (Some WrongSum) (cond (list_any (share_an_address piece) before) (Some Overlap) None))
+    ∙ ap (λ b. cond (not b) (Some WrongSum) (cond (list_any (pieces_meet piece) before) (Some Overlap) None))
     (eq-eqb (sum (all_bytes piece) % 256) 0 (adds_up (data_line_bytes piece)))
     ∙ ap (λ b. cond b (Some Overlap) None) p.1
 

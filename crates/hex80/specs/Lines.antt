@@ -1,9 +1,9 @@
 -- Lines of Intel HEX, and the text that is written for pieces (Intel Hexadecimal Object File Format
 -- Specification, "General record format", "Data record" and "End of file record").
-use Rattle.std.specs.Prelude.{◌≡◌, ℕ, zero, suc, ◌+◌, ◌-◌, ◌/◌, ◌%◌, Bool, true, ◌&&◌, IsTrue, nat_lt, nat_le, if◌then◌else◌, List, [], ◌∷◌, ◌++◌, length, flat_map, sum, codes, All, AllPairs, IsPermutation}
+use Rattle.std.specs.Prelude.{◌≡◌, ℕ, zero, suc, ◌+◌, ◌-◌, ◌/◌, ◌%◌, Bool, true, ◌&&◌, IsTrue, nat_lt, nat_le, if◌then◌else◌, List, [], ◌∷◌, ◌++◌, length, flat_map, codes, IsPermutation}
 use Rattle.std.specs.List.{onto_first}
 use Rattle.mem80.specs.declared.range.Piece.{Piece}
-use Rattle.mem80.specs.Pieces.{EndsInMemory, AreApart}
+use Rattle.mem80.specs.Sums.{checksum_of}
 use Rattle.hex80.specs.declared.fault.TheConstants.{BYTES_IN_LINE}
 
 -- the upper-case hexadecimal digit of a number below 16
@@ -13,10 +13,6 @@ digit_of number = if nat_lt number 10 then 48 + number else 55 + number
 -- a byte as two digits, the high one first
 abbrev pub digits_of : ℕ → List ℕ
 digits_of byte = digit_of (byte / 16) ∷ digit_of (byte % 16) ∷ []
-
--- the byte that makes bytes add up to 0, modulo 256
-abbrev pub checksum_of : List ℕ → ℕ
-checksum_of bytes = (256 - sum bytes % 256) % 256
 
 -- the bytes of a data line: count, address with the high byte first, type 0, and the data
 abbrev pub data_line_bytes : Piece → List ℕ
@@ -62,11 +58,6 @@ lines_of_piece piece = lines_from piece.start (rows_of piece.bytes)
 -- the lines of pieces in this order, and the end line
 abbrev pub lines_of : List Piece → List ℕ
 lines_of pieces = flat_map lines_of_piece pieces ++ ended_line end_line
-
--- pieces that can be written: each in memory, and no two with an address in common
-pub record AreWritable (pieces : List Piece) : Type 0 where
-  pub in_memory : All EndsInMemory pieces
-  pub apart : AllPairs AreApart pieces
 
 -- none begins at a lower address than the one before it
 abbrev pub ascend : List Piece → Bool

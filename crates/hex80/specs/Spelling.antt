@@ -6,6 +6,7 @@ use Rattle.std.specs.Str.{bytes_eq}
 use Rattle.std.specs.Str.Lines.{lines}
 use Rattle.mem80.specs.declared.memory.TheConstants.{MEMORY_SIZE}
 use Rattle.mem80.specs.declared.range.Piece.{Piece}
+use Rattle.mem80.specs.Pieces.{pieces_meet}
 use Rattle.hex80.specs.declared.fault.Fault.{Fault}
 use Rattle.hex80.specs.declared.fault.Fault.TheVariants.{BadLine, WrongSum, NoEnd, Overlap}
 use Rattle.hex80.specs.Lines.{data_line, end_line}
@@ -52,17 +53,11 @@ read_line line =
     option_and_then
     (λ (bytes : List ℕ). option_map (λ (piece : Piece). (piece, bytes)) (piece_in bytes)) (bytes_of_line line)
 
--- some address has bytes of both
-abbrev pub share_an_address : Piece → Piece → Bool
-share_an_address left right =
-    nat_lt (max left.start right.start)
-    (min (left.start + length left.bytes) (right.start + length right.bytes))
-
 -- a line of data has a wrong sum, or else an address that another piece has
 abbrev pub fault_of_data : (before : List Piece) → Piece × List ℕ → Option Fault
 fault_of_data before read =
     if not (sum read.1 % 256 == 0) then Some WrongSum
-    else if list_any (share_an_address read.0) before then Some Overlap
+    else if list_any (pieces_meet read.0) before then Some Overlap
     else None
 
 abbrev pub fault_of_line : (before : List Piece) → List ℕ → Option Fault
@@ -85,7 +80,7 @@ abbrev pub is_line_piece : (before : List Piece) → Piece → Bool
 is_line_piece before piece =
     nat_lt (length piece.bytes) 256 && list_all (λ byte. nat_lt byte 256) piece.bytes
     && nat_lt piece.start MEMORY_SIZE && nat_le (piece.start + length piece.bytes) MEMORY_SIZE
-    && not (list_any (share_an_address piece) before)
+    && not (list_any (pieces_meet piece) before)
 
 abbrev pub are_line_pieces : (before : List Piece) → List Piece → Bool
 are_line_pieces before [] = true

@@ -1,9 +1,9 @@
 -- Pieces of bytes, each with the address where it begins.
-use Rattle.std.specs.Prelude.{◌≡◌, ℕ, ◌+◌, ◌-◌, ◌<◌, ◌≤◌, Bool, true, ◌&&◌, IsTrue, nat_lt, nat_le, List, [], ◌∷◌, length, find, slice_index, Option, option_map, unwrap_or}
+use Rattle.std.specs.Prelude.{◌≡◌, ℕ, ◌+◌, ◌-◌, ◌<◌, ◌≤◌, Bool, true, ◌&&◌, IsTrue, nat_lt, nat_le, List, [], ◌∷◌, length, find, slice_index, Option, option_map, unwrap_or, All, AllPairs}
 use Rattle.mem80.specs.declared.memory.TheConstants.{MEMORY_SIZE}
 use Rattle.mem80.specs.declared.range.Piece.{Piece}
 use Rattle.mem80.specs.declared.range.Range.{Range}
-use Rattle.mem80.specs.Range.{Meets}
+use Rattle.mem80.specs.Range.{Meets, ranges_meet}
 
 -- the addresses of a piece
 abbrev pub range_of : Piece → Range
@@ -16,6 +16,15 @@ EndsInMemory piece = piece.start + length piece.bytes ≤ MEMORY_SIZE
 -- no address has bytes of two pieces
 abbrev pub AreApart : Piece → Piece → Type 0
 AreApart left right = ¬ Meets (range_of left) (range_of right)
+
+-- some address has bytes of both
+abbrev pub pieces_meet : Piece → Piece → Bool
+pieces_meet left right = ranges_meet (range_of left) (range_of right)
+
+-- pieces that can be written: each in memory, and no two with an address in common
+pub record AreWritable (pieces : List Piece) : Type 0 where
+  pub in_memory : All EndsInMemory pieces
+  pub apart : AllPairs AreApart pieces
 
 -- a piece has a byte at an address
 abbrev pub has_address : (address : ℕ) → Piece → Bool

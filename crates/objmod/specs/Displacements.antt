@@ -17,24 +17,30 @@ abbrev pub start_after : (end : ℕ) → Alignment → ℕ
 start_after end Byte = end
 start_after end Page = (end + 255) / 256 * 256
 
--- a module, and where its pieces of the code and the data begin in those of the merge
-pub record Linked : Type 0 where
-  pub object : ObjectModule
-  pub code_start : ℕ
+-- where the pieces of the code and of the data of a module begin in those of the merge
+pub record Start : Type 0 where
+  pub code : ℕ
   pub data_start : ℕ
 
+-- a module, and where its pieces begin
+pub record Linked : Type 0 where
+  pub object : ObjectModule
+  pub start : Start
+
 abbrev pub code_end : Linked → ℕ
-code_end linked = linked.code_start + length (linked.object).code.places
+code_end linked = (linked.start).code + length (linked.object).code.places
 
 abbrev pub data_end : Linked → ℕ
-data_end linked = linked.data_start + length (linked.object).data_places.places
+data_end linked = (linked.start).data_start + length (linked.object).data_places.places
 
 -- a module whose pieces come after what ends here
 abbrev pub linked_after : (code_before data_before : ℕ) → ObjectModule → Linked
 linked_after code_before data_before object = record {
   object = object;
-  code_start = start_after code_before object.code.alignment;
-  data_start = start_after data_before object.data_places.alignment;
+  start = record {
+    code = start_after code_before object.code.alignment;
+    data_start = start_after data_before object.data_places.alignment;
+  };
 }
 
 -- each piece begins where the one before it ends, or at the page after that
@@ -48,13 +54,23 @@ linked_from code_before data_before (object ∷ others) =
 abbrev pub linked_modules : List ObjectModule → List Linked
 linked_modules objects = linked_from 0 0 objects
 
--- by how much the offsets of a segment of a module grow; absolute addresses and what is fixed to the stack
--- stay
+-- by how much the offsets of a segment grow; absolute addresses and what is fixed to the stack stay
+abbrev pub start_of : Start → Segment → ℕ
+start_of start Absolute = 0
+start_of start Code = start.code
+start_of start Data = start.data_start
+start_of start Stack = 0
+
 abbrev pub displacement_in : Linked → Segment → ℕ
-displacement_in linked Absolute = 0
-displacement_in linked Code = linked.code_start
-displacement_in linked Data = linked.data_start
-displacement_in linked Stack = 0
+displacement_in linked segment = start_of linked.start segment
+
+-- where the pieces of each module begin
+abbrev pub starts_of : List ObjectModule → List Start
+starts_of objects = map (λ (one : Linked). one.start) (linked_modules objects)
+
+-- where the piece of a segment begins of the module of this number
+abbrev pub start_in : List Start → (number : ℕ) → Segment → ℕ
+start_in starts number segment = option_map_or (λ start. start_of start segment) (slice_get starts number) 0
 
 abbrev pub public_moved : Linked → Public → Public
 public_moved linked public =

@@ -1,9 +1,10 @@
 -- A module placed in memory by a plan, or why it can't be.
-use Rattle.std.specs.Prelude.{ℕ, ◌+◌, ◌-◌, ◌%◌, ◌==◌, Bool, not, ◌&&◌, ◌||◌, nat_lt, if◌then◌else◌, min, max, List, [], ◌∷◌, map, slice_get, Option, None, option_map, unwrap_or, Result}
+use Rattle.std.specs.Prelude.{ℕ, ◌+◌, ◌-◌, ◌%◌, ◌==◌, Bool, not, ◌&&◌, ◌||◌, nat_lt, if◌then◌else◌, List, [], ◌∷◌, map, slice_get, Option, None, option_map, unwrap_or, Result}
 use Rattle.std.specs.List.{list_any}
 use Rattle.std.specs.Option.{option_or, option_flatten, is_none}
 use Rattle.mem80.specs.declared.memory.TheConstants.{MEMORY_SIZE}
 use Rattle.mem80.specs.declared.range.Range.{Range}
+use Rattle.mem80.specs.Range.{ranges_meet, address_past}
 use Rattle.omf80.specs.Records.{first_that_holds}
 use Rattle.objmod.specs.declared.segment.Segment.{Segment}
 use Rattle.objmod.specs.declared.segment.Segment.TheVariants.{Absolute, Code, Data, Stack}
@@ -36,12 +37,18 @@ pub data PlacementRefusal : Type 0 where
   -- a high byte is fixed to what would begin within a page
   HighByteBroken : PlacementRefusal
 
--- what the offsets of a segment are counted from; for the stack the address just past it, 0 after 65535
+abbrev pub range_at : (base size : ℕ) → Range
+range_at base size = record { start = base; len = size }
+
+abbrev pub stack_range : Plan → Range
+stack_range plan = range_at plan.stack_base plan.stack_size
+
+-- what the offsets of a segment are counted from; for the stack the address just past it
 abbrev pub base_of : Plan → Segment → ℕ
 base_of plan Absolute = 0
 base_of plan Code = plan.code_base
 base_of plan Data = plan.data_base
-base_of plan Stack = (plan.stack_base + plan.stack_size) % MEMORY_SIZE
+base_of plan Stack = address_past (stack_range plan)
 
 abbrev pub gain_at : Plan → Target → ℕ
 gain_at plan (InSegment segment) = base_of plan segment
@@ -88,27 +95,14 @@ placed plan object = record {
   symbols = map (symbol_at plan) object.publics;
 }
 
-abbrev pub range_at : (base size : ℕ) → Range
-range_at base size = record { start = base; len = size }
-
 abbrev pub code_range : Plan → ObjectModule → Range
 code_range plan object = range_at plan.code_base (length_of object Code)
 
 abbrev pub data_range : Plan → ObjectModule → Range
 data_range plan object = range_at plan.data_base (length_of object Data)
 
-abbrev pub stack_range : Plan → Range
-stack_range plan = range_at plan.stack_base plan.stack_size
-
-abbrev pub range_end : Range → ℕ
-range_end range = range.start + range.len
-
 abbrev pub passes_memory : Range → Bool
-passes_memory range = nat_lt MEMORY_SIZE (range_end range)
-
--- some address is in both ranges
-abbrev pub ranges_meet : Range → Range → Bool
-ranges_meet left right = nat_lt (max left.start right.start) (min (range_end left) (range_end right))
+passes_memory range = nat_lt MEMORY_SIZE (range.start + range.len)
 
 -- a segment is page-aligned, and its base is no multiple of 256
 abbrev pub breaks_page : Plan → ObjectModule → Segment → Bool

@@ -6,11 +6,10 @@ use Rattle.mem80.specs.declared.memory.TheConstants.{MEMORY_SIZE}
 use Rattle.omf80.specs.Records.{first_that_holds}
 use Rattle.objmod.specs.declared.segment.Alignment.{Alignment}
 use Rattle.objmod.specs.declared.segment.Alignment.TheVariants.{Byte, Page}
-use Rattle.objmod.specs.declared.segment.Segment.{Segment}
 use Rattle.objmod.specs.declared.segment.TheConstants.{SEGMENT_LIMIT}
 use Rattle.objmod.specs.Module.{SetByte, Places, Public, ObjectModule, is_page, is_among}
 use Rattle.objmod.specs.Moving.{moved, high_targets}
-use Rattle.objmod.specs.Displacements.{Linked, code_end, data_end, linked_modules, displacement_in, all_publics, gain_in, target_kept}
+use Rattle.objmod.specs.Displacements.{Linked, code_end, data_end, linked_modules, all_publics, gain_in, target_kept}
 
 -- why modules can't be merged
 pub data LinkRefusal : Type 0 where
@@ -38,11 +37,11 @@ places_moved publics linked places = moved (gain_in publics linked) (target_kept
 -- where a segment of a module begins in the merge, and its places there
 abbrev pub code_piece : List Public → Linked → ℕ × List (Option SetByte)
 code_piece publics linked =
-    (linked.code_start, places_moved publics linked (linked.object).code.places)
+    ((linked.start).code, places_moved publics linked (linked.object).code.places)
 
 abbrev pub data_piece : List Public → Linked → ℕ × List (Option SetByte)
 data_piece publics linked =
-    (linked.data_start, places_moved publics linked (linked.object).data_places.places)
+    ((linked.start).data_start, places_moved publics linked (linked.object).data_places.places)
 
 -- a segment is page-aligned if one of its pieces is
 abbrev pub joined_alignment : List Places → Alignment
@@ -55,7 +54,7 @@ main_modules linked = filter_map named_start linked
   where
     named_start : Linked → Option (List ℕ × ℕ)
     named_start one =
-        option_map (λ offset. ((one.object).name, (offset + one.code_start) % MEMORY_SIZE)) (one.object).start
+        option_map (λ offset. ((one.object).name, (offset + (one.start).code) % MEMORY_SIZE)) (one.object).start
 
 -- the merge has the name and the start of the main module, and no external names
 abbrev pub joined : List ObjectModule → List Linked → ObjectModule
@@ -130,11 +129,4 @@ link_refusal objects = refusal_of objects (linked_modules objects)
 
 -- the merge of modules in this order
 unfoldable pub merge_of : List ObjectModule → Result ObjectModule LinkRefusal
-merge_of objects =
-    unless_refused (joined objects (linked_modules objects)) (refusal_of objects (linked_modules objects))
-
--- where the piece of a segment of the module of this number begins
-abbrev pub start_of : List ObjectModule → (number : ℕ) → Segment → ℕ
-start_of objects number segment =
-    option_map_or (λ (one : Linked). displacement_in one segment)
-    (slice_get (linked_modules objects) number) 0
+merge_of objects = unless_refused (joined objects (linked_modules objects)) (link_refusal objects)

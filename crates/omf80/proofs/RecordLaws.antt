@@ -1,27 +1,18 @@
 -- Bytes without a fault of records begin with a record.
 use Rattle.std.proofs.Common.{◌≡◌, ℕ, zero, suc, ◌+◌, ◌-◌, ◌*◌, ◌%◌, ◌<◌, ◌≤◌, min, Bool, true, false, not, ◌||◌, ◌==◌, nat_lt, List, [], ◌∷◌, ◌++◌, length, take, drop, sum, Option, Some, None, is_none, slice_index, refl, ap, sym, subst, ◌∙◌, arith}
-use Rattle.std.specs.List.{fold}
 use Rattle.std.proofs.lemmas.Bool.{eqb-true, eqb-false, ltb-false, not-false}
 use Rattle.std.proofs.lemmas.List.{length-take, length-drop, append_assoc}
 use Rattle.omf80.specs.declared.fault.Fault.{Fault}
 use Rattle.omf80.specs.declared.fault.Fault.TheVariants.{Truncated, WrongSum, WrongLength, UnknownType}
 use Rattle.omf80.specs.declared.kind.RecordKind.{RecordKind}
-use Rattle.omf80.specs.Records.{type_byte, kinds, kind_of_type, word_bytes, checksum_of, record_bytes, record_end, first_body, record_fault}
+use Rattle.omf80.specs.Records.{type_byte, kinds, kind_of_type, word_bytes, record_bytes, record_end, first_body, record_fault}
+use Rattle.mem80.specs.Sums.{checksum_of}
+use Rattle.mem80.proofs.Sums.{checksum_is}
 use Rattle.omf80.proofs.Conditions.{IsBytes, find_passes, none_holds, word_is}
-
-pub fold_append : (xs ys : List ℕ) (a : ℕ) → fold (λ (b x : ℕ). b + x) a (xs ++ ys) ≡ fold (λ (b x : ℕ). b + x) (fold (λ (b x : ℕ). b + x) a xs) ys
-fold_append [] ys a = refl
-fold_append (x ∷ xs) ys a = fold_append xs ys (a + x)
 
 neither : (a b : Bool) → (a || b) ≡ false → (a ≡ false) × (b ≡ false)
 neither true b h = absurd (let bad : true ≡ false = h in cc)
 neither false b h = (refl, h)
-
--- the last byte of a record is its checksum
-checksum_is : (front : List ℕ) (last : ℕ) → last < 256 → sum (front ++ last ∷ []) % 256 ≡ 0 → last ≡ checksum_of front
-checksum_is front last byte h =
-    let whole : sum (front ++ last ∷ []) ≡ sum front + last = fold_append front (last ∷ []) 0 in
-    omega arith
 
 -- a list that is longer than a number: the items before it, the item there, and those after it
 pub record Split (xs : List ℕ) (n : ℕ) : Type 0 where

@@ -2,12 +2,13 @@
 use Rattle.std.proofs.Common.{◌≡◌, ℕ, suc, ◌+◌, ◌-◌, ◌*◌, ◌/◌, ◌%◌, ◌≤◌, Bool, false, not, ◌||◌, ◌==◌, nat_lt, List, [], ◌∷◌, ◌++◌, length, take, drop, sum, Some, None, is_none, slice_index, refl, ap, sym, subst, ◌∙◌, arith}
 use Rattle.std.proofs.lemmas.Bool.{eq-eqb, ne_eqb, le-ltb}
 use Rattle.std.proofs.lemmas.List.{length-append, append_assoc, take_at, drop_at}
+use Rattle.mem80.specs.Sums.{checksum_of}
+use Rattle.mem80.proofs.Sums.{sum_with_last}
 use Rattle.omf80.specs.declared.fault.Fault.{Fault}
 use Rattle.omf80.specs.declared.fault.Fault.TheVariants.{Truncated, WrongSum, WrongLength, UnknownType}
 use Rattle.omf80.specs.declared.kind.RecordKind.{RecordKind}
 use Rattle.omf80.specs.declared.kind.RecordKind.TheVariants.{Header, ExternalNames, Publics, Content, ExternalReferences, Relocation, IntersegmentReferences, ModuleEnd, EndOfFile}
-use Rattle.omf80.specs.Records.{type_byte, kind_of_type, checksum_of, record_bytes, record_end, first_body, record_fault, first_that_holds}
-use Rattle.omf80.proofs.RecordLaws.{fold_append}
+use Rattle.omf80.specs.Records.{type_byte, kind_of_type, record_bytes, record_end, first_body, record_fault, first_that_holds}
 
 pub kind_again : (kind : RecordKind) → kind_of_type (type_byte kind) ≡ Some kind
 kind_again Header = refl
@@ -63,7 +64,7 @@ read_spelled kind body rest limit =
     take_at (body ++ last ∷ []) rest (suc (length body)) with_last in
     let whole : take (record_end bytes) bytes ≡ front ++ last ∷ [] =
     ap (λ n. take n bytes) end ∙ ap (λ t. type_byte kind ∷ low ∷ high ∷ t) cut in
-    let added : sum (front ++ last ∷ []) ≡ sum front + last = fold_append front (last ∷ []) 0 in
+    let added : sum (front ++ last ∷ []) ≡ sum front + last = sum_with_last front last in
     let adds : sum (take (record_end bytes) bytes) % 256 ≡ 0 =
     ap (λ b. sum b % 256) whole ∙ (let z : sum (front ++ last ∷ []) % 256 ≡ 0 = omega arith in z) in
     let is_wrong : Bool = not (sum (take (record_end bytes) bytes) % 256 == 0) in

@@ -1,2 +1,3 @@
+pub use Rattle.mem80.specs.Sums
 pub mod Records
 pub mod internal

@@ -1,5 +1,6 @@
 -- Records as bytes (Intel's 8080 relocatable object module format, "Record formats").
 use Rattle.std.specs.Prelude.{◌≡◌, ℕ, ◌+◌, ◌-◌, ◌*◌, ◌/◌, ◌%◌, ◌==◌, ◌≤◌, Bool, not, ◌||◌, nat_lt, List, [], ◌∷◌, ◌++◌, length, take, drop, sum, find, slice_index, Option, is_none, option_map}
+use Rattle.mem80.specs.Sums.{checksum_of}
 use Rattle.omf80.specs.declared.fault.Fault.{Fault}
 use Rattle.omf80.specs.declared.fault.Fault.TheVariants.{Truncated, WrongSum, WrongLength, UnknownType}
 use Rattle.omf80.specs.declared.kind.RecordKind.{RecordKind}
@@ -34,10 +35,6 @@ word_bytes number = number % 256 ∷ number / 256 ∷ []
 -- type, length and body: all of a record but its checksum; the length counts the checksum too
 abbrev pub without_checksum : (type : ℕ) → (body : List ℕ) → List ℕ
 without_checksum type body = type ∷ word_bytes (length body + 1) ++ body
-
--- the byte that makes bytes add up to 0, modulo 256
-abbrev pub checksum_of : List ℕ → ℕ
-checksum_of bytes = (256 - sum bytes % 256) % 256
 
 -- bytes with their checksum at the end
 abbrev pub with_checksum : List ℕ → List ℕ

@@ -3,28 +3,29 @@ use Rattle.std.specs.Prelude.{◌≡◌, ℕ, List, [], ◌∷◌, map, replicat
 use Rattle.objmod.specs.declared.segment.Alignment.TheVariants.{Byte}
 use Rattle.objmod.specs.declared.segment.Segment.TheVariants.{Code}
 use Rattle.objmod.specs.Module.{SetByte, ObjectModule}
-use Rattle.objmod.specs.Merge.{DuplicatePublic, UnresolvedExternal, SegmentTooLong, NotOneMain, HighByteMoves, link_refusal, merge_of, start_of}
+use Rattle.objmod.specs.Displacements.{starts_of, start_in}
+use Rattle.objmod.specs.Merge.{DuplicatePublic, UnresolvedExternal, SegmentTooLong, NotOneMain, HighByteMoves, link_refusal, merge_of}
 use Rattle.objmod.specs.internal.Objects.{set, code_module, module_a, module_b, module_a_b, module_b_a, module_c, module_d, module_d_anywhere, module_c_d, module_d_c}
 
 pub a_and_b : merge_of (module_a ∷ module_b ∷ []) ≡ Ok module_a_b
-unfolding merge_of
+unfolding link_refusal merge_of
 a_and_b = refl
 
 pub b_and_a : merge_of (module_b ∷ module_a ∷ []) ≡ Ok module_b_a
-unfolding merge_of
+unfolding link_refusal merge_of
 b_and_a = refl
 
 pub c_and_d : merge_of (module_c ∷ module_d ∷ []) ≡ Ok module_c_d
-unfolding merge_of
+unfolding link_refusal merge_of
 c_and_d = refl
 
 pub d_and_c : merge_of (module_d_anywhere ∷ module_c ∷ []) ≡ Ok module_d_c
-unfolding merge_of
+unfolding link_refusal merge_of
 d_and_c = refl
 
 -- where the pieces begin
 pub starts :
-    map (λ number. start_of (module_c ∷ module_d ∷ []) number Code) (0 ∷ 1 ∷ []) ≡ 0 ∷ 256 ∷ []
+    map (λ number. start_in (starts_of (module_c ∷ module_d ∷ [])) number Code) (0 ∷ 1 ∷ []) ≡ 0 ∷ 256 ∷ []
 starts = refl
 
 -- places where nothing is set stay so
@@ -40,7 +41,7 @@ other_with_data = with_data (code_module (codes "N") [] None) (set 3 ∷ [])
 pub unset_places :
     merge_of (main_with_data ∷ other_with_data ∷ [])
     ≡ Ok (with_data main_with_data (set 1 ∷ None ∷ None ∷ set 2 ∷ set 3 ∷ []))
-unfolding merge_of
+unfolding link_refusal merge_of
 unset_places = refl
 
 -- refusals
