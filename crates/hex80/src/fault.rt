@@ -21,3 +21,20 @@ pub enum Fault {
     #[error("two lines with bytes for one address")]
     Overlap,
 }
+
+impl Fault {
+    ghost use Rattle.std.specs.Prelude.{◌≡◌};
+    ghost use Rattle.hex80.specs.Numbers.{number_of};
+
+    /// The number by which the documentation knows the fault.
+    pub fn number(&self) -> &'static str
+        ensures { result.now ≡ number_of self.now }
+    {
+        match self {
+            Fault::BadLine => "H1",
+            Fault::WrongSum => "H2",
+            Fault::NoEnd => "H3",
+            Fault::Overlap => "H4",
+        }
+    }
+}

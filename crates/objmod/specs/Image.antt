@@ -1,5 +1,5 @@
 -- A module placed in memory by a plan, or why it can't be.
-use Rattle.std.specs.Prelude.{ℕ, ◌+◌, ◌-◌, ◌%◌, ◌==◌, Bool, not, ◌&&◌, ◌||◌, nat_lt, if◌then◌else◌, List, [], ◌∷◌, map, slice_get, Option, None, option_map, unwrap_or, Result}
+use Rattle.std.specs.Prelude.{ℕ, ◌+◌, ◌-◌, ◌%◌, ◌==◌, Bool, not, ◌&&◌, ◌||◌, nat_lt, if◌then◌else◌, List, [], ◌∷◌, codes, map, slice_get, Option, None, option_map, unwrap_or, Result}
 use Rattle.std.specs.List.{list_any}
 use Rattle.std.specs.Option.{option_or, option_flatten, is_none}
 use Rattle.mem80.specs.declared.memory.TheConstants.{MEMORY_SIZE}
@@ -42,6 +42,15 @@ range_at base size = record { start = base; len = size }
 
 abbrev pub stack_range : Plan → Range
 stack_range plan = range_at plan.stack_base plan.stack_size
+
+-- the number of a refusal
+abbrev pub placement_number : PlacementRefusal → List ℕ
+placement_number ExternalLeft = codes "P3"
+placement_number NoStart = codes "P4"
+placement_number PassesMemory = codes "P2"
+placement_number SegmentsMeet = codes "P1"
+placement_number PageBroken = codes "P6"
+placement_number HighByteBroken = codes "P5"
 
 -- what the offsets of a segment are counted from; for the stack the address just past it
 abbrev pub base_of : Plan → Segment → ℕ

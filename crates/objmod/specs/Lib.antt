@@ -1,6 +1,7 @@
 pub use Rattle.omf80.specs.Records
 pub use Rattle.mem80.specs.Range
 pub use Rattle.mem80.specs.Pieces
+pub mod Numbers
 pub mod Module
 pub mod Parts
 pub mod Reading

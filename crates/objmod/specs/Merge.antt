@@ -1,5 +1,5 @@
 -- The merge of modules, or why there is none.
-use Rattle.std.specs.Prelude.{ℕ, ◌+◌, ◌-◌, ◌%◌, ◌==◌, Bool, not, ◌||◌, nat_lt, if◌then◌else◌, List, [], ◌∷◌, ◌++◌, length, map, flat_map, filter_map, find, sum_by, replicate, slice_get, Option, Some, None, option_map, Result, Ok, Err}
+use Rattle.std.specs.Prelude.{ℕ, ◌+◌, ◌-◌, ◌%◌, ◌==◌, Bool, not, ◌||◌, nat_lt, if◌then◌else◌, List, [], ◌∷◌, ◌++◌, codes, length, map, flat_map, filter_map, find, sum_by, replicate, slice_get, Option, Some, None, option_map, Result, Ok, Err}
 use Rattle.std.specs.List.{list_any}
 use Rattle.std.specs.Option.{option_or, option_map_or}
 use Rattle.mem80.specs.declared.memory.TheConstants.{MEMORY_SIZE}
@@ -23,6 +23,14 @@ pub data LinkRefusal : Type 0 where
   NotOneMain : LinkRefusal
   -- a high byte is fixed to what moves by no multiple of 256
   HighByteMoves : LinkRefusal
+
+-- the number of a refusal
+abbrev pub link_number : LinkRefusal → List ℕ
+link_number (DuplicatePublic name) = codes "L1"
+link_number (UnresolvedExternal name) = codes "L2"
+link_number SegmentTooLong = codes "L3"
+link_number NotOneMain = codes "L4"
+link_number HighByteMoves = codes "L5"
 
 -- the pieces of a merged segment one after another; nothing is set between them
 abbrev pub joined_after : (end : ℕ) → List (ℕ × List (Option SetByte)) → List (Option SetByte)

@@ -33,3 +33,25 @@ pub enum Fault {
     #[error("an alignment that is not served")]
     WrongAlignment,
 }
+
+impl Fault {
+    ghost use Rattle.std.specs.Prelude.{◌≡◌};
+    ghost use Rattle.objmod.specs.Numbers.{number_of};
+
+    /// The number by which the documentation knows the fault.
+    pub fn number(&self) -> &'static str
+        ensures { result.now ≡ number_of self.now }
+    {
+        match self {
+            Fault::Truncated => "O1",
+            Fault::WrongSum => "O2",
+            Fault::WrongLength => "O3",
+            Fault::UnknownType => "O4",
+            Fault::OutOfOrder => "O5",
+            Fault::WrongBody => "O6",
+            Fault::ContentMisplaced => "O7",
+            Fault::FixMisplaced => "O8",
+            Fault::WrongAlignment => "O9",
+        }
+    }
+}

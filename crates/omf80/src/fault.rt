@@ -18,3 +18,20 @@ pub enum Fault {
     #[error("a type that no record of this profile has")]
     UnknownType,
 }
+
+impl Fault {
+    ghost use Rattle.std.specs.Prelude.{◌≡◌};
+    ghost use Rattle.omf80.specs.Numbers.{number_of};
+
+    /// The number by which the documentation knows the fault.
+    pub fn number(&self) -> &'static str
+        ensures { result.now ≡ number_of self.now }
+    {
+        match self {
+            Fault::Truncated => "O1",
+            Fault::WrongSum => "O2",
+            Fault::WrongLength => "O3",
+            Fault::UnknownType => "O4",
+        }
+    }
+}
