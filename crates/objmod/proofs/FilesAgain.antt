@@ -11,10 +11,10 @@ use Rattle.objmod.specs.declared.fault.Fault.{Fault}
 use Rattle.objmod.specs.declared.fault.Fault.TheVariants.{OutOfOrder, WrongBody}
 use Rattle.objmod.specs.Before.{rank_of, may_come_after, is_empty, is_ended, may_follow}
 use Rattle.objmod.specs.Parts.{Part, kind_of_part, body_of, part_bytes}
-use Rattle.objmod.specs.Reading.{part_in}
+use Rattle.objmod.specs.Reading.{part_in, first_part}
 use Rattle.objmod.specs.Rules.{part_fault, is_accepted, are_accepted, fault_from_record, fault_of_record, fault_at}
 use Rattle.objmod.specs.Spelling.{IsFileOf, HasFirstFault}
-use Rattle.objmod.specs.internal.Judgement.{first_part, judged_by, judged_after, parts_of}
+use Rattle.objmod.specs.internal.Judgement.{judged_by, judged_after, parts_of}
 use Rattle.objmod.proofs.ReadBack.{both}
 use Rattle.objmod.proofs.PartsAgain.{part_again}
 
@@ -86,7 +86,7 @@ judged_again before part rest bytes accepted r =
       rest_is = r.rest_is;
     }
 
-limit_of : (before : List Part) (part : Part) → is_accepted before part ≡ true → length (body_of part) ≤ 1027
+pub limit_of : (before : List Part) (part : Part) → is_accepted before part ≡ true → length (body_of part) ≤ 1027
 limit_of before part accepted =
     let first = both (nat_le (length (body_of part)) 1027 && may_follow before (kind_of_part part))
     (option_map_or (λ (_ : Fault). false) (part_fault before part) true) accepted in
@@ -108,7 +108,7 @@ onward count before part rest accepted =
     ∙ ap (judged_after count (part ∷ before)) j.rest_is
 
 -- a part has a byte at least
-has_bytes : (part : Part) → 0 < length (part_bytes part)
+pub has_bytes : (part : Part) → 0 < length (part_bytes part)
 unfolding record_bytes
 has_bytes part = omega arith
 

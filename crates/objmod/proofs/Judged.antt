@@ -11,10 +11,10 @@ use Rattle.objmod.specs.declared.fault.Fault.{Fault}
 use Rattle.objmod.specs.declared.fault.Fault.TheVariants.{OutOfOrder, WrongBody}
 use Rattle.objmod.specs.Before.{is_empty, is_ended, may_follow}
 use Rattle.objmod.specs.Parts.{Part, kind_of_part, body_of, part_bytes}
-use Rattle.objmod.specs.Reading.{part_in}
+use Rattle.objmod.specs.Reading.{part_in, first_part}
 use Rattle.objmod.specs.Rules.{part_fault, is_accepted, are_accepted, fault_from_record, fault_of_record, fault_at}
 use Rattle.objmod.specs.Spelling.{IsFileOf, HasFirstFault}
-use Rattle.objmod.specs.internal.Judgement.{first_part, judged_by, judged_after, parts_of}
+use Rattle.objmod.specs.internal.Judgement.{judged_by, judged_after, parts_of}
 use Rattle.objmod.proofs.ReadBack.{part_back}
 
 option_or_none : {A : Type 0} (a b : Option A) → option_or a b ≡ None → (a ≡ None) × (b ≡ None)

@@ -5,3 +5,4 @@ pub mod PartsAgain
 pub mod Judged
 pub mod FilesAgain
 pub mod Unique
+pub mod Walks

@@ -1,7 +1,8 @@
 -- What the body of a record says, read from its bytes; nothing, where no part has that body.
-use Rattle.std.specs.Prelude.{ℕ, zero, suc, ◌+◌, ◌*◌, ◌==◌, nat_le, ◌&&◌, if◌then◌else◌, List, [], ◌∷◌, length, take, drop, find, Option, Some, None, option_map, option_and_then}
+use Rattle.std.specs.Prelude.{ℕ, zero, suc, ◌+◌, ◌*◌, ◌==◌, nat_le, ◌&&◌, if◌then◌else◌, List, [], ◌∷◌, length, take, drop, find, slice_index, Option, Some, None, option_map, option_and_then}
 use Rattle.omf80.specs.declared.kind.RecordKind.{RecordKind}
 use Rattle.omf80.specs.declared.kind.RecordKind.TheVariants as kinds
+use Rattle.omf80.specs.Records.{kind_of_type, first_body}
 use Rattle.objmod.specs.declared.segment.Segment.{Segment}
 use Rattle.objmod.specs.declared.segment.Segment.TheVariants.{Absolute, Code, Data, Stack}
 use Rattle.objmod.specs.declared.segment.FixKind.{FixKind}
@@ -149,3 +150,8 @@ part_in kinds.Relocation body = relocation_in body
 part_in kinds.IntersegmentReferences body = intersegment_in body
 part_in kinds.ModuleEnd body = module_end_in body
 part_in kinds.EndOfFile body = end_of_file_in body
+
+-- the part that bytes begin with, where they begin with a record
+abbrev pub first_part : List ℕ → Option Part
+first_part bytes =
+    option_and_then (λ kind. part_in kind (first_body bytes)) (kind_of_type (slice_index bytes 0))

@@ -1,19 +1,13 @@
 -- A file judged from its front: its parts, or its first fault.
-use Rattle.std.specs.Prelude.{ℕ, zero, suc, List, [], ◌∷◌, length, drop, reverse, slice_index, Option, Some, None, Result, Ok, Err}
-use Rattle.std.specs.Option.{option_and_then}
-use Rattle.omf80.specs.Records.{kind_of_type, first_body, record_end}
+use Rattle.std.specs.Prelude.{ℕ, zero, suc, List, [], ◌∷◌, length, drop, reverse, Option, Some, None, Result, Ok, Err}
+use Rattle.omf80.specs.Records.{record_end}
 use Rattle.objmod.specs.declared.fault.Fault.{Fault}
 use Rattle.objmod.specs.declared.fault.Fault.TheVariants.{OutOfOrder}
 use Rattle.objmod.specs.Module.{ObjectModule}
 use Rattle.objmod.specs.Parts.{Part}
-use Rattle.objmod.specs.Reading.{part_in}
+use Rattle.objmod.specs.Reading.{first_part}
 use Rattle.objmod.specs.Rules.{fault_at}
 use Rattle.objmod.specs.Spelling.{module_of}
-
--- the part that bytes begin with, where they begin with a record
-abbrev pub first_part : List ℕ → Option Part
-first_part bytes =
-    option_and_then (λ kind. part_in kind (first_body bytes)) (kind_of_type (slice_index bytes 0))
 
 -- the fault that there is, or the part in front and what is judged after it; nothing comes after the end of
 -- the file
