@@ -9,8 +9,8 @@ use Rattle.objmod.specs.declared.segment.Segment.{Segment}
 use Rattle.objmod.specs.declared.segment.Segment.TheVariants.{Absolute, Code, Data, Stack}
 use Rattle.objmod.specs.declared.segment.FixKind.{FixKind}
 use Rattle.objmod.specs.declared.segment.FixKind.TheVariants.{Low, High, Both}
-use Rattle.objmod.specs.Parts.{segment_number, fix_kind_number, name_bytes, listed_name_bytes, segment_entry_bytes, definition_bytes, reference_bytes}
-use Rattle.objmod.specs.Reading.{Front, segment_of, fix_kind_of, word_in_front, name_in_front, ended_name, listed_name_in_front, segment_entry_in_front, definition_in_front, reference_in_front, at_most, all_in}
+use Rattle.objmod.specs.Parts.{SegmentEntry, Reference, segment_number, fix_kind_number, name_bytes, listed_name_bytes, segment_entry_bytes, definition_bytes, reference_bytes}
+use Rattle.objmod.specs.Reading.{Front, segment_of, fix_kind_of, word_in_front, name_in_front, ended_name, listed_name_in_front, definition_in_front, words_in, references_in, segment_entries_in, at_most, all_in}
 
 -- what is read from the front of bytes is what they begin with
 abbrev pub ReadsBack : {A : Type 0} → (A → List ℕ) → (List ℕ → Front A) → Type 0
@@ -87,21 +87,6 @@ listed_name_back bytes x rest all h =
     let e = ended_back named.0 named.1 x rest n.1 second in
     (n.0 ∙ ap (λ k. length k ∷ named.0 ++ named.1) e.1 ∙ ap (λ r. length x ∷ r) e.0, e.2))
 
-pub segment_entry_back : ReadsBack segment_entry_bytes segment_entry_in_front
-segment_entry_back [] x rest all h = absurd (none-some (x, rest) h)
-segment_entry_back (a ∷ []) x rest all h = absurd (none-some (x, rest) h)
-segment_entry_back (a ∷ b ∷ []) x rest all h = absurd (none-some (x, rest) h)
-segment_entry_back (a ∷ b ∷ c ∷ []) x rest all h = absurd (none-some (x, rest) h)
-segment_entry_back (number ∷ low ∷ high ∷ alignment ∷ others) x rest all h =
-    option_map_some _ (segment_of number) (x, rest) h
-    (λ segment found is.
-    back_by segment_entry_bytes (number ∷ low ∷ high ∷ alignment ∷ others)
-    (record { segment = segment; length = low + 256 * high; alignment = alignment }) x others rest
-    (ap (λ n. n ∷ low ∷ high ∷ alignment ∷ others) (sym (segment_is number segment found))
-    ∙ ap (λ w. (segment_number segment ∷ w ++ alignment ∷ []) ++ others)
-    (sym (word_is low high all.1.0 all.1.1.0)))
-    all.1.1.1.1 (ap Some is))
-
 pub definition_back : ReadsBack definition_bytes definition_in_front
 definition_back bytes x rest all h =
     option_and_then_some _ (word_in_front bytes) (x, rest) h
@@ -115,18 +100,51 @@ definition_back bytes x rest all h =
     ∙ sym (append_assoc (word_bytes placed.0) (listed_name_bytes named.0) named.1))
     n.1 (ap Some is)))
 
-pub reference_back : ReadsBack reference_bytes reference_in_front
-reference_back [] x rest all h = absurd (none-some (x, rest) h)
-reference_back (a ∷ []) x rest all h = absurd (none-some (x, rest) h)
-reference_back (a ∷ b ∷ []) x rest all h = absurd (none-some (x, rest) h)
-reference_back (a ∷ b ∷ c ∷ []) x rest all h = absurd (none-some (x, rest) h)
-reference_back (low ∷ high ∷ offset_low ∷ offset_high ∷ others) x rest all h =
-    back_by reference_bytes (low ∷ high ∷ offset_low ∷ offset_high ∷ others)
-    (record { external = low + 256 * high; offset = offset_low + 256 * offset_high }) x others rest
-    (ap (λ w. (w ++ offset_low ∷ offset_high ∷ []) ++ others) (sym (word_is low high all.0 all.1.0))
-    ∙ ap (λ w. (word_bytes (low + 256 * high) ++ w) ++ others)
-    (sym (word_is offset_low offset_high all.1.1.0 all.1.1.1.0)))
-    all.1.1.1.1 h
+pub words_back : (bytes xs : List ℕ) → IsBytes bytes → words_in bytes ≡ Some xs → bytes ≡ flat_map word_bytes xs
+words_back [] xs all h = ap (flat_map word_bytes) (same_Some [] xs h)
+words_back (a ∷ []) xs all h = absurd (none-some xs h)
+words_back (low ∷ high ∷ rest) xs all h =
+    option_map_some (λ (later : List ℕ). (low + 256 * high) ∷ later) (words_in rest) xs h
+    (λ later found is.
+    ap (λ w. w ++ rest) (sym (word_is low high all.0 all.1.0))
+    ∙ ap (λ r. word_bytes (low + 256 * high) ++ r) (words_back rest later all.1.1 found)
+    ∙ ap (flat_map word_bytes) is)
+
+pub references_back :
+    (bytes : List ℕ) (xs : List Reference) → IsBytes bytes → references_in bytes ≡ Some xs
+    → bytes ≡ flat_map reference_bytes xs
+references_back [] xs all h = ap (flat_map reference_bytes) (same_Some [] xs h)
+references_back (a ∷ []) xs all h = absurd (none-some xs h)
+references_back (a ∷ b ∷ []) xs all h = absurd (none-some xs h)
+references_back (a ∷ b ∷ c ∷ []) xs all h = absurd (none-some xs h)
+references_back (low ∷ high ∷ offset_low ∷ offset_high ∷ rest) xs all h =
+    let first : Reference = record { external = low + 256 * high; offset = offset_low + 256 * offset_high } in
+    option_map_some (λ (later : List Reference). first ∷ later) (references_in rest) xs h
+    (λ later found is.
+    ap (λ w. (w ++ offset_low ∷ offset_high ∷ []) ++ rest) (sym (word_is low high all.0 all.1.0))
+    ∙ ap (λ w. (word_bytes (low + 256 * high) ++ w) ++ rest)
+    (sym (word_is offset_low offset_high all.1.1.0 all.1.1.1.0))
+    ∙ ap (λ r. reference_bytes first ++ r) (references_back rest later all.1.1.1.1 found)
+    ∙ ap (flat_map reference_bytes) is)
+
+pub segment_entries_back :
+    (bytes : List ℕ) (xs : List SegmentEntry) → IsBytes bytes → segment_entries_in bytes ≡ Some xs
+    → bytes ≡ flat_map segment_entry_bytes xs
+segment_entries_back [] xs all h = ap (flat_map segment_entry_bytes) (same_Some [] xs h)
+segment_entries_back (a ∷ []) xs all h = absurd (none-some xs h)
+segment_entries_back (a ∷ b ∷ []) xs all h = absurd (none-some xs h)
+segment_entries_back (a ∷ b ∷ c ∷ []) xs all h = absurd (none-some xs h)
+segment_entries_back (number ∷ low ∷ high ∷ alignment ∷ rest) xs all h =
+    option_and_then_some _ (segment_of number) xs h
+    (λ segment found second.
+    let first : SegmentEntry = record { segment = segment; length = low + 256 * high; alignment = alignment } in
+    option_map_some (λ (later : List SegmentEntry). first ∷ later) (segment_entries_in rest) xs second
+    (λ later third is.
+    ap (λ n. n ∷ low ∷ high ∷ alignment ∷ rest) (sym (segment_is number segment found))
+    ∙ ap (λ w. (segment_number segment ∷ w ++ alignment ∷ []) ++ rest)
+    (sym (word_is low high all.1.0 all.1.1.0))
+    ∙ ap (λ r. segment_entry_bytes first ++ r) (segment_entries_back rest later all.1.1.1.1 third)
+    ∙ ap (flat_map segment_entry_bytes) is))
 
 -- what is read to the end of bytes spells them, each after the other
 pub at_most_back :

@@ -7,8 +7,8 @@ use Rattle.objmod.specs.declared.segment.Segment.{Segment}
 use Rattle.objmod.specs.declared.segment.Segment.TheVariants.{Absolute, Code, Data, Stack}
 use Rattle.objmod.specs.declared.segment.FixKind.{FixKind}
 use Rattle.objmod.specs.declared.segment.FixKind.TheVariants.{Low, High, Both}
-use Rattle.objmod.specs.Parts.{segment_number, fix_kind_number, name_bytes, listed_name_bytes, segment_entry_bytes, definition_bytes, reference_bytes}
-use Rattle.objmod.specs.Reading.{Front, segment_of, fix_kind_of, word_in_front, name_in_front, ended_name, listed_name_in_front, segment_entry_in_front, definition_in_front, reference_in_front, at_most, all_in}
+use Rattle.objmod.specs.Parts.{SegmentEntry, Reference, segment_number, fix_kind_number, name_bytes, listed_name_bytes, segment_entry_bytes, definition_bytes, reference_bytes}
+use Rattle.objmod.specs.Reading.{Front, segment_of, fix_kind_of, word_in_front, name_in_front, ended_name, listed_name_in_front, definition_in_front, words_in, references_in, segment_entries_in, at_most, all_in}
 
 -- what is spelled is read, and the bytes after it are left; it has a byte at least
 pub record ReadsAgain {A : Type 0} (spell : A → List ℕ) (front : List ℕ → Front A) : Type 0 where
@@ -51,23 +51,6 @@ listed_name_again = record {
   some = λ name. omega arith;
 }
 
-pub segment_entry_again : ReadsAgain segment_entry_bytes segment_entry_in_front
-segment_entry_again = record {
-  again = λ entry rest.
-      ap (option_map
-      (λ (segment : Segment). (
-        record {
-          segment = segment;
-          length = entry.length % 256 + 256 * (entry.length / 256);
-          alignment = entry.alignment;
-        },
-        rest,
-      ))) (segment_again entry.segment)
-      ∙ ap (λ n. Some (record { segment = entry.segment; length = n; alignment = entry.alignment }, rest))
-      (word_of entry.length);
-  some = λ entry. omega arith;
-}
-
 pub definition_again : ReadsAgain definition_bytes definition_in_front
 definition_again = record {
   again = λ definition rest.
@@ -82,14 +65,44 @@ definition_again = record {
   some = λ definition. omega arith;
 }
 
-pub reference_again : ReadsAgain reference_bytes reference_in_front
-reference_again = record {
-  again = λ reference rest.
-      ap (λ n. Some (record { external = n; offset = reference.offset % 256 + 256 * (reference.offset / 256) }, rest))
-      (word_of reference.external)
-      ∙ ap (λ n. Some (record { external = reference.external; offset = n }, rest)) (word_of reference.offset);
-  some = λ reference. omega arith;
-}
+pub words_again : (xs : List ℕ) → words_in (flat_map word_bytes xs) ≡ Some xs
+words_again [] = refl
+words_again (x ∷ xs) =
+    ap (λ n. option_map (λ (others : List ℕ). n ∷ others) (words_in (flat_map word_bytes xs))) (word_of x)
+    ∙ ap (option_map (λ (others : List ℕ). x ∷ others)) (words_again xs)
+
+pub references_again : (xs : List Reference) → references_in (flat_map reference_bytes xs) ≡ Some xs
+references_again [] = refl
+references_again (x ∷ xs) =
+    ap (λ n.
+    option_map
+    (λ (others : List Reference).
+    record { external = n; offset = x.offset % 256 + 256 * (x.offset / 256) } ∷ others)
+    (references_in (flat_map reference_bytes xs)))
+    (word_of x.external)
+    ∙ ap (λ n.
+    option_map (λ (others : List Reference). record { external = x.external; offset = n } ∷ others)
+    (references_in (flat_map reference_bytes xs)))
+    (word_of x.offset)
+    ∙ ap (option_map (λ (others : List Reference). x ∷ others)) (references_again xs)
+
+pub segment_entries_again : (xs : List SegmentEntry) → segment_entries_in (flat_map segment_entry_bytes xs) ≡ Some xs
+segment_entries_again [] = refl
+segment_entries_again (x ∷ xs) =
+    ap (option_and_then
+    (λ (segment : Segment).
+    option_map
+    (λ (others : List SegmentEntry).
+    record { segment = segment; length = x.length % 256 + 256 * (x.length / 256); alignment = x.alignment } ∷ others)
+    (segment_entries_in (flat_map segment_entry_bytes xs))))
+    (segment_again x.segment)
+    ∙ ap (λ n.
+    option_map
+    (λ (others : List SegmentEntry).
+    record { segment = x.segment; length = n; alignment = x.alignment } ∷ others)
+    (segment_entries_in (flat_map segment_entry_bytes xs)))
+    (word_of x.length)
+    ∙ ap (option_map (λ (others : List SegmentEntry). x ∷ others)) (segment_entries_again xs)
 
 at_most_step :
     {A : Type 0} (front : List ℕ → Front A) (count : ℕ) (bytes : List ℕ) (x : A) (rest : List ℕ)

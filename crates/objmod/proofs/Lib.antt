@@ -6,3 +6,4 @@ pub mod Judged
 pub mod FilesAgain
 pub mod Unique
 pub mod Walks
+pub mod AnyCount

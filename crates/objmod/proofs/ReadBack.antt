@@ -4,11 +4,10 @@ use Rattle.std.proofs.lemmas.Bool.{eqb-true}
 use Rattle.std.proofs.lemmas.Option.{none-some, same_Some, option_and_then_some}
 use Rattle.omf80.specs.declared.kind.RecordKind.{RecordKind}
 use Rattle.omf80.specs.declared.kind.RecordKind.TheVariants as kinds
-use Rattle.omf80.specs.Records.{word_bytes}
 use Rattle.omf80.proofs.Conditions.{IsBytes, word_is}
 use Rattle.objmod.specs.Parts.{Part, HeaderPart, ExternalNamesPart, PublicsPart, ContentPart, ExternalReferencesPart, RelocationPart, IntersegmentPart, ModuleEndPart, EndOfFilePart, kind_of_part, body_of, segment_number, fix_kind_number, name_bytes, listed_name_bytes, segment_entry_bytes, definition_bytes, reference_bytes}
-use Rattle.objmod.specs.Reading.{segment_of, fix_kind_of, word_in_front, name_in_front, listed_name_in_front, segment_entry_in_front, definition_in_front, reference_in_front, all_in, header_after_name, module_end_by, part_in}
-use Rattle.objmod.proofs.Fronts.{option_map_some, segment_is, fix_kind_is, word_back, name_back, listed_name_back, segment_entry_back, definition_back, reference_back, all_back}
+use Rattle.objmod.specs.Reading.{segment_of, fix_kind_of, name_in_front, listed_name_in_front, definition_in_front, words_in, references_in, segment_entries_in, all_in, header_after_name, module_end_by, part_in}
+use Rattle.objmod.proofs.Fronts.{option_map_some, segment_is, fix_kind_is, name_back, listed_name_back, definition_back, words_back, references_back, segment_entries_back, all_back}
 
 -- a part is one of a kind and spells a body
 abbrev pub IsPartOf : RecordKind → List ℕ → Part → Type 0
@@ -23,13 +22,13 @@ header_back :
 header_back front name [] part all h = absurd (none-some part h)
 header_back front name (a ∷ []) part all h = absurd (none-some part h)
 header_back front name (translator ∷ version ∷ rest) part all h =
-    option_map_some (HeaderPart name translator version) (all_in segment_entry_in_front rest) part h
+    option_map_some (HeaderPart name translator version) (segment_entries_in rest) part h
     (λ entries found is.
     part_is kinds.Header (name_bytes name ++ translator ∷ version ∷ rest) (HeaderPart name translator version entries)
     part is (
       refl,
       ap (λ r. name_bytes name ++ translator ∷ version ∷ r)
-          (all_back segment_entry_bytes segment_entry_in_front segment_entry_back rest entries all.1.1 found),
+          (segment_entries_back rest entries all.1.1 found),
     ))
 
 -- two tests that both pass
@@ -120,24 +119,24 @@ part_back kinds.ExternalReferences [] part all h = absurd (none-some part h)
 part_back kinds.ExternalReferences (number ∷ rest) part all h =
     option_and_then_some _ (fix_kind_of number) part h
     (λ kind first second.
-    option_map_some (ExternalReferencesPart kind) (all_in reference_in_front rest) part second
+    option_map_some (ExternalReferencesPart kind) (references_in rest) part second
     (λ references found is.
     part_is kinds.ExternalReferences (number ∷ rest) (ExternalReferencesPart kind references) part is (
       refl,
       ap (λ n. n ∷ rest) (sym (fix_kind_is number kind first))
           ∙ ap (λ r. fix_kind_number kind ∷ r)
-          (all_back reference_bytes reference_in_front reference_back rest references all.1 found),
+          (references_back rest references all.1 found),
     )))
 part_back kinds.Relocation [] part all h = absurd (none-some part h)
 part_back kinds.Relocation (number ∷ rest) part all h =
     option_and_then_some _ (fix_kind_of number) part h
     (λ kind first second.
-    option_map_some (RelocationPart kind) (all_in word_in_front rest) part second
+    option_map_some (RelocationPart kind) (words_in rest) part second
     (λ offsets found is.
     part_is kinds.Relocation (number ∷ rest) (RelocationPart kind offsets) part is (
       refl,
       ap (λ n. n ∷ rest) (sym (fix_kind_is number kind first))
-          ∙ ap (λ r. fix_kind_number kind ∷ r) (all_back word_bytes word_in_front word_back rest offsets all.1 found),
+          ∙ ap (λ r. fix_kind_number kind ∷ r) (words_back rest offsets all.1 found),
     )))
 part_back kinds.IntersegmentReferences [] part all h = absurd (none-some part h)
 part_back kinds.IntersegmentReferences (a ∷ []) part all h = absurd (none-some part h)
@@ -146,14 +145,14 @@ part_back kinds.IntersegmentReferences (target ∷ number ∷ rest) part all h =
     (λ segment zeroth later.
     option_and_then_some _ (fix_kind_of number) part later
     (λ kind first second.
-    option_map_some (IntersegmentPart segment kind) (all_in word_in_front rest) part second
+    option_map_some (IntersegmentPart segment kind) (words_in rest) part second
     (λ offsets found is.
     part_is kinds.IntersegmentReferences (target ∷ number ∷ rest) (IntersegmentPart segment kind offsets) part is (
       refl,
       ap (λ n. n ∷ number ∷ rest) (sym (segment_is target segment zeroth))
           ∙ ap (λ n. segment_number segment ∷ n ∷ rest) (sym (fix_kind_is number kind first))
           ∙ ap (λ r. segment_number segment ∷ fix_kind_number kind ∷ r)
-          (all_back word_bytes word_in_front word_back rest offsets all.1.1 found),
+          (words_back rest offsets all.1.1 found),
     ))))
 part_back kinds.ModuleEnd [] part all h = absurd (none-some part h)
 part_back kinds.ModuleEnd (a ∷ []) part all h = absurd (none-some part h)

@@ -42,14 +42,6 @@ abbrev pub listed_name_in_front : List ℕ → Front (List ℕ)
 listed_name_in_front bytes =
     option_and_then (λ (named : List ℕ × List ℕ). ended_name named.0 named.1) (name_in_front bytes)
 
-abbrev pub segment_entry_in_front : List ℕ → Front SegmentEntry
-segment_entry_in_front (number ∷ low ∷ high ∷ alignment ∷ rest) =
-    option_map
-    (λ (segment : Segment).
-    (record { segment = segment; length = low + 256 * high; alignment = alignment }, rest))
-    (segment_of number)
-segment_entry_in_front bytes = None
-
 abbrev pub definition_in_front : List ℕ → Front Definition
 definition_in_front bytes =
     option_and_then
@@ -59,10 +51,32 @@ definition_in_front bytes =
     (listed_name_in_front placed.1))
     (word_in_front bytes)
 
-abbrev pub reference_in_front : List ℕ → Front Reference
-reference_in_front (low ∷ high ∷ offset_low ∷ offset_high ∷ rest) =
-    Some (record { external = low + 256 * high; offset = offset_low + 256 * offset_high }, rest)
-reference_in_front bytes = None
+-- Words, references and entries of segments, each of as many bytes as the next, to the end of the bytes.
+abbrev pub words_in : List ℕ → Option (List ℕ)
+words_in [] = Some []
+words_in (low ∷ high ∷ rest) = option_map (λ (others : List ℕ). (low + 256 * high) ∷ others) (words_in rest)
+words_in bytes = None
+
+abbrev pub references_in : List ℕ → Option (List Reference)
+references_in [] = Some []
+references_in (low ∷ high ∷ offset_low ∷ offset_high ∷ rest) =
+    option_map
+    (λ (others : List Reference).
+    record { external = low + 256 * high; offset = offset_low + 256 * offset_high } ∷ others)
+    (references_in rest)
+references_in bytes = None
+
+abbrev pub segment_entries_in : List ℕ → Option (List SegmentEntry)
+segment_entries_in [] = Some []
+segment_entries_in (number ∷ low ∷ high ∷ alignment ∷ rest) =
+    option_and_then
+    (λ (segment : Segment).
+    option_map
+    (λ (others : List SegmentEntry).
+    record { segment = segment; length = low + 256 * high; alignment = alignment } ∷ others)
+    (segment_entries_in rest))
+    (segment_of number)
+segment_entries_in bytes = None
 
 -- what stands one after another to the end of the bytes, at most so many
 abbrev pub at_most : {A : Type 0} → (count : ℕ) → (List ℕ → Front A) → List ℕ → Option (List A)
@@ -79,7 +93,7 @@ all_in front bytes = at_most (length bytes) front bytes
 
 abbrev pub header_after_name : List ℕ → List ℕ → Option Part
 header_after_name name (translator ∷ version ∷ rest) =
-    option_map (HeaderPart name translator version) (all_in segment_entry_in_front rest)
+    option_map (HeaderPart name translator version) (segment_entries_in rest)
 header_after_name name bytes = None
 
 abbrev pub header_in : List ℕ → Option Part
@@ -105,13 +119,13 @@ abbrev pub external_references_in : List ℕ → Option Part
 external_references_in [] = None
 external_references_in (number ∷ rest) =
     option_and_then
-    (λ (kind : FixKind). option_map (ExternalReferencesPart kind) (all_in reference_in_front rest))
+    (λ (kind : FixKind). option_map (ExternalReferencesPart kind) (references_in rest))
     (fix_kind_of number)
 
 abbrev pub relocation_in : List ℕ → Option Part
 relocation_in [] = None
 relocation_in (number ∷ rest) =
-    option_and_then (λ (kind : FixKind). option_map (RelocationPart kind) (all_in word_in_front rest))
+    option_and_then (λ (kind : FixKind). option_map (RelocationPart kind) (words_in rest))
     (fix_kind_of number)
 
 abbrev pub intersegment_in : List ℕ → Option Part
@@ -119,7 +133,7 @@ intersegment_in (target ∷ number ∷ rest) =
     option_and_then
     (λ (segment : Segment).
     option_and_then
-    (λ (kind : FixKind). option_map (IntersegmentPart segment kind) (all_in word_in_front rest))
+    (λ (kind : FixKind). option_map (IntersegmentPart segment kind) (words_in rest))
     (fix_kind_of number))
     (segment_of target)
 intersegment_in body = None
