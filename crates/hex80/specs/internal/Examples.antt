@@ -2,7 +2,7 @@
 use Rattle.std.specs.Prelude.{◌≡◌, ℕ, true, false, List, [], ◌∷◌, ◌++◌, codes, replicate, Ok, Err, refl}
 use Rattle.mem80.specs.declared.range.Piece.{Piece}
 use Rattle.hex80.specs.declared.fault.Fault.TheVariants.{BadLine, WrongSum, NoEnd, Overlap}
-use Rattle.hex80.specs.Lines.{ended_line, lines_of, end_line}
+use Rattle.hex80.specs.Lines.{data_line, ended_line, lines_of, end_line}
 use Rattle.hex80.specs.Spelling.{fault_at, are_line_pieces, Spells}
 use Rattle.hex80.specs.internal.Judgement.{judgement_of}
 
@@ -101,3 +101,53 @@ past_the_last_address = refl
 
 pub at_the_last_address : are_line_pieces [] (piece_at 65535 [] ∷ []) ≡ true
 at_the_last_address = refl
+
+-- a wrong sum counts before an address that was there
+pub wrong_sum_before_twice :
+    judgement_of (ended_line program_line ++ ended_line (codes ":09010000CD0401763E08D304C9C9") ++ end_line)
+    ≡ Err WrongSum
+unfolding fault_at judgement_of
+wrong_sum_before_twice = refl
+
+-- an odd number of digits; a count that differs from the bytes; type 02; a small letter
+pub odd_digits : judgement_of (ended_line (codes ":00000500F") ++ end_line) ≡ Err BadLine
+unfolding fault_at judgement_of
+odd_digits = refl
+
+pub another_count : judgement_of (ended_line (codes ":02000000A55B") ++ end_line) ≡ Err BadLine
+unfolding fault_at judgement_of
+another_count = refl
+
+pub type_2 : judgement_of (ended_line (codes ":020000021000EC") ++ end_line) ≡ Err BadLine
+unfolding fault_at judgement_of
+type_2 = refl
+
+pub small_letter : judgement_of (ended_line (codes ":01000000a55A") ++ end_line) ≡ Err BadLine
+unfolding fault_at judgement_of
+small_letter = refl
+
+-- lines that touch
+pub touching :
+    judgement_of (ended_line (codes ":01000000A55A") ++ ended_line (codes ":01000100A559") ++ end_line)
+    ≡ Ok (piece_at 0 (0xA5 ∷ []) ∷ piece_at 1 (0xA5 ∷ []) ∷ [])
+unfolding fault_at judgement_of
+touching = refl
+
+-- lines longer than those that are written
+pub line_of_17 :
+    judgement_of (ended_line (data_line (piece_at 7 (replicate 17 0xA5))) ++ end_line)
+    ≡ Ok (piece_at 7 (replicate 17 0xA5) ∷ [])
+unfolding fault_at judgement_of
+line_of_17 = refl
+
+pub line_of_255 :
+    judgement_of (ended_line (data_line (piece_at 7 (replicate 255 0xA5))) ++ end_line)
+    ≡ Ok (piece_at 7 (replicate 255 0xA5) ∷ [])
+unfolding fault_at judgement_of
+line_of_255 = refl
+
+-- the program in the other order
+pub other_order_is_written :
+    data_line (piece_at 0x100 (0x3E ∷ 0x08 ∷ 0xD3 ∷ 0x04 ∷ 0xC9 ∷ 0xCD ∷ 0x00 ∷ 0x01 ∷ 0x76 ∷ []))
+    ≡ codes ":090100003E08D304C9CD000176CC"
+other_order_is_written = refl
