@@ -4,5 +4,6 @@ pub mod Objects
 pub mod Examples
 pub mod Spelled
 pub mod Faults
+pub mod Accepted
 pub mod Links
 pub mod Placements
