@@ -10,6 +10,7 @@ pub mod Rules
 pub mod Spelling
 pub mod Walking
 pub mod Text
+pub mod Stored
 pub mod Moving
 pub mod Displacements
 pub mod Merge
