@@ -4,9 +4,10 @@ use Rattle.std.specs.List.{range_with_len}
 use Rattle.omf80.specs.Records.{record_fault, record_end}
 use Rattle.omf80.specs.declared.fault.Fault.{Fault as RecordFault}
 use Rattle.objmod.specs.declared.segment.Alignment.{Alignment}
+use Rattle.objmod.specs.declared.segment.Alignment.TheVariants.{Byte}
 use Rattle.objmod.specs.declared.segment.Fix.{Fix}
 use Rattle.objmod.specs.declared.segment.Segment.{Segment}
-use Rattle.objmod.specs.declared.segment.Segment.TheVariants.{Code, Data, Stack}
+use Rattle.objmod.specs.declared.segment.Segment.TheVariants.{Absolute, Code, Data, Stack}
 use Rattle.objmod.specs.Before.{entries_of, externals_of, stated_length_of}
 use Rattle.objmod.specs.Module.{Places, Public, ObjectModule}
 use Rattle.objmod.specs.Parts.{Definition, Content, Part, PublicsPart}
@@ -43,6 +44,19 @@ walk_over parts = record {
   contents = fixed_contents parts;
   fixes = [];
 }
+
+-- how many bytes a segment has, and where it may begin
+abbrev pub length_by : Walking → Segment → ℕ
+length_by walking Absolute = 0
+length_by walking Code = walking.code_length
+length_by walking Data = walking.data_length
+length_by walking Stack = walking.stack_length
+
+abbrev pub alignment_by : Walking → Segment → Alignment
+alignment_by walking Absolute = Byte
+alignment_by walking Code = walking.code_alignment
+alignment_by walking Data = walking.data_alignment
+alignment_by walking Stack = Byte
 
 -- a walk is one over the parts of a file
 pub record WalksOver (bytes : List ℕ) (walking : Walking) : Type 0 where
