@@ -7,3 +7,4 @@ pub mod FilesAgain
 pub mod Unique
 pub mod Walks
 pub mod AnyCount
+pub mod Moves
