@@ -1,0 +1,4 @@
+pub mod Digits
+pub mod LineLaws
+pub mod Judged
+pub mod TextsAgain

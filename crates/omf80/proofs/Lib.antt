@@ -1,0 +1,3 @@
+pub mod Conditions
+pub mod RecordLaws
+pub mod RecordsAgain

@@ -1,0 +1,4 @@
+pub use Rattle.mem80.specs.Sums
+pub mod Numbers
+pub mod Records
+pub mod internal
