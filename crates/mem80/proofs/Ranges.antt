@@ -1,5 +1,5 @@
 -- What the test of ranges says.
-use Rattle.std.proofs.Common.{ℕ, ◌+◌, ◌<◌, ◌≤◌, arith}
+use Rattle.std.proofs.Common.{◌+◌, arith}
 use Rattle.std.specs.Prelude.{◌↔◌, max, min, IsTrue}
 use Rattle.std.proofs.lemmas.Bool.{lt-ltb, ltb-true}
 use Rattle.mem80.specs.declared.range.Range.{Range}

@@ -1,13 +1,13 @@
 -- The parts of a file are read from its bytes alone, and its module is what a walk over it tells.
-use Rattle.std.proofs.Common.{◌≡◌, ℕ, zero, suc, ◌+◌, ◌<◌, ◌≤◌, true, List, [], ◌∷◌, ◌++◌, length, drop, flat_map, Some, None, option_and_then, refl, ap, sym, ◌∙◌, arith}
+use Rattle.std.proofs.Common.{◌≡◌, ℕ, zero, suc, ◌+◌, ◌<◌, ◌≤◌, true, List, [], ◌∷◌, ◌++◌, length, drop, flat_map, option_and_then, refl, ap, sym, ◌∙◌, arith}
 use Rattle.std.proofs.lemmas.List.{length-drop, length-append}
-use Rattle.omf80.specs.Records.{record_end, record_bytes, record_fault, first_body}
-use Rattle.omf80.proofs.RecordsAgain.{ReadAgain, read_again}
+use Rattle.omf80.specs.Records.{record_end, record_fault, first_body}
+use Rattle.omf80.proofs.RecordsAgain.{read_again}
 use Rattle.objmod.specs.Parts.{Part, kind_of_part, body_of, part_bytes}
-use Rattle.objmod.specs.Reading.{part_in, first_part}
+use Rattle.objmod.specs.Reading.{part_in}
 use Rattle.objmod.specs.Rules.{is_accepted, are_accepted}
 use Rattle.objmod.specs.Spelling.{module_of, IsFileOf}
-use Rattle.objmod.specs.Walking.{Walking, walk_over, module_by, sound_part, before_parts, parts_within, parts_from}
+use Rattle.objmod.specs.Walking.{walk_over, module_by, sound_part, before_parts, parts_within, parts_from}
 use Rattle.objmod.proofs.ReadBack.{both}
 use Rattle.objmod.proofs.PartsAgain.{part_again}
 use Rattle.objmod.proofs.FilesAgain.{limit_of, has_bytes}

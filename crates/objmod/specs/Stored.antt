@@ -8,7 +8,6 @@ use Rattle.objmod.specs.Before.{is_empty}
 use Rattle.objmod.specs.Module.{Places}
 use Rattle.objmod.specs.Parts.{Content}
 use Rattle.objmod.specs.Rules.{fix_end, is_within}
-use Rattle.objmod.specs.Spelling.{FixedContent}
 use Rattle.objmod.specs.Text.{Run}
 use Rattle.objmod.specs.Walking.{places_by}
 

@@ -10,7 +10,7 @@ use Rattle.objmod.specs.declared.segment.Segment.{Segment}
 use Rattle.objmod.specs.declared.segment.Segment.TheVariants.{Absolute, Code, Data, Stack}
 use Rattle.objmod.specs.Before.{entries_of, externals_of, stated_length_of}
 use Rattle.objmod.specs.Module.{Places, Public, ObjectModule}
-use Rattle.objmod.specs.Parts.{Definition, Content, Part, PublicsPart}
+use Rattle.objmod.specs.Parts.{Content, Part, PublicsPart}
 use Rattle.objmod.specs.Reading.{Front, listed_name_in_front, definition_in_front, all_in, first_part}
 use Rattle.objmod.specs.Spelling.{FixedContent, IsFileOf, fixed_contents, set_in, alignment_in, name_in, publics_of, start_in}
 
