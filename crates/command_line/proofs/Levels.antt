@@ -25,6 +25,7 @@ find_one p x = go (p x) refl
 pub record LevelPasses (s : Shape) (names : Names) (h : Held) (words : List Text) (has_subcommand : Bool) (below : Kinds) : Type 0 where
   pub words_pass : walk_fault s names (walk_from h) words ≡ []
   pub below_passes : below ≡ []
+  pub settle_passes : settle_fault s.rules s.args_override_self (walk s.rules names h words).held ≡ []
   pub check_passes : check_fault s (finished s.rules (walk s.rules names h words).held) has_subcommand ≡ []
 
 pub level_passes_by : (s : Shape) (names : Names) (h : Held) (words : List Text) (has_subcommand : Bool) (below : Kinds)
@@ -40,5 +41,6 @@ level_passes_by s names h words has_subcommand below fine =
     record {
       words_pass = first.0;
       below_passes = second.0;
+      settle_passes = third.0;
       check_passes = (none_of_both (defaults_fault (settled s.rules end).rows s.rules) check third.1).1;
     }

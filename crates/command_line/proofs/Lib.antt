@@ -1,4 +1,9 @@
 pub mod Levels
 pub mod CommandLemmas
-pub mod RunWords
+pub mod Files
+pub mod Begins
+pub mod Full
 pub mod PlmWords
+pub mod Given
+pub mod Decimals
+pub mod Inputs

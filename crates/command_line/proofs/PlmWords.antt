@@ -1,20 +1,25 @@
--- The words of a whole command line: without a fault they order a file to be run.
-use Rattle.std.proofs.Common.{◌≡◌, ℕ, List, [], ◌∷◌, Option, Some, None, Bool, true, false, ◌⊎◌, inl, inr, refl, sym, subst, codes, drop, is_some}
-use Rattle.std.specs.Prelude.{find, fold, option_and_then, option_map, if◌then◌else◌, ◌==◌, not, ◌&&◌, ◌||◌}
+-- The words of a whole command line: without a fault they give an order.
+use Rattle.std.proofs.Common.{◌≡◌, ℕ, List, [], ◌∷◌, Option, Some, None, Bool, true, false, refl, sym, subst, codes, drop, is_some, ap, ◌∙◌, ◌++◌, append_assoc, ◌<◌, length}
+use Rattle.std.specs.Prelude.{unwrap_or, find, fold, option_and_then, option_map, if◌then◌else◌, not, ◌&&◌, ◌||◌}
 use Rattle.std.specs.Option.{option_map_or}
 use Rattle.std.specs.Str.{bytes_eq}
-use Rattle.clap.specs.Words.{App, Kinds, Row, Rule, Shape, Text, fault_of, is_simple}
-use Rattle.clap.specs.Walk.{Names, Waiting, option, positional, waits, done, refused, next, subcommand, plain_word, bundle, long_met, subcommand_or_other, subcommand_met, to_positional, arg_by_index, walked_from, walk, walk_from, nothing_held, answers_to, Held, Walk, Step, Outcome, plain, idle, value, trailing, walked, after_step, word_met, after_flag, short_or_plain, long_or_other, arg_by_long, finished}
-use Rattle.clap.specs.Lexer.{long_of, short_of, strip_byte}
+use Rattle.clap.specs.Words.{App, Kinds, Row, Rule, Shape, Text, all_of, fault_of, is_simple}
+use Rattle.clap.specs.Walk.{Names, rows_after, settled, Waiting, option, positional, waits, done, refused, next, subcommand, plain_word, bundle, long_met, subcommand_or_other, subcommand_met, to_positional, arg_by_index, walked_from, walk, walk_from, nothing_held, answers_to, Held, Walk, Step, Outcome, plain, idle, value, trailing, walked, after_step, word_met, after_flag, short_or_plain, long_or_other, arg_by_long, finished}
+use Rattle.clap.specs.Lexer.{long_of, short_of}
 use Rattle.clap.proofs.OnLiterals.{clap_on_literals}
-use Rattle.clap.specs.Simple.{built, entered, label_of, names_of, rows_at, built_leaf, help_shape, new_shape}
-use Rattle.clap.specs.Faults.{level_fault, entered_fault, other_fault, is_simple_and_free, step_fault, turn_fault, walk_fault, word_fault, check_fault}
+use Rattle.clap.specs.Simple.{built, entered, filled, label_of, names_of, rows_at, built_leaf, help_rule, help_shape, new_shape}
+use Rattle.clap.specs.Faults.{level_fault, entered_fault, other_fault, is_simple_and_free, step_fault, turn_fault, walk_fault, word_fault, check_fault, defaults_fault, settle_fault}
 use Rattle.clap.specs.Kinds.{or_else}
 use Rattle.clap.specs.declared.error.ErrorKind.{ErrorKind}
-use Rattle.command_line.specs.Command.{file_of_match, file_to_run, plm_app}
+use Rattle.command_line.specs.Command.{Wanted, name_of_action, plm_app, wanted_by, wanted_of, wanted_of_match}
+use Rattle.clap.proofs.FaultLemmas.{stopped_fault}
+use Rattle.std.proofs.lemmas.List.{append-nil}
+use Rattle.command_line.specs.declared.reading.Action.{Action}
+use Rattle.command_line.specs.declared.reading.Action.TheVariants.{Run, Interpret}
 use Rattle.command_line.proofs.CommandLemmas.{same_text_of}
+use Rattle.command_line.proofs.Files.{leaf, rules}
+use Rattle.command_line.proofs.Full.{some_source}
 use Rattle.command_line.proofs.Levels.{level_passes_by, never, none_of_both}
-use Rattle.command_line.proofs.RunWords.{help_filled, run_built, run_level}
 
 pub plm_is_simple : is_simple plm_app ≡ true
 plm_is_simple = refl
@@ -103,21 +108,38 @@ plm_walk s names (word ∷ rest) w e before fine =
     plm_walk s names rest (walked s.rules names w word) e (stopped_next s names w word e before both.0) both.1
 
 abbrev top_built : Shape
-top_built = record (new_shape (codes "plm")) { rules = help_filled ∷ []; is_leaf = false; subcommand_required = true; is_built = true }
+top_built = record (new_shape (codes "plm")) { rules = filled help_rule ∷ []; is_leaf = false; subcommand_required = true; is_built = true }
+
+abbrev run_built : Shape
+run_built = leaf (codes "run")
+
+abbrev interpret_built : Shape
+interpret_built = leaf (codes "interpret")
+
+abbrev help_built : Shape
+help_built = built_leaf help_shape
 
 abbrev plm_built : App
-plm_built = record { top = top_built; subs = run_built ∷ built_leaf help_shape ∷ [] }
+plm_built = record { top = top_built; subs = run_built ∷ interpret_built ∷ help_built ∷ [] }
 
 built_is : built plm_app ≡ plm_built
 built_is = refl
 
-find_two : (p : Shape → Bool) (x y : Shape) → ((find p (x ∷ y ∷ []) ≡ Some x) ⊎ (p y ≡ true)) ⊎ (find p (x ∷ y ∷ []) ≡ None)
-find_two p x y = go (p x) (p y) refl refl
+-- what is found among three: one of the first two, one that is the third, or none
+data AmongThree (p : Shape → Bool) (x y z : Shape) : Option Shape → Type 0 where
+  first : AmongThree p x y z (Some x)
+  second : AmongThree p x y z (Some y)
+  third : p z ≡ true → AmongThree p x y z (Some z)
+  none : AmongThree p x y z None
+
+find_three : (p : Shape → Bool) (x y z : Shape) → AmongThree p x y z (find p (x ∷ y ∷ z ∷ []))
+find_three p x y z = go (p x) (p y) (p z) refl refl refl
   where
-    go : (s t : Bool) → p x ≡ s → p y ≡ t → ((find p (x ∷ y ∷ []) ≡ Some x) ⊎ (p y ≡ true)) ⊎ (find p (x ∷ y ∷ []) ≡ None)
-    go true t e f = inl (inl (rw e refl))
-    go false true e f = inl (inr f)
-    go false false e f = inr (rw (e, f) refl)
+    go : (s t u : Bool) → p x ≡ s → p y ≡ t → p z ≡ u → AmongThree p x y z (find p (x ∷ y ∷ z ∷ []))
+    go true t u e f g = rw e first
+    go false true u e f g = rw (e, f) second
+    go false false true e f g = rw (e, f, g) (third g)
+    go false false false e f g = rw (e, f, g) none
 
 help_named : (name : Text) → (bytes_eq (codes "help") name || false) ≡ true → bytes_eq name (codes "help") ≡ false → ⊥
 help_named name e other = go (bytes_eq (codes "help") name) refl e
@@ -127,41 +149,151 @@ help_named name e other = go (bytes_eq (codes "help") name) refl e
     go true is e =
         let bad : true ≡ false = subst (λ (n : Text). bytes_eq n (codes "help") ≡ false) (sym (same_text_of (codes "help") name is)) other in cc
 
-entered_run : (name : Text) (rest : List Text) (rows : List Row) (o : Option Shape)
-    → ((o ≡ Some run_built) ⊎ (answers_to name (codes "help", []) ≡ true)) ⊎ (o ≡ None) → bytes_eq name (codes "help") ≡ false
-    → option_map_or (λ s. level_fault s [] nothing_held rest false []) o [] ≡ []
+-- a command of `plm` gives an order
+some_is_none : {A : Type 0} (x : A) → Some x ≡ None → ⊥
+some_is_none x e = cc
+
+run_wanted : (name : Text) (rows : List Row) → name ≡ codes "run" → wanted_of_match (name, rows) ≡ None → ⊥
+run_wanted name rows e missing = some_is_none _ (rw e at missing)
+
+interpret_wanted : (name : Text) (rows : List Row) → name ≡ codes "interpret" → wanted_of_match (name, rows) ≡ None → ⊥
+interpret_wanted name rows e missing = some_is_none _ (rw e at missing)
+
+entered_one : (x y z : Shape) (name : Text) (rest : List Text) (rows : List Row) (o : Option Shape) → x.name ≡ codes "run" → y.name ≡ codes "interpret"
+    → z.name ≡ codes "help" → z.aliases ≡ [] → AmongThree (λ s. answers_to name (label_of s)) x y z o → bytes_eq name (codes "help") ≡ false
     → check_fault top_built rows (is_some (option_map (λ s. rows_at s rest) o)) ≡ []
-    → option_and_then file_of_match (option_map (λ s. rows_at s rest) o) ≡ None → ⊥
-entered_run name rest rows o (inl (inl e)) other below check missing = run_level rest (rw e at below) (rw e at missing)
-entered_run name rest rows o (inl (inr e)) other below check missing = help_named name e other
-entered_run name rest rows o (inr e) other below check missing = never _ _ (rw e at check)
+    → option_and_then wanted_of_match (option_map (λ s. rows_at s rest) o) ≡ None → ⊥
+entered_one x y z name rest rows _ is_run is_interpret is_help no_alias first other check missing =
+    run_wanted x.name (rows_at x rest).1 is_run missing
+entered_one x y z name rest rows _ is_run is_interpret is_help no_alias second other check missing =
+    interpret_wanted y.name (rows_at y rest).1 is_interpret missing
+entered_one x y z name rest rows _ is_run is_interpret is_help no_alias (third e) other check missing =
+    help_named name (rw (is_help, no_alias) at e) other
+entered_one x y z name rest rows _ is_run is_interpret is_help no_alias none other check missing = never _ _ check
 
-entered_file : (rows : List Row) (stop : Option (Text × List Text)) → IsNoHelp stop → entered_fault plm_built stop ≡ []
-    → check_fault top_built rows (is_some (entered plm_built stop)) ≡ [] → option_and_then file_of_match (entered plm_built stop) ≡ None → ⊥
-entered_file rows None other below check missing = never _ _ check
-entered_file rows (Some (name, rest)) other below check missing =
-    entered_run name rest rows (find (λ s. answers_to name (label_of s)) plm_built.subs) (find_two (λ s. answers_to name (label_of s)) run_built (built_leaf help_shape)) other below check missing
+entered_order : (rows : List Row) (stop : Option (Text × List Text)) → IsNoHelp stop → check_fault top_built rows (is_some (entered plm_built stop)) ≡ []
+    → option_and_then wanted_of_match (entered plm_built stop) ≡ None → ⊥
+entered_order rows None other check missing = never _ _ check
+entered_order rows (Some (name, rest)) other check missing =
+    entered_one run_built interpret_built help_built name rest rows (find (λ s. answers_to name (label_of s)) plm_built.subs) refl refl refl refl
+    (find_three (λ s. answers_to name (label_of s)) run_built interpret_built help_built) other check missing
 
-pub file_is_there : (words : List Text) → fault_of plm_app words ≡ [] → file_to_run words ≡ None → ⊥
-file_is_there words fine missing =
+pub order_is_there : (words : List Text) → fault_of plm_app words ≡ [] → wanted_by words ≡ None → ⊥
+order_is_there words fine missing =
     let given = drop 1 words in
     let end = walk top_built.rules (names_of plm_built) nothing_held given in
     let passes = level_passes_by top_built (names_of plm_built) nothing_held given (is_some (entered plm_built end.stopped)) (entered_fault plm_built end.stopped) fine in
-    entered_file (finished top_built.rules end.held) end.stopped (plm_walk top_built (names_of plm_built) given (walk_from nothing_held) refl tt passes.words_pass)
-    passes.below_passes passes.check_passes missing
+    entered_order (finished top_built.rules end.held) end.stopped (plm_walk top_built (names_of plm_built) given (walk_from nothing_held) refl tt passes.words_pass)
+    passes.check_passes missing
 
-file_word : (file : Text) → strip_byte 45 file ≡ None → (bytes_eq file (45 ∷ 45 ∷ []) ≡ false) × (long_of file ≡ None) × (short_of file ≡ None)
-file_word [] bare = (refl, refl, refl)
-file_word (c ∷ rest) bare = go (c == 45) refl
+-- the words after a command go to it
+stopped_walk : (c : List Rule) (names : Names) (w : Walk) (name : Text) (seen rest : List Text)
+    → fold (walked c names) (record w { stopped = Some (name, seen) }) rest ≡ record w { stopped = Some (name, seen ++ rest) }
+unfolding walked
+stopped_walk c names w name seen [] = rw (append-nil seen) refl
+stopped_walk c names w name seen (word ∷ rest) = stopped_walk c names w name (seen ++ word ∷ []) rest ∙ rw (append_assoc seen (word ∷ []) rest) refl
+
+command_met : (action : Action) → walked top_built.rules (names_of plm_built) (walk_from nothing_held) (name_of_action action) ≡ record (walk_from nothing_held) { stopped = Some (name_of_action action, []) }
+unfolding clap_on_literals
+command_met Run = refl
+command_met Interpret = refl
+
+command_walk : (action : Action) (rest : List Text)
+    → walk top_built.rules (names_of plm_built) nothing_held (name_of_action action ∷ rest) ≡ record (walk_from nothing_held) { stopped = Some (name_of_action action, rest) }
+command_walk action rest =
+    ap (λ (w : Walk). fold (walked top_built.rules (names_of plm_built)) w rest) (command_met action)
+    ∙ stopped_walk top_built.rules (names_of plm_built) (walk_from nothing_held) (name_of_action action) [] rest
+
+command_turn : (action : Action) → turn_fault top_built (names_of plm_built) (walk_from nothing_held) (name_of_action action) ≡ []
+unfolding clap_on_literals
+command_turn Run = refl
+command_turn Interpret = refl
+
+command_fault : (action : Action) (rest : List Text) → walk_fault top_built (names_of plm_built) (walk_from nothing_held) (name_of_action action ∷ rest) ≡ []
+unfolding walk_fault
+command_fault action rest =
+    ap (λ (k : Kinds). or_else k (walk_fault top_built (names_of plm_built) (walked top_built.rules (names_of plm_built) (walk_from nothing_held) (name_of_action action)) rest)) (command_turn action)
+    ∙ ap (λ (w : Walk). walk_fault top_built (names_of plm_built) w rest) (command_met action)
+    ∙ stopped_fault top_built (names_of plm_built) (walk_from nothing_held) (name_of_action action, []) rest
+
+-- the command that is entered
+abbrev leaf_of : Action → Shape
+leaf_of action = leaf (name_of_action action)
+
+entered_is : (action : Action) (rest : List Text) → entered plm_built (Some (name_of_action action, rest)) ≡ Some (rows_at (leaf_of action) rest)
+entered_is Run rest = refl
+entered_is Interpret rest = refl
+
+entered_fine : (action : Action) (rest : List Text) → level_fault (leaf_of action) [] nothing_held rest false [] ≡ [] → entered_fault plm_built (Some (name_of_action action, rest)) ≡ []
+entered_fine Run rest fine = fine
+entered_fine Interpret rest fine = fine
+
+top_level : (s : Shape) (names : Names) (words : List Text) (inside : Option (Text × List Text) → Bool) (below : Option (Text × List Text) → Kinds) (end : Walk)
+    → walk_fault s names (walk_from nothing_held) words ≡ [] → walk s.rules names nothing_held words ≡ end → below end.stopped ≡ [] → settle_fault s.rules s.args_override_self end.held ≡ []
+    → defaults_fault (settled s.rules end.held).rows s.rules ≡ [] → check_fault s (finished s.rules end.held) (inside end.stopped) ≡ []
+    → (let stop = (walk s.rules names nothing_held words).stopped in level_fault s names nothing_held words (inside stop) (below stop)) ≡ []
+top_level s names words inside below end fine is under settle defaults check = rw (fine, is, under, settle, defaults) check
+
+pub line_fine : (name : Text) (action : Action) (rest : List Text) → level_fault (leaf_of action) [] nothing_held rest false [] ≡ []
+    → fault_of plm_app (name ∷ name_of_action action ∷ rest) ≡ []
+unfolding defaults_fault
+line_fine name action rest fine =
+    top_level top_built (names_of plm_built) (name_of_action action ∷ rest) (λ stop. is_some (entered plm_built stop)) (entered_fault plm_built)
+    (record (walk_from nothing_held) { stopped = Some (name_of_action action, rest) }) (command_fault action rest) (command_walk action rest) (entered_fine action rest fine) refl refl
+    (rw (entered_is action rest) refl)
+
+pub line_wanted : (name : Text) (action : Action) (rest : List Text) (wanted : Wanted) → wanted_of action (rows_after rules [] rest) ≡ wanted
+    → wanted_by (name ∷ name_of_action action ∷ rest) ≡ Some wanted
+line_wanted name action rest wanted gives =
+    ap (λ (w : Walk). option_and_then wanted_of_match (entered plm_built w.stopped)) (command_walk action rest) ∙ ap (option_and_then wanted_of_match) (entered_is action rest)
+    ∙ named action ∙ ap Some gives
   where
-    go : (t : Bool) → (c == 45) ≡ t → (bytes_eq (c ∷ rest) (45 ∷ 45 ∷ []) ≡ false) × (long_of (c ∷ rest) ≡ None) × (short_of (c ∷ rest) ≡ None)
-    go false e = (rw e refl, rw e refl, rw e refl)
-    go true e = let bad : Some rest ≡ None = rw e at bare in absurd (let worse : Some rest ≡ None = bad in cc)
+    named : (action : Action) → wanted_of_match (rows_at (leaf_of action) rest) ≡ Some (wanted_of action (rows_after rules [] rest))
+    named Run = refl
+    named Interpret = refl
 
-pub plain_has_no_fault : (name file : Text) → strip_byte 45 file ≡ None → fault_of plm_app (name ∷ codes "run" ∷ file ∷ []) ≡ []
-unfolding clap_on_literals
-plain_has_no_fault name file bare = let (dashes, long, short) = file_word file bare in rw (dashes, long, short) refl
+run_files : (name : Text) (rows : List Row) (wanted : Wanted) → name ≡ codes "run" → wanted_of_match (name, rows) ≡ Some wanted
+    → unwrap_or (all_of (codes "SOURCE") rows) [] ≡ wanted.files
+run_files name rows wanted e found =
+    let same : Some (wanted_of Run rows) ≡ Some wanted = rw e at found in
+    let is : wanted_of Run rows ≡ wanted = cc in
+    ap (λ (w : Wanted). w.files) is
 
-pub plain_runs : (name file : Text) → strip_byte 45 file ≡ None → file_to_run (name ∷ codes "run" ∷ file ∷ []) ≡ Some file
-unfolding clap_on_literals
-plain_runs name file bare = let (dashes, long, short) = file_word file bare in rw (dashes, long, short) refl
+interpret_files : (name : Text) (rows : List Row) (wanted : Wanted) → name ≡ codes "interpret" → wanted_of_match (name, rows) ≡ Some wanted
+    → unwrap_or (all_of (codes "SOURCE") rows) [] ≡ wanted.files
+interpret_files name rows wanted e found =
+    let same : Some (wanted_of Interpret rows) ≡ Some wanted = rw e at found in
+    let is : wanted_of Interpret rows ≡ wanted = cc in
+    ap (λ (w : Wanted). w.files) is
+
+-- what a level without a fault gives SOURCE
+abbrev HasSource : Shape → List Text → Type 0
+HasSource s rest = level_fault s [] nothing_held rest false [] ≡ [] → 0 < length (unwrap_or (all_of (codes "SOURCE") (rows_at s rest).1) [])
+
+files_of_one : (x y z : Shape) (name : Text) (rest : List Text) (wanted : Wanted) (o : Option Shape) → x.name ≡ codes "run" → y.name ≡ codes "interpret"
+    → z.name ≡ codes "help" → z.aliases ≡ [] → HasSource x rest → HasSource y rest → AmongThree (λ s. answers_to name (label_of s)) x y z o → bytes_eq name (codes "help") ≡ false
+    → option_map_or (λ s. level_fault s [] nothing_held rest false []) o [] ≡ []
+    → option_and_then wanted_of_match (option_map (λ s. rows_at s rest) o) ≡ Some wanted → 0 < length wanted.files
+files_of_one x y z name rest wanted _ is_run is_interpret is_help no_alias by_run by_interpret first other below found =
+    subst (λ (files : List Text). 0 < length files) (run_files x.name (rows_at x rest).1 wanted is_run found) (by_run below)
+files_of_one x y z name rest wanted _ is_run is_interpret is_help no_alias by_run by_interpret second other below found =
+    subst (λ (files : List Text). 0 < length files) (interpret_files y.name (rows_at y rest).1 wanted is_interpret found) (by_interpret below)
+files_of_one x y z name rest wanted _ is_run is_interpret is_help no_alias by_run by_interpret (third e) other below found =
+    absurd (help_named name (rw (is_help, no_alias) at e) other)
+files_of_one x y z name rest wanted _ is_run is_interpret is_help no_alias by_run by_interpret none other below found = cc
+
+entered_files : (stop : Option (Text × List Text)) (wanted : Wanted) → IsNoHelp stop → entered_fault plm_built stop ≡ []
+    → option_and_then wanted_of_match (entered plm_built stop) ≡ Some wanted → 0 < length wanted.files
+entered_files None wanted other below found = cc
+entered_files (Some (name, rest)) wanted other below found =
+    files_of_one run_built interpret_built help_built name rest wanted (find (λ s. answers_to name (label_of s)) plm_built.subs) refl refl refl refl
+    (some_source (codes "run") rest) (some_source (codes "interpret") rest)
+    (find_three (λ s. answers_to name (label_of s)) run_built interpret_built help_built) other below found
+
+-- words without a fault give a source
+pub some_files : (words : List Text) (wanted : Wanted) → fault_of plm_app words ≡ [] → wanted_by words ≡ Some wanted → 0 < length wanted.files
+some_files words wanted fine found =
+    let given = drop 1 words in
+    let end = walk top_built.rules (names_of plm_built) nothing_held given in
+    let passes = level_passes_by top_built (names_of plm_built) nothing_held given (is_some (entered plm_built end.stopped)) (entered_fault plm_built end.stopped) fine in
+    entered_files end.stopped wanted (plm_walk top_built (names_of plm_built) given (walk_from nothing_held) refl tt passes.words_pass) passes.below_passes found

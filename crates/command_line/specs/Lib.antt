@@ -1,3 +1,4 @@
 pub use Rattle.failure.specs.Failure
 pub mod Command
+pub mod Settings
 pub mod internal

@@ -1,1 +1,4 @@
+pub mod Building
 pub mod Errors
+pub mod Examples
+pub mod Reads

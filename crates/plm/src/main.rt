@@ -2,10 +2,11 @@
 //! `run_command`.
 #![tactic(auto)]
 
+use commands::run_command;
+use files::HostFiles;
 use std::io::Write;
 use std::process::ExitCode;
 use std::{env, io, rt};
-use tool::{HostFiles, run_command};
 
 // Carries out the words of the command line, and answers the exit status.
 fn run_words<R: rt::Env + rt::Files + AllocGlobal, O: Write, E: Write>(

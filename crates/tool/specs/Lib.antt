@@ -4,10 +4,6 @@ pub use Rattle.ports.specs.Input
 pub use Rattle.failure.specs.Failure
 pub use Rattle.frontend.specs.Reading
 pub use Rattle.frontend.specs.Causes
-pub use Rattle.command_line.specs.Command
-pub use Rattle.files.specs.Files
-pub use Rattle.report.specs.Report
-pub use Rattle.writing.specs.Writing
 pub mod Code
 pub mod Image
 pub mod Headline

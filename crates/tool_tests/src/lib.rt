@@ -4,21 +4,11 @@
 #[cfg(test)]
 mod building;
 #[cfg(test)]
-mod commands;
+mod command_lines;
 #[cfg(test)]
 mod depths;
+#[cfg(test)]
+mod interpreting;
 pub mod one_file;
 #[cfg(test)]
-mod productions;
-#[cfg(test)]
-mod programs;
-#[cfg(test)]
-mod reserved;
-#[cfg(test)]
 mod runs;
-#[cfg(test)]
-mod single_words;
-#[cfg(test)]
-mod texts;
-#[cfg(test)]
-mod unserved;

@@ -1,9 +1,9 @@
 //! Runs of `plm` on one source, and what they print.
 
 use crate::one_file::OneFile;
+use commands::run_command;
 use std::process::Abort;
 use std::test::Fail;
-use tool::run_command;
 
 /// What the source prints to standard output and to standard error, and the exit status.
 fn check<R: Abort + AllocGlobal>(
@@ -38,20 +38,4 @@ pub fn check_run<R: Abort + AllocGlobal>(rt: &R, source: &str, out: &str) -> Res
 /// A source is refused with this fault.
 pub fn check_refusal<R: Abort + AllocGlobal>(rt: &R, source: &str, err: &str) -> Result<(), Fail> {
     check(rt, source, "", err, 1)
-}
-
-/// Each source runs and prints the lines beside it.
-pub fn check_runs<R: Abort + AllocGlobal>(rt: &R, rows: &[(&str, &str)]) -> Result<(), Fail> {
-    for (source, out) in rows {
-        check_run(rt, source, out)?;
-    }
-    Ok(())
-}
-
-/// Each source is refused with the fault beside it.
-pub fn check_refusals<R: Abort + AllocGlobal>(rt: &R, rows: &[(&str, &str)]) -> Result<(), Fail> {
-    for (source, err) in rows {
-        check_refusal(rt, source, err)?;
-    }
-    Ok(())
 }

@@ -5,8 +5,8 @@ use Rattle.clap.specs.declared.error.ErrorKind.TheVariants.{DisplayHelp, OutOfMe
 use Rattle.clap.specs.declared.error.Error.{Error}
 use Rattle.failure.specs.declared.Failure.{Failure}
 use Rattle.failure.specs.declared.Failure.TheVariants.{Fault, Memory}
-use Rattle.command_line.specs.declared.LineFault.{LineFault}
-use Rattle.command_line.specs.declared.LineFault.TheVariants.{Help, Wrong}
+use Rattle.command_line.specs.declared.reading.LineFault.{LineFault}
+use Rattle.command_line.specs.declared.reading.LineFault.TheVariants.{Help, Wrong}
 
 -- the failure that an error of `clap` is: help, out of memory, or wrong words
 abbrev pub IsFailureFor : Error → Failure LineFault → Type 0

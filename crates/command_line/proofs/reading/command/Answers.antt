@@ -1,0 +1,58 @@
+use Rattle.std.proofs.Common.{◌≡◌, ◌∙◌, [], ap, sym, subst}
+use Rattle.std.specs.Prelude.{option_and_then, option_map}
+use Rattle.clap.specs.Walk.{texts}
+use Rattle.clap.specs.Faults.{is_simple_and_free}
+use Rattle.clap.specs.Kinds.{HasKind}
+use Rattle.clap.specs.Words.{App, fault_of, is_simple, subcommand_of, subcommand_rows_of}
+use Rattle.command_line.specs.Command.{plm_app, wanted_by, wanted_in, wanted_of_match}
+use Rattle.command_line.specs.declared.reading.Order.{Order}
+use Rattle.command_line.proofs.CommandLemmas.{fault_among, some_texts}
+use Rattle.command_line.proofs.Given.{files_failed, files_ordered, map_failed, map_ordered, text_failed, text_ordered}
+use Rattle.command_line.proofs.PlmWords.{order_is_there, some_files, plm_is_free, plm_is_simple}
+use Rattle.command_line.proofs.reading.command.Goals as goal
+use Rattle.command_line.proofs.reading.command.Goals.{In-Ok}
+
+no_fault : (c : In-Ok) → fault_of plm_app (texts c.args.words.now) ≡ []
+no_fault c =
+    let plm_is = c.in_ok-plm.ensures in
+    subst (λ (a : App). fault_of a (texts c.args.words.now) ≡ []) plm_is (c.in-Ok.ensures.kinds (ap is_simple_and_free plm_is ∙ plm_is_free))
+
+found : (c : In-Ok) → option_and_then wanted_of_match (subcommand_rows_of c.in-Ok.matches) ≡ wanted_by (texts c.args.words.now)
+found c =
+    let plm_is = c.in_ok-plm.ensures in
+    ap (option_and_then wanted_of_match) ((c.in-Ok.ensures.matches (ap is_simple plm_is ∙ plm_is_simple)).1 ∙ ap (λ (a : App). subcommand_of a (texts c.args.words.now)) plm_is)
+
+pub unreachable-requires : goal.unreachable-requires
+unreachable-requires c =
+    let at = (goal.at.unreachable-requires c).In-Ok in
+    order_is_there (texts c.args.words.now) (no_fault at) (sym (sym (ap (option_map wanted_in) c.in-None.is) ∙ c.in_ok-order.ensures ∙ found at))
+
+pub returns : goal.returns
+returns c =
+    let at = (goal.at.returns c).In-Ok in
+    let order = sym (found at) ∙ sym c.in_ok-order.ensures ∙ ap (option_map wanted_in) c.in-Some.is in
+    record {
+      files = files_ordered (texts c.args.words.now) c.in-Some.order order;
+      option = text_ordered (texts c.args.words.now) c.in-Some.order order;
+      map = map_ordered (texts c.args.words.now) c.in-Some.order order;
+      order = order;
+      some = some_texts c.in-Some.order.files.items (some_files (texts c.args.words.now) (wanted_in c.in-Some.order) (no_fault at) order);
+      ok = no_fault at;
+      fault = tt;
+    }
+
+has_kind : (c : goal.After-failure_of) → HasKind (fault_of plm_app (texts c.args.words.now)) c.in-Err.error
+has_kind c =
+    let plm_is = c.in_ok-plm.ensures in
+    subst (λ (a : App). HasKind (fault_of a (texts c.args.words.now)) c.in-Err.error) plm_is (c.in-Err.ensures.kinds (ap is_simple_and_free plm_is ∙ plm_is_free))
+
+pub returns-in-Err : goal.returns-in-Err
+returns-in-Err c = record {
+  files = files_failed (texts c.args.words.now) c.in-Err.error c.failure_of.result (has_kind c) c.failure_of.ensures;
+  option = text_failed (texts c.args.words.now) c.in-Err.error c.failure_of.result (has_kind c) c.failure_of.ensures;
+  map = map_failed (texts c.args.words.now) c.in-Err.error c.failure_of.result (has_kind c) c.failure_of.ensures;
+  order = tt;
+  some = tt;
+  ok = tt;
+  fault = fault_among Order c.in-Err.error c.failure_of.result (fault_of plm_app (texts c.args.words.now)) (has_kind c) c.failure_of.ensures;
+}

@@ -1,0 +1,118 @@
+-- The values of an order's options: which texts are values, and what they say.
+use Rattle.std.specs.Prelude.{◌≡◌, ◌==◌, Bool, ◌&&◌, ◌+◌, ◌*◌, ◌++◌, ℕ, List, [], ◌∷◌, length, nat_le, nat_lt}
+use Rattle.std.specs.Prelude.{Option, Some, None, option_and_then, option_map, Result, Ok, Err, if◌then◌else◌}
+use Rattle.std.specs.Char.{digit_value, is_digit}
+use Rattle.std.specs.List.{list_all, slice_split}
+use Rattle.std.specs.Str.Parse.{digits_value}
+use Rattle.clap.specs.Words.{Text}
+use Rattle.failure.specs.declared.Failure.{Failure}
+use Rattle.failure.specs.declared.Failure.TheVariants.{Fault, Memory}
+use Rattle.command_line.specs.Command.{Wanted}
+use Rattle.command_line.specs.declared.values.InputByte.{InputByte}
+use Rattle.command_line.specs.declared.values.Plan.{Plan}
+use Rattle.command_line.specs.declared.values.Settings.{Settings}
+use Rattle.command_line.specs.declared.values.ValueFault.{ValueFault}
+
+-- what texts read as: a value, or the first text that is refused
+abbrev pub Read : Type 0 → Type 0
+Read A = Result A Text
+
+-- goes on where no text is refused
+infixl 10 ◌>>=◌
+abbrev pub ◌>>=◌ : {A B : Type 0} → Result A Text → (A → Result B Text) → Result B Text
+(Ok value) >>= next = next value
+(Err text) >>= next = Err text
+
+-- the value that was found in a text, which is refused where there is none
+abbrev pub found_in : {A : Type 0} → Text → Option A → Read A
+found_in text (Some value) = Ok value
+found_in text None = Err text
+
+-- a decimal number: one digit or more, and nothing else
+abbrev pub is_decimal : Text → Bool
+is_decimal text = nat_lt 0 (length text) && list_all (λ c. is_digit c 10) text
+
+-- the number that such a text writes, where it is at most `most`
+abbrev pub number_to : ℕ → Text → Read ℕ
+number_to most text =
+    if is_decimal text && nat_le (digits_value 10 text) most then Ok (digits_value 10 text) else Err text
+
+-- a number of a plan
+abbrev pub plan_number : Text → Read ℕ
+plan_number = number_to 65535
+
+-- a limit of instructions, or a budget
+abbrev pub limit_number : Text → Read ℕ
+limit_number = number_to 1000000000000
+
+-- the byte that two hexadecimal digits write, in either case
+abbrev pub byte_of : ℕ → ℕ → Option ℕ
+byte_of high low =
+    if is_digit high 16 && is_digit low 16 then Some (digit_value high * 16 + digit_value low) else None
+
+-- the bytes that an even number of hexadecimal digits writes, each for this port
+abbrev pub bytes_for : ℕ → Text → Option (List InputByte)
+bytes_for port [] = Some []
+bytes_for port (lone ∷ []) = None
+bytes_for port (high ∷ low ∷ rest) = option_and_then (λ byte.
+    option_map (λ more. record { port = port; byte = byte } ∷ more) (bytes_for port rest)) (byte_of high low)
+
+-- a group: the two digits of a port, a colon (58), and the digits of its bytes
+abbrev pub group_bytes : Text → Option (List InputByte)
+group_bytes (high ∷ low ∷ colon ∷ digits) =
+    if colon == 58 then option_and_then (λ port. bytes_for port digits) (byte_of high low) else None
+group_bytes _ = None
+
+-- the bytes of several groups, one after another
+abbrev pub groups_bytes : List Text → Option (List InputByte)
+groups_bytes [] = Some []
+groups_bytes (group ∷ others) = option_and_then (λ bytes.
+    option_map (λ more. bytes ++ more) (groups_bytes others)) (group_bytes group)
+
+-- the bytes of an input: of its groups, between which slashes (47) stand
+abbrev pub input_bytes : Text → Option (List InputByte)
+input_bytes text = groups_bytes (slice_split (λ c. c == 47) text)
+
+-- the bytes of an input, of which there are none where it was left out
+abbrev pub input_read : Option Text → Read (List InputByte)
+input_read None = Ok []
+input_read (Some text) = found_in text (input_bytes text)
+
+-- the values of all options
+pub record Values : Type 0 where
+  pub plan : Plan
+  pub limit : ℕ
+  pub input : List InputByte
+
+-- the plan of what is wanted
+abbrev pub plan_read : Wanted → Read Plan
+plan_read wanted = do
+  code ← plan_number wanted.code
+  data_base ← plan_number wanted.data_base
+  stack ← plan_number wanted.stack
+  stack_size ← plan_number wanted.stack_size
+  Ok (record { code = code; data_base = data_base; stack = stack; stack_size = stack_size })
+
+-- the values of what is wanted, or the first text that is no value
+abbrev pub values_read : Wanted → Read Values
+values_read wanted = do
+  plan ← plan_read wanted
+  limit ← limit_number wanted.limit
+  input ← input_read wanted.input
+  Ok (record { plan = plan; limit = limit; input = input })
+
+-- what settings hold
+abbrev pub values_in : Settings → Values
+values_in settings = record { plan = settings.plan; limit = settings.limit; input = settings.input.items }
+
+-- the answer is what the texts read as, unless memory ran out
+abbrev pub IsSettingsOf : Read Values → Result Settings (Failure ValueFault) → Type 0
+IsSettingsOf read (Ok settings) = read ≡ Ok (values_in settings)
+IsSettingsOf read (Err (Fault fault)) = read ≡ Err fault.text.now
+IsSettingsOf read (Err Memory) = Unit {0}
+
+-- memory did not run out
+abbrev pub HasMemory : Result Settings (Failure ValueFault) → Type 0
+HasMemory (Err Memory) = ⊥
+HasMemory (Err (Fault fault)) = Unit {0}
+HasMemory (Ok settings) = Unit {0}

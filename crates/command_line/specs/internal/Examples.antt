@@ -1,0 +1,72 @@
+-- Texts of options that are values, and some that are none.
+use Rattle.std.specs.Prelude.{◌≡◌, ℕ, [], ◌∷◌, Some, None, Ok, Err, codes, refl}
+use Rattle.command_line.specs.declared.reading.Action.TheVariants.{Run}
+use Rattle.command_line.specs.declared.values.InputByte.{InputByte}
+use Rattle.command_line.specs.Command.{usual}
+use Rattle.command_line.specs.Settings.{input_bytes, limit_number, plan_number, values_read}
+
+usual_values : values_read (usual Run []) ≡ Ok (record {
+  plan = record { code = 256; data_base = 16384; stack = 61440; stack_size = 1024 };
+  limit = 10000000;
+  input = [];
+})
+usual_values = refl
+
+greatest : plan_number (codes "65535") ≡ Ok 65535
+greatest = refl
+
+too_great : plan_number (codes "65536") ≡ Err (codes "65536")
+too_great = refl
+
+leading_zeros : plan_number (codes "000256") ≡ Ok 256
+leading_zeros = refl
+
+no_digit : plan_number [] ≡ Err []
+no_digit = refl
+
+a_sign : plan_number (codes "+5") ≡ Err (codes "+5")
+a_sign = refl
+
+an_underscore : plan_number (codes "1_0") ≡ Err (codes "1_0")
+an_underscore = refl
+
+a_blank : plan_number (codes "10 ") ≡ Err (codes "10 ")
+a_blank = refl
+
+greatest_limit : limit_number (codes "1000000000000") ≡ Ok 1000000000000
+greatest_limit = refl
+
+too_great_limit : limit_number (codes "1000000000001") ≡ Err (codes "1000000000001")
+too_great_limit = refl
+
+-- a byte of a port
+abbrev of_port : ℕ → ℕ → InputByte
+of_port port byte = record { port = port; byte = byte }
+
+two_ports : input_bytes (codes "01:0904/02:FF")
+    ≡ Some (of_port 1 9 ∷ of_port 1 4 ∷ of_port 2 255 ∷ [])
+two_ports = refl
+
+one_port_again : input_bytes (codes "fE:0a/00:/Fe:0B") ≡ Some (of_port 254 10 ∷ of_port 254 11 ∷ [])
+one_port_again = refl
+
+no_bytes : input_bytes (codes "01:") ≡ Some []
+no_bytes = refl
+
+an_empty_text : input_bytes [] ≡ None
+an_empty_text = refl
+
+an_empty_group : input_bytes (codes "01:09/") ≡ None
+an_empty_group = refl
+
+an_odd_digit : input_bytes (codes "01:090") ≡ None
+an_odd_digit = refl
+
+one_digit_of_a_port : input_bytes (codes "1:09") ≡ None
+one_digit_of_a_port = refl
+
+no_colon : input_bytes (codes "01-09") ≡ None
+no_colon = refl
+
+no_hexadecimal_digit : input_bytes (codes "01:0G") ≡ None
+no_hexadecimal_digit = refl

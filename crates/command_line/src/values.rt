@@ -1,0 +1,259 @@
+//! The values of an order's options.
+
+ghost use Rattle.std.specs.Prelude.{◌≡◌, ◌==◌, ◌<◌, IfOk, IsOk, codes, map, option_map, slice_index};
+ghost use Rattle.std.specs.List.{slice_split};
+ghost use Rattle.std.specs.Option.{SomeIff};
+ghost use Rattle.std.specs.Char.{digit_value, is_digit};
+ghost use Rattle.failure.specs.Failure.{IfFault};
+ghost use Rattle.command_line.specs.Command.{wanted_in};
+ghost use Rattle.command_line.specs.Settings.{HasMemory, IsSettingsOf, byte_of, bytes_for, group_bytes};
+ghost use Rattle.command_line.specs.Settings.{groups_bytes};
+ghost use Rattle.command_line.specs.Settings.{input_bytes, input_read, limit_number, plan_number, plan_read};
+ghost use Rattle.command_line.specs.Settings.{values_read};
+ghost use Rattle.command_line.specs.internal.Reads.{Reads, if_read, in_front};
+
+use crate::reading::Order;
+use failure::Failure;
+use std::alloc::{AllocError, Global};
+use thiserror::Error;
+
+// The most instructions that are run, and the greatest budget.
+const MOST: u64 = 1_000_000_000_000;
+
+/// Where the parts of a program are to lie.
+#[derive(Clone, Copy, Debug, PartialEq, Eq)]
+pub struct Plan {
+    /// The address of the code.
+    pub code: u16,
+    /// The address of the data.
+    pub data_base: u16,
+    /// The lowest address of the stack.
+    pub stack: u16,
+    /// The number of bytes of the stack.
+    pub stack_size: u16,
+}
+
+/// A byte that a port gives.
+#[derive(Clone, Copy, Debug, PartialEq, Eq)]
+pub struct InputByte {
+    /// The port.
+    pub port: u8,
+    /// What a read of it gives, after the bytes for it that come before.
+    pub byte: u8,
+}
+
+/// The values of an order's options.
+#[derive(Debug, Drop)]
+pub struct Settings {
+    /// Where the parts of the program are to lie.
+    pub plan: Plan,
+    /// The most instructions that are run, or the budget of the interpreter.
+    pub limit: u64,
+    /// What the ports give, in the order of the text.
+    pub input: Vec<InputByte>,
+}
+
+/// U4: an option has a text that is none of its values.
+#[derive(Clone, Copy, Debug, PartialEq, Eq, Error)]
+#[error("`{text}` is not a value of its option")]
+pub struct ValueFault<'a> {
+    /// The text.
+    pub text: &'a str,
+}
+
+impl<'a> ValueFault<'a> {
+    /// The number of the fault, as `plm` prints it.
+    pub fn number(&self) -> &'static str
+        ensures { result.now ≡ codes "U4" }
+    {
+        "U4"
+    }
+}
+
+// Whether a text begins with a plus sign.
+fn has_plus(text: &str) -> bool
+    ensures { result ≡ (slice_index text.now 0 == 43) }
+{
+    match text.as_bytes() {
+        [first, ..] => *first == b'+',
+        [] => false,
+    }
+}
+
+// The number of a plan that a text writes.
+fn place<'a>(text: &'a str) -> Result<u16, ValueFault<'a>>
+    ensures { Reads (plan_number text.entry.now) result }
+{
+    if has_plus(text) {
+        return Err(ValueFault { text });
+    }
+    match text.parse::<u16>() {
+        Ok(number) => Ok(number),
+        Err(_) => Err(ValueFault { text }),
+    }
+}
+
+// The limit that a text writes.
+fn limit<'a>(text: &'a str) -> Result<u64, ValueFault<'a>>
+    ensures { Reads (limit_number text.entry.now) result }
+{
+    if has_plus(text) {
+        return Err(ValueFault { text });
+    }
+    match text.parse::<u64>() {
+        Ok(number) => {
+            if number <= MOST {
+                Ok(number)
+            } else {
+                Err(ValueFault { text })
+            }
+        }
+        Err(_) => Err(ValueFault { text }),
+    }
+}
+
+// The plan of an order.
+fn plan_of<'a>(order: &Order<'a>) -> Result<Plan, ValueFault<'a>>
+    ensures { Reads (plan_read (wanted_in order.now)) result }
+{
+    let code = place(order.code)?;
+    let data_base = place(order.data_base)?;
+    let stack = place(order.stack)?;
+    let stack_size = place(order.stack_size)?;
+    Ok(Plan {
+        code,
+        data_base,
+        stack,
+        stack_size,
+    })
+}
+
+// The value of a hexadecimal digit.
+fn digit(letter: u8) -> Option<u8>
+    ensures { SomeIff result (digit_value letter < 16) (digit_value letter) }
+{
+    let digit = char::from(letter).to_digit(16)?;
+    Some(digit as u8)
+}
+
+// The byte that two hexadecimal digits write.
+fn byte(high: u8, low: u8) -> Option<u8>
+    ensures { result ≡ byte_of high low }
+{
+    let high = digit(high)?;
+    let low = digit(low)?;
+    Some(high * 16 + low)
+}
+
+#[tactic(auto, using(crate::proofs::Inputs::no_byte, crate::proofs::Inputs::bytes_end))]
+// Adds the bytes that digits write for a port, and answers whether all of them were read.
+fn add_bytes(input: &mut Vec<InputByte>, port: u8, digits: &[u8]) -> Result<bool, AllocError>
+    ensures { IfOk result (λ is_read.
+        in_front input.old.items (bytes_for port digits.now) ≡ if_read is_read input.new.items) }
+{
+    let mut rest = digits;
+    while let [high, low, more @ ..] = rest {
+        let Some(byte) = byte(*high, *low) else {
+            return Ok(false);
+        };
+        input.push(InputByte { port, byte })?;
+        rest = more;
+    }
+    Ok(rest.is_empty())
+}
+
+// Adds the bytes of a group, and answers whether all of it was read.
+fn add_group(input: &mut Vec<InputByte>, group: &[u8]) -> Result<bool, AllocError>
+    ensures { IfOk result (λ is_read.
+        in_front input.old.items (group_bytes group.now) ≡ if_read is_read input.new.items) }
+{
+    let [high, low, colon, digits @ ..] = group else {
+        return Ok(false);
+    };
+    if *colon != b':' {
+        return Ok(false);
+    }
+    match byte(*high, *low) {
+        Some(port) => add_bytes(input, port, digits),
+        None => Ok(false),
+    }
+}
+
+#[tactic(auto, using(crate::proofs::Inputs::no_group, crate::proofs::Inputs::groups_end))]
+// Adds the bytes of groups, and answers whether all of them were read.
+fn add_groups(input: &mut Vec<InputByte>, groups: &[&str]) -> Result<bool, AllocError>
+    ensures { IfOk result (λ is_read.
+        in_front input.old.items (groups_bytes (map (λ group. group.now) groups.now))
+        ≡ if_read is_read input.new.items) }
+{
+    let mut rest = groups;
+    while let [group, more @ ..] = rest {
+        if !add_group(input, group.as_bytes())? {
+            return Ok(false);
+        }
+        rest = more;
+    }
+    Ok(true)
+}
+
+// The parts of a text between its slashes.
+fn groups<'a>(alloc: Global, text: &'a str) -> Result<Vec<&'a str>, AllocError>
+    ensures { IfOk result (λ groups.
+        map (λ group. group.now) groups.items ≡ slice_split (λ c. c == 47) text.entry.now) }
+{
+    text.split('/').collect(alloc)
+}
+
+// The bytes that an input gives, or nothing where its text is no input.
+fn bytes_in(alloc: Global, text: &str) -> Result<Option<Vec<InputByte>>, AllocError>
+    ensures { IfOk result (λ found. option_map (λ bytes. bytes.items) found ≡ input_bytes text.now) }
+{
+    let groups = groups(alloc, text)?;
+    let mut bytes = Vec::new(alloc);
+    if add_groups(&mut bytes, groups.as_slice())? {
+        Ok(Some(bytes))
+    } else {
+        Ok(None)
+    }
+}
+
+// The bytes that an order's input gives.
+fn input<'a>(
+    alloc: Global,
+    text: Option<&'a str>,
+) -> Result<Vec<InputByte>, Failure<ValueFault<'a>>>
+    ensures ok { IfOk result (λ bytes.
+        input_read (option_map (λ text. text.now) text.entry) ≡ Ok bytes.items) }
+    ensures fault { IfFault result (λ fault.
+        input_read (option_map (λ text. text.now) text.entry) ≡ Err fault.text.now) }
+    ensures memory { text.entry ≡ None → IsOk result }
+{
+    let Some(text) = text else {
+        return Ok(Vec::new(alloc));
+    };
+    match bytes_in(alloc, text)? {
+        Some(bytes) => Ok(bytes),
+        None => Err(Failure::Fault(ValueFault { text })),
+    }
+}
+
+impl<'a> Order<'a> {
+    /// The values of the options. It answers U4 only where a text is none of its option's values, with the first
+    /// such text, in the order code, data, stack, stack size, limit, input; else the values, or that memory ran
+    /// out. Only an input takes memory.
+    pub fn settings(&self, alloc: Global) -> Result<Settings, Failure<ValueFault<'a>>>
+        ensures values { IsSettingsOf (values_read (wanted_in self.now)) result }
+        ensures memory { self.now.input ≡ None → HasMemory result }
+    {
+        let plan = match plan_of(self) {
+            Ok(plan) => plan,
+            Err(fault) => return Err(Failure::Fault(fault)),
+        };
+        let limit = match limit(self.limit) {
+            Ok(limit) => limit,
+            Err(fault) => return Err(Failure::Fault(fault)),
+        };
+        let input = input(alloc, self.input)?;
+        Ok(Settings { plan, limit, input })
+    }
+}

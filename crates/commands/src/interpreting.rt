@@ -1,0 +1,112 @@
+//! Programs that are interpreted.
+
+ghost use Rattle.std.specs.Prelude.{All};
+ghost use Rattle.typed_trees.specs.Jumps.{JumpsAreSound};
+ghost use Rattle.layout.specs.Placement.{pieces_of};
+ghost use Rattle.placing.specs.Tables.{IsTableOf};
+ghost use Rattle.placing.specs.Views.{placement_view};
+ghost use Rattle.tool.specs.Construction.{program_modules};
+
+use crate::answers::{Ending, refuse_memory, refuse_output, refuse_sources, refuse_write};
+use crate::loading::script_of;
+use crate::map::print_map;
+use command_line::{Order, Settings};
+use failure::Failure;
+use interpretation::{Readied, read_program};
+use interpreter::{RunFault, SourceEnd, interpret};
+use meaning::Reason;
+use mem80::Memory;
+use report::report;
+use std::alloc::Global;
+use std::io::Write;
+use tool::{Plan, Source};
+
+/// Reads the program of sources, and interprets it from a memory of zeros.
+#[tactic(auto, using(interpretation::proofs::Programs::has_table, interpretation::proofs::Programs::has_sound_jumps))]
+pub(crate) fn interpret_sources<O: Write, E: Write>(
+    alloc: Global,
+    order: &Order,
+    settings: &Settings,
+    sources: &[Source],
+    out: &mut O,
+    err: &mut E,
+) -> Ending {
+    let plan = Plan {
+        code: settings.plan.code,
+        data_base: settings.plan.data_base,
+        stack: settings.plan.stack,
+        stack_size: settings.plan.stack_size,
+    };
+    match read_program(alloc, sources, &plan) {
+        Ok(readied) => interpret_program(alloc, order, settings, &readied, out, err),
+        Err(Failure::Fault(fault)) => refuse_sources(&fault, order.files.as_slice(), err),
+        Err(Failure::Memory) => refuse_memory(err),
+    }
+}
+
+// Interprets a program from a memory of zeros.
+fn interpret_program<O: Write, E: Write>(
+    alloc: Global,
+    order: &Order,
+    settings: &Settings,
+    readied: &Readied,
+    out: &mut O,
+    err: &mut E,
+) -> Ending
+    requires table { IsTableOf
+        (pieces_of (program_modules readied.now.program) (placement_view readied.now.placement))
+        readied.now.placement.kinds.value }
+    requires jumps { All JumpsAreSound (program_modules readied.now.program) }
+{
+    if order.map
+        && let Err(error) = print_map(&readied.program, &readied.placement, out)
+    {
+        return refuse_write(&error, err);
+    }
+    let Ok(memory) = Memory::new(alloc) else {
+        return refuse_memory(err);
+    };
+    let Ok(mut script) = script_of(alloc, settings.input.as_slice()) else {
+        return refuse_memory(err);
+    };
+    let end = interpret(
+        alloc,
+        &readied.program,
+        &readied.placement,
+        settings.plan.stack_size,
+        memory,
+        &mut script,
+        settings.limit,
+    );
+    if let Err(RunFault::Memory) = end {
+        return refuse_memory(err);
+    }
+    match report(script.events(), word_of(end), out) {
+        Ok(()) => ending_of(end),
+        Err(Failure::Fault(_)) => refuse_output(err),
+        Err(Failure::Memory) => refuse_memory(err),
+    }
+}
+
+// The words that a run ends with.
+fn word_of(end: Result<SourceEnd, RunFault>) -> &'static str {
+    match end {
+        Ok(SourceEnd::Ended) => "HALT",
+        Ok(SourceEnd::More) => "LIMIT",
+        Ok(SourceEnd::Outside(Reason::Divide)) => "OUTSIDE DIVIDE",
+        Ok(SourceEnd::Outside(Reason::Byte)) => "OUTSIDE BYTE",
+        Ok(SourceEnd::Outside(Reason::Constant)) => "OUTSIDE CONSTANT",
+        Ok(SourceEnd::Outside(Reason::Stack)) => "OUTSIDE STACK",
+        Err(_) => "PORT",
+    }
+}
+
+// How a command ends whose run ended so.
+fn ending_of(end: Result<SourceEnd, RunFault>) -> Ending {
+    match end {
+        Ok(SourceEnd::Ended) => Ending::Done,
+        Ok(SourceEnd::More) => Ending::Limit,
+        Ok(SourceEnd::Outside(_)) => Ending::Outside,
+        Err(_) => Ending::Stopped,
+    }
+}

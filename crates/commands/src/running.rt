@@ -1,0 +1,82 @@
+//! Runs of programs on the 8080.
+
+use crate::answers::{Ending, refuse_memory, refuse_output, refuse_sources, refuse_write};
+use crate::loading::script_of;
+use crate::map::print_map;
+use command_line::{Order, Settings};
+use cpu8080::End;
+use failure::Failure;
+use mem80::Memory;
+use report::report;
+use std::alloc::Global;
+use std::io::Write;
+use tool::{Built, Plan, Source, build, execute};
+
+/// Builds the program of sources, and runs its image on a memory of zeros.
+pub(crate) fn run_sources<O: Write, E: Write>(
+    alloc: Global,
+    order: &Order,
+    settings: &Settings,
+    sources: &[Source],
+    out: &mut O,
+    err: &mut E,
+) -> Ending {
+    let plan = Plan {
+        code: settings.plan.code,
+        data_base: settings.plan.data_base,
+        stack: settings.plan.stack,
+        stack_size: settings.plan.stack_size,
+    };
+    match build(alloc, sources, &plan) {
+        Ok(built) => run_built(alloc, order, settings, &built, out, err),
+        Err(Failure::Fault(fault)) => refuse_sources(&fault, order.files.as_slice(), err),
+        Err(Failure::Memory) => refuse_memory(err),
+    }
+}
+
+// Runs an image on a memory of zeros.
+fn run_built<O: Write, E: Write>(
+    alloc: Global,
+    order: &Order,
+    settings: &Settings,
+    built: &Built,
+    out: &mut O,
+    err: &mut E,
+) -> Ending {
+    if order.map
+        && let Err(error) = print_map(built.program(), built.placement(), out)
+    {
+        return refuse_write(&error, err);
+    }
+    let Ok(memory) = Memory::new(alloc) else {
+        return refuse_memory(err);
+    };
+    let Ok(script) = script_of(alloc, settings.input.as_slice()) else {
+        return refuse_memory(err);
+    };
+    let (end, machine) = execute(built, memory, script, settings.limit);
+    match report(machine.ports().events(), word_of(end), out) {
+        Ok(()) => ending_of(end),
+        Err(Failure::Fault(_)) => refuse_output(err),
+        Err(Failure::Memory) => refuse_memory(err),
+    }
+}
+
+// The word that a run ends with.
+fn word_of(end: End) -> &'static str {
+    match end {
+        End::Halted => "HALT",
+        End::Illegal => "ILLEGAL",
+        End::PortFault => "PORT",
+        End::Limit => "LIMIT",
+    }
+}
+
+// How a command ends whose run ended so.
+fn ending_of(end: End) -> Ending {
+    match end {
+        End::Halted => Ending::Done,
+        End::Illegal | End::PortFault => Ending::Stopped,
+        End::Limit => Ending::Limit,
+    }
+}

@@ -1,0 +1,5 @@
+pub mod Items
+pub mod Written
+pub mod Loops
+pub mod Pairs
+pub mod ModuleLoops

@@ -1,0 +1,4 @@
+pub mod Kinds
+pub mod Cuts
+pub mod Slots
+pub mod Nesting

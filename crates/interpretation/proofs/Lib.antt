@@ -1,0 +1,2 @@
+pub mod ReadSources
+pub mod Programs

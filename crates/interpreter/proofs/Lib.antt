@@ -1,0 +1,2 @@
+pub mod MainModules
+pub mod Runs

@@ -1,0 +1,103 @@
+-- Runs of stack code are runs of the source.
+use Rattle.std.proofs.Common.{◌≡◌, ℕ, suc, ◌-◌, List, Option, None, Some, Result, Ok, Err, IfOk, OnErr, All, find, nat_lt, slice_get, refl, sym, ap, ◌∙◌, subst}
+use Rattle.std.specs.Option.{option_map_or}
+use Rattle.ports.specs.declared.event.Event.{Event}
+use Rattle.ports.specs.Events.{IsBeginning}
+use Rattle.typed_trees.specs.Jumps.{JumpsAreSound}
+use Rattle.typed_trees.specs.Charge.{charge_of}
+use Rattle.typed_trees.specs.TypedTrees.{TypedList, ListOf, TypedModule}
+use Rattle.layout.specs.Joined.{is_main}
+use Rattle.layout.specs.Placement.{Placement}
+use Rattle.layout.specs.StartingMemory.{starting_memory}
+use Rattle.meaning.specs.declared.reason.Reason.TheVariants.{Stack}
+use Rattle.meaning.specs.Access.{Surroundings}
+use Rattle.meaning.specs.Meaning.{done_list, later_by}
+use Rattle.meaning.specs.Outcomes.{State, Stop, Ended, Outside, Outcome, Gave, Stopped, Flow}
+use Rattle.meaning.specs.Run.{Run, main_done, number_of_main, run_of, source_run}
+use Rattle.meaning.specs.internal.Kept.{ComesAfter}
+use Rattle.meaning.proofs.Added.{adds_if, adds_rest, begins_itself, later_adds}
+use Rattle.stack_code.specs.Program.{AreTablesOf}
+use Rattle.stack_code.specs.declared.program.StackProgram.{StackProgram}
+use Rattle.stack_code.specs.Machine.{Machine, Progress, Going, Done}
+use Rattle.stack_code.specs.Run.{stack_run, start_state, start_surroundings}
+use Rattle.stack_code.proofs.Meant.{begins_as_meant, done_as_meant, main_at}
+use Rattle.stack_compiler.specs.Compiled.{IsCompiled}
+use Rattle.stack_machine.specs.Runs.{Reaches, Stops, state_at_start}
+use Rattle.interpreter.specs.internal.MainModules.{found_from}
+use Rattle.interpreter.proofs.MainModules.{main_is, main_is_none, number_is}
+
+module _ (modules : List TypedModule) (placement : Placement) (room : ℕ) (start memory : List ℕ) (script : List (List ℕ)) (events after : List Event) (budget number : ℕ) (main : TypedModule) (program : StackProgram)
+    (found : found_from 0 modules ≡ Some (number, main)) (sound : All JumpsAreSound modules) (compiled : IsCompiled modules placement program) (filled : memory ≡ starting_memory modules placement start) where
+  there : find is_main modules ≡ Some main
+  there = main_is modules number main found
+
+  abbrev run_at : (number : ℕ) → (memory : List ℕ) → (count : ℕ) → Progress
+  run_at at bytes count =
+      stack_run program.instructions.items main (start_surroundings modules placement script at room) (state_at_start bytes events budget) count
+
+  same_run : (count : ℕ) → run_at (number_of_main modules) (starting_memory modules placement start) count ≡ run_at number memory count
+  same_run count =
+      ap (λ at. run_at at (starting_memory modules placement start) count) (number_is modules number main found)
+      ∙ ap (λ bytes. run_at number bytes count) (sym filled)
+
+  -- where the code stops, the source does
+  pub meant : (why : Stop) → Stops (run_at number memory) why after → source_run modules placement room start script events budget ≡ record { end = why; events = after }
+  meant why stops =
+      done_as_meant modules placement room start script events budget main there sound program.instructions.items
+      (compiled main (main_at modules main there)).code stops.count why stops.state (same_run stops.count ∙ stops.stopped)
+      ∙ ap (λ (es : List Event). record { end = why; events = es }) stops.events_are
+
+  -- and on its way its events are a beginning of the source's
+  pub begun : Reaches (run_at number memory) after → IsBeginning after (source_run modules placement room start script events budget).events
+  begun reaches =
+      subst (λ (es : List Event). IsBeginning es (source_run modules placement room start script events budget).events) reaches.events_are
+      (begins_as_meant modules placement room start script events budget main there sound program.instructions.items
+      (compiled main (main_at modules main there)).code reaches.count reaches.machine (same_run reaches.count ∙ reaches.going))
+
+-- a program without a main module ends at once
+module _ (modules : List TypedModule) (placement : Placement) (room : ℕ) (start : List ℕ) (script : List (List ℕ)) (events : List Event) (budget : ℕ) (none : found_from 0 modules ≡ None) where
+  pub ended : source_run modules placement room start script events budget ≡ record { end = Ended; events = events }
+  unfolding source_run
+  ended =
+      ap
+      (λ (one : Option TypedModule). run_of (option_map_or (λ (typed : TypedModule). main_done budget typed (start_surroundings modules placement script (number_of_main modules) room) (start_state modules placement start events budget)) one (Gave Flow.Onward (start_state modules placement start events budget))))
+      (main_is_none modules none)
+
+-- the tables of the code are there
+pub tables : (modules : List TypedModule) (placement : Placement) (number : ℕ) (main : TypedModule) (program : StackProgram) → found_from 0 modules ≡ Some (number, main) → IsCompiled modules placement program
+    → AreTablesOf modules program.instructions.items program.modules.items
+tables modules placement number main program found compiled = (compiled main (main_at modules main (main_is modules number main found))).tables
+
+-- a run of a source only adds events
+of_outcome : (s : State) (outcome : Outcome Flow) → ComesAfter s outcome → IsBeginning s.events (run_of outcome).events
+of_outcome s (Gave flow t) comes = comes
+of_outcome s (Stopped why t) comes = comes
+
+list_adds : (count : ℕ) (list : TypedList) (around : Surroundings) (s : State) → ComesAfter s (done_list (later_by count) around list s)
+list_adds count (ListOf first places statements) around s = adds_rest (later_by count) (later_adds count) (ListOf first places statements) statements around s
+
+main_adds : (budget : ℕ) (typed : TypedModule) (around : Surroundings) (s : State) → ComesAfter s (main_done budget typed around s)
+main_adds budget typed around s =
+    let within : Surroundings = record around { room = around.room - charge_of typed.main } in
+    adds_if s (nat_lt around.room (charge_of typed.main)) (Stopped (Outside Stack) s) (done_list (later_by (suc budget)) within typed.main.body s)
+    (begins_itself s) (list_adds (suc budget) typed.main.body within s)
+
+found_adds : (budget : ℕ) (found : Option TypedModule) (around : Surroundings) (s : State) → ComesAfter s (option_map_or (λ (typed : TypedModule). main_done budget typed around s) found (Gave Flow.Onward s))
+found_adds budget None around s = begins_itself s
+found_adds budget (Some typed) around s = main_adds budget typed around s
+
+pub started : (modules : List TypedModule) (placement : Placement) (room : ℕ) (start : List ℕ) (script : List (List ℕ)) (events : List Event) (budget : ℕ)
+    → IsBeginning events (source_run modules placement room start script events budget).events
+unfolding source_run
+started modules placement room start script events budget =
+    of_outcome (start_state modules placement start events budget) _
+    (found_adds budget (find is_main modules) (start_surroundings modules placement script (number_of_main modules) room) (start_state modules placement start events budget))
+
+-- what holds of an answer, and what follows
+pub if_ok : {A E : Type 0} (P Q : A → Type 0) (answer : Result A E) → ((found : A) → P found → Q found) → IfOk answer P → IfOk answer Q
+if_ok P Q (Ok found) go holds = go found holds
+if_ok P Q (Err fault) go holds = tt
+
+pub on_err : {A E : Type 0} (P Q : Type 0) (answer : Result A E) → (P → Q) → OnErr answer P → OnErr answer Q
+on_err P Q (Ok found) go holds = tt
+on_err P Q (Err fault) go holds = go holds

@@ -1,0 +1,44 @@
+use Rattle.std.proofs.Common.{◌≡◌, ◌∙◌, Some, ap, map, option_map, sym}
+use Rattle.typed_trees.specs.declared.module.Typed.{Typed}
+use Rattle.typed_trees.specs.Views.{module_view}
+use Rattle.placing.specs.Views.{placement_view}
+use Rattle.declared.specs.Access.{modules_in}
+use Rattle.interpreter.specs.internal.MainModules.{found_from, found_view}
+use Rattle.interpreter.proofs.Runs.{begun, if_ok, meant, on_err, started, tables}
+use Rattle.interpreter.proofs.program.interpret.Goals as goal
+
+pub returns-in_default-clause-beginning : goal.returns-in_default-clause-beginning
+returns-in_default-clause-beginning g c =
+    started (modules_in c.args.joined.now) (placement_view c.args.placement.now) c.args.room c.args.memory
+    (g.P.Ports.script c.args.ports.now) (g.P.Ports.events c.args.ports.now) c.args.budget
+
+pub returns-in_default-compile-clause-beginning : goal.returns-in_default-compile-clause-beginning
+returns-in_default-compile-clause-beginning g c =
+    started (modules_in c.args.joined.now) (placement_view c.args.placement.now) c.args.room c.args.memory
+    (g.P.Ports.script c.args.ports.now) (g.P.Ports.events c.args.ports.now) c.args.budget
+
+pub run-requires-clause-tables : goal.run-requires-clause-tables
+run-requires-clause-tables g c =
+    let found : found_from 0 (modules_in c.args.joined.now) ≡ Some (c.in-Some.found.number, module_view c.in-Some.found.typed.now) =
+    ap (λ (modules : _). found_from 0 (map module_view modules)) (sym c.modules.ensures) ∙ sym c.main_module.ensures ∙ ap (option_map found_view) c.in-Some.is in
+    tables (modules_in c.args.joined.now) (placement_view c.args.placement.now) c.in-Some.found.number (module_view c.in-Some.found.typed.now) c.in-Ok-compile.program found c.in-Ok-compile.ensures
+
+pub returns-in-Some-clause-meaning : goal.returns-in-Some-clause-meaning
+returns-in-Some-clause-meaning g c =
+    let found : found_from 0 (modules_in c.args.joined.now) ≡ Some (c.in-Some.found.number, module_view c.in-Some.found.typed.now) =
+    ap (λ (modules : _). found_from 0 (map module_view modules)) (sym c.modules.ensures) ∙ sym c.main_module.ensures ∙ ap (option_map found_view) c.in-Some.is in
+    if_ok _ _ c.run.result
+    (λ end stops. meant (modules_in c.args.joined.now) (placement_view c.args.placement.now) c.args.room c.args.memory c.put_contents.new.memory
+    (g.P.Ports.script c.args.ports.now) (g.P.Ports.events c.args.ports.now) _ c.args.budget c.in-Some.found.number (module_view c.in-Some.found.typed.now)
+    c.in-Ok-compile.program found c.requires.jumps c.in-Ok-compile.ensures c.in-Ok.ensures _ stops)
+    c.run.ensures.ended
+
+pub returns-in-Some-clause-beginning : goal.returns-in-Some-clause-beginning
+returns-in-Some-clause-beginning g c =
+    let found : found_from 0 (modules_in c.args.joined.now) ≡ Some (c.in-Some.found.number, module_view c.in-Some.found.typed.now) =
+    ap (λ (modules : _). found_from 0 (map module_view modules)) (sym c.modules.ensures) ∙ sym c.main_module.ensures ∙ ap (option_map found_view) c.in-Some.is in
+    on_err _ _ c.run.result
+    (λ reaches. begun (modules_in c.args.joined.now) (placement_view c.args.placement.now) c.args.room c.args.memory c.put_contents.new.memory
+    (g.P.Ports.script c.args.ports.now) (g.P.Ports.events c.args.ports.now) _ c.args.budget c.in-Some.found.number (module_view c.in-Some.found.typed.now)
+    c.in-Ok-compile.program found c.requires.jumps c.in-Ok-compile.ensures c.in-Ok.ensures reaches)
+    c.run.ensures.reached

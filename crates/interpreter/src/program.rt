@@ -1,0 +1,87 @@
+//! Interpreting a program.
+
+ghost use Rattle.std.specs.Prelude.{◌≡◌, All, IfErr, IfOk, OnErr, OnOk};
+ghost use Rattle.ports.specs.Events.{IsBeginning};
+ghost use Rattle.typed_trees.specs.Jumps.{JumpsAreSound};
+ghost use Rattle.layout.specs.StartingMemory.{starting_memory};
+ghost use Rattle.placing.specs.Views.{placement_view};
+ghost use Rattle.declared.specs.Access.{HasTable, modules_in};
+ghost use Rattle.meaning.specs.Run.{source_run};
+ghost use Rattle.stack_machine.specs.Runs.{FaultCounts, stop_of};
+
+use crate::main_module::main_module;
+use contents::fill;
+use join::Joined;
+use mem80::Memory;
+use placing::Placement;
+use ports::Ports;
+use resolving::Program;
+use stack_compiler::compile;
+use stack_machine::{RunFault, SourceEnd, run};
+use std::alloc::{AllocError, Global};
+
+/// Interprets a joined program that lies at a placement: from a memory, in which its initial values and constants are put
+/// first; with so much room on the stack, in bytes; with these ports; and with a budget of turns of loops, jumps and calls.
+/// Where no port fails it does just what the program means. After a fault, of a port or of memory, the events are a
+/// beginning of those.
+#[tactic(auto, using(crate::proofs::Runs::meant, crate::proofs::Runs::begun, crate::proofs::Runs::ended))]
+pub fn interpret<P: Ports>(
+    alloc: Global,
+    joined: &Joined,
+    placement: &Placement,
+    room: u16,
+    memory: Memory,
+    ports: &mut P,
+    budget: u64,
+) -> Result<SourceEnd, RunFault>
+    requires table { HasTable joined.now placement.now }
+    requires jumps { All JumpsAreSound (modules_in joined.now) }
+    ensures meaning { IfOk result (λ end.
+        source_run (modules_in joined.now) (placement_view placement.now) room memory
+        (P.script ports.old) (P.events ports.old) budget
+        ≡ record { end = stop_of end; events = P.events ports.new }) }
+    ensures beginning { OnErr result (IsBeginning (P.events ports.new)
+        (source_run (modules_in joined.now) (placement_view placement.now) room memory
+        (P.script ports.old) (P.events ports.old) budget).events) }
+    ensures count { OnOk result (P.failures ports.new ≡ P.failures ports.old) }
+    ensures failed { IfErr result (λ fault. FaultCounts fault (P.failures ports.old) (P.failures ports.new)) }
+    ensures script { P.script ports.new ≡ P.script ports.old }
+{
+    let mut memory = memory;
+    let Ok(()) = put_contents(alloc, joined, placement, &mut memory) else {
+        return Err(RunFault::Memory);
+    };
+    let Ok(program) = compile(alloc, joined, placement) else {
+        return Err(RunFault::Memory);
+    };
+    match main_module(joined.modules()) {
+        Some(found) => run(
+            alloc,
+            &program,
+            joined,
+            placement,
+            found.typed,
+            found.number,
+            room,
+            memory,
+            budget,
+            ports,
+        ),
+        None => Ok(SourceEnd::Ended),
+    }
+}
+
+// Puts the initial values and the constants of a program into a memory.
+fn put_contents(
+    alloc: Global,
+    joined: &Joined,
+    placement: &Placement,
+    memory: &mut Memory,
+) -> Result<(), AllocError>
+    ensures { OnOk result (memory.new
+        ≡ starting_memory (modules_in joined.now) (placement_view placement.now) memory.old) }
+{
+    let program = Program::new(alloc, joined, placement)?;
+    fill(&program, memory);
+    Ok(())
+}

@@ -1,0 +1,2 @@
+pub mod PublicNames
+pub mod Sites

@@ -1,0 +1,135 @@
+//! Where a part of a program stands, and what names and numbers mean there.
+
+ghost use Rattle.std.specs.Prelude.{◌≡◌};
+ghost use Rattle.typed_trees.specs.Views.{home_view};
+ghost use Rattle.resolving.specs.Storage.{storage_by};
+
+use crate::program::Program;
+use crate::publics::Found;
+use typed_trees::{Home, Visibility};
+
+/// Where a part of a program stands: in a module, by its number from 0 on.
+#[derive(Clone, Copy)]
+pub struct Site<'a> {
+    pub program: &'a Program<'a>,
+    pub number_of_module: usize,
+}
+
+/// What an object is found by.
+#[derive(Clone, Copy, Debug, PartialEq, Eq)]
+pub enum Storage {
+    /// In the frame of the call that runs.
+    Frame,
+    /// At the address that its base has as its value, by the number of the base's object.
+    Base(u32),
+    /// At an address, which `Site::address_of` gives.
+    Memory,
+}
+
+// What an object is found by that lives somewhere.
+fn storage_by(home: &Home) -> Storage
+    ensures { result ≡ storage_by (home_view home.now) }
+{
+    match home {
+        Home::Frame(_) => Storage::Frame,
+        Home::Based(base) => Storage::Base(*base),
+        Home::Data(_) | Home::Constant(_) | Home::At(_) | Home::External | Home::Absent => {
+            Storage::Memory
+        }
+    }
+}
+
+impl<'a> Site<'a> {
+    ghost use Rattle.std.specs.Prelude.{◌≡◌, option_map};
+    ghost use Rattle.layout.specs.StartingMemory.{address_in};
+    ghost use Rattle.meaning.specs.Access.{address_of, home_of};
+    ghost use Rattle.meaning.specs.Meaning.{address_of_list, callee_in};
+    ghost use Rattle.resolving.specs.Storage.{storage_by};
+    ghost use Rattle.resolving.specs.Views.{found_view, site_view};
+    ghost use Rattle.resolving.specs.internal.Sites.{meant_at};
+
+    /// What an object of the module is found by; `Storage::Memory` where it has no object of that number.
+    pub fn storage_of(&self, object: u32) -> Storage
+        ensures { result ≡ storage_by (home_of (site_view self.now) object) }
+    {
+        match self.program.modules.get(self.number_of_module) {
+            Some(typed) => match typed.objects.get(object as usize) {
+                Some(object) => storage_by(&object.home),
+                None => Storage::Memory,
+            },
+            None => Storage::Memory,
+        }
+    }
+
+    // What an object of the module stands for.
+    fn meant(&self, object: u32) -> Option<Found>
+        ensures { option_map found_view result ≡ meant_at (site_view self.now) object }
+    {
+        let typed = self.program.modules.get(self.number_of_module)?;
+        let meant = typed.objects.get(object as usize)?;
+        match meant.home {
+            Home::External => self.program.object_named(meant.name),
+            Home::Data(_)
+            | Home::Constant(_)
+            | Home::At(_)
+            | Home::Based(_)
+            | Home::Absent
+            | Home::Frame(_) => Some(Found {
+                number_of_module: self.number_of_module,
+                number: object as usize,
+            }),
+        }
+    }
+
+    // Where an object of the program lies.
+    fn address_at(&self, found: Found) -> u16
+        ensures { result ≡ address_in (site_view self.now).program.placement (found_view found) }
+    {
+        match self.program.placement.modules().get(found.number_of_module) {
+            Some(placed) => match placed.objects.get(found.number) {
+                Some(address) => *address,
+                None => 0,
+            },
+            None => 0,
+        }
+    }
+
+    /// Where an object of the module begins that is not BASED, an EXTERNAL one where the PUBLIC of its name does.
+    #[tactic(auto, using(crate::proofs::Sites::address_found, crate::proofs::Sites::no_address))]
+    pub fn address_of(&self, object: u32) -> u16
+        ensures { result ≡ address_of (site_view self.now) object }
+    {
+        match self.meant(object) {
+            Some(found) => self.address_at(found),
+            None => 0,
+        }
+    }
+
+    /// Where a constant list of the module lies.
+    pub fn address_of_list(&self, list: u32) -> u16
+        ensures { result ≡ address_of_list (site_view self.now) list }
+    {
+        match self.program.placement.modules().get(self.number_of_module) {
+            Some(placed) => match placed.lists.get(list as usize) {
+                Some(address) => *address,
+                None => 0,
+            },
+            None => 0,
+        }
+    }
+
+    /// What a procedure of the module stands for where it is called, an EXTERNAL one for the PUBLIC of its name.
+    pub fn callee(&self, procedure: u32) -> Option<Found>
+        ensures { option_map found_view result ≡ callee_in (site_view self.now) procedure }
+    {
+        let typed = self.program.modules.get(self.number_of_module)?;
+        let callee = typed.procedures.get(procedure as usize)?;
+        match callee.visibility {
+            Visibility::External => self.program.procedure_named(callee.name),
+            Visibility::Private | Visibility::Public => Some(Found {
+                number_of_module: self.number_of_module,
+                number: procedure as usize,
+            }),
+        }
+    }
+}

@@ -1,0 +1,9 @@
+use Rattle.std.proofs.Common.{◌≡◌, ◌++◌, drop}
+use Rattle.stack_code.specs.Code.{parameters_code}
+use Rattle.stack_compiler.specs.internal.Sites.{site_view}
+use Rattle.stack_compiler.proofs.procedures.emit_parameters.Given as goal
+
+abbrev pub invariant-loop-index : goal.invariant-loop-index
+invariant-loop-index l =
+    l.code.items ++ parameters_code (site_view l.site) l.index (drop l.index l.scalars) l.places
+    ≡ l.fn.code.items ++ parameters_code (site_view l.site) 0 l.scalars l.objects

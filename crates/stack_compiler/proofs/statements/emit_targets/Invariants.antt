@@ -1,0 +1,10 @@
+use Rattle.std.proofs.Common.{◌≡◌, ◌++◌, drop, map}
+use Rattle.typed_trees.specs.Views.{target_view}
+use Rattle.stack_code.specs.Code.{targets_code}
+use Rattle.stack_compiler.specs.internal.Sites.{site_view}
+use Rattle.stack_compiler.proofs.statements.emit_targets.Given as goal
+
+abbrev pub invariant-loop-target : goal.invariant-loop-target
+invariant-loop-target l =
+    l.code.items ++ targets_code (site_view l.site) (map target_view (drop l.target-index l.targets))
+    ≡ l.fn.code.items ++ targets_code (site_view l.site) (map target_view l.targets)

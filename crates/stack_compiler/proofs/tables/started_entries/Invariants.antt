@@ -1,0 +1,9 @@
+use Rattle.std.proofs.Common.{◌≡◌, ◌++◌, drop, map}
+use Rattle.typed_trees.specs.Views.{procedure_view}
+use Rattle.stack_compiler.specs.internal.Rows.{started_entry}
+use Rattle.stack_compiler.proofs.tables.started_entries.Given as goal
+
+abbrev pub invariant-loop-procedure : goal.invariant-loop-procedure
+invariant-loop-procedure l =
+    l.entries.items ++ map started_entry (map procedure_view (drop l.procedure-index l.procedures))
+    ≡ map started_entry (map procedure_view l.procedures)

@@ -1,0 +1,8 @@
+pub mod Sites
+pub mod Purposes
+pub mod Parts
+pub mod Loops
+pub mod Openings
+pub mod Sequences
+pub mod Rows
+pub mod MainCode

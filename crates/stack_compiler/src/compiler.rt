@@ -1,0 +1,93 @@
+//! Compiling a program.
+
+ghost use Rattle.std.specs.Prelude.{◌≡◌, map, IfOk};
+ghost use Rattle.typed_trees.specs.Views.{module_view};
+ghost use Rattle.layout.specs.Joined.{is_main};
+ghost use Rattle.meaning.specs.Run.{number_of_main};
+ghost use Rattle.join.specs.Views.{modules_of};
+ghost use Rattle.placing.specs.Views.{placement_view};
+ghost use Rattle.stack_code.specs.Code.{program_code};
+ghost use Rattle.stack_compiler.specs.Compiled.{IsCompiled};
+ghost use Rattle.stack_compiler.specs.internal.MainCode.{IsCodeOf};
+
+use crate::procedures::{emit_main, emit_modules};
+use crate::tables::tables_of;
+use join::Joined;
+use placing::Placement;
+use resolving::Program;
+use stack_code::{Instruction, StackProgram};
+use std::alloc::{AllocError, Global};
+use typed_trees::Typed;
+
+// Whether a module has statements at its outer level.
+fn is_main(typed: &Typed) -> bool
+    ensures { result ≡ is_main (module_view typed.now) }
+{
+    !typed.main.body.statements.as_slice().is_empty()
+}
+
+// The number of the main module, or 0 where no module has statements at its outer level.
+#[tactic(auto, using(crate::proofs::MainModules::main_found, crate::proofs::MainModules::main_passed, crate::proofs::MainModules::no_main, crate::proofs::MainModules::main_is))]
+fn number_of_main(modules: &[Typed]) -> usize
+    ensures { result ≡ number_of_main (map module_view modules.now) }
+{
+    for (number, typed) in modules.iter().enumerate() {
+        if is_main(typed) {
+            return number;
+        }
+    }
+    0
+}
+
+// The code of a program whose main module has a number.
+#[tactic(auto, using(crate::proofs::ProcedureLoops::program_made))]
+fn code_with_main(
+    alloc: Global,
+    program: &Program<'_>,
+    number: usize,
+    main: &Typed,
+) -> Result<Vec<Instruction>, AllocError>
+    ensures { IfOk result (λ code. code.items ≡ program_code (map module_view program.now.modules.now)
+        (placement_view program.now.placement.now) number (module_view main.now)) }
+{
+    let mut code = Vec::new(alloc);
+    emit_main(alloc, program, &mut code, number, main)?;
+    emit_modules(alloc, program, &mut code)?;
+    Ok(code)
+}
+
+// The code of a program, nothing where it has no modules.
+#[tactic(auto, using(crate::proofs::MainModules::code_made, crate::proofs::MainModules::code_of_none))]
+fn code_of(alloc: Global, program: &Program<'_>) -> Result<Vec<Instruction>, AllocError>
+    ensures { IfOk result (λ code. IsCodeOf (map module_view program.now.modules.now)
+        (placement_view program.now.placement.now) code.items) }
+{
+    let modules = program.modules;
+    let number = number_of_main(modules);
+    match modules.get(number) {
+        Some(main) => {
+            let code = code_with_main(alloc, program, number, main)?;
+            Ok(code)
+        }
+        None => Ok(Vec::new(alloc)),
+    }
+}
+
+/// The stack code of a program at a placement, with its tables.
+#[tactic(auto, using(crate::proofs::MainModules::program_compiled))]
+pub fn compile(
+    alloc: Global,
+    joined: &Joined,
+    placement: &Placement,
+) -> Result<StackProgram, AllocError>
+    ensures { IfOk result (λ program.
+        IsCompiled (map module_view (modules_of joined.now)) (placement_view placement.now) program) }
+{
+    let program = Program::new(alloc, joined, placement)?;
+    let instructions = code_of(alloc, &program)?;
+    let modules = tables_of(alloc, program.modules, instructions.as_slice())?;
+    Ok(StackProgram {
+        instructions,
+        modules,
+    })
+}

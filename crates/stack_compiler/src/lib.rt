@@ -1,0 +1,14 @@
+//! Joined PL/M-80 programs as stack code.
+#![tactic(auto)]
+
+mod compiler;
+mod expressions;
+mod jumps;
+mod procedures;
+mod purpose;
+mod site;
+mod statements;
+mod tables;
+mod variables;
+
+pub use compiler::compile;

@@ -1,0 +1,392 @@
+//! The code of statements.
+
+ghost use Rattle.std.specs.Prelude.{◌≡◌, ◌++◌, ◌∷◌, [], length, map, option_map, IfOk, OnOk};
+ghost use Rattle.typed_trees.specs.TypedTrees.{IterateStatement};
+ghost use Rattle.typed_trees.specs.Views.{arguments_view, else_view, expression_view, iteration_view, list_view, statement_view, statements_view, target_view};
+ghost use Rattle.meaning.specs.Meaning.{callee_in};
+ghost use Rattle.stack_code.specs.declared.instruction.Instruction.TheVariants.{Case, Drop, Jump, Move, Return};
+ghost use Rattle.stack_code.specs.Code.{arguments_code, called_code, cases_code, choice_code, count_of_arguments, count_of_statements, else_code, entries_code, expression_code, first_code, last_code, list_code, loop_code, statement_code, statements_code, step_code, surroundings_at, targets_code, value_or};
+ghost use Rattle.stack_compiler.specs.internal.Loops.{stepping_code};
+ghost use Rattle.stack_compiler.specs.internal.Openings.{opened, opening};
+ghost use Rattle.stack_compiler.specs.internal.Sites.{site_view};
+
+use crate::expressions::{emit_arguments, emit_call, emit_expression, emit_target};
+use crate::jumps::{close_cases, close_jump, close_jump_unless, count_after, holes, next_place};
+use crate::purpose::{Purpose, emit};
+use crate::site::Site;
+use crate::variables::variable_code;
+use stack_code::Instruction;
+use std::alloc::AllocError;
+use trees::{BinaryOperator, ScalarType};
+use typed_trees::{
+    TypedAssignment, TypedCase, TypedExpression, TypedIf, TypedIterate, TypedIteration, TypedList,
+    TypedMove, TypedStatement, TypedTarget, TypedWhile,
+};
+
+// A value goes to targets, one by one.
+#[tactic(auto, using(crate::proofs::StatementLoops::target_emitted, crate::proofs::StatementLoops::targets_emitted))]
+fn emit_targets(
+    site: &Site<'_>,
+    code: &mut Vec<Instruction>,
+    targets: &[TypedTarget],
+) -> Result<(), AllocError>
+    ensures { OnOk result (code.new.items
+        ≡ code.old.items ++ targets_code (site_view site.now) (map target_view targets.now)) }
+{
+    for target in targets {
+        emit_target(site, code, target)?;
+    }
+    Ok(())
+}
+
+// An assignment.
+#[tactic(auto, using(std::proofs::lemmas::List::append_assoc))]
+fn emit_assignment(
+    site: &Site<'_>,
+    code: &mut Vec<Instruction>,
+    assignment: &TypedAssignment,
+) -> Result<(), AllocError>
+    ensures { OnOk result (code.new.items ≡ code.old.items
+        ++ (expression_code (site_view site.now) (expression_view assignment.now.value)
+        ++ (targets_code (site_view site.now) (map target_view assignment.now.targets.items)
+        ++ (Drop ∷ [])))) }
+{
+    emit_expression(site, code, &assignment.value)?;
+    emit_targets(site, code, assignment.targets.as_slice())?;
+    emit(code, Instruction::Drop)
+}
+
+// A call whose value is not used.
+#[tactic(auto, using(std::proofs::lemmas::List::append_assoc, crate::proofs::Arguments::arguments_count))]
+fn emit_call_statement(
+    site: &Site<'_>,
+    code: &mut Vec<Instruction>,
+    procedure: u32,
+    arguments: &[TypedExpression],
+) -> Result<(), AllocError>
+    ensures { OnOk result (code.new.items ≡ code.old.items
+        ++ (arguments_code (site_view site.now) (arguments_view arguments.now)
+        ++ (called_code (callee_in (surroundings_at (site_view site.now)) procedure)
+        (count_of_arguments (arguments_view arguments.now)) ++ (Drop ∷ [])))) }
+{
+    emit_arguments(site, code, arguments)?;
+    emit_call(site, code, procedure, arguments.len())?;
+    emit(code, Instruction::Drop)
+}
+
+// CALL MOVE.
+#[tactic(auto, using(std::proofs::lemmas::List::append_assoc))]
+fn emit_move(
+    site: &Site<'_>,
+    code: &mut Vec<Instruction>,
+    moved: &TypedMove,
+) -> Result<(), AllocError>
+    ensures { OnOk result (code.new.items ≡ code.old.items
+        ++ (expression_code (site_view site.now) (expression_view moved.now.count)
+        ++ (expression_code (site_view site.now) (expression_view moved.now.source)
+        ++ (expression_code (site_view site.now) (expression_view moved.now.destination)
+        ++ (Move ∷ []))))) }
+{
+    emit_expression(site, code, &moved.count)?;
+    emit_expression(site, code, &moved.source)?;
+    emit_expression(site, code, &moved.destination)?;
+    emit(code, Instruction::Move)
+}
+
+// RETURN.
+#[tactic(auto, using(std::proofs::lemmas::List::append_assoc))]
+fn emit_return(
+    site: &Site<'_>,
+    code: &mut Vec<Instruction>,
+    value: &Option<Box<TypedExpression>>,
+) -> Result<(), AllocError>
+    ensures { OnOk result (code.new.items ≡ code.old.items
+        ++ (value_or (site_view site.now) 0 (option_map (λ held. expression_view held.value) value.now)
+        ++ (Return ∷ []))) }
+{
+    match value {
+        Some(value) => emit_expression(site, code, value)?,
+        None => emit(code, Instruction::Push(0))?,
+    }
+    emit(code, Instruction::Return)
+}
+
+// The variable of an iterative DO gets its first value.
+#[tactic(auto, using(std::proofs::lemmas::List::append_assoc))]
+fn emit_first(
+    site: &Site<'_>,
+    code: &mut Vec<Instruction>,
+    head: &TypedIteration,
+) -> Result<(), AllocError>
+    ensures { OnOk result (code.new.items
+        ≡ code.old.items ++ first_code (site_view site.now) (iteration_view head.now)) }
+{
+    let variable = variable_code(site, Purpose::Writing(head.scalar), head.variable);
+    emit_expression(site, code, &head.first)?;
+    emit(code, variable)?;
+    emit(code, Instruction::Drop)
+}
+
+// The variable is compared with the last value.
+#[tactic(auto, using(std::proofs::lemmas::List::append_assoc))]
+fn emit_last(
+    site: &Site<'_>,
+    code: &mut Vec<Instruction>,
+    head: &TypedIteration,
+) -> Result<(), AllocError>
+    ensures { OnOk result (code.new.items
+        ≡ code.old.items ++ last_code (site_view site.now) (iteration_view head.now)) }
+{
+    let variable = variable_code(site, Purpose::Reading(head.scalar), head.variable);
+    emit_expression(site, code, &head.last)?;
+    emit(code, variable)?;
+    emit(
+        code,
+        Instruction::Binary(ScalarType::Address, BinaryOperator::GreaterOrEqual),
+    )
+}
+
+// The step, which is 1 where none is written.
+fn emit_step(
+    site: &Site<'_>,
+    code: &mut Vec<Instruction>,
+    step: &Option<TypedExpression>,
+) -> Result<(), AllocError>
+    ensures { OnOk result (code.new.items
+        ≡ code.old.items ++ value_or (site_view site.now) 1 (option_map expression_view step.now)) }
+{
+    match step {
+        Some(step) => emit_expression(site, code, step),
+        None => emit(code, Instruction::Push(1)),
+    }
+}
+
+// The variable is changed by the step.
+#[tactic(auto, using(std::proofs::lemmas::List::append_assoc))]
+fn emit_stepping(
+    site: &Site<'_>,
+    code: &mut Vec<Instruction>,
+    head: &TypedIteration,
+) -> Result<(), AllocError>
+    ensures { OnOk result (code.new.items
+        ≡ code.old.items ++ stepping_code (site_view site.now) (iteration_view head.now)) }
+{
+    emit_step(site, code, &head.step)?;
+    emit(
+        code,
+        variable_code(site, Purpose::Reading(head.scalar), head.variable),
+    )?;
+    emit(code, Instruction::Step(head.scalar))?;
+    emit(
+        code,
+        variable_code(site, Purpose::Writing(head.scalar), head.variable),
+    )?;
+    emit(code, Instruction::Drop)
+}
+
+/// A statement.
+#[cycle(statement)]
+#[tactic(auto, using(typed_trees::specs::declared::statement::TypedStatement::the_lemmas, typed_trees::proofs::Views::statement_rows_are))]
+pub(crate) fn emit_statement(
+    site: &Site<'_>,
+    code: &mut Vec<Instruction>,
+    statement: &TypedStatement,
+) -> Result<(), AllocError>
+    ensures { OnOk result (code.new.items
+        ≡ code.old.items ++ statement_code (site_view site.now) (statement_view statement.now)) }
+{
+    match statement {
+        TypedStatement::Label(label) => emit(
+            code,
+            Instruction::Mark {
+                module: site.number_of_module,
+                label: *label,
+            },
+        ),
+        TypedStatement::Null => Ok(()),
+        TypedStatement::Assignment(assignment) => emit_assignment(site, code, assignment),
+        TypedStatement::Call {
+            procedure,
+            arguments,
+        } => emit_call_statement(site, code, *procedure, arguments.as_slice()),
+        TypedStatement::Move(moved) => emit_move(site, code, moved),
+        TypedStatement::Return(value) => emit_return(site, code, value),
+        TypedStatement::Halt => emit(code, Instruction::Halt),
+        TypedStatement::Goto(label) => emit(
+            code,
+            Instruction::Goto {
+                module: site.number_of_module,
+                label: *label,
+            },
+        ),
+        TypedStatement::If(branch) => emit_if(site, code, branch),
+        TypedStatement::Do(body) => emit_list(site, code, body),
+        TypedStatement::While(turns) => emit_while(site, code, turns),
+        TypedStatement::Iterate(turns) => emit_iterate(site, code, turns),
+        TypedStatement::Case(choice) => emit_case(site, code, choice),
+    }
+}
+
+// IF with ELSE, or without.
+#[cycle(statement)]
+#[tactic(auto, using(crate::proofs::JumpsFilled::if_without, crate::proofs::JumpsFilled::if_with))]
+fn emit_if(site: &Site<'_>, code: &mut Vec<Instruction>, branch: &TypedIf) -> Result<(), AllocError>
+    ensures { OnOk result (code.new.items ≡ code.old.items
+        ++ (expression_code (site_view site.now) (expression_view branch.now.condition)
+        ++ choice_code (statement_code (site_view site.now) (statement_view branch.now.body))
+        (else_code (site_view site.now) (else_view branch.now.otherwise)))) }
+{
+    emit_expression(site, code, &branch.condition)?;
+    let choice = next_place(code);
+    emit(code, Instruction::JumpUnless(0))?;
+    emit_statement(site, code, &branch.body)?;
+    match &branch.otherwise {
+        Some(otherwise) => {
+            let end = next_place(code);
+            emit(code, Instruction::Jump(0))?;
+            close_jump_unless(code, choice);
+            emit_statement(site, code, otherwise)?;
+            close_jump(code, end);
+        }
+        None => close_jump_unless(code, choice),
+    }
+    Ok(())
+}
+
+/// The statements of a list.
+#[cycle(statement)]
+pub(crate) fn emit_list(
+    site: &Site<'_>,
+    code: &mut Vec<Instruction>,
+    list: &TypedList,
+) -> Result<(), AllocError>
+    ensures { OnOk result (code.new.items
+        ≡ code.old.items ++ list_code (site_view site.now) (list_view list.now)) }
+{
+    emit_statements(site, code, list.statements.as_slice())
+}
+
+// Statements one after another.
+#[cycle(statement)]
+#[tactic(auto, using(crate::proofs::StatementLoops::statement_emitted, crate::proofs::StatementLoops::statements_emitted))]
+fn emit_statements(
+    site: &Site<'_>,
+    code: &mut Vec<Instruction>,
+    statements: &[TypedStatement],
+) -> Result<(), AllocError>
+    ensures { OnOk result (code.new.items
+        ≡ code.old.items ++ statements_code (site_view site.now) (statements_view statements.now)) }
+{
+    for statement in statements {
+        emit_statement(site, code, statement)?;
+    }
+    Ok(())
+}
+
+// DO WHILE: the test stands after the body.
+#[cycle(statement)]
+#[tactic(auto, using(crate::proofs::JumpsFilled::while_made))]
+fn emit_while(
+    site: &Site<'_>,
+    code: &mut Vec<Instruction>,
+    turns: &TypedWhile,
+) -> Result<(), AllocError>
+    ensures { OnOk result (code.new.items ≡ code.old.items
+        ++ (Jump (length (list_code (site_view site.now) (list_view turns.now.body)))
+        ∷ loop_code (list_code (site_view site.now) (list_view turns.now.body))
+        (expression_code (site_view site.now) (expression_view turns.now.condition)))) }
+{
+    let start = next_place(code);
+    emit(code, Instruction::Jump(0))?;
+    emit_list(site, code, &turns.body)?;
+    close_jump(code, start);
+    emit_expression(site, code, &turns.condition)?;
+    let count = count_after(code, start);
+    emit(code, Instruction::LoopBack(count))
+}
+
+// An iterative DO: the step and the test stand after the body.
+#[cycle(statement)]
+fn emit_iterate(
+    site: &Site<'_>,
+    code: &mut Vec<Instruction>,
+    turns: &TypedIterate,
+) -> Result<(), AllocError>
+    ensures { OnOk result (code.new.items ≡ code.old.items
+        ++ statement_code (site_view site.now)
+        (IterateStatement (iteration_view turns.now.head) (list_view turns.now.body))) }
+{
+    emit_first(site, code, &turns.head)?;
+    let start = next_place(code);
+    emit(code, Instruction::Jump(0))?;
+    emit_list(site, code, &turns.body)?;
+    emit_stepping(site, code, &turns.head)?;
+    let leave = next_place(code);
+    emit(code, Instruction::JumpUnless(0))?;
+    close_jump(code, start);
+    emit_last(site, code, &turns.head)?;
+    let count = count_after(code, start);
+    emit(code, Instruction::LoopBack(count))?;
+    close_jump_unless(code, leave);
+    Ok(())
+}
+
+// DO CASE.
+#[cycle(statement)]
+#[tactic(auto, using(crate::proofs::Cases::case_made, crate::proofs::StatementLoops::statements_count))]
+fn emit_case(
+    site: &Site<'_>,
+    code: &mut Vec<Instruction>,
+    choice: &TypedCase,
+) -> Result<(), AllocError>
+    ensures { OnOk result (code.new.items ≡ code.old.items
+        ++ (expression_code (site_view site.now) (expression_view choice.now.choice)
+        ++ (Case (count_of_statements (statements_view choice.now.body.items))
+        ∷ (entries_code (site_view site.now) (count_of_statements (statements_view choice.now.body.items)) 0
+        (statements_view choice.now.body.items)
+        ++ cases_code (site_view site.now) (statements_view choice.now.body.items))))) }
+{
+    emit_expression(site, code, &choice.choice)?;
+    emit(code, Instruction::Case(choice.body.len()))?;
+    let cases = cases_of(site, choice.body.as_slice())?;
+    code.extend_from_slice(cases.as_slice())?;
+    Ok(())
+}
+
+// A jump to each statement of DO CASE, and one past them; and then the statements, each with a jump past those after it.
+#[cycle(statement)]
+fn cases_of(site: &Site<'_>, statements: &[TypedStatement]) -> Result<Vec<Instruction>, AllocError>
+    ensures { IfOk result (λ cases. cases.items
+        ≡ entries_code (site_view site.now) (count_of_statements (statements_view statements.now)) 0
+        (statements_view statements.now)
+        ++ cases_code (site_view site.now) (statements_view statements.now)) }
+{
+    let mut cases = holes(site.alloc, statements.len())?;
+    let mut ends = Vec::new(site.alloc);
+    open_cases(site, &mut cases, &mut ends, statements)?;
+    close_cases(&mut cases, ends.as_slice());
+    Ok(cases)
+}
+
+// The statements of DO CASE, each with a jump after it that is to be filled in; each has its jump among the first ones.
+#[cycle(statement)]
+#[tactic(auto, using(crate::proofs::Cases::case_opened, crate::proofs::Cases::cases_opened))]
+fn open_cases(
+    site: &Site<'_>,
+    cases: &mut Vec<Instruction>,
+    ends: &mut Vec<usize>,
+    statements: &[TypedStatement],
+) -> Result<(), AllocError>
+    ensures { OnOk result (opening cases.new.items ends.new.items
+        ≡ opened (site_view site.now) 0 (opening cases.old.items ends.old.items)
+        (statements_view statements.now)) }
+{
+    for (entry, statement) in statements.iter().enumerate() {
+        close_jump(cases, entry);
+        emit_statement(site, cases, statement)?;
+        emit(cases, Instruction::Jump(0))?;
+        ends.push(cases.len())?;
+    }
+    close_jump(cases, statements.len());
+    Ok(())
+}

@@ -1,0 +1,11 @@
+pub mod Reversed
+pub mod Steps
+pub mod Copies
+pub mod Accesses
+pub mod Moving
+pub mod Arguing
+pub mod ModuleSlots
+pub mod Entering
+pub mod Leading
+pub mod SlotLists
+pub mod Starts

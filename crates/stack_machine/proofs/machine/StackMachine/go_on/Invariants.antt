@@ -1,0 +1,20 @@
+-- Some steps led here; the script of the ports and their failures are as before.
+use Rattle.std.proofs.Common.{◌≡◌, length}
+use Rattle.placing.specs.Views.{placement_view}
+use Rattle.declared.specs.Access.{modules_in}
+use Rattle.stack_machine.specs.internal.Views.{weight_of}
+use Rattle.stack_machine.proofs.Leading.{LeadsTo}
+use Rattle.stack_machine.proofs.machine.StackMachine.go_on.Given as goal
+
+abbrev pub invariant-loop-self : goal.invariant-loop-self
+invariant-loop-self g l =
+    record {
+      leads : LeadsTo (modules_in l.loaded.joined.now) (placement_view l.loaded.placement.now) l.loaded.code.now
+          (g.P.Ports.script l.fn.ports) l.fn.self (g.P.Ports.events l.fn.ports) l.self
+          (g.P.Ports.events l.ports);
+      script : g.P.Ports.script l.ports ≡ g.P.Ports.script l.fn.ports;
+      failures : g.P.Ports.failures l.ports ≡ g.P.Ports.failures l.fn.ports;
+    }
+
+abbrev pub decreases-loop-self : goal.decreases-loop-self
+decreases-loop-self g l = weight_of (length l.loaded.code.now) l.self

@@ -1,0 +1,24 @@
+//! How runs end.
+
+use meaning::Reason;
+use thiserror::Error;
+
+/// How a program stopped.
+#[derive(Clone, Copy, Debug, PartialEq, Eq)]
+pub enum SourceEnd {
+    /// It came to its end.
+    Ended,
+    /// Its budget does not last for one more turn of a loop, jump or call.
+    More,
+    /// It went outside the language.
+    Outside(Reason),
+}
+
+/// Why a run was given up before the program stopped.
+#[derive(Clone, Copy, Debug, PartialEq, Eq, Error)]
+pub enum RunFault {
+    #[error("a port failed")]
+    Port,
+    #[error("there is no memory for the run")]
+    Memory,
+}
