@@ -2,8 +2,8 @@
 use Rattle.std.specs.Prelude.{ℕ, ◌<◌, ◌≤◌, Bool, true, false, not, ◌&&◌, ◌||◌, IsTrue, nat_lt, nat_le, List, [], ◌∷◌, ◌++◌, length, map, slice_get, Option, Some, None, IfSome}
 use Rattle.std.specs.List.{list_all, list_any}
 use Rattle.std.specs.Option.{option_map_or, option_flatten}
-use Rattle.std.specs.Char.{is_ascii_uppercase, is_ascii_digit}
 use Rattle.std.specs.Str.{bytes_eq}
+use Rattle.symbols.specs.Names.{is_name}
 use Rattle.object_modules.specs.declared.segment.Segment.{Segment}
 use Rattle.object_modules.specs.declared.segment.Segment.TheVariants.{Absolute, Code, Data, Stack}
 use Rattle.object_modules.specs.declared.segment.Alignment.{Alignment}
@@ -89,16 +89,6 @@ abbrev pub words_are_whole : List (Option SetByte) → Bool
 words_are_whole [] = true
 words_are_whole (here ∷ others) =
     (not (begins_word here) || is_plain (option_flatten (slice_get others 0))) && words_are_whole others
-
--- a capital letter or a digit
-abbrev pub is_name_character : ℕ → Bool
-is_name_character c = is_ascii_uppercase c || is_ascii_digit c
-
--- a capital letter, and then at most 30 capital letters and digits
-abbrev pub is_name : List ℕ → Bool
-is_name [] = false
-is_name (first ∷ others) =
-    is_ascii_uppercase first && list_all is_name_character others && nat_le (length others) 30
 
 -- one of the names
 abbrev pub is_among : (name : List ℕ) → List (List ℕ) → Bool

@@ -12,7 +12,8 @@ use Rattle.object_modules.specs.declared.fault.Fault.{Fault}
 use Rattle.object_modules.specs.declared.fault.Fault.TheVariants.{Truncated, WrongSum, WrongLength, UnknownType, OutOfOrder, WrongBody, ContentMisplaced, FixMisplaced, WrongAlignment}
 use Rattle.object_modules.specs.declared.segment.Fix.{Fix}
 use Rattle.object_modules.specs.declared.segment.Segment.{Segment}
-use Rattle.object_modules.specs.Module.{holds_bytes, is_movable, may_have_publics, is_name, are_new, width_of}
+use Rattle.symbols.specs.Names.{is_name}
+use Rattle.object_modules.specs.Module.{holds_bytes, is_movable, may_have_publics, are_new, width_of}
 use Rattle.object_modules.specs.Parts.{SegmentEntry, Reference, Content, Part, HeaderPart, ExternalNamesPart, PublicsPart, ContentPart, ExternalReferencesPart, RelocationPart, IntersegmentPart, kind_of_part, body_of, segment_number}
 use Rattle.object_modules.specs.Reading.{part_in}
 use Rattle.object_modules.specs.Before.{is_empty, same_segment, is_ended, may_follow, entries_of, externals_of, definition_names, names_of, content_of, stated_length_of, latest_content, content_end, filled_to, fixes_of, leading_fixes}

@@ -1,6 +1,6 @@
 //! Names, numbers and strings as they stand in a source.
 
-use crate::name::Name;
+use symbols::Name;
 use std::alloc::{AllocError, Global};
 
 /// Where a word stands: the place of its first byte, counted from 0, and its line, counted from 1.

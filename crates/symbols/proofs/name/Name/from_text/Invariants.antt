@@ -1,6 +1,6 @@
 use Rattle.std.proofs.Common.{◌≡◌, ◌++◌, length, take}
 use Rattle.words.specs.Names.{name_of}
-use Rattle.trees.proofs.Names.{IsFilled}
+use Rattle.symbols.proofs.Names.{IsFilled}
 use Rattle.trees.proofs.name.Name.from_text.Given as goal
 
 abbrev pub invariant-loop-character : goal.invariant-loop-character

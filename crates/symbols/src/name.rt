@@ -2,7 +2,7 @@
 
 ghost use Rattle.std.specs.Prelude.{◌≡◌, ◌↔◌, ◌<◌, [], ◌∷◌, length, IsTrue, IsSome, IfSome, MatchOption};
 ghost use Rattle.words.specs.Names.{name_of};
-ghost use Rattle.trees.specs.Names.{is_name, is_name_character};
+ghost use Rattle.symbols.specs.Names.{is_name, is_name_character};
 
 use std::fmt;
 use std::marker::Model;
@@ -17,7 +17,7 @@ pub struct Name {
 
 impl Model for Name {
     ghost use Rattle.std.specs.Prelude.{◌≡◌, ℕ, List, ◌-◌, ◌++◌, IsTrue, take, length, replicate};
-    ghost use Rattle.trees.specs.Names.{is_name};
+    ghost use Rattle.symbols.specs.Names.{is_name};
 
     ghost Value = { List ℕ };
 

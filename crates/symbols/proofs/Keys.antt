@@ -4,7 +4,7 @@ use Rattle.std.proofs.lemmas.Grind.{common_steps}
 use Rattle.std.proofs.lemmas.Cmp.{nat_list_eq_equiv}
 use Rattle.std.proofs.Math.Bool.{and-false}
 use Rattle.std.specs.Str.{bytes_eq}
-use Rattle.trees.specs.contracts.name.NamePartialEq.TheImpl.{eq-value}
+use Rattle.symbols.specs.contracts.name.NamePartialEq.TheImpl.{eq-value}
 
 and_regrouped : (p q r s : Bool) → q && r ≡ s → (p && q) && r ≡ p && s
 and_regrouped true q r s h = h

@@ -5,7 +5,7 @@ use Rattle.std.proofs.lemmas.List.{take_at}
 use Rattle.std.proofs.lemmas.List.Folds.{list_all-append}
 use Rattle.std.proofs.Math.Seq.{set-append_seam}
 use Rattle.std.specs.List.{list_all}
-use Rattle.trees.specs.Names.{is_name, is_name_character}
+use Rattle.symbols.specs.Names.{is_name, is_name_character}
 
 -- more than 31 characters are no name
 pub long-is-no-name : (taken rest : List ℕ) (c : ℕ)
