@@ -32,7 +32,7 @@ pub(crate) fn found_in(table: &IndexMap<Name, Found>, name: Name) -> Option<Foun
 }
 
 // A name has this entry from now on.
-#[tactic(auto, using(trees::proofs::Keys::same_keys))]
+#[tactic(auto, using(symbols::proofs::Keys::same_keys))]
 fn insert(table: &mut IndexMap<Name, Found>, name: Name, found: Found) -> Result<(), AllocError>
     ensures { OnOk result (table.new.entries ≡ insert_entry bytes_eq table.old.entries name found) }
 {
