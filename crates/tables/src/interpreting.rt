@@ -9,7 +9,7 @@ use mem80::Memory;
 use ports::{Ports, Script};
 use std::alloc::Global;
 use std::io::Write;
-use tool::{Plan, Source, ToolFault, build};
+use tool::{Built, Plan, Source, ToolFault, build};
 
 // How a source ends that is interpreted over these ports, or why it is no program.
 #[tactic(auto, using(interpretation::proofs::Programs::has_table, interpretation::proofs::Programs::has_sound_jumps))]
@@ -77,14 +77,21 @@ fn print_second_run<W: Write>(alloc: Global, out: &mut W) -> anyhow::Result<()> 
     Ok(())
 }
 
-// What is said of a program of no sources.
-fn print_no_sources<W: Write>(alloc: Global, out: &mut W) -> anyhow::Result<()> {
-    let number = match build(alloc, &[], &Plan::usual()) {
+// How a build ends, in a word.
+fn word_of_build(answer: &Result<Built, Failure<ToolFault>>) -> &'static str {
+    match answer {
         Ok(_) => "built",
         Err(Failure::Fault(fault)) => fault.number(),
         Err(Failure::Memory) => "MEMORY",
-    };
-    writeln!(out, "no sources: {number}")?;
+    }
+}
+
+// What is said of a program of no sources.
+fn print_no_sources<W: Write>(alloc: Global, out: &mut W) -> anyhow::Result<()> {
+    let plan = Plan::usual();
+    let answer = build(alloc, &[], &plan);
+    let word = word_of_build(&answer);
+    writeln!(out, "no sources: {word}")?;
     Ok(())
 }
 
