@@ -1,16 +1,20 @@
 //! Tests of the whole way from texts to a program.
 #![tactic(auto)]
 
+mod bytes;
+#[cfg(test)]
+mod bindings;
 #[cfg(test)]
 mod memory;
 #[cfg(test)]
 mod programs;
 #[cfg(test)]
 mod reading;
+#[cfg(test)]
 mod source;
 #[cfg(test)]
 mod storage;
 #[cfg(test)]
 mod tables;
 
-pub use source::typed;
+pub use bytes::{LONGEST, beginning};
