@@ -4,7 +4,7 @@ use symbols::Name;
 use std::alloc::{AllocError, Global};
 
 /// Where a word stands: the place of its first byte, counted from 0, and its line, counted from 1.
-#[derive(Clone, Copy)]
+#[derive(Clone, Copy, PartialEq, Eq)]
 pub struct Place {
     pub start: u32,
     pub line: u32,
