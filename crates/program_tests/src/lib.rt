@@ -1,9 +1,9 @@
 //! Tests of the whole way from texts to a program.
 #![tactic(auto)]
 
-mod bytes;
 #[cfg(test)]
 mod bindings;
+mod bytes;
 #[cfg(test)]
 mod memory;
 #[cfg(test)]
