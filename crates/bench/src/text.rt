@@ -102,7 +102,7 @@ fn parse_up_to(rt: &HostRuntime, words: &[Word], phase: &str) -> Result<()> {
 // Binds the names of a module.
 fn bind(rt: &HostRuntime, module: Module) -> Result<()> {
     let begun = Instant::now(rt)?;
-    let bound = names::bind(rt.alloc(), module)?;
+    let bound = binding::bind(rt.alloc(), module)?;
     report(rt, "bind", begun)?;
     println!(rt; "uses {}", bound.bindings.len())?;
     Ok(())

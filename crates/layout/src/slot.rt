@@ -4,14 +4,14 @@
 pub const SEGMENT_LIMIT: u32 = 65_535;
 
 /// A segment that holds objects. The code segment begins with the constants of the module.
-#[derive(Clone, Copy, Debug, PartialEq, Eq)]
+#[derive(Clone, Copy, PartialEq, Eq)]
 pub enum Segment {
     Code,
     Data,
 }
 
 /// Where something lies in its segment, and how many bytes it takes.
-#[derive(Clone, Copy, Debug, PartialEq, Eq)]
+#[derive(Clone, Copy, PartialEq, Eq)]
 pub struct Slot {
     pub segment: Segment,
     pub offset: u32,
@@ -20,7 +20,6 @@ pub struct Slot {
 
 /// Where the objects and the constant lists of a module lie, by their numbers, and how many bytes the data segment and
 /// the constants have. An object with AT, BASED, in a frame or in another module lies in no segment.
-#[derive(Debug)]
 pub struct Layout {
     pub objects: Vec<Option<Slot>>,
     pub lists: Vec<Slot>,

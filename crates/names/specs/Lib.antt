@@ -1,8 +1,0 @@
-pub mod Faults
-pub mod Environment
-pub mod Declaring
-pub mod BuiltIns
-pub mod Uses
-pub mod Events
-pub mod Binding
-pub mod internal

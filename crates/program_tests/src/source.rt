@@ -1,9 +1,9 @@
 //! From a text to its names, and to its typed module.
 
 use crate::bytes::beginning;
+use binding::{Bound, bind};
 use failure::Failure;
 use literally::expand;
-use names::{Bound, bind};
 use std::alloc::Global;
 use std::test::Fail;
 use syntax::parse;

@@ -14,7 +14,7 @@ use trees::Name;
 use typed_trees::{Typed, TypedObject, TypedProcedure, Visibility};
 
 /// An object or a procedure of a program: by the number of its module and its own number there, both from 0 on.
-#[derive(Clone, Copy, Debug, PartialEq, Eq)]
+#[derive(Clone, Copy)]
 pub struct Found {
     pub number_of_module: usize,
     pub number: usize,

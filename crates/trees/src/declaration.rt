@@ -4,21 +4,21 @@ use crate::identifier::{Constant, Identifier, Number, Place, StringLiteral};
 use std::alloc::{AllocError, Global};
 
 /// BYTE or ADDRESS.
-#[derive(Clone, Copy, Debug, PartialEq, Eq)]
+#[derive(Clone, Copy)]
 pub enum ScalarType {
     Byte,
     Address,
 }
 
 /// `+` or `-` between constants.
-#[derive(Clone, Copy, Debug, PartialEq, Eq)]
+#[derive(Clone, Copy)]
 pub enum Sign {
     Plus,
     Minus,
 }
 
 /// How many elements an array has.
-#[derive(Clone, Copy, Debug, PartialEq, Eq)]
+#[derive(Clone, Copy)]
 pub enum Dimension {
     /// `(number)`
     Count(Number),
@@ -27,14 +27,14 @@ pub enum Dimension {
 }
 
 /// PUBLIC or EXTERNAL, and where the word stands.
-#[derive(Clone, Copy, Debug, PartialEq, Eq)]
+#[derive(Clone, Copy)]
 pub enum Linkage {
     Public(Place),
     External(Place),
 }
 
 /// A member of a structure: `name [(number)] BYTE` or `name [(number)] ADDRESS`.
-#[derive(Clone, Copy, Debug, PartialEq, Eq)]
+#[derive(Clone, Copy)]
 pub struct Member {
     pub name: Identifier,
     pub dimension: Option<Number>,
@@ -74,7 +74,7 @@ pub struct At {
 }
 
 /// INITIAL or DATA, and where the word stands.
-#[derive(Clone, Copy, Debug, PartialEq, Eq)]
+#[derive(Clone, Copy)]
 pub enum Storage {
     Initial(Place),
     Data(Place),

@@ -4,7 +4,7 @@ use crate::identifier::{Constant, Identifier};
 use std::alloc::{AllocError, Global};
 
 /// An operator with one operand.
-#[derive(Clone, Copy, Debug, PartialEq, Eq)]
+#[derive(Clone, Copy)]
 pub enum UnaryOperator {
     /// NOT
     Not,
@@ -13,7 +13,7 @@ pub enum UnaryOperator {
 }
 
 /// An operator between two operands.
-#[derive(Clone, Copy, Debug, PartialEq, Eq)]
+#[derive(Clone, Copy)]
 pub enum BinaryOperator {
     /// OR
     Or,

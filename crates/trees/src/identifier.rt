@@ -4,21 +4,21 @@ use std::alloc::{AllocError, Global};
 use symbols::Name;
 
 /// Where a word stands: the place of its first byte, counted from 0, and its line, counted from 1.
-#[derive(Clone, Copy, Debug, PartialEq, Eq)]
+#[derive(Clone, Copy, PartialEq, Eq)]
 pub struct Place {
     pub start: u32,
     pub line: u32,
 }
 
 /// A name as it stands in a source.
-#[derive(Clone, Copy, Debug, PartialEq, Eq)]
+#[derive(Clone, Copy)]
 pub struct Identifier {
     pub name: Name,
     pub place: Place,
 }
 
 /// A number as it stands in a source.
-#[derive(Clone, Copy, Debug, PartialEq, Eq)]
+#[derive(Clone, Copy)]
 pub struct Number {
     pub value: u16,
     pub place: Place,

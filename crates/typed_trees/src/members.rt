@@ -12,7 +12,7 @@ use trees::{Name, ScalarType};
 
 /// A member that a structure has: its position, counted from 0, where it begins in an element (4,294,967,295 where it
 /// begins further on), and the member.
-#[derive(Clone, Copy, Debug, PartialEq, Eq)]
+#[derive(Clone, Copy)]
 pub struct FoundMember {
     pub position: usize,
     pub offset: u32,
@@ -20,7 +20,7 @@ pub struct FoundMember {
 }
 
 /// What the table holds of a member beside its name: where it begins is after the members before it.
-#[derive(Clone, Copy, Debug, PartialEq, Eq)]
+#[derive(Clone, Copy)]
 pub(crate) struct Entry {
     dimension: Option<u16>,
     scalar: ScalarType,
