@@ -10,6 +10,7 @@
 use crate::events::word_of;
 use anyhow::Result;
 use cpu8080::Machine;
+use isa8080::Registers;
 use mem80::Memory;
 use ports::{Event, Script};
 use std::alloc::Global;
@@ -84,12 +85,8 @@ fn adjust_all<W: Write>(alloc: Global, out: &mut W, flags: u8) -> Result<()> {
     memory.load(START, &DAA);
     memory.set(DAA_FLAGS, flags);
     let mut machine = Machine::new(memory, Script::new(alloc), START);
-    let end = machine.run(10_000);
-    writeln!(
-        out,
-        "DAA of 00 to FF, flags {flags:02X} before: {}",
-        word_of(end)
-    )?;
+    let end = word_of(machine.run(10_000));
+    writeln!(out, "DAA of 00 to FF, flags {flags:02X} before: {end}")?;
     print_table(out, machine.ports().events())
 }
 
@@ -98,17 +95,11 @@ fn print_row<W: Write>(alloc: Global, out: &mut W, row: &Row) -> Result<()> {
     let mut memory = Memory::new(alloc)?;
     memory.load(START, &row.bytes);
     let mut machine = Machine::new(memory, Script::new(alloc), START);
-    let end = machine.run(10);
-    let registers = machine.registers();
-    writeln!(
-        out,
-        "{}: A={:02X} H={:02X} flags={:02X}, {}",
-        row.what,
-        registers.a,
-        registers.h,
-        registers.flags.byte(),
-        word_of(end)
-    )?;
+    let end = word_of(machine.run(10));
+    let Registers { a, h, flags, .. } = machine.registers();
+    let flags = flags.byte();
+    let what = row.what;
+    writeln!(out, "{what}: A={a:02X} H={h:02X} flags={flags:02X}, {end}")?;
     Ok(())
 }
 
