@@ -282,7 +282,7 @@ impl Binder {
 
     // Goes through what a statement does.
     #[cycle(walk)]
-    #[tactic(auto, using(crate::proofs::Walks::gives_nothing, crate::proofs::Parts::if_is, crate::proofs::Parts::do_is, crate::proofs::Parts::while_is, crate::proofs::Parts::iterate_is, crate::proofs::Parts::case_is))]
+    #[tactic(auto, using(crate::proofs::Walks::gives_nothing, names::proofs::Parts::if_is, names::proofs::Parts::do_is, names::proofs::Parts::while_is, names::proofs::Parts::iterate_is, names::proofs::Parts::case_is))]
     fn kind(&mut self, kind: &StatementKind) -> Result<(), Failure<Fault>>
         ensures { Does result self.new (gives (see_kind (kind_tree kind.now)) self.old) }
     {
@@ -429,7 +429,7 @@ impl Binder {
 
     // Goes through a declaration.
     #[cycle(walk)]
-    #[tactic(auto, using(crate::proofs::Parts::procedure_is))]
+    #[tactic(auto, using(names::proofs::Parts::procedure_is))]
     fn declaration(&mut self, declaration: &Declaration) -> Result<(), Failure<Fault>>
         ensures { Does result self.new (gives (see_declaration (declaration_tree declaration.now)) self.old) }
     {
