@@ -8,3 +8,10 @@ pub mod Unique
 pub mod Walks
 pub mod AnyCount
 pub mod Moves
+pub mod Groups
+pub mod Counted
+pub mod Runs
+pub mod Cuts
+pub mod Fixes
+pub mod Laid
+pub mod Accepting
