@@ -15,3 +15,9 @@ pub mod Cuts
 pub mod Fixes
 pub mod Laid
 pub mod Accepting
+pub mod NamesAccepted
+pub mod ContentsAccepted
+pub mod Headed
+pub mod SegmentWritten
+pub mod NamesWritten
+pub mod Written
