@@ -17,7 +17,9 @@ pub mod Laid
 pub mod Accepting
 pub mod NamesAccepted
 pub mod ContentsAccepted
+pub mod ContentsTold
 pub mod Headed
 pub mod SegmentWritten
 pub mod NamesWritten
 pub mod Written
+pub mod WrittenAgain
