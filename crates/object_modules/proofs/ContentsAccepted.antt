@@ -239,7 +239,7 @@ fixes_accepted content external_count (part ∷ parts) before at latest count al
     let t = and_parts (list_all (is_within content) own) (list_all (is_within content) later)
     (sym (list_all-append (is_within content) own later) ∙ within) in
     let split : (place : ℕ)
-        → times (covers place) (own ++ later) ≡ times (covers place) own + times (covers place) later =
+    → times (covers place) (own ++ later) ≡ times (covers place) own + times (covers place) later =
     λ place. times_append (covers place) own later in
     let is_part : IsFixPart content external_count part = all.0 in
     and_from (is_accepted before part) (are_accepted (part ∷ before) parts)

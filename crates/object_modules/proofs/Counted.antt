@@ -47,6 +47,7 @@ new_counts (first ∷ others) known h name =
     nothing : (n : ℕ) → (0 < n → ⊥) → n ≡ 0
     nothing zero h = refl
     nothing (suc n) h = absurd (h (omega arith))
+
     go : not (is_among first known) ≡ true
         → (times (bytes_eq name) others ≤ 1)
         × (0 < times (bytes_eq name) others → times (bytes_eq name) (first ∷ known) ≡ 0)
@@ -70,9 +71,10 @@ new_counts (first ∷ others) known h name =
         times_fail (bytes_eq name) first known e in
         let of_names : times (bytes_eq name) (first ∷ others) ≡ times (bytes_eq name) others =
         times_fail (bytes_eq name) first others e in
-        let once : times (bytes_eq name) others ≤ 1 = later.0 in
-        (omega (arith, of_names, once),
-        λ some. sym of_known ∙ later.1 (let s : 0 < times (bytes_eq name) others = omega (arith, some, of_names) in s))
+        let once : times (bytes_eq name) others ≤ 1 = later.0 in (
+          omega (arith, of_names, once),
+          λ some. sym of_known ∙ later.1 (let s : 0 < times (bytes_eq name) others = omega (arith, some, of_names) in s),
+        )
 
 pub new_once : (names : List (List ℕ)) → are_new names [] ≡ true → (name : List ℕ) → times (bytes_eq name) names ≤ 1
 new_once names h name = (new_counts names [] h name).0

@@ -84,9 +84,11 @@ whole_after limit room (first ∷ others) h whole =
     let begun : List (List SetByte) = groups_after bytes_wanted (λ here. 1) limit (room - 1) others in
     cond_both (nat_lt room (bytes_wanted first)) ([] ∷ onto_first first fresh) (onto_first first begun)
     (AllByRecursion AreWhole)
-    (λ _. (refl,
-    onto_whole limit (limit - 1) first others (λ _. omega (arith, h)) whole
-    (whole_after limit (limit - 1) others h (tail_whole first others whole))))
+    (λ _. (
+      refl,
+      onto_whole limit (limit - 1) first others (λ _. omega (arith, h)) whole
+          (whole_after limit (limit - 1) others h (tail_whole first others whole)),
+    ))
     (λ roomy.
     onto_whole limit (room - 1) first others
     (λ e.
@@ -164,9 +166,11 @@ placed_in_order offset to (group ∷ groups) others fits o =
     let longer : length (group ++ joined groups) ≡ length group + length (joined groups) =
     length-append group (joined groups) in
     let same : offset + length (group ++ joined groups) ≡ offset + length group + length (joined groups) =
-    omega (arith, longer) in
-    (omega arith, fits.0.0,
-    placed_in_order (offset + length group) to groups others fits.1 (subst (λ from. InOrder from to others) same o))
+    omega (arith, longer) in (
+      omega arith,
+      fits.0.0,
+      placed_in_order (offset + length group) to groups others fits.1 (subst (λ from. InOrder from to others) same o),
+    )
 
 pub contents_in_order :
     (from to : ℕ) (runs : List (Run SetByte)) → InOrder from to runs → InOrder from to (flat_map contents_of_run runs)

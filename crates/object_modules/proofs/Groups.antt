@@ -85,10 +85,12 @@ fit_after {A} needs takes limit room (item ∷ others) less small =
     let fitting : needs item ≤ limit = small.0 in
     cond_both (nat_lt room (needs item)) ([] ∷ onto_first item fresh) (onto_first item begun)
     (FirstAndOthers (λ group. total takes group ≤ room) (Fits takes limit))
-    (λ _. (omega arith,
-    all_fit takes limit (onto_first item fresh)
-    (fit_onto takes limit limit item fresh (omega (arith, taken, fitting))
-    (fit_after needs takes limit (limit - takes item) others less small.1))))
+    (λ _. (
+      omega arith,
+      all_fit takes limit (onto_first item fresh)
+          (fit_onto takes limit limit item fresh (omega (arith, taken, fitting))
+          (fit_after needs takes limit (limit - takes item) others less small.1)),
+    ))
     (λ roomy.
     let enough : needs item ≤ room = ltb-false room (needs item) roomy in
     weaker_first takes limit room (onto_first item begun)

@@ -286,11 +286,13 @@ found_past test fix fixes (class ∷ all) h = go (class fix) h (found_past test 
   where
     kept : List Fix
     kept = filter_map class fixes
+
     joins : find test (laid all (fix ∷ fixes)) ≡ find test (laid all fixes)
         → find test (kept ++ laid all (fix ∷ fixes)) ≡ find test (kept ++ laid all fixes)
     joins later =
         find-append test kept (laid all (fix ∷ fixes)) ∙ ap (option_or (find test kept)) later
         ∙ sym (find-append test kept (laid all fixes))
+
     go : (o : Option Fix) → AllByRecursion (λ other. test other ≡ false) (cons_option o (classed all fix))
         → (AllByRecursion (λ other. test other ≡ false) (classed all fix)
         → find test (laid all (fix ∷ fixes)) ≡ find test (laid all fixes))

@@ -62,8 +62,8 @@ externals_accepted (group ∷ groups) before up latest fit valid once =
     length_total listed_name_bytes group in
     let limit : total (λ name. length (listed_name_bytes name)) group ≤ 1027 = fit.0.1 in
     let split : (name : List ℕ)
-        → times (bytes_eq name) (group ++ joined groups)
-        ≡ times (bytes_eq name) group + times (bytes_eq name) (joined groups) =
+    → times (bytes_eq name) (group ++ joined groups)
+    ≡ times (bytes_eq name) group + times (bytes_eq name) (joined groups) =
     λ name. times_append (bytes_eq name) group (joined groups) in
     and_from (is_accepted before part) (are_accepted (part ∷ before) (map ExternalNamesPart groups))
     (accepted_by before part (record {
@@ -118,8 +118,8 @@ publics_accepted segment may (group ∷ groups) before up latest fit valid once 
     length_total definition_bytes group in
     let limit : total (λ definition. length (definition_bytes definition)) group ≤ 1026 = fit.0.1 in
     let split : (name : List ℕ)
-        → times (bytes_eq name) (definition_names (group ++ joined groups))
-        ≡ times (bytes_eq name) own + times (bytes_eq name) others =
+    → times (bytes_eq name) (definition_names (group ++ joined groups))
+    ≡ times (bytes_eq name) own + times (bytes_eq name) others =
     λ name.
     ap (times (bytes_eq name)) (map-append (λ (definition : Definition). definition.name) group (joined groups))
     ∙ times_append (bytes_eq name) own others in

@@ -74,8 +74,10 @@ before_in_order {A} offset to item (next ∷ others) o = go (next.offset == offs
   where
     merged : List (Run A)
     merged = record { offset = offset; items = item ∷ next.items } ∷ others
+
     apart : List (Run A)
     apart = record { offset = offset; items = item ∷ [] } ∷ next ∷ others
+
     go : (b : Bool) → (next.offset == offset + 1) ≡ b → InOrder offset to (cond b merged apart)
     go true e =
         let next_is : next.offset ≡ offset + 1 = eqb-true next.offset (offset + 1) e in
@@ -109,8 +111,10 @@ item_first {A} offset item (next ∷ others) = go (next.offset == offset + 1)
   where
     merged : List (Run A)
     merged = record { offset = offset; items = item ∷ next.items } ∷ others
+
     apart : List (Run A)
     apart = record { offset = offset; items = item ∷ [] } ∷ next ∷ others
+
     go : (b : Bool) → item_at offset (cond b merged apart) ≡ Some item
     go true =
         item_inside offset (record { offset = offset; items = item ∷ next.items }) others (omega arith) (omega arith)
@@ -127,8 +131,10 @@ item_later {A} offset place item (next ∷ others) h = go (next.offset == offset
   where
     merged : Run A
     merged = record { offset = offset; items = item ∷ next.items }
+
     single : Run A
     single = record { offset = offset; items = item ∷ [] }
+
     go : (b : Bool) → (next.offset == offset + 1) ≡ b
         → item_at place (cond b (merged ∷ others) (single ∷ next ∷ others)) ≡ item_at place (next ∷ others)
     go true e =

@@ -137,12 +137,13 @@ cut_parts_are :
     (own : Segment) (external_count : ℕ) (cut : Run SetByte) → HasTargets external_count cut
     → AllByRecursion (IsSegmentPart own) (content_parts own cut)
 cut_parts_are own external_count cut targets =
-    let content : Content = content_for own cut in
-    (content_is own cut,
-    all_weaker (IsFixPart content external_count) (IsSegmentPart own) (fix_part_is own content external_count)
-    (fix_parts own (fixes_from cut.offset cut.items))
-    (fix_parts_are content external_count (fixes_from cut.offset cut.items)
-    (fixes_have_targets external_count cut.offset cut.items targets)))
+    let content : Content = content_for own cut in (
+      content_is own cut,
+      all_weaker (IsFixPart content external_count) (IsSegmentPart own) (fix_part_is own content external_count)
+          (fix_parts own (fixes_from cut.offset cut.items))
+          (fix_parts_are content external_count (fixes_from cut.offset cut.items)
+          (fixes_have_targets external_count cut.offset cut.items targets)),
+    )
 
 pub segment_parts_are :
     (own : Segment) (external_count : ℕ) (cuts : List (Run SetByte)) → AllByRecursion (HasTargets external_count) cuts
