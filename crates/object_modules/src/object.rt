@@ -58,6 +58,7 @@ impl ObjectModule {
     }
 
     /// How many bytes a segment has, 0 to 65535; 0 for the absolute one.
+    #[tactic(auto, using(crate::proofs::ObjectLaws::code_length, crate::proofs::ObjectLaws::data_length))]
     pub fn length(&self, segment: Segment) -> u16
         ensures { result ≡ length_of self.now segment }
     {
@@ -130,6 +131,7 @@ impl ObjectModule {
 
     /// The longest runs of bytes that are set in a segment, by their offsets; none in the absolute one and the
     /// stack.
+    #[tactic(auto, using(crate::proofs::ObjectLaws::absolute_runs, crate::proofs::ObjectLaws::code_runs, crate::proofs::ObjectLaws::data_runs, crate::proofs::ObjectLaws::stack_runs))]
     pub fn runs(&self, segment: Segment) -> &[Run]
         ensures { result.now ≡ runs_of self.now segment }
     {
@@ -141,6 +143,7 @@ impl ObjectModule {
     }
 
     /// The fixes of a segment, by their offsets; none in the absolute one and the stack.
+    #[tactic(auto, using(crate::proofs::ObjectLaws::absolute_fixes, crate::proofs::ObjectLaws::code_fixes, crate::proofs::ObjectLaws::data_fixes, crate::proofs::ObjectLaws::stack_fixes))]
     pub fn fixes(&self, segment: Segment) -> &[Fix]
         ensures { result.now ≡ fixes_in self.now segment }
     {
