@@ -1,8 +1,11 @@
 //! Object modules.
 
-ghost use Rattle.std.specs.Prelude.{◌≡◌, map, slice_get, option_map};
-ghost use Rattle.object_modules.specs.Module.{IsObjectModule, alignment_of, length_of};
-ghost use Rattle.object_modules.specs.Runs.{fixes_in, runs_of};
+ghost use Rattle.std.specs.Prelude.{◌≡◌, IsTrue, map, slice_get, option_map};
+ghost use Rattle.std.specs.List.{list_all};
+ghost use Rattle.object_modules.specs.Module.{IsObjectModule, alignment_of, length_of, places_of};
+ghost use Rattle.object_modules.specs.Runs.{fixed_run, fixes_in, runs_of};
+ghost use Rattle.object_modules.specs.Stored.{are_longest, fixes_ascend, is_in_a_run};
+ghost use Rattle.object_modules.specs.Text.{runs_from};
 ghost use Rattle.object_modules.specs.Views.{AreKept, module_of_parts, owned_public_view, public_view};
 
 use crate::public::{OwnedPublic, PublicName};
@@ -131,9 +134,12 @@ impl ObjectModule {
 
     /// The longest runs of bytes that are set in a segment, by their offsets; none in the absolute one and the
     /// stack.
-    #[tactic(auto, using(crate::proofs::ObjectLaws::absolute_runs, crate::proofs::ObjectLaws::code_runs, crate::proofs::ObjectLaws::data_runs, crate::proofs::ObjectLaws::stack_runs))]
+    #[tactic(auto, using(crate::proofs::ObjectLaws::absolute_fixed, crate::proofs::ObjectLaws::absolute_runs, crate::proofs::ObjectLaws::code_fixed, crate::proofs::ObjectLaws::code_longest, crate::proofs::ObjectLaws::code_runs, crate::proofs::ObjectLaws::data_fixed, crate::proofs::ObjectLaws::data_longest, crate::proofs::ObjectLaws::data_runs, crate::proofs::ObjectLaws::stack_fixed, crate::proofs::ObjectLaws::stack_runs))]
     pub fn runs(&self, segment: Segment) -> &[Run]
-        ensures { result.now ≡ runs_of self.now segment }
+        ensures runs { result.now ≡ runs_of self.now segment }
+        ensures fixed { runs_from 0 (places_of self.now segment)
+            ≡ map (fixed_run (fixes_in self.now segment)) result.now }
+        ensures longest { IsTrue (are_longest (length_of self.now segment) result.now) }
     {
         match segment {
             Segment::Code => self.parts.code.runs(),
@@ -143,9 +149,11 @@ impl ObjectModule {
     }
 
     /// The fixes of a segment, by their offsets; none in the absolute one and the stack.
-    #[tactic(auto, using(crate::proofs::ObjectLaws::absolute_fixes, crate::proofs::ObjectLaws::code_fixes, crate::proofs::ObjectLaws::data_fixes, crate::proofs::ObjectLaws::stack_fixes))]
+    #[tactic(auto, using(crate::proofs::ObjectLaws::absolute_fixes, crate::proofs::ObjectLaws::code_fixes, crate::proofs::ObjectLaws::code_within, crate::proofs::ObjectLaws::data_fixes, crate::proofs::ObjectLaws::data_within, crate::proofs::ObjectLaws::stack_fixes))]
     pub fn fixes(&self, segment: Segment) -> &[Fix]
-        ensures { result.now ≡ fixes_in self.now segment }
+        ensures fixes { result.now ≡ fixes_in self.now segment }
+        ensures ascending { IsTrue (fixes_ascend result.now) }
+        ensures within { IsTrue (list_all (is_in_a_run segment (runs_of self.now segment)) result.now) }
     {
         match segment {
             Segment::Code => self.parts.code.fixes(),
