@@ -16,14 +16,14 @@ use Rattle.object_modules.specs.Text.{Run, before_runs, runs_from, fixes_from}
 use Rattle.object_modules.proofs.ReadBack.{both}
 
 -- What is set at a place, by the first run that has it.
-abbrev in_run : ℕ → Run ℕ → Bool
+abbrev pub in_run : ℕ → Run ℕ → Bool
 in_run x run = nat_le run.offset x && nat_lt x (run.offset + length run.items)
 
-abbrev byte_in_run : List Fix → ℕ → Run ℕ → SetByte
+abbrev pub byte_in_run : List Fix → ℕ → Run ℕ → SetByte
 byte_in_run fixes x run =
     record { value = slice_index run.items (x - run.offset); fixup = fixup_at fixes x }
 
-abbrev found : List Fix → List (Run ℕ) → ℕ → Option SetByte
+abbrev pub found : List Fix → List (Run ℕ) → ℕ → Option SetByte
 found fixes [] x = None
 found fixes (run ∷ others) x = cond (in_run x run) (Some (byte_in_run fixes x run)) (found fixes others x)
 
@@ -39,7 +39,7 @@ map_cond :
 map_cond f true x rest = refl
 map_cond f false x rest = refl
 
-found_is :
+pub found_is :
     (segment : Segment) (fixes : List Fix) (runs : List (Run ℕ)) (x : ℕ) → same_segment segment segment ≡ true
     → set_in (map (content_with segment fixes) runs) segment x ≡ found fixes runs x
 found_is segment fixes [] x same = refl
@@ -53,17 +53,17 @@ found_is segment fixes (run ∷ others) x same =
     ∙ ap (cond (in_run x run) (Some (byte_in_run fixes x run))) (found_is segment fixes others x same)
 
 -- Runs beyond a place, and longest runs.
-abbrev Beyond : ℕ → List (Run ℕ) → Type 0
+abbrev pub Beyond : ℕ → List (Run ℕ) → Type 0
 Beyond end [] = Unit {0}
 Beyond end (run ∷ others) = (end < run.offset) × Beyond end others
 
-abbrev Longest : ℕ → List (Run ℕ) → Type 0
+abbrev pub Longest : ℕ → List (Run ℕ) → Type 0
 Longest size [] = Unit {0}
 Longest size (run ∷ others) =
     (0 < length run.items) × (run.offset + length run.items ≤ size)
     × Beyond (run.offset + length run.items) others × Longest size others
 
-beyond_less : (a b : ℕ) (runs : List (Run ℕ)) → a ≤ b → Beyond b runs → Beyond a runs
+pub beyond_less : (a b : ℕ) (runs : List (Run ℕ)) → a ≤ b → Beyond b runs → Beyond a runs
 beyond_less a b [] h beyond = tt
 beyond_less a b (run ∷ others) h beyond =
     let here : b < run.offset = beyond.0 in (omega arith, beyond_less a b others h beyond.1)
@@ -118,7 +118,7 @@ found_after fixes run others x h =
     (le-ltb x (run.offset + length run.items) h)
 
 -- a run with places before it
-abbrev run_at : ℕ → List ℕ → Run ℕ
+abbrev pub run_at : ℕ → List ℕ → Run ℕ
 run_at offset items = record { offset = offset; items = items }
 
 -- a place after the first of a run is one of the rest of the run
@@ -157,7 +157,7 @@ found_first fixes offset first items others =
     ∙ ap (λ k. Some (record { value = slice_index (first ∷ items) k; fixup = fixup_at fixes offset })) none
 
 -- places of which the same is found
-same_over :
+pub same_over :
     (f g : ℕ → Option SetByte) (p n : ℕ) → ((x : ℕ) → p ≤ x → f x ≡ g x)
     → map f (range_with_len p n) ≡ map g (range_with_len p n)
 same_over f g p zero h = refl
@@ -313,7 +313,7 @@ stored_bytes segment stored same is =
     ap (map bytes_of_run) (stored_runs segment stored same is) ∙ bytes_again stored.fixes stored.runs
 
 -- Fixes by their places, all from one on.
-abbrev Ascending : ℕ → List Fix → Type 0
+abbrev pub Ascending : ℕ → List Fix → Type 0
 Ascending p [] = Unit {0}
 Ascending p (fix ∷ others) = (p ≤ fix.offset) × Ascending (fix.offset + 1) others
 
