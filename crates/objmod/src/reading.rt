@@ -59,8 +59,10 @@ pub fn read(alloc: Global, bytes: &[u8]) -> Result<ObjectModule, Failure<Fault>>
 
 /// Reads a module from a reader, to its end.
 pub fn read_from<R: Read>(alloc: Global, from: &mut R) -> Result<ObjectModule, Failure<ReadFault>>
-    ensures spelled { IfOk result (λ object. ReadsModule (R.remaining from.old) (R.remaining from.new) object) }
-    ensures fault { IfFault result (λ fault. HasReadFault (R.remaining from.old) (R.remaining from.new) fault) }
+    ensures spelled { IfOk result (λ object.
+        ReadsModule (R.remaining from.old) (R.remaining from.new) object) }
+    ensures fault { IfFault result (λ fault.
+        HasReadFault (R.remaining from.old) (R.remaining from.new) fault) }
     ensures taken { TakesSome (R.remaining from.old) (R.remaining from.new) }
 {
     let _ = (alloc, from);
