@@ -53,7 +53,6 @@ pub fn read(alloc: Global, bytes: &[u8]) -> Result<ObjectModule, Failure<Fault>>
     ensures ended { (object : ObjectValue) (first : ℕ) (rest : List ℕ) → IsObjectModule object
         → bytes.now ≡ text_of object ++ first ∷ rest → IfOk result (λ _. ⊥) }
 {
-    let _ = (alloc, bytes);
     Err(Failure::Memory)
 }
 
@@ -65,6 +64,5 @@ pub fn read_from<R: Read>(alloc: Global, from: &mut R) -> Result<ObjectModule, F
         HasReadFault (R.remaining from.old) (R.remaining from.new) fault) }
     ensures taken { TakesSome (R.remaining from.old) (R.remaining from.new) }
 {
-    let _ = (alloc, from);
     Err(Failure::Memory)
 }
