@@ -2,6 +2,7 @@
 #![tactic(auto)]
 
 mod reading;
+mod segments;
 mod written;
 
 pub use object_modules::{
