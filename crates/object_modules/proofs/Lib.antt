@@ -23,3 +23,5 @@ pub mod SegmentWritten
 pub mod NamesWritten
 pub mod Written
 pub mod WrittenAgain
+pub mod StoredRuns
+pub mod ObjectLaws

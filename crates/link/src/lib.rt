@@ -1,0 +1,12 @@
+//! Object modules merged into one.
+#![tactic(auto)]
+
+mod fault;
+mod merged;
+mod merging;
+mod streaming;
+
+pub use fault::{LinkFault, StreamFault};
+pub use merged::Merged;
+pub use merging::link;
+pub use streaming::link_records;

@@ -1,0 +1,4 @@
+pub mod Kept
+pub mod KeptStored
+pub mod Opened
+pub mod Tables

@@ -1,0 +1,2 @@
+-- What proofs of reading speak of.
+pub mod Keeping
