@@ -10,3 +10,14 @@ pub mod AnyCount
 pub mod Moves
 pub mod StoredRuns
 pub mod ObjectLaws
+pub mod Bytes
+pub mod Accepted
+pub mod FixesOfContents
+pub mod Contents
+pub mod MovedValid
+pub mod MergeValid
+pub mod FixesOfPlaces
+pub mod RunsMoved
+pub mod PlacesKept
+pub mod MergedParts
+pub mod HighBytes
