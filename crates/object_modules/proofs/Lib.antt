@@ -14,10 +14,14 @@ pub mod Bytes
 pub mod Accepted
 pub mod FixesOfContents
 pub mod Contents
+pub mod Valid
 pub mod MovedValid
 pub mod MergeValid
+pub mod RunsJoined
 pub mod FixesOfPlaces
 pub mod RunsMoved
+pub mod PiecesJoined
 pub mod PlacesKept
+pub mod PiecesByRuns
 pub mod MergedParts
 pub mod HighBytes
