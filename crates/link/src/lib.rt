@@ -4,6 +4,8 @@
 mod fault;
 mod merged;
 mod merging;
+mod names;
+mod starts;
 mod streaming;
 
 pub use fault::{LinkFault, StreamFault};

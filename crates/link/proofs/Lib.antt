@@ -1,0 +1,3 @@
+pub mod NameLoops
+pub mod StartLoops
+pub mod Refusals
