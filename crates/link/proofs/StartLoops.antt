@@ -47,8 +47,8 @@ code_grows code data_before [] = omega arith
 code_grows code data_before (object ∷ others) =
     let one : Linked = linked_after code data_before object in
     let later :
-        start_after code object.code.alignment + length object.code.places
-        ≤ code_after code data_before (object ∷ others) =
+    start_after code object.code.alignment + length object.code.places
+    ≤ code_after code data_before (object ∷ others) =
     code_grows (code_end one) (data_end one) others in
     let begins : code ≤ start_after code object.code.alignment = starts_later code object.code.alignment in
     omega (arith, later, begins)
@@ -58,8 +58,8 @@ data_grows code data_before [] = omega arith
 data_grows code data_before (object ∷ others) =
     let one : Linked = linked_after code data_before object in
     let later :
-        start_after data_before object.data_places.alignment + length object.data_places.places
-        ≤ data_after code data_before (object ∷ others) =
+    start_after data_before object.data_places.alignment + length object.data_places.places
+    ≤ data_after code data_before (object ∷ others) =
     data_grows (code_end one) (data_end one) others in
     let begins : data_before ≤ start_after data_before object.data_places.alignment =
     starts_later data_before object.data_places.alignment in
@@ -107,8 +107,8 @@ module _ (code data_before stack : ℕ) (starts : List ModuleStart) (modules : L
   code_too_long start size begins sized long =
       let one : Linked = linked_after code data_before object in
       let grows :
-          start_after code object.code.alignment + length object.code.places
-          ≤ code_after (code_end one) (data_end one) (drop (i + 1) modules) =
+      start_after code object.code.alignment + length object.code.places
+      ≤ code_after (code_end one) (data_end one) (drop (i + 1) modules) =
       code_grows (code_end one) (data_end one) (drop (i + 1) modules) in
       let total : code_after (code_end one) (data_end one) (drop (i + 1) modules) ≡ code_after 0 0 modules =
       sym (ap (code_after code data_before) left_is) ∙ known.code_rest in
@@ -127,8 +127,8 @@ module _ (code data_before stack : ℕ) (starts : List ModuleStart) (modules : L
   data_too_long start size begins sized long =
       let one : Linked = linked_after code data_before object in
       let grows :
-          start_after data_before object.data_places.alignment + length object.data_places.places
-          ≤ data_after (code_end one) (data_end one) (drop (i + 1) modules) =
+      start_after data_before object.data_places.alignment + length object.data_places.places
+      ≤ data_after (code_end one) (data_end one) (drop (i + 1) modules) =
       data_grows (code_end one) (data_end one) (drop (i + 1) modules) in
       let total : data_after (code_end one) (data_end one) (drop (i + 1) modules) ≡ data_after 0 0 modules =
       sym (ap (data_after code data_before) left_is) ∙ known.data_rest in

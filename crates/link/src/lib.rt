@@ -2,6 +2,7 @@
 #![tactic(auto)]
 
 mod fault;
+mod mains;
 mod merged;
 mod merging;
 mod names;

@@ -87,7 +87,8 @@ pub(crate) fn public_names_of(
     modules: &[ObjectModule],
 ) -> Result<NameTable, Failure<LinkFault>>
     ensures ok { IfOk result (λ table. gathered [] (public_names modules.now) ≡ Ok table) }
-    ensures fault { IfFault result (λ fault. gathered [] (public_names modules.now) ≡ Err (refusal_of fault)) }
+    ensures fault { IfFault result (λ fault.
+        gathered [] (public_names modules.now) ≡ Err (refusal_of fault)) }
 {
     let mut table = NameTable::new(alloc);
     for module in modules {

@@ -26,9 +26,13 @@ fn start_at(end: u32, alignment: Alignment) -> u32
 
 /// Where the pieces of modules begin, module by module; a segment of the merge that is too long is a fault.
 #[tactic(auto, using(crate::proofs::StartLoops::code_too_long, crate::proofs::StartLoops::data_too_long, crate::proofs::StartLoops::stack_too_long, crate::proofs::StartLoops::one_more, crate::proofs::StartLoops::all_started, crate::proofs::StartLoops::all_fit))]
-pub(crate) fn starts_in(alloc: Global, modules: &[ObjectModule]) -> Result<Vec<ModuleStart>, Failure<LinkFault>>
+pub(crate) fn starts_in(
+    alloc: Global,
+    modules: &[ObjectModule],
+) -> Result<Vec<ModuleStart>, Failure<LinkFault>>
     ensures starts { IfOk result (λ starts. map start_view starts.items ≡ starts_of modules.now) }
-    ensures fits { IfOk result (λ _. some_segment_is_too_long modules.now (linked_modules modules.now) ≡ false) }
+    ensures fits { IfOk result (λ _.
+        some_segment_is_too_long modules.now (linked_modules modules.now) ≡ false) }
     ensures fault { IfFault result (λ fault. refusal_of fault ≡ SegmentTooLong) }
     ensures too_long { IfFault result (λ _.
         some_segment_is_too_long modules.now (linked_modules modules.now) ≡ true) }

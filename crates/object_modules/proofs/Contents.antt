@@ -120,10 +120,10 @@ contents_ascend count entries segment latest earlier (ExternalNamesPart names �
 contents_ascend count entries segment latest earlier (PublicsPart place definitions ∷ others) f =
     contents_ascend count entries segment _ (latest ∷ earlier) others (next_follow count entries latest earlier _ others f)
 contents_ascend count entries segment latest earlier (ContentPart content ∷ others) f = (
-      own_content count entries segment latest earlier content others f,
-      contents_ascend count entries segment (ContentPart content) (latest ∷ earlier) others
-          (next_follow count entries latest earlier (ContentPart content) others f),
-    )
+  own_content count entries segment latest earlier content others f,
+  contents_ascend count entries segment (ContentPart content) (latest ∷ earlier) others
+      (next_follow count entries latest earlier (ContentPart content) others f),
+)
 contents_ascend count entries segment latest earlier (ExternalReferencesPart kind references ∷ others) f =
     contents_ascend count entries segment _ (latest ∷ earlier) others (next_follow count entries latest earlier _ others f)
 contents_ascend count entries segment latest earlier (RelocationPart kind offsets ∷ others) f =
@@ -233,6 +233,7 @@ next_place count size segment end offset (first ∷ others) fixed a h k =
         let within : content_end first.content ≤ offset = subst (λ n. n ≤ offset) ends after in
         absurd (omega (arith, to, within))
     before is false f = refl
+
     go : (b : Bool) → holds_place segment offset first ≡ b
         → (find (holds_place segment offset) others ≡ Some fixed
         → find (holds_place segment (offset + 1)) others ≡ Some fixed)

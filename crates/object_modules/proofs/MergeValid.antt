@@ -184,6 +184,7 @@ keeps publics linked count (External number) h = go (public_meant publics linked
         → option_map_or (λ (other : Target). is_target 0 other) (cond b (Some (InSegment segment)) None) true ≡ true
     by_segment segment true e = e
     by_segment segment false e = refl
+
     go : (found : Option Public)
         → option_map_or (λ (other : Target). is_target 0 other) (option_and_then target_of_public found) true ≡ true
     go None = refl

@@ -294,22 +294,22 @@ gives :
     → SaysFrom place all offset places → FixesSay all offset places → Gives place offset places
 gives place all offset [] says fixes = tt
 gives place all offset (None ∷ others) says fixes = (
-      says offset (omega arith)
-          ∙ none_early all (runs_from (offset + 1) others) offset (offset + 1) (omega arith)
-          (all_from (offset + 1) others),
-      gives place all (offset + 1) others (λ x h. says x (omega (arith, h))) (λ x h. fixes x (omega (arith, h))),
-    )
+  says offset (omega arith)
+      ∙ none_early all (runs_from (offset + 1) others) offset (offset + 1) (omega arith)
+      (all_from (offset + 1) others),
+  gives place all (offset + 1) others (λ x h. says x (omega (arith, h))) (λ x h. fixes x (omega (arith, h))),
+)
 gives place all offset (Some here ∷ others) says fixes = (
-      says offset (omega arith)
-          ∙ here_first all offset here (runs_from (offset + 1) others)
-          ∙ ap (λ f. Some (record { value = here.value; fixup = f }))
-          (fixes offset (omega arith)
-          ∙ fix_here offset here.fixup (place_fixes (offset + 1) others) (fixes_from_place (offset + 1) others)),
-      gives place all (offset + 1) others
-          (λ x h. says x (omega (arith, h)) ∙ later_place all offset x here (runs_from (offset + 1) others) (omega (arith, h)))
-          (λ x h.
-          fixes x (omega (arith, h)) ∙ fix_later offset x here.fixup (place_fixes (offset + 1) others) (omega (arith, h))),
-    )
+  says offset (omega arith)
+      ∙ here_first all offset here (runs_from (offset + 1) others)
+      ∙ ap (λ f. Some (record { value = here.value; fixup = f }))
+      (fixes offset (omega arith)
+      ∙ fix_here offset here.fixup (place_fixes (offset + 1) others) (fixes_from_place (offset + 1) others)),
+  gives place all (offset + 1) others
+      (λ x h. says x (omega (arith, h)) ∙ later_place all offset x here (runs_from (offset + 1) others) (omega (arith, h)))
+      (λ x h.
+      fixes x (omega (arith, h)) ∙ fix_later offset x here.fixup (place_fixes (offset + 1) others) (omega (arith, h))),
+)
 
 -- the places of the segment that keeps places are these
 pub kept_places :

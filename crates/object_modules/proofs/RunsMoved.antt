@@ -88,7 +88,7 @@ item_first gain_of kept before offset here (next ∷ others) =
     go : (b : Bool)
         → cond b
         (run_at offset (byte_moved gain_of kept before here
-              ∷ items_moved gain_of kept (cond b (Some here) None) next.items) ∷ map (run_moved gain_of kept) others)
+        ∷ items_moved gain_of kept (cond b (Some here) None) next.items) ∷ map (run_moved gain_of kept) others)
         (run_at offset (byte_moved gain_of kept before here ∷ [])
         ∷ (run_at next.offset (items_moved gain_of kept (cond b (Some here) None) next.items))
         ∷ map (run_moved gain_of kept) others)

@@ -1,5 +1,5 @@
 -- One pass over modules: the table of their public names, and where their pieces end.
-use Rattle.std.specs.Prelude.{ℕ, not, if◌then◌else◌, List, [], ◌∷◌, ◌++◌, flat_map, find, Option, Result, Ok, Err}
+use Rattle.std.specs.Prelude.{ℕ, Bool, true, false, not, is_some, if◌then◌else◌, List, [], ◌∷◌, ◌++◌, flat_map, find, Option, Result, Ok, Err}
 use Rattle.object_modules.specs.declared.public.OwnedPublic.{OwnedPublic}
 use Rattle.object_modules.specs.Displacements.{code_end, data_end, linked_after}
 use Rattle.object_modules.specs.Merge.{LinkRefusal, DuplicatePublic}
@@ -34,3 +34,9 @@ externals_of modules = flat_map (λ (object : ObjectModule). object.externals) m
 -- the first name that is not known
 abbrev pub missing_in : (known names : List (List ℕ)) → Option (List ℕ)
 missing_in known names = find (λ name. not (is_among name known)) names
+
+-- one of the modules has a start, or one was found before them, and no other
+abbrev pub one_main : (found : Bool) → List ObjectModule → Bool
+one_main found [] = found
+one_main found (object ∷ others) =
+    if is_some object.start then (if found then false else one_main true others) else one_main found others
