@@ -17,8 +17,8 @@ use Rattle.object_modules.specs.Rules.{is_within, fix_end, are_accepted}
 use Rattle.object_modules.specs.Spelling.{FixedContent, fixed_contents, holds_place, set_at, set_in}
 use Rattle.object_modules.proofs.FrontsAgain.{segment_again}
 use Rattle.object_modules.proofs.Bytes.{InRange, byte_at}
-use Rattle.object_modules.proofs.Accepted.{Fits, both_fit, kept, no_entries_in}
-use Rattle.object_modules.proofs.FixesOfContents.{FixesSound, IsWord, begins_at, word_at, clash, word_is, has_target, fixes_sound}
+use Rattle.object_modules.proofs.Accepted.{both_fit, kept, no_entries_in}
+use Rattle.object_modules.proofs.FixesOfContents.{begins_at, word_at, clash, word_is, has_target, fixes_sound}
 
 -- what a content with its fixes keeps to, in a segment of a size, with so many external names
 pub record Sound (count size : ℕ) (fixed : FixedContent) : Type 0 where

@@ -16,7 +16,7 @@ use Rattle.object_modules.specs.Parts.{Reference, Content, Part, HeaderPart, Ext
 use Rattle.object_modules.specs.Before.{is_empty, is_fix_record, externals_of, content_of, latest_content, fixes_of, leading_fixes}
 use Rattle.object_modules.specs.Rules.{is_other_segment, is_body, is_within, fix_end, share_a_byte, are_apart, fit_content, are_accepted}
 use Rattle.object_modules.proofs.Bytes.{InRange}
-use Rattle.object_modules.proofs.Accepted.{Fits, both_fit, any_moved}
+use Rattle.object_modules.proofs.Accepted.{both_fit, any_moved}
 
 -- a fix begins at a place, and one of a word does
 abbrev pub begins_at : (offset : ℕ) → Fix → Bool

@@ -8,7 +8,7 @@ use Rattle.object_modules.specs.Merge.{joined_after, code_piece, data_piece, joi
 use Rattle.object_modules.specs.Module.{Places, ObjectModule, IsObjectModule}
 use Rattle.object_modules.specs.Stored.{IsStored, places_stored}
 use Rattle.object_modules.specs.Views.{AreKept, module_of_parts, owned_public_view}
-use Rattle.object_modules.proofs.MergeValid.{ValidPlaces, places_are, merge_is_object}
+use Rattle.object_modules.proofs.MergeValid.{places_are, merge_is_object}
 use Rattle.object_modules.proofs.PlacesKept.{stored_of, kept_places, kept_stored}
 
 -- the segments of a merge

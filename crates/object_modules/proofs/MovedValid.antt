@@ -9,7 +9,7 @@ use Rattle.object_modules.specs.declared.segment.FixKind.{FixKind}
 use Rattle.object_modules.specs.declared.segment.FixKind.TheVariants.{Low, High, Both}
 use Rattle.object_modules.specs.declared.segment.Target.{Target}
 use Rattle.object_modules.specs.Module.{Fixup, SetByte, is_both, begins_word, is_plain, words_are_whole, is_target, is_valid_byte}
-use Rattle.object_modules.specs.Moving.{first_byte_moved, after_fixup, value_after, value_moved, fixup_moved, byte_moved, moved_after, moved}
+use Rattle.object_modules.specs.Moving.{first_byte_moved, after_fixup, value_after, value_moved, fixup_moved, byte_moved, moved_after}
 use Rattle.object_modules.specs.Merge.{joined_after}
 
 -- each place has a valid byte, or none

@@ -11,7 +11,7 @@ use Rattle.object_modules.specs.declared.segment.Segment.{Segment}
 use Rattle.object_modules.specs.declared.segment.Segment.TheVariants.{Absolute, Code, Data, Stack}
 use Rattle.object_modules.specs.declared.segment.Target.{Target}
 use Rattle.object_modules.specs.Before.{is_empty, same_segment}
-use Rattle.object_modules.specs.Module.{Fixup, SetByte, Places, width_of, is_both, begins_word, is_plain, words_are_whole}
+use Rattle.object_modules.specs.Module.{Fixup, SetByte, width_of, is_both, begins_word, is_plain, words_are_whole}
 use Rattle.object_modules.specs.Rules.{fix_end, is_within}
 use Rattle.object_modules.specs.Runs.{bytes_of_run, fixup_at}
 use Rattle.object_modules.specs.Spelling.{FixedContent, holds_place, set_at, set_in}

@@ -14,10 +14,10 @@ use Rattle.object_modules.specs.Module.{SetByte, ObjectModule, are_new, is_valid
 use Rattle.object_modules.specs.Parts.{SegmentEntry, Part, HeaderPart, ExternalNamesPart, PublicsPart, ContentPart, ExternalReferencesPart, RelocationPart, IntersegmentPart, ModuleEndPart, EndOfFilePart}
 use Rattle.object_modules.specs.Before.{same_segment, is_ended, entries_of, entry_in, externals_of, length_in, filled_to}
 use Rattle.object_modules.specs.Rules.{ascend_from, are_accepted}
-use Rattle.object_modules.specs.Spelling.{IsFileOf, fixed_contents, set_in, alignment_with, alignment_in, places_in, module_of, Spells}
+use Rattle.object_modules.specs.Spelling.{fixed_contents, set_in, alignment_with, alignment_in, places_in, module_of, Spells}
 use Rattle.object_modules.proofs.Bytes.{InRange, parts_range}
-use Rattle.object_modules.proofs.Accepted.{Fits, both_fit, all_names, names_ordered, no_entries, publics_valid, start_valid}
-use Rattle.object_modules.proofs.Contents.{IsWhole, Follow, contents_ascend, place_valid, place_whole, all_places, places_whole}
+use Rattle.object_modules.proofs.Accepted.{both_fit, all_names, names_ordered, no_entries, publics_valid, start_valid}
+use Rattle.object_modules.proofs.Contents.{Follow, contents_ascend, place_valid, place_whole, all_places, places_whole}
 
 -- lengths and alignments
 found_short :
