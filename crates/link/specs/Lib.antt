@@ -2,3 +2,4 @@ pub use Rattle.object_modules.specs.Merge
 pub mod Merging
 pub mod Views
 pub mod Streams
+pub mod internal

@@ -2,8 +2,11 @@
 #![tactic(auto)]
 
 mod fault;
+mod mains;
 mod merged;
 mod merging;
+mod names;
+mod starts;
 mod streaming;
 
 pub use fault::{LinkFault, StreamFault};

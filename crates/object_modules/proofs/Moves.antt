@@ -35,7 +35,7 @@ fixup_stays :
 fixup_stays gain_of first value None h = refl
 fixup_stays gain_of first value (Some fixup) h = kind_stays gain_of first value fixup.kind fixup.target h
 
-value_stays :
+pub value_stays :
     (gain_of : Target → ℕ) (before : Option SetByte) (value : ℕ) → begins_word before ≡ false
     → value_after gain_of before value ≡ value
 value_stays gain_of None value h = refl

@@ -7,3 +7,4 @@ pub mod Faults
 pub mod Accepted
 pub mod Links
 pub mod Placements
+pub mod Joining

@@ -1,0 +1,2 @@
+-- What the loops of linking go by.
+pub mod Passes
