@@ -1,0 +1,4 @@
+pub mod Fixing
+pub mod Putting
+pub mod Views
+pub mod Images
