@@ -8,3 +8,5 @@ pub mod Unique
 pub mod Walks
 pub mod AnyCount
 pub mod Moves
+pub mod StoredRuns
+pub mod ObjectLaws

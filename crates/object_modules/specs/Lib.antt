@@ -11,8 +11,10 @@ pub mod Spelling
 pub mod Walking
 pub mod Text
 pub mod Stored
+pub mod Runs
 pub mod Moving
 pub mod Displacements
 pub mod Merge
 pub mod Image
+pub mod Views
 pub mod internal

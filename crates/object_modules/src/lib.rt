@@ -2,7 +2,14 @@
 #![tactic(auto)]
 
 mod fault;
+mod object;
+mod public;
 mod segment;
+mod stored;
 
 pub use fault::Fault;
+pub use object::{ModuleParts, ObjectModule};
+pub use public::{OwnedPublic, PublicName};
 pub use segment::{Alignment, Fix, FixKind, SEGMENT_LIMIT, Segment, Target};
+pub use stored::{Run, SegmentBytes};
+pub use symbols::Name;
