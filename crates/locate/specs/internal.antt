@@ -1,4 +1,3 @@
 pub mod Fixing
 pub mod Putting
 pub mod Views
-pub mod Images
