@@ -1,0 +1,3 @@
+pub mod Values
+pub mod Runs
+pub mod Pieces

@@ -1,0 +1,5 @@
+pub use Rattle.object_modules.specs.Image
+pub use Rattle.mem80.specs.Pieces
+pub mod StandIn
+pub mod Locating
+pub mod internal

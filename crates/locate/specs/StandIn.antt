@@ -1,0 +1,23 @@
+-- The bytes and the fixes of a run.
+use Rattle.std.specs.Prelude.{ℕ, List, map, flat_map}
+use Rattle.object_modules.specs.declared.segment.Fix.{Fix}
+use Rattle.object_modules.specs.declared.segment.Segment.{Segment}
+use Rattle.object_modules.specs.Module.{SetByte, ObjectModule, places_of}
+use Rattle.object_modules.specs.Text.{Run, runs_from, fixes_from}
+
+-- the bytes of a run without their fixes
+abbrev pub bytes_of_run : Run SetByte → Run ℕ
+bytes_of_run run =
+    record { offset = run.offset; items = map (λ (here : SetByte). here.value) run.items }
+
+-- the fixes of a run, by their places
+abbrev pub fixes_of_run : Run SetByte → List Fix
+fixes_of_run run = fixes_from run.offset run.items
+
+-- the longest runs of bytes that are set in a segment
+unfoldable pub runs_of : ObjectModule → Segment → List (Run ℕ)
+runs_of object segment = map bytes_of_run (runs_from 0 (places_of object segment))
+
+-- the fixes of a segment, by their places
+unfoldable pub fixes_in : ObjectModule → Segment → List Fix
+fixes_in object segment = flat_map fixes_of_run (runs_from 0 (places_of object segment))

@@ -1,0 +1,3 @@
+pub mod Fixing
+pub mod Putting
+pub mod Views

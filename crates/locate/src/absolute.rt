@@ -1,0 +1,75 @@
+//! Placed modules.
+
+ghost use Rattle.std.specs.Prelude.{◌≡◌, map};
+ghost use Rattle.locate.specs.Locating.{symbol_view};
+
+use mem80::Piece;
+use std::marker::Model;
+use symbols::Name;
+
+/// A public name with its address.
+#[derive(Clone, Copy)]
+pub struct Symbol {
+    pub name: Name,
+    pub address: u16,
+}
+
+/// A placed module: the bytes that it sets, where it starts, and the addresses of its public names.
+pub struct Absolute {
+    pieces: Vec<Piece>,
+    start: u16,
+    symbols: Vec<Symbol>,
+}
+
+impl Model for Absolute {
+    ghost use Rattle.std.specs.Prelude.{map};
+    ghost use Rattle.locate.specs.Locating.{Absolute as AbsoluteValue, IsAbsolute, symbol_view};
+
+    ghost Value = { AbsoluteValue };
+
+    ghost view = { λ a. record {
+      pieces = a.pieces.items;
+      start = a.start;
+      symbols = map symbol_view a.symbols.items;
+    } };
+
+    ghost invariant = { λ a. IsAbsolute (record {
+      pieces = a.pieces.items;
+      start = a.start;
+      symbols = map symbol_view a.symbols.items;
+    }) };
+}
+
+// Written out, so that what it holds is let go here, and each crate that lets one go calls this.
+impl Drop for Absolute {
+    fn drop(self) {
+        let Absolute {
+            pieces: _,
+            start: _,
+            symbols: _,
+        } = self;
+    }
+}
+
+impl Absolute {
+    /// The bytes that it sets, as the longest runs, in the order of their addresses.
+    pub fn pieces(&self) -> &[Piece]
+        ensures same { result.now ≡ self.now.pieces }
+    {
+        self.pieces.as_slice()
+    }
+
+    /// The address where it starts.
+    pub fn start(&self) -> u16
+        ensures { result ≡ self.now.start }
+    {
+        self.start
+    }
+
+    /// Its public names, in their order.
+    pub fn symbols(&self) -> &[Symbol]
+        ensures { map symbol_view result.now ≡ self.now.symbols }
+    {
+        self.symbols.as_slice()
+    }
+}
