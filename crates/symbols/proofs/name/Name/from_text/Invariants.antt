@@ -1,7 +1,7 @@
 use Rattle.std.proofs.Common.{◌≡◌, ◌++◌, length, take}
 use Rattle.words.specs.Names.{name_of}
 use Rattle.symbols.proofs.Names.{IsFilled}
-use Rattle.trees.proofs.name.Name.from_text.Given as goal
+use Rattle.symbols.proofs.name.Name.from_text.Given as goal
 
 abbrev pub invariant-loop-character : goal.invariant-loop-character
 invariant-loop-character l = record {
