@@ -1,7 +1,7 @@
 //! Names, numbers and strings as they stand in a source.
 
-use symbols::Name;
 use std::alloc::{AllocError, Global};
+use symbols::Name;
 
 /// Where a word stands: the place of its first byte, counted from 0, and its line, counted from 1.
 #[derive(Clone, Copy, Debug, PartialEq, Eq)]

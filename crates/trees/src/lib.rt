@@ -14,8 +14,8 @@ pub use declaration::{
 pub use expression::{BinaryOperator, Expression, Reference, Selector, UnaryOperator};
 pub use identifier::{Constant, Identifier, Number, Place, StringLiteral};
 pub use module::Module;
-pub use symbols::Name;
 pub use statement::{
     Assignment, Block, Declaration, DoCase, DoWhile, Heading, IfThen, Iteration, IterativeDo,
     Procedure, Statement, StatementKind,
 };
+pub use symbols::Name;
