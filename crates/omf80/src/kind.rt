@@ -31,3 +31,43 @@ pub enum RecordKind {
     /// Type 0EH: the end of the file.
     EndOfFile,
 }
+
+impl RecordKind {
+    ghost use Rattle.std.specs.Prelude.{◌≡◌};
+    ghost use Rattle.omf80.specs.Records.{type_byte, kind_of_type};
+
+    /// The kind of record that begins with a byte.
+    pub fn of_type(byte: u8) -> Option<RecordKind>
+        ensures { result ≡ kind_of_type byte }
+    {
+        match byte {
+            0x02 => Some(RecordKind::Header),
+            0x18 => Some(RecordKind::ExternalNames),
+            0x16 => Some(RecordKind::Publics),
+            0x06 => Some(RecordKind::Content),
+            0x20 => Some(RecordKind::ExternalReferences),
+            0x22 => Some(RecordKind::Relocation),
+            0x24 => Some(RecordKind::IntersegmentReferences),
+            0x04 => Some(RecordKind::ModuleEnd),
+            0x0E => Some(RecordKind::EndOfFile),
+            _ => None,
+        }
+    }
+
+    /// The byte that a record of this kind begins with.
+    pub fn code(&self) -> u8
+        ensures { result ≡ type_byte self.now }
+    {
+        match self {
+            RecordKind::Header => 0x02,
+            RecordKind::ExternalNames => 0x18,
+            RecordKind::Publics => 0x16,
+            RecordKind::Content => 0x06,
+            RecordKind::ExternalReferences => 0x20,
+            RecordKind::Relocation => 0x22,
+            RecordKind::IntersegmentReferences => 0x24,
+            RecordKind::ModuleEnd => 0x04,
+            RecordKind::EndOfFile => 0x0E,
+        }
+    }
+}

@@ -3,6 +3,10 @@
 
 mod fault;
 mod kind;
+mod record;
+mod records;
 
 pub use fault::Fault;
 pub use kind::{BODY_LIMIT, HEADING_SIZE, LENGTH_LIMIT, RecordKind};
+pub use record::Record;
+pub use records::{Records, write_record};
