@@ -11,7 +11,7 @@ use Rattle.object_modules.specs.declared.segment.Segment.TheVariants.{Code, Data
 use Rattle.object_modules.specs.declared.segment.Target.{Target}
 use Rattle.object_modules.specs.Module.{Fixup, SetByte, ObjectModule, places_of}
 use Rattle.object_modules.specs.Moving.{high_target, high_targets}
-use Rattle.locate.specs.StandIn.{fixes_of_run, fixes_in}
+use Rattle.object_modules.specs.Runs.{fixes_of_run, fixes_in}
 use Rattle.object_modules.specs.Text.{Run, before_runs, runs_from, fixes_from}
 use Rattle.locate.specs.internal.Images.{breaks_high}
 

@@ -14,7 +14,7 @@ use Rattle.object_modules.specs.Image.{Plan, PlacementRefusal, ExternalLeft, NoS
 use Rattle.std.specs.Option.{is_none}
 use Rattle.object_modules.specs.Module.{SetByte, ObjectModule, places_of, length_of}
 use Rattle.object_modules.specs.Moving.{moved_after, moved}
-use Rattle.locate.specs.StandIn.{bytes_of_run, fixes_of_run, runs_of, fixes_in}
+use Rattle.object_modules.specs.Runs.{bytes_of_run, fixes_of_run, runs_of, fixes_in}
 use Rattle.object_modules.specs.Text.{Run, before_runs, runs_from}
 use Rattle.omf80.proofs.Conditions.{none_holds}
 use Rattle.locate.specs.internal.Images.{segment_pieces, in_turn, image_pieces}
@@ -195,21 +195,28 @@ pub record IsImage (plan : Plan) (object : ObjectModule) (pieces : List Piece) :
   pub longest : AreLongestRuns pieces (image_at plan object)
   pub ends : Ends 65536 pieces
 
+image_unfolds :
+    (plan : Plan) (object : ObjectModule) (address : ℕ)
+    → option_or (at_address plan.code_base (placed_bytes plan object Code) address)
+    (at_address plan.data_base (placed_bytes plan object Data) address)
+    ≡ image_at plan object address
+unfolding image_at
+image_unfolds plan object address = refl
+
 pub image_is :
     (plan : Plan) (object : ObjectModule) → placement_refusal plan object ≡ None
     → IsImage plan object (image_pieces plan object)
-unfolding image_at
 image_is plan object h = go (nat_le plan.code_base plan.data_base) refl
   where
     bytes :
         (address : ℕ)
         → option_or (byte_in (segment_pieces plan object Code) address) (byte_in (segment_pieces plan object Data) address)
-        ≡ option_or (at_address plan.code_base (placed_bytes plan object Code) address)
-        (at_address plan.data_base (placed_bytes plan object Data) address)
+        ≡ image_at plan object address
     bytes address =
         ap (λ x. option_or x (byte_in (segment_pieces plan object Data) address)) (segment_byte plan object Code address)
         ∙ ap (option_or (at_address plan.code_base (placed_bytes plan object Code) address))
         (segment_byte plan object Data address)
+        ∙ image_unfolds plan object address
 
     go : (b : Bool) → nat_le plan.code_base plan.data_base ≡ b
         → IsImage plan object

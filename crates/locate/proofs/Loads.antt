@@ -28,14 +28,14 @@ apart_from : (piece : Piece) (others : List Piece) → Starts (piece_end piece +
 apart_from piece [] s = tt
 apart_from piece (next ∷ others) s =
     let k : piece_end piece + 1 ≤ next.start = s.0 in
-    (λ both. omega (arith, both.1, both.2), apart_from piece others s.1)
+    (λ both. let first = both.1 in let second = both.2 in omega arith, apart_from piece others s.1)
 
 -- runs have no address in common
 pub runs_apart : (pieces : List Piece) → are_runs pieces ≡ true → AllPairs AreApart pieces
 runs_apart [] runs = λ i j d before within. absurd (omega arith)
 runs_apart (piece ∷ others) runs =
     let p = runs_parts piece others runs in
-    AllPairs-cons piece others
+    AllPairs-cons AreApart piece others
     (All-from_recursion (AreApart piece) others (apart_from piece others (starts_all (piece_end piece + 1) others p.2 p.1)))
     (runs_apart others p.2)
 
@@ -158,3 +158,15 @@ is_loaded pieces before after runs ends same size =
       size = ap length (sym same) ∙ length_loaded pieces before room;
       bytes = λ address low. ap (λ m. get_or m address 0) (sym same) ∙ byte_loaded pieces before address runs room;
     }
+
+-- the same where there may be no pieces, and the size of the memory is known only where there are some
+pub all_loaded :
+    (pieces : List Piece) (before after : List ℕ) → are_runs pieces ≡ true → All EndsInMemory pieces
+    → loaded pieces before ≡ after → (0 < length pieces → length before ≡ 65536)
+    → IsLoaded (byte_in pieces) before after
+all_loaded [] before after runs ends same size = record {
+  size = ap length (sym same);
+  bytes = λ address low. ap (λ m. get_or m address 0) (sym same);
+}
+all_loaded (piece ∷ others) before after runs ends same size =
+    is_loaded (piece ∷ others) before after runs ends same (size (omega arith))

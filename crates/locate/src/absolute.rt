@@ -100,6 +100,7 @@ impl Absolute {
 }
 
 // Puts pieces into a memory.
+#[tactic(auto, using(crate::proofs::Loads::all_loaded))]
 fn put_pieces(pieces: &[Piece], memory: &mut Memory)
     requires runs { IsTrue (are_runs pieces.now) }
     requires in_memory { All EndsInMemory pieces.now }

@@ -43,6 +43,7 @@ fn add_runs_of(
 }
 
 // The bytes of a module, the segment that begins first before the other.
+#[tactic(auto, using(crate::proofs::Placed::code_room, crate::proofs::Placed::data_room, crate::proofs::Placed::code_first, crate::proofs::Placed::data_first))]
 fn image(alloc: Global, object: &ObjectModule, plan: &Plan) -> Result<Vec<Piece>, AllocError>
     requires { placement_refusal (plan_view plan.now) object.now ≡ None }
     ensures { IfOk result (λ pieces. pieces.items ≡ image_pieces (plan_view plan.now) object.now) }
@@ -77,6 +78,19 @@ fn symbols_of(
     Ok(symbols)
 }
 
+// A module at a plan that is not refused.
+#[tactic(auto, using(crate::proofs::Placed::image_runs, crate::proofs::Placed::image_in_memory, crate::proofs::Placed::is_placed))]
+fn absolute_of(alloc: Global, object: &ObjectModule, plan: &Plan) -> Result<Absolute, AllocError>
+    requires { placement_refusal (plan_view plan.now) object.now ≡ None }
+    ensures { IfOk result (λ absolute. IsPlaced (plan_view plan.now) object.now absolute) }
+{
+    let pieces = image(alloc, object, plan)?;
+    let symbols = symbols_of(alloc, object.publics(), plan)?;
+    let start = object.start().unwrap_or(0).wrapping_add(plan.code);
+    let absolute = Absolute::new(pieces, start, symbols);
+    Ok(absolute)
+}
+
 /// Places a module by a plan: the length of its stack is that of the plan. Nothing is placed where an external
 /// name is left or one of the other causes holds; the first in their order is the fault.
 pub fn locate(
@@ -88,11 +102,11 @@ pub fn locate(
     ensures refused { IfFault result (λ fault.
         placement_refusal (plan_view plan.now) object.now ≡ Some (refusal_of fault)) }
 {
-    if let Some(fault) = refusal(object, plan) {
-        return Err(Failure::Fault(fault));
+    match refusal(object, plan) {
+        Some(fault) => Err(Failure::Fault(fault)),
+        None => {
+            let absolute = absolute_of(alloc, object, plan)?;
+            Ok(absolute)
+        }
     }
-    let pieces = image(alloc, object, plan)?;
-    let symbols = symbols_of(alloc, object.publics(), plan)?;
-    let start = object.start().unwrap_or(0).wrapping_add(plan.code);
-    Ok(Absolute::new(pieces, start, symbols))
 }

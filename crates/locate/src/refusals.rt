@@ -2,8 +2,9 @@
 
 ghost use Rattle.std.specs.Prelude.{◌≡◌, ◌%◌, ◌==◌, ◌||◌, not};
 ghost use Rattle.std.specs.List.{list_any};
-ghost use Rattle.std.specs.Option.{option_map};
+ghost use Rattle.std.specs.Option.{is_none, option_map};
 ghost use Rattle.mem80.specs.Range.{ranges_meet};
+ghost use Rattle.object_modules.specs.Before.{is_empty};
 ghost use Rattle.object_modules.specs.Image.{breaks_page, code_range, data_range, gain_at, passes_memory, placement_refusal, range_at, stack_range};
 ghost use Rattle.object_modules.specs.Moving.{high_targets};
 ghost use Rattle.locate.specs.Locating.{plan_view, refusal_of};
@@ -23,7 +24,7 @@ struct Ranges {
 }
 
 // So many addresses from a base on.
-fn range(base: u16, size: u16) -> Range
+fn range_from(base: u16, size: u16) -> Range
     ensures { result ≡ range_at base size }
 {
     Range {
@@ -39,9 +40,9 @@ fn ranges_of(object: &ObjectModule, plan: &Plan) -> Ranges
     ensures stack { result.stack ≡ stack_range (plan_view plan.now) }
 {
     Ranges {
-        code: range(plan.code, object.length(Segment::Code)),
-        variables: range(plan.data_base, object.length(Segment::Data)),
-        stack: range(plan.stack, plan.stack_size),
+        code: range_from(plan.code, object.length(Segment::Code)),
+        variables: range_from(plan.data_base, object.length(Segment::Data)),
+        stack: range_from(plan.stack, plan.stack_size),
     }
 }
 
@@ -121,16 +122,39 @@ fn any_high_breaks(object: &ObjectModule, plan: &Plan) -> bool
     any_breaks(object.fixes(Segment::Code), plan) || any_breaks(object.fixes(Segment::Data), plan)
 }
 
+// Whether an external name is left.
+#[tactic(auto, using(crate::proofs::Refused::some_names))]
+fn has_externals(object: &ObjectModule) -> bool
+    ensures { result ≡ not (is_empty object.now.externals) }
+{
+    !object.externals().is_empty()
+}
+
+// Whether the module is no main module.
+fn has_no_start(object: &ObjectModule) -> bool
+    ensures { result ≡ is_none object.now.start }
+{
+    object.start().is_none()
+}
+
+// Whether a page-aligned segment of a module would begin within a page.
+fn any_page_breaks(object: &ObjectModule, plan: &Plan) -> bool
+    ensures { result ≡ (breaks_page (plan_view plan.now) object.now Segment.Code
+        || breaks_page (plan_view plan.now) object.now Segment.Data) }
+{
+    page_breaks(object, Segment::Code, plan) || page_breaks(object, Segment::Data, plan)
+}
+
 /// Why a module can't be placed by a plan, if it can't be.
-#[tactic(auto, unfolding(object_modules::specs::Image::placement_refusal))]
+#[tactic(auto, using(crate::proofs::Refused::refusal_is))]
 pub(crate) fn refusal(object: &ObjectModule, plan: &Plan) -> Option<LocateFault>
     ensures { option_map refusal_of result ≡ placement_refusal (plan_view plan.now) object.now }
 {
     let ranges = ranges_of(object, plan);
-    if !object.externals().is_empty() {
+    if has_externals(object) {
         return Some(LocateFault::ExternalLeft);
     }
-    if object.start().is_none() {
+    if has_no_start(object) {
         return Some(LocateFault::NoStart);
     }
     if any_passes(ranges) {
@@ -139,7 +163,7 @@ pub(crate) fn refusal(object: &ObjectModule, plan: &Plan) -> Option<LocateFault>
     if any_meet(ranges) {
         return Some(LocateFault::SegmentsMeet);
     }
-    if page_breaks(object, Segment::Code, plan) || page_breaks(object, Segment::Data, plan) {
+    if any_page_breaks(object, plan) {
         return Some(LocateFault::PageBroken);
     }
     if any_high_breaks(object, plan) {

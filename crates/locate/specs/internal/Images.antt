@@ -9,7 +9,7 @@ use Rattle.object_modules.specs.declared.segment.Segment.TheVariants.{Code, Data
 use Rattle.object_modules.specs.declared.segment.Target.{Target}
 use Rattle.object_modules.specs.Image.{Plan, base_of, gain_at}
 use Rattle.object_modules.specs.Module.{ObjectModule}
-use Rattle.locate.specs.StandIn.{runs_of, fixes_in}
+use Rattle.object_modules.specs.Runs.{runs_of, fixes_in}
 use Rattle.locate.specs.internal.Putting.{pieces_from, with_pieces}
 
 abbrev pub segment_pieces : Plan → ObjectModule → Segment → List Piece
