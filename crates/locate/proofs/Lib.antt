@@ -6,5 +6,5 @@ pub mod Images
 pub mod Highs
 pub mod Loads
 pub mod Tests
-pub mod Placed
+pub mod Placing
 pub mod Refused

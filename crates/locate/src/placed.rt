@@ -43,7 +43,7 @@ fn add_runs_of(
 }
 
 // The bytes of a module, the segment that begins first before the other.
-#[tactic(auto, using(crate::proofs::Placed::code_room, crate::proofs::Placed::data_room, crate::proofs::Placed::code_first, crate::proofs::Placed::data_first))]
+#[tactic(auto, using(crate::proofs::Placing::code_room, crate::proofs::Placing::data_room, crate::proofs::Placing::code_first, crate::proofs::Placing::data_first))]
 fn image(alloc: Global, object: &ObjectModule, plan: &Plan) -> Result<Vec<Piece>, AllocError>
     requires { placement_refusal (plan_view plan.now) object.now ≡ None }
     ensures { IfOk result (λ pieces. pieces.items ≡ image_pieces (plan_view plan.now) object.now) }
@@ -79,7 +79,7 @@ fn symbols_of(
 }
 
 // A module at a plan that is not refused.
-#[tactic(auto, using(crate::proofs::Placed::image_runs, crate::proofs::Placed::image_in_memory, crate::proofs::Placed::is_placed))]
+#[tactic(auto, using(crate::proofs::Placing::image_runs, crate::proofs::Placing::image_in_memory, crate::proofs::Placing::is_placed))]
 fn absolute_of(alloc: Global, object: &ObjectModule, plan: &Plan) -> Result<Absolute, AllocError>
     requires { placement_refusal (plan_view plan.now) object.now ≡ None }
     ensures { IfOk result (λ absolute. IsPlaced (plan_view plan.now) object.now absolute) }
