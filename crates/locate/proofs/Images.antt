@@ -92,11 +92,10 @@ two_lie a m b n first second f s order apart h k =
         let some : 0 < length piece.bytes = has_more piece p.0 in
         let low : b ≤ piece.start = l.begins in
         let high : piece_end piece ≤ b + n = l.ends.0 in
-        let before : a + m ≤ b = omega arith in
-        (
+        let before : a + m ≤ b = omega arith in (
           runs_with_pieces (a + m) (with_pieces [] first) (piece ∷ others) runs ends l.runs (omega arith),
           ends_with_pieces (a + m) 65536 (with_pieces [] first) (piece ∷ others) ends h l.runs (omega arith)
-          (Ends-more (b + n) 65536 (piece ∷ others) k l.ends)
+              (Ends-more (b + n) 65536 (piece ∷ others) k l.ends),
         )
 
 none_past : (n : ℕ) (pieces : List Piece) (address : ℕ) → Ends n pieces → n ≤ address → byte_in pieces address ≡ None
