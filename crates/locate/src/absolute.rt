@@ -1,9 +1,10 @@
 //! Placed modules.
 
-ghost use Rattle.std.specs.Prelude.{◌≡◌, map};
+ghost use Rattle.std.specs.Prelude.{◌≡◌, All, IsTrue, map};
+ghost use Rattle.mem80.specs.Pieces.{AreWritable, EndsInMemory, IsLoaded, are_runs, byte_in};
 ghost use Rattle.locate.specs.Locating.{symbol_view};
 
-use mem80::Piece;
+use mem80::{Memory, Piece};
 use std::marker::Model;
 use symbols::Name;
 
@@ -52,9 +53,26 @@ impl Drop for Absolute {
 }
 
 impl Absolute {
+    // A placed module of these parts.
+    pub(crate) fn new(pieces: Vec<Piece>, start: u16, symbols: Vec<Symbol>) -> Absolute
+        requires runs { IsTrue (are_runs pieces.items) }
+        requires in_memory { All EndsInMemory pieces.items }
+        ensures pieces { result.pieces ≡ pieces.items }
+        ensures start { result.start ≡ start }
+        ensures symbols { result.symbols ≡ map symbol_view symbols.items }
+    {
+        Absolute {
+            pieces,
+            start,
+            symbols,
+        }
+    }
+
     /// The bytes that it sets, as the longest runs, in the order of their addresses.
+    #[tactic(auto, using(crate::proofs::Loads::runs_writable))]
     pub fn pieces(&self) -> &[Piece]
         ensures same { result.now ≡ self.now.pieces }
+        ensures writable { AreWritable result.now }
     {
         self.pieces.as_slice()
     }
@@ -71,5 +89,24 @@ impl Absolute {
         ensures { map symbol_view result.now ≡ self.now.symbols }
     {
         self.symbols.as_slice()
+    }
+
+    /// Puts its bytes into a memory, which is as before elsewhere.
+    pub fn load(&self, memory: &mut Memory)
+        ensures { IsLoaded (byte_in self.now.pieces) memory.old memory.new }
+    {
+        put_pieces(self.pieces.as_slice(), memory);
+    }
+}
+
+// Puts pieces into a memory.
+#[tactic(auto, using(crate::proofs::Loads::all_loaded))]
+fn put_pieces(pieces: &[Piece], memory: &mut Memory)
+    requires runs { IsTrue (are_runs pieces.now) }
+    requires in_memory { All EndsInMemory pieces.now }
+    ensures { IsLoaded (byte_in pieces.now) memory.old memory.new }
+{
+    for piece in pieces {
+        memory.load(piece.start, piece.bytes.as_slice());
     }
 }

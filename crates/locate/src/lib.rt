@@ -3,11 +3,13 @@
 
 mod absolute;
 mod fault;
+mod placed;
 mod plan;
 mod putting;
-pub mod stand_in;
+mod refusals;
 mod walk;
 
 pub use absolute::{Absolute, Symbol};
 pub use fault::LocateFault;
+pub use placed::locate;
 pub use plan::Plan;

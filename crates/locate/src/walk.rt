@@ -9,8 +9,7 @@ ghost use Rattle.locate.specs.internal.Fixing.{after_first, carry_by, first_at, 
 ghost use Rattle.locate.specs.internal.Views.{carry_view, walk_view};
 
 use crate::plan::Plan;
-use crate::stand_in::Run;
-use object_modules::{Fix, FixKind};
+use object_modules::{Fix, FixKind, Run};
 use std::alloc::{AllocError, Global};
 
 // The first byte of a word as it was, and what the word gains.
