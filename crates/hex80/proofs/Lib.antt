@@ -7,3 +7,7 @@ pub mod Rows
 pub mod TextLines
 pub mod Written
 pub mod Ordered
+pub mod SumLemmas
+pub mod ReadLemmas
+pub mod TableLemmas
+pub mod WriteLemmas

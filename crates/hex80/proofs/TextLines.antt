@@ -10,7 +10,7 @@ use Rattle.std.proofs.lemmas.List.Splits.{slice_split_at}
 use Rattle.mem80.specs.declared.range.Piece.{Piece}
 use Rattle.mem80.specs.Sums.{checksum_of}
 use Rattle.hex80.specs.Lines.{digit_of, digits_of, data_line_bytes, data_line, line_of_bytes, end_line, ended_line}
-use Rattle.hex80.proofs.Rows.{written_line}
+use Rattle.hex80.specs.internal.Writing.{written_line}
 
 -- a character that ends no line
 abbrev IsPlain : ℕ → Type 0
@@ -24,10 +24,10 @@ not_equal a b h = go (a == b) refl
     go true e = let same : a ≡ b = eqb-true a b e in absurd (omega arith)
 
 -- the parts of a text are some
-data Parts (xs : List ℕ) : Type 0 where
+pub data Parts (xs : List ℕ) : Type 0 where
   Some_parts : (first : List ℕ) (others : List (List ℕ)) → slice_split (λ b. b == 10) xs ≡ first ∷ others → Parts xs
 
-parts : (xs : List ℕ) → Parts xs
+pub parts : (xs : List ℕ) → Parts xs
 parts [] = Some_parts [] [] refl
 parts (x ∷ xs) = go (x == 10) refl (parts xs)
   where
