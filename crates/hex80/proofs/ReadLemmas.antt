@@ -151,7 +151,7 @@ long_piece (a ∷ b ∷ c ∷ []) all long = refl
 long_piece (count ∷ high ∷ low ∷ type ∷ rest) all long = go (type == 0) (length rest == count + 1) refl
   where
     go : (t s : Bool) → (length rest == count + 1) ≡ s
-        → cond (t && s && nat_le (256 * high + low + count) 65536)
+        → cond {A = Option Piece} (t && s && nat_le (256 * high + low + count) 65536)
         (Some (record { start = 256 * high + low; bytes = take count rest })) None ≡ None
     go false s e = refl
     go true false e = refl

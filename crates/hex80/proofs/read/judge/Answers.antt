@@ -20,9 +20,9 @@ loop-at-init c = record {
 pub loop-at-preserved : goal.loop-at-preserved
 loop-at-preserved c = record {
   within = omega (arith, c.first_line-line.ensures.within);
-  marks = c.in_ok-take_line.ensures.marks;
+  marks = c.in-Ok.ensures.marks;
   judged =
       judge_on c.args.text.now _ c.loop-at.at c.first_line-line.result.size _ _ _ c.loop-at.invariant.judged
       c.first_line-line.ensures.lines (sym c.is_end_line.ensures ∙ c.if-is_end_line.false)
-      c.in_ok-take_line.ensures.ok;
+      c.in-Ok.ensures.ok;
 }
