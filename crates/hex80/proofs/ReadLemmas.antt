@@ -159,6 +159,12 @@ long_piece (count ∷ high ∷ low ∷ type ∷ rest) all long = go (type == 0) 
         let small : count < 256 = all.0 in
         let size : length rest ≡ count + 1 = eqb-true (length rest) (count + 1) e in absurd (omega arith)
 
+abbrev paired : List ℕ → Option Piece → Option (Piece × List ℕ)
+paired bytes found = option_map (λ (piece : Piece). (piece, bytes)) found
+
+abbrev read_by : Option (List ℕ) → Option (Piece × List ℕ)
+read_by read = option_and_then (λ (bytes : List ℕ). option_map (λ (piece : Piece). (piece, bytes)) (piece_in bytes)) read
+
 pub long_line : (line : List ℕ) → 521 < length line → read_line line ≡ None
 long_line [] long = absurd (omega arith)
 long_line (first ∷ rest) long = go (first == 58) (bytes_in rest) refl
@@ -170,14 +176,10 @@ long_line (first ∷ rest) long = go (first == 58) (bytes_in rest) refl
         long_piece bytes b.1 (omega arith)
 
     go : (colon : Bool) (read : Option (List ℕ)) → bytes_in rest ≡ read
-        → option_and_then (λ (bytes : List ℕ). option_map (λ (piece : Piece). (piece, bytes)) (piece_in bytes))
-        (cond colon (bytes_in rest) None) ≡ None
+        → read_by (cond colon (bytes_in rest) None) ≡ None
     go false read e = refl
-    go true None e =
-        ap (option_and_then (λ (bytes : List ℕ). option_map (λ (piece : Piece). (piece, bytes)) (piece_in bytes))) e
-    go true (Some bytes) e =
-        ap (option_and_then (λ (b : List ℕ). option_map (λ (piece : Piece). (piece, b)) (piece_in b))) e
-        ∙ ap (option_map (λ (piece : Piece). (piece, bytes))) (in_it bytes e)
+    go true None e = ap read_by e
+    go true (Some bytes) e = ap read_by e ∙ ap (paired bytes) (in_it bytes e)
 
 -- the form of a line's bytes
 abbrev pub form_of : (bytes : List ℕ) → Bool

@@ -67,7 +67,6 @@ fn put_bytes(digits: &[u8], buffer: &mut [u8]) -> Option<usize>
 
 // Puts the bytes of a line at the front of a buffer, and tells how many there are. There are none of a line that has no
 // colon, has other characters than digits, or is longer than data lines are.
-#[tactic(auto, using(crate::proofs::ReadLemmas::long_line))]
 fn put_line(line: &[u8], buffer: &mut [u8; MOST_BYTES]) -> Option<usize>
     ensures bytes { MatchOption result (read_line line.now ≡ None)
         (λ count. bytes_of_line line.now ≡ Some (take count buffer.new)) }

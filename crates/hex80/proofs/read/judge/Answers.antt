@@ -2,7 +2,7 @@ use Rattle.std.proofs.Common.{ap, sym, subst, refl, ◌∙◌, arith}
 use Rattle.std.specs.Str.Lines.{lines}
 use Rattle.hex80.specs.internal.Judgement.{judged_after}
 use Rattle.hex80.specs.internal.Reading.{Marks, unmarked}
-use Rattle.hex80.proofs.ReadLemmas.{no_marks, judged_first, judge_on}
+use Rattle.hex80.proofs.ReadLemmas.{no_marks, judged_first, judge_on, judge_fault}
 use Rattle.hex80.proofs.read.judge.Goals as goal
 
 pub loop-at-init : goal.loop-at-init
@@ -26,3 +26,9 @@ loop-at-preserved c = record {
       c.first_line-line.ensures.lines (sym c.is_end_line.ensures ∙ c.if-is_end_line.false)
       c.in-Ok.ensures.ok;
 }
+
+pub returns-in-Err-Fault-clause-fault : goal.returns-in-Err-Fault-clause-fault
+returns-in-Err-Fault-clause-fault c =
+    judge_fault c.args.text.now _ c.loop-at.at c.first_line-line.result.size c.loop-at.pieces.items _ _
+    c.loop-at.invariant.judged c.first_line-line.ensures.lines
+    (sym c.is_end_line.ensures ∙ c.if-is_end_line.false) c.in-Err-Fault.ensures.fault
