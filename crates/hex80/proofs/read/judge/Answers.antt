@@ -29,6 +29,8 @@ loop-at-preserved c = record {
 
 pub returns-in-Err-Fault-clause-fault : goal.returns-in-Err-Fault-clause-fault
 returns-in-Err-Fault-clause-fault c =
-    judge_fault c.args.text.now _ c.loop-at.at c.first_line-line.result.size c.loop-at.pieces.items _ _
+    rw c.in-Err-Fault.field-0-is
+    (judge_fault c.args.text.now _ c.loop-at.at c.first_line-line.result.size c.loop-at.pieces.items _ _
     c.loop-at.invariant.judged c.first_line-line.ensures.lines
-    (sym c.is_end_line.ensures ∙ c.if-is_end_line.false) c.in-Err-Fault.ensures.fault
+    (sym c.is_end_line.ensures ∙ c.if-is_end_line.false)
+    (rw c.in-Err-Fault.field-0-is at c.in-Err-Fault.ensures.fault))
