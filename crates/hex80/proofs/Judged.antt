@@ -30,7 +30,7 @@ small_all (byte ∷ others) h =
     (ltb-true byte 256 t.0, small_all others t.1)
 
 -- the tests of a piece of a line
-line_piece : (before : List Piece) (piece : Piece) → IsLine piece → list_any (pieces_meet piece) before ≡ false → is_line_piece before piece ≡ true
+pub line_piece : (before : List Piece) (piece : Piece) → IsLine piece → list_any (pieces_meet piece) before ≡ false → is_line_piece before piece ≡ true
 line_piece before piece is apart =
     ap (λ t. t && list_all (λ byte. nat_lt byte 256) piece.bytes && nat_lt piece.start 65536
     && nat_le (piece.start + length piece.bytes) 65536 && not (list_any (pieces_meet piece) before))

@@ -8,6 +8,7 @@ use Rattle.mem80.specs.Sums.{checksum_of}
 use Rattle.mem80.proofs.Sums.{checksum_is, checksum_below}
 use Rattle.hex80.specs.Lines.{digits_of, data_line_bytes, data_line}
 use Rattle.hex80.specs.Spelling.{bytes_in, bytes_of_line, has_form, piece_in, read_line}
+use Rattle.hex80.specs.internal.Writing.{all_bytes}
 use Rattle.hex80.proofs.Digits.{IsBytes, both, option_map_some, bytes_back, bytes_again}
 
 -- a piece that a line can have
@@ -113,10 +114,6 @@ line_back (first ∷ rest) piece bytes h adds =
 bytes_append : (xs ys : List ℕ) → IsBytes xs → IsBytes ys → IsBytes (xs ++ ys)
 bytes_append [] ys a b = b
 bytes_append (x ∷ xs) ys a b = (a.0, bytes_append xs ys a.1 b)
-
--- all bytes of the line of a piece
-abbrev pub all_bytes : Piece → List ℕ
-all_bytes piece = data_line_bytes piece ++ checksum_of (data_line_bytes piece) ∷ []
 
 line_bytes : (piece : Piece) → IsLine piece → IsBytes (all_bytes piece)
 line_bytes piece is =

@@ -15,8 +15,9 @@ use Rattle.hex80.specs.declared.fault.Fault.TheVariants.{BadLine, WrongSum, NoEn
 use Rattle.hex80.specs.Lines.{data_line_bytes, data_line, end_line}
 use Rattle.hex80.specs.Spelling.{read_line, fault_of_data, fault_of_line, is_empty, fault_at, is_line_piece, are_line_pieces, Spells, HasFirstFault}
 use Rattle.hex80.specs.internal.Judgement.{judged_by, judged_after, judgement_of}
+use Rattle.hex80.specs.internal.Writing.{all_bytes}
 use Rattle.hex80.proofs.Digits.{both}
-use Rattle.hex80.proofs.LineLaws.{IsLine, line_again, all_bytes}
+use Rattle.hex80.proofs.LineLaws.{IsLine, line_again}
 use Rattle.hex80.proofs.Judged.{piece_line}
 
 -- the line of a piece is not the end line
