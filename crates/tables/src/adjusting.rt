@@ -8,6 +8,7 @@
 //! counting the ones of the byte as text.
 
 use crate::events::word_of;
+use crate::runs::put_bytes;
 use anyhow::Result;
 use cpu8080::Machine;
 use isa8080::Registers;
@@ -93,7 +94,7 @@ fn adjust_all<W: Write>(alloc: Global, out: &mut W, flags: u8) -> Result<()> {
 // Runs a row's program, and prints the registers that it sets.
 fn print_row<W: Write>(alloc: Global, out: &mut W, row: &Row) -> Result<()> {
     let mut memory = Memory::new(alloc)?;
-    memory.load(START, &row.bytes);
+    put_bytes(&mut memory, START, &row.bytes);
     let mut machine = Machine::new(memory, Script::new(alloc), START);
     let end = word_of(machine.run(10));
     let Registers { a, h, flags, .. } = machine.registers();

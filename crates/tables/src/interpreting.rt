@@ -50,31 +50,41 @@ fn word_of_end<P: Ports>(alloc: Global, text: &[u8], ports: &mut P) -> &'static 
 
 const READS_TWICE: &[u8] = b"M: DO; OUTPUT(5) = INPUT(1) - INPUT(1); END M;";
 
+// Prints how the program ends on ports of which a read may fail.
+fn print_faulty_run<W: Write>(
+    alloc: Global,
+    out: &mut W,
+    ports: &mut FaultyPorts,
+) -> anyhow::Result<()> {
+    let end = word_of_end(alloc, READS_TWICE, ports);
+    let failures = ports.failed;
+    writeln!(out, "{end}, failures: {failures}")?;
+    print_events(out, ports.script.events())
+}
+
 // A program on ports whose second read fails, and then once more from its beginning on.
 fn print_port_fault<W: Write>(alloc: Global, out: &mut W) -> anyhow::Result<()> {
     let mut ports = FaultyPorts::with_two_inputs(alloc)?;
-    for _ in 0..2_u8 {
-        let end = word_of_end(alloc, READS_TWICE, &mut ports);
-        let failures = ports.failed;
-        writeln!(out, "{end}, failures: {failures}")?;
-        print_events(out, ports.script.events())?;
-    }
-    Ok(())
+    print_faulty_run(alloc, out, &mut ports)?;
+    print_faulty_run(alloc, out, &mut ports)
 }
 
 const CALLS: &[u8] =
     b"M: DO; DECLARE A(2) BYTE INITIAL (1, 2), P ADDRESS, X BASED P BYTE; F: PROCEDURE (N) BYTE REENTRANT; DECLARE (N, V) BYTE; \
 V = N; IF N = 0 THEN RETURN 0; RETURN F(N - 1) + V; END F; P = .(7, 'AB'); OUTPUT(0) = X; OUTPUT(0) = F(3) + A(1); END M;";
 
-// A program twice: to be run with each allocation refused in turn, of which at most one is.
+// Prints how the program ends, and its events.
+fn print_calls<W: Write>(alloc: Global, out: &mut W) -> anyhow::Result<()> {
+    let mut script = Script::new(alloc);
+    let end = word_of_end(alloc, CALLS, &mut script);
+    writeln!(out, "{end}")?;
+    print_events(out, script.events())
+}
+
+// The program twice: to be run with each allocation refused in turn, of which at most one is.
 fn print_second_run<W: Write>(alloc: Global, out: &mut W) -> anyhow::Result<()> {
-    for _ in 0..2_u8 {
-        let mut script = Script::new(alloc);
-        let end = word_of_end(alloc, CALLS, &mut script);
-        writeln!(out, "{end}")?;
-        print_events(out, script.events())?;
-    }
-    Ok(())
+    print_calls(alloc, out)?;
+    print_calls(alloc, out)
 }
 
 // How a build ends, in a word.

@@ -32,7 +32,7 @@ use operations::print_operations;
 use runs::print_runs;
 use scripts::print_scripts;
 use std::alloc::Global;
-use std::io::{BufRead, BufReader, Write};
+use std::io::{Write, read_to_string};
 
 // The line after a block.
 const END_OF_BLOCK: &str = "====";
@@ -61,19 +61,16 @@ fn print_command_lines(rt: &HostRuntime) -> Result<()> {
         differ: 0,
     };
     let mut block = Block::new(rt.alloc());
-    for (before, line) in BufReader::new(rt.alloc(), rt.reader())?
-        .lines(rt.alloc())
-        .enumerate()
-    {
-        let line = line?;
-        if line.as_str() == END_OF_BLOCK {
+    let rows = read_to_string(rt.alloc(), rt.reader())?;
+    for (before, line) in rows.lines().enumerate() {
+        if line == END_OF_BLOCK {
             counts.blocks = counts.blocks.saturating_add(1);
             if !is_as_said(rt, &block)? {
                 counts.differ = counts.differ.saturating_add(1);
             }
             block = Block::new(rt.alloc());
         } else {
-            block.read(rt.alloc(), before.saturating_add(1), line.as_str())?;
+            block.read(rt.alloc(), before.saturating_add(1), line)?;
         }
     }
     println!(rt; "{} command lines, {} differ", counts.blocks, counts.differ)?;

@@ -10,10 +10,19 @@ use ports::Script;
 use std::alloc::Global;
 use std::io::Write;
 
+/// Puts bytes into memory, from an address on.
+pub fn put_bytes(memory: &mut Memory, start: u16, bytes: &[u8]) {
+    let mut address = start;
+    for byte in bytes {
+        memory.set(address, *byte);
+        address = address.wrapping_add(1);
+    }
+}
+
 // A machine that starts at 100H, where these bytes stand.
-fn machine_with(alloc: Global, bytes: &[u8; 16]) -> Result<Machine<Script>> {
+fn machine_with(alloc: Global, bytes: &[u8]) -> Result<Machine<Script>> {
     let mut memory = Memory::new(alloc)?;
-    memory.load(0x100, bytes);
+    put_bytes(&mut memory, 0x100, bytes);
     Ok(Machine::new(memory, Script::new(alloc), 0x100))
 }
 
@@ -40,20 +49,28 @@ fn print_changes<W: Write>(alloc: Global, out: &mut W) -> Result<()> {
     Ok(())
 }
 
+// Prints how a run of so many steps ended.
+fn print_run<W: Write>(out: &mut W, machine: &mut Machine<Script>, limit: u64) -> Result<()> {
+    let end = word_of(machine.run(limit));
+    writeln!(out, "run of {limit}: {end}")?;
+    Ok(())
+}
+
+// Prints what a step did.
+fn print_step<W: Write>(out: &mut W, machine: &mut Machine<Script>) -> Result<()> {
+    let step = word_of_step(machine.step());
+    writeln!(out, "step: {step}")?;
+    Ok(())
+}
+
 // The same program, some steps after others.
 fn print_parts<W: Write>(alloc: Global, out: &mut W) -> Result<()> {
     let mut machine = machine_with(alloc, &CHANGES_ITSELF)?;
-    for limit in [0, 14] {
-        let end = word_of(machine.run(limit));
-        writeln!(out, "{limit} steps: {end}")?;
-    }
-    for _ in 0..2_u8 {
-        let step = word_of_step(machine.step());
-        writeln!(out, "a step: {step}")?;
-    }
-    let end = word_of(machine.run(1));
-    writeln!(out, "1 step: {end}")?;
-    Ok(())
+    print_run(out, &mut machine, 0)?;
+    print_run(out, &mut machine, 14)?;
+    print_step(out, &mut machine)?;
+    print_step(out, &mut machine)?;
+    print_run(out, &mut machine, 1)
 }
 
 // An instruction that stands at the last address and goes on at the first one.
@@ -71,27 +88,29 @@ const READS_TWICE: [u8; 11] = [
     0xDB, 0x01, 0x47, 0xDB, 0x01, 0x4F, 0x78, 0x91, 0xD3, 0x05, 0x76,
 ];
 
+// Prints how a run ended on ports of which a read may fail.
+fn print_faulty_run<W: Write>(out: &mut W, machine: &mut Machine<FaultyPorts>) -> Result<()> {
+    let end = machine.run(100);
+    print_state(out, word_of(end), machine.registers())?;
+    print_events(out, machine.ports().script.events())?;
+    let failures = machine.ports().failed;
+    writeln!(out, "failures: {failures}")?;
+    Ok(())
+}
+
 // A program on ports whose second read fails, and the same machine once they work again.
 fn print_port_fault<W: Write>(alloc: Global, out: &mut W) -> Result<()> {
     let mut memory = Memory::new(alloc)?;
     memory.load(0x100, &READS_TWICE);
     let ports = FaultyPorts::with_two_inputs(alloc)?;
     let mut machine = Machine::new(memory, ports, 0x100);
-    for _ in 0..2_u8 {
-        let end = machine.run(100);
-        print_state(out, word_of(end), machine.registers())?;
-        print_events(out, machine.ports().script.events())?;
-        let failures = machine.ports().failed;
-        writeln!(out, "failures: {failures}")?;
-    }
-    Ok(())
+    print_faulty_run(out, &mut machine)?;
+    print_faulty_run(out, &mut machine)
 }
 
 // What a machine does that starts at a code.
 fn print_code<W: Write>(alloc: Global, out: &mut W, code: u8) -> Result<()> {
-    let mut bytes = [0; 16];
-    bytes[0] = code;
-    let mut machine = machine_with(alloc, &bytes)?;
+    let mut machine = machine_with(alloc, &[code])?;
     let end = word_of(machine.run(9));
     let step = word_of_step(machine.step());
     let stays = machine.memory().get(0x100);
