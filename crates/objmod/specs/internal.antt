@@ -1,0 +1,6 @@
+-- What proofs of walks speak of.
+pub mod Entries
+pub mod Cursors
+pub mod Fixes
+pub mod Marks
+pub mod NamesJudged
