@@ -4,3 +4,4 @@ pub mod Cursors
 pub mod Fixes
 pub mod Marks
 pub mod NamesJudged
+pub mod Headers

@@ -6,6 +6,7 @@ mod cursor;
 mod cursor_fixes;
 mod judge;
 mod judge_fixes;
+mod judge_header;
 mod judge_names;
 mod walks;
 
