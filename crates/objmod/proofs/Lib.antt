@@ -2,6 +2,5 @@ pub mod NextParts
 pub mod NextFixes
 pub mod FixMarks
 pub mod NewNames
-pub mod HeaderLaws
 pub mod Accepting
 pub mod JudgeSteps

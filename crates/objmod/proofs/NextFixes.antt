@@ -1,5 +1,6 @@
 -- The next fix record after a content, and the next fix of it.
-use Rattle.std.proofs.Common.{◌≡◌, ℕ, ◌+◌, ◌*◌, ◌<◌, Bool, true, false, List, [], ◌∷◌, ◌++◌, length, drop, flat_map, map, slice_index, Option, Some, None, IsTrue, is_some, option_map, option_and_then, unwrap_or, refl, ap, sym, subst, ◌∙◌, arith}
+use Rattle.std.proofs.Common.{◌≡◌, ℕ, ◌+◌, ◌*◌, ◌<◌, Bool, true, false, List, [], ◌∷◌, ◌++◌, length, drop, flat_map, take_while, cond, map, slice_index, Option, Some, None, IsTrue, is_some, IfNone, option_map, option_and_then, unwrap_or, refl, ap, sym, subst, ◌∙◌, arith}
+use Rattle.std.proofs.lemmas.List.Sums.{take_while-cons}
 use Rattle.std.proofs.lemmas.Option.{none-some, some_pair_parts}
 use Rattle.omf80.specs.Records.{word_bytes, kind_of_type, record_end, record_fault, first_body}
 use Rattle.omf80.specs.declared.fault.Fault.{Fault as RecordFault}
@@ -8,7 +9,7 @@ use Rattle.object_modules.specs.declared.segment.Fix.{Fix}
 use Rattle.object_modules.specs.declared.segment.FixKind.{FixKind}
 use Rattle.object_modules.specs.declared.segment.Segment.{Segment}
 use Rattle.object_modules.specs.declared.segment.Segment.TheVariants.{Absolute}
-use Rattle.object_modules.specs.Before.{fixes_of, leading_fixes}
+use Rattle.object_modules.specs.Before.{is_fix_record, fixes_of, leading_fixes}
 use Rattle.object_modules.specs.Parts.{Reference, Part, HeaderPart, ExternalNamesPart, PublicsPart, ContentPart, ExternalReferencesPart, RelocationPart, IntersegmentPart, ModuleEndPart, EndOfFilePart, kind_of_part, body_of, reference_bytes, segment_number, fix_kind_number}
 use Rattle.object_modules.specs.Reading.{segment_of, fix_kind_of, references_in, words_in}
 use Rattle.object_modules.specs.Walking.{parts_from}
@@ -113,6 +114,14 @@ record HeadIs (own : Segment) (rest : List ℕ) (part : Part) (head : Option Fix
   left : leading_fixes own (part ∷ parts_from (drop (record_end rest) rest)) ≡ fixes_after own head (drop (record_end rest) rest)
   entries : AreHeadEntries head
 
+-- the fixes of a fix record come first
+leading_step :
+    (own : Segment) (part : Part) (later : List Part) → is_fix_record (kind_of_part part) ≡ true
+    → leading_fixes own (part ∷ later) ≡ fixes_of own part ++ leading_fixes own later
+leading_step own part later is =
+    ap (flat_map (fixes_of own)) (take_while-cons (λ p. is_fix_record (kind_of_part p)) part later)
+    ∙ ap (λ b. flat_map (fixes_of own) (cond b (part ∷ take_while (λ p. is_fix_record (kind_of_part p)) later) [])) is
+
 head_of :
     (own : Segment) (rest : List ℕ) (part : Part)
     → (head : Option FixHead) × (fix_where own (kind_of_part part) (body_of part) ≡ head) × HeadIs own rest part head
@@ -126,7 +135,8 @@ head_of own rest (ExternalReferencesPart kind references) =
       ap (option_map (fix_head None bytes)) (fix_kind_again kind),
       record {
         left =
-            ap (λ o.
+            leading_step own (ExternalReferencesPart kind references) (parts_from (drop (record_end rest) rest)) refl
+            ∙ ap (λ o.
             fixes_of Absolute (ExternalReferencesPart kind (unwrap_or o []))
             ++ leading_fixes own (parts_from (drop (record_end rest) rest)))
             (sym (references_again references));
@@ -139,7 +149,8 @@ head_of own rest (RelocationPart kind offsets) =
       ap (option_map (fix_head (Some own) bytes)) (fix_kind_again kind),
       record {
         left =
-            ap (λ o.
+            leading_step own (RelocationPart kind offsets) (parts_from (drop (record_end rest) rest)) refl
+            ∙ ap (λ o.
             fixes_of own (RelocationPart kind (unwrap_or o []))
             ++ leading_fixes own (parts_from (drop (record_end rest) rest)))
             (sym (words_again offsets));
@@ -150,12 +161,13 @@ head_of own rest (IntersegmentPart target kind offsets) =
     let bytes : List ℕ = flat_map word_bytes offsets in (
       Some (fix_head (Some target) bytes kind),
       ap (option_and_then
-      (λ (s : Segment). option_map (fix_head (Some s) bytes) (fix_kind_of (fix_kind_number kind))))
-      (segment_again target)
+          (λ (s : Segment). option_map (fix_head (Some s) bytes) (fix_kind_of (fix_kind_number kind))))
+          (segment_again target)
           ∙ ap (option_map (fix_head (Some target) bytes)) (fix_kind_again kind),
       record {
         left =
-            ap (λ o.
+            leading_step own (IntersegmentPart target kind offsets) (parts_from (drop (record_end rest) rest)) refl
+            ∙ ap (λ o.
             fixes_of target (RelocationPart kind (unwrap_or o []))
             ++ leading_fixes own (parts_from (drop (record_end rest) rest)))
             (sym (words_again offsets));
@@ -261,3 +273,7 @@ pub fix_handed :
     ≡ fix ∷ (fixes_in target kind after ++ leading_fixes own (parts_from rest))
 fix_handed own target kind entries fix after rest are e =
     ap (λ l. l ++ leading_fixes own (parts_from rest)) (fixes_then target kind entries fix after are e)
+
+pub on_none : {A : Type 0} (o : Option A) (P : Type 0) → P → IfNone o P
+on_none None P p = p
+on_none (Some x) P p = tt

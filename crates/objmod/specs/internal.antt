@@ -4,4 +4,3 @@ pub mod Cursors
 pub mod Fixes
 pub mod Marks
 pub mod NamesJudged
-pub mod Headers

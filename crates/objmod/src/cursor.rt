@@ -9,15 +9,25 @@ ghost use Rattle.object_modules.specs.Walking.{externals_left, publics_left, con
 ghost use Rattle.objmod.specs.internal.Entries.{AreParts, AreEntries, body_where, publics_where, content_where, contents_after, definition_at, is_external_names, is_publics, is_content};
 ghost use Rattle.objmod.specs.Views.{content_view};
 
-use byteorder::{ByteOrder, LittleEndian};
-use object_modules::Segment;
-use omf80::{Record, RecordKind, Records};
-
 use crate::content::Content;
+use byteorder::{ByteOrder, LittleEndian};
+use object_modules::{FixKind, Segment};
+use omf80::{Record, RecordKind, Records};
 
 /// Entries of a record that were not handed out, and the bytes after the record.
 #[derive(Clone, Copy, Debug)]
 pub(crate) struct Cursor<'a> {
+    pub(crate) entries: &'a [u8],
+    pub(crate) rest: &'a [u8],
+}
+
+/// Fixes of a content that were not handed out: entries of a fix record, and the bytes after the record. The target
+/// is a segment, or without one each entry names an external name.
+#[derive(Clone, Copy, Debug)]
+pub(crate) struct FixCursor<'a> {
+    pub(crate) own: Segment,
+    pub(crate) target: Option<Segment>,
+    pub(crate) kind: FixKind,
     pub(crate) entries: &'a [u8],
     pub(crate) rest: &'a [u8],
 }
@@ -85,11 +95,7 @@ pub(crate) fn definition_in_front(bytes: &[u8]) -> Option<(u16, &[u8], &[u8])>
 }
 
 /// The record that parts of a file begin with, and the bytes after it.
-#[tactic(auto, using(
-    crate::proofs::NextParts::no_part,
-    crate::proofs::NextParts::parts_after,
-    crate::proofs::NextParts::fewer_after,
-))]
+#[tactic(auto, using(crate::proofs::NextParts::no_part, crate::proofs::NextParts::parts_after, crate::proofs::NextParts::fewer_after,))]
 pub(crate) fn next_record<'a>(rest: &'a [u8]) -> Option<(Record<'a>, &'a [u8])>
     requires { AreParts rest.now }
     ensures none { IfNone result (rest.now ≡ []) }
@@ -207,7 +213,11 @@ fn publics_after<'a>(segment: Segment, rest: &'a [u8]) -> Option<PublicCursor<'a
 }
 
 /// The cursor at the first record of public names that has an entry left, or at the end of the file.
-pub(crate) fn publics_from<'a>(segment: Segment, entries: &'a [u8], rest: &'a [u8]) -> PublicCursor<'a>
+pub(crate) fn publics_from<'a>(
+    segment: Segment,
+    entries: &'a [u8],
+    rest: &'a [u8],
+) -> PublicCursor<'a>
     requires entries { AreEntries definition_bytes entries.now }
     requires rest { AreParts rest.now }
     ensures left { publics_left result.segment result.entries.now result.rest.now

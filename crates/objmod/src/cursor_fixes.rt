@@ -11,21 +11,9 @@ ghost use Rattle.objmod.specs.internal.Cursors.{fixes_left};
 ghost use Rattle.objmod.specs.internal.Entries.{AreParts};
 ghost use Rattle.objmod.specs.internal.Fixes.{AreFixEntries, fix_in_front, fix_where};
 
+use crate::cursor::{FixCursor, next_record, segment_of, word};
 use object_modules::{Fix, FixKind, Segment, Target};
 use omf80::{Record, RecordKind};
-
-use crate::cursor::{next_record, segment_of, word};
-
-/// Fixes of a content that were not handed out: entries of a fix record, and the bytes after the record. The target
-/// is a segment, or without one each entry names an external name.
-#[derive(Clone, Copy, Debug)]
-pub(crate) struct FixCursor<'a> {
-    pub(crate) own: Segment,
-    pub(crate) target: Option<Segment>,
-    pub(crate) kind: FixKind,
-    pub(crate) entries: &'a [u8],
-    pub(crate) rest: &'a [u8],
-}
 
 // The kind of fix with a number.
 fn fix_kind_of(number: u8) -> Option<FixKind>
@@ -89,7 +77,11 @@ fn head_of<'a>(own: Segment, read: &Record<'a>) -> Option<(Option<Segment>, FixK
 }
 
 /// The fix that entries begin with, and the bytes after it.
-pub(crate) fn fix_in_front<'a>(target: Option<Segment>, kind: FixKind, entries: &'a [u8]) -> Option<(Fix, &'a [u8])>
+pub(crate) fn fix_in_front<'a>(
+    target: Option<Segment>,
+    kind: FixKind,
+    entries: &'a [u8],
+) -> Option<(Fix, &'a [u8])>
     ensures { option_map (λ first. (first.0, first.1.now)) result ≡ fix_in_front target kind entries.now }
 {
     match target {
@@ -137,12 +129,7 @@ fn place_in_front(kind: FixKind, segment: Segment, entries: &[u8]) -> Option<(Fi
 }
 
 // The cursor at the entries of the next record, if it is a fix record.
-#[tactic(auto, using(
-    crate::proofs::NextFixes::fixes_follow,
-    crate::proofs::NextFixes::fix_entries,
-    crate::proofs::NextFixes::no_fixes_follow,
-    crate::proofs::NextFixes::nothing_follows,
-))]
+#[tactic(auto, using(crate::proofs::NextFixes::fixes_follow, crate::proofs::NextFixes::fix_entries, crate::proofs::NextFixes::no_fixes_follow, crate::proofs::NextFixes::nothing_follows,))]
 fn fixes_after<'a>(own: Segment, rest: &'a [u8]) -> Option<FixCursor<'a>>
     requires { AreParts rest.now }
     ensures none { IfNone result (leading_fixes own (parts_from rest.now) ≡ []) }
@@ -166,7 +153,7 @@ fn fixes_after<'a>(own: Segment, rest: &'a [u8]) -> Option<FixCursor<'a>>
 pub(crate) fn fixes_from<'a>(cursor: FixCursor<'a>) -> FixCursor<'a>
     requires entries { AreFixEntries cursor.target cursor.entries.now }
     requires rest { AreParts cursor.rest.now }
-    ensures left { fixes_left result ≡ fixes_left cursor }
+    ensures left { fixes_left result ≡ fixes_left cursor.entry }
     ensures entries { AreFixEntries result.target result.entries.now }
     ensures rest { AreParts result.rest.now }
     ensures end { result.entries.now ≡ [] → fixes_left result ≡ [] }

@@ -6,11 +6,10 @@ ghost use Rattle.object_modules.specs.Module.{ObjectModule as ObjectValue};
 ghost use Rattle.object_modules.specs.Spelling.{Spells, HasFirstFault};
 ghost use Rattle.object_modules.specs.Walking.{WalksOver};
 
+use crate::walks::Walk;
 use failure::Failure;
 use object_modules::Fault;
 use std::alloc::Global;
-
-use crate::walks::Walk;
 
 /// Judges a whole file, and hands out its parts. It takes memory for the names of the file, and gives it back.
 pub fn walk<'a>(alloc: Global, bytes: &'a [u8]) -> Result<Walk<'a>, Failure<Fault>>

@@ -5,9 +5,6 @@ mod content;
 mod cursor;
 mod cursor_fixes;
 mod judge;
-mod judge_fixes;
-mod judge_header;
-mod judge_names;
 mod walks;
 
 pub use content::{Content, PublicName};

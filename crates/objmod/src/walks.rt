@@ -5,15 +5,14 @@ ghost use Rattle.std.specs.Option.{option_map};
 ghost use Rattle.object_modules.specs.Walking.{HandsOut, HandsOutContent, length_by, alignment_by};
 ghost use Rattle.objmod.specs.Views.{content_view, public_view};
 
-use object_modules::{Alignment, Fix, FixKind, Segment};
-use std::marker::Model;
-
 use crate::content::{Content, PublicName};
 use crate::cursor::{
-    Cursor, PublicCursor, content_from, definition_in_front, listed_name_in_front, names_from,
-    publics_from,
+    Cursor, FixCursor, PublicCursor, content_from, definition_in_front, listed_name_in_front,
+    names_from, publics_from,
 };
-use crate::cursor_fixes::{FixCursor, fix_in_front, fixes_from};
+use crate::cursor_fixes::{fix_in_front, fixes_from};
+use object_modules::{Alignment, Fix, FixKind, Segment};
+use std::marker::Model;
 
 /// A walk over a file: what the file tells at any time, and its parts from its front, in the order of the file. It
 /// borrows the file and takes no memory.
@@ -124,11 +123,7 @@ impl<'a> Walk<'a> {
         }
     }
     /// The next external name.
-    #[tactic(auto, using(
-        crate::proofs::NextParts::names_then,
-        crate::proofs::NextParts::names_are_after,
-        crate::proofs::NextParts::names_over,
-    ))]
+    #[tactic(auto, using(crate::proofs::NextParts::names_then, crate::proofs::NextParts::names_are_after, crate::proofs::NextParts::names_over,))]
     pub fn next_external(&mut self) -> Option<&'a [u8]>
         ensures next { HandsOut self.old.externals self.new.externals (option_map (λ name. name.now) result) }
         ensures rest { self.new ≡ record self.old { externals = self.new.externals } }
@@ -148,16 +143,16 @@ impl<'a> Walk<'a> {
     }
 
     /// The next public name.
-    #[tactic(auto, using(
-        crate::proofs::NextParts::publics_then,
-        crate::proofs::NextParts::definitions_are_after,
-        crate::proofs::NextParts::publics_over,
-    ))]
+    #[tactic(auto, using(crate::proofs::NextParts::publics_then, crate::proofs::NextParts::definitions_are_after, crate::proofs::NextParts::publics_over,))]
     pub fn next_public(&mut self) -> Option<PublicName<'a>>
         ensures next { HandsOut self.old.publics self.new.publics (option_map public_view result) }
         ensures rest { self.new ≡ record self.old { publics = self.new.publics } }
     {
-        let cursor = publics_from(self.publics.segment, self.publics.entries, self.publics.rest);
+        let cursor = publics_from(
+            self.publics.segment,
+            self.publics.entries,
+            self.publics.rest,
+        );
         let segment = cursor.segment;
         match definition_in_front(cursor.entries) {
             Some((offset, name, entries)) => {
@@ -197,11 +192,7 @@ impl<'a> Walk<'a> {
     }
 
     /// The next fix of the content that was handed out last.
-    #[tactic(auto, using(
-        crate::proofs::NextFixes::fix_handed,
-        crate::proofs::NextFixes::entries_then,
-        crate::proofs::NextFixes::no_fix,
-    ))]
+    #[tactic(auto, using(crate::proofs::NextFixes::fix_handed, crate::proofs::NextFixes::entries_then, crate::proofs::NextFixes::no_fix,))]
     pub fn next_fix(&mut self) -> Option<Fix>
         ensures next { HandsOut self.old.fixes self.new.fixes result }
         ensures rest { self.new ≡ record self.old { fixes = self.new.fixes } }

@@ -70,9 +70,14 @@ module _ (a b c d : Option (List ℕ)) where
   pub heading_begun :
       (heading body last whole : List ℕ) → whole ≡ (heading ++ body) ++ last
       → AppendsBeginning a b heading → AppendsBeginning a b whole
-  heading_begun heading body last whole e (sent, begins, appended) =
-      (sent, (begins.0 ++ (body ++ last),
-      e ∙ append_assoc heading body last ∙ ap (λ h. h ++ (body ++ last)) begins.1 ∙ append_assoc sent begins.0 (body ++ last)), appended)
+  heading_begun heading body last whole e (sent, begins, appended) = (
+    sent,
+    (
+      begins.0 ++ (body ++ last),
+      e ∙ append_assoc heading body last ∙ ap (λ h. h ++ (body ++ last)) begins.1 ∙ append_assoc sent begins.0 (body ++ last),
+    ),
+    appended,
+  )
 
   pub body_begun :
       (heading body last whole : List ℕ) → whole ≡ (heading ++ body) ++ last

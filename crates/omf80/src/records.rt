@@ -7,15 +7,14 @@ ghost use Rattle.omf80.specs.Records.{BeginsWith, kind_of_type, record_fault, fi
 ghost use Rattle.omf80.specs.Views.{record_view};
 ghost use Rattle.writing.specs.Writing.{AppendsBeginning};
 
+use crate::fault::Fault;
+use crate::kind::{HEADING_SIZE, LENGTH_LIMIT, RecordKind};
+use crate::record::Record;
 use byteorder::{ByteOrder, LittleEndian};
 use failure::Failure;
 use std::io::Write;
 use std::marker::Model;
 use writing::{WriteFault, write_bytes};
-
-use crate::fault::Fault;
-use crate::kind::{HEADING_SIZE, LENGTH_LIMIT, RecordKind};
-use crate::record::Record;
 
 /// The records of a file, from its front. Contracts see the bytes that are left.
 #[derive(Drop)]
@@ -60,15 +59,7 @@ fn word(number: u16) -> [u8; 2]
 }
 
 // The kind of the record that the bytes begin with, and where it ends.
-#[tactic(auto, using(
-    crate::proofs::Reading::too_short,
-    crate::proofs::Reading::no_length,
-    crate::proofs::Reading::too_long,
-    crate::proofs::Reading::cut_off,
-    crate::proofs::Reading::wrong_sum,
-    crate::proofs::Reading::unknown_type,
-    crate::proofs::Reading::no_record_fault,
-))]
+#[tactic(auto, using(crate::proofs::Reading::too_short, crate::proofs::Reading::no_length, crate::proofs::Reading::too_long, crate::proofs::Reading::cut_off, crate::proofs::Reading::wrong_sum, crate::proofs::Reading::unknown_type, crate::proofs::Reading::no_record_fault,))]
 fn heading_of(bytes: &[u8]) -> Result<(RecordKind, usize), Fault>
     ensures no_fault { IfOk result (λ _. record_fault bytes.now ≡ None) }
     ensures kind { IfOk result (λ heading. kind_of_type (slice_index bytes.now 0) ≡ Some heading.0) }
@@ -152,11 +143,7 @@ fn checksum(heading: &[u8], body: &[u8]) -> u8
 }
 
 /// Writes a record with a type and a body of at most 1027 bytes. After a failure the writer has a beginning of it.
-pub fn write_record<W: Write>(
-    out: &mut W,
-    kind: u8,
-    body: &[u8],
-) -> Result<(), Failure<WriteFault>>
+pub fn write_record<W: Write>(out: &mut W, kind: u8, body: &[u8]) -> Result<(), Failure<WriteFault>>
     requires { length body.now ≤ 1027 }
     ensures ok { OnOk result (Appends (W.contents out.old) (W.contents out.new) (record_bytes kind body.now)) }
     ensures err { OnErr result

@@ -8,7 +8,7 @@ use Rattle.object_modules.specs.Before.{fixes_of, leading_fixes}
 use Rattle.object_modules.specs.Parts.{ExternalReferencesPart, RelocationPart}
 use Rattle.object_modules.specs.Reading.{references_in, words_in}
 use Rattle.object_modules.specs.Walking.{parts_from}
-use Rattle.objmod.specs.declared.cursor_fixes.FixCursor.{FixCursor}
+use Rattle.objmod.specs.declared.cursor.FixCursor.{FixCursor}
 
 -- the fixes of the entries that are left of a fix record: with a target that is a segment, or with the external
 -- name that each entry has
