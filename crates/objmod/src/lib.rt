@@ -1,7 +1,11 @@
 //! Object modules read from files of Intel's relocatable object module format for the 8080, and written to them.
 #![tactic(auto)]
 
+mod judge;
+mod parts;
 mod reading;
+mod segments;
+mod walks;
 mod written;
 
 pub use object_modules::{
@@ -9,4 +13,6 @@ pub use object_modules::{
     SEGMENT_LIMIT, Segment, SegmentBytes, Target,
 };
 pub use reading::{ReadFault, read, read_from};
+pub use judge::walk;
+pub use walks::{Content, Walk};
 pub use written::write;

@@ -7,9 +7,12 @@ ghost use Rattle.object_modules.specs.Spelling.{HasFirstFault, Spells};
 ghost use Rattle.object_modules.specs.Text.{text_of, with_publics_in_order};
 ghost use Rattle.objmod.specs.Streams.{HasReadFault, ReadsModule, TakesSome};
 
+use crate::judge::walk;
+use crate::parts::read_parts;
 use failure::Failure;
 use object_modules::{Fault, ObjectModule};
 use std::alloc::Global;
+use std::io;
 use std::io::Read;
 use thiserror::Error;
 
@@ -40,6 +43,7 @@ impl ReadFault {
 }
 
 /// The module that a file spells.
+#[tactic(auto, using(crate::proofs::ReadParts::are_kept, crate::proofs::ReadParts::is_told, crate::proofs::ReadParts::walk_spells))]
 pub fn read(alloc: Global, bytes: &[u8]) -> Result<ObjectModule, Failure<Fault>>
     ensures spelled { IfOk result (λ object. Spells bytes.now object) }
     ensures fault { IfFault result (λ fault. HasFirstFault bytes.now fault) }
@@ -53,16 +57,29 @@ pub fn read(alloc: Global, bytes: &[u8]) -> Result<ObjectModule, Failure<Fault>>
     ensures ended { (object : ObjectValue) (first : ℕ) (rest : List ℕ) → IsObjectModule object
         → bytes.now ≡ text_of object ++ first ∷ rest → IfOk result (λ _. ⊥) }
 {
-    let _ = (alloc, bytes);
-    Err(Failure::Memory)
+    let mut file = walk(alloc, bytes)?;
+    let parts = read_parts(alloc, &mut file)?;
+    Ok(ObjectModule::from_parts(parts))
 }
 
 /// Reads a module from a reader, to its end.
+#[tactic(auto, using(crate::proofs::ReadStreams::reads_fault, crate::proofs::ReadStreams::reads_module, crate::proofs::ReadStreams::takes_some))]
 pub fn read_from<R: Read>(alloc: Global, from: &mut R) -> Result<ObjectModule, Failure<ReadFault>>
-    ensures spelled { IfOk result (λ object. ReadsModule (R.remaining from.old) (R.remaining from.new) object) }
-    ensures fault { IfFault result (λ fault. HasReadFault (R.remaining from.old) (R.remaining from.new) fault) }
+    ensures spelled { IfOk result (λ object.
+        ReadsModule (R.remaining from.old) (R.remaining from.new) object) }
+    ensures fault { IfFault result (λ fault.
+        HasReadFault (R.remaining from.old) (R.remaining from.new) fault) }
     ensures taken { TakesSome (R.remaining from.old) (R.remaining from.new) }
 {
-    let _ = (alloc, from);
-    Err(Failure::Memory)
+    let mut bytes = Vec::new(alloc);
+    match from.read_to_end(&mut bytes) {
+        Ok(_) => {}
+        Err(error) if error.kind() == io::ErrorKind::OutOfMemory => return Err(Failure::Memory),
+        Err(_) => return Err(Failure::Fault(ReadFault::Read)),
+    }
+    match read(alloc, bytes.as_slice()) {
+        Ok(object) => Ok(object),
+        Err(Failure::Fault(fault)) => Err(Failure::Fault(ReadFault::Object(fault))),
+        Err(Failure::Memory) => Err(Failure::Memory),
+    }
 }
