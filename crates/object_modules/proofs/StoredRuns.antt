@@ -79,15 +79,14 @@ longest size (run ∷ []) h =
     (some_items run.items parts.0, leb-true (run.offset + length run.items) size parts.1, tt, tt)
 longest size (run ∷ next ∷ others) h =
     let outer =
-            both (not (is_empty run.items) && nat_lt (run.offset + length run.items) next.offset)
-            (are_longest size (next ∷ others)) h in
+    both (not (is_empty run.items) && nat_lt (run.offset + length run.items) next.offset)
+    (are_longest size (next ∷ others)) h in
     let inner = both (not (is_empty run.items)) (nat_lt (run.offset + length run.items) next.offset) outer.0 in
     let before : run.offset + length run.items < next.offset =
-            ltb-true (run.offset + length run.items) next.offset inner.1 in
+    ltb-true (run.offset + length run.items) next.offset inner.1 in
     let later : Longest size (next ∷ others) = longest size (next ∷ others) outer.1 in
     let some : 0 < length next.items = later.0 in
-    let ends : next.offset + length next.items ≤ size = later.1 in
-    (
+    let ends : next.offset + length next.items ≤ size = later.1 in (
       some_items run.items inner.0,
       omega arith,
       (
@@ -207,7 +206,7 @@ begins fixes size n offset (first ∷ []) others long is again =
     let runs : List (Run ℕ) = run_at offset (first ∷ []) ∷ others in
     let item : SetByte = record { value = first; fixup = fixup_at fixes offset } in
     let beyond : Beyond (offset + 1) others =
-            beyond_less (offset + 1) (offset + length (first ∷ [])) others (omega arith) long.2 in
+    beyond_less (offset + 1) (offset + length (first ∷ [])) others (omega arith) long.2 in
     ap (λ place. runs_from offset (place ∷ places_from fixes runs (offset + 1) n))
     (found_first fixes offset first [] others)
     ∙ ap (λ rest. before_runs offset item (runs_from (offset + 1) rest))
@@ -223,14 +222,13 @@ begins fixes size n offset (first ∷ second ∷ items) others long is again =
     let item : SetByte = record { value = first; fixup = fixup_at fixes offset } in
     let ends : offset + length (first ∷ second ∷ items) ≤ size = long.1 in
     let same : offset + 1 + length (second ∷ items) ≤ offset + length (first ∷ second ∷ items) = omega arith in
-    let long_still : Longest size shorter =
-            (
-              omega arith,
-              omega arith,
-              beyond_less (offset + 1 + length (second ∷ items)) (offset + length (first ∷ second ∷ items)) others same
-                  long.2,
-              long.3,
-            ) in
+    let long_still : Longest size shorter = (
+      omega arith,
+      omega arith,
+      beyond_less (offset + 1 + length (second ∷ items)) (offset + length (first ∷ second ∷ items)) others same
+          long.2,
+      long.3,
+    ) in
     let rest : List (Run SetByte) = map (fixed_run fixes) others in
     let tail : List SetByte = fixed_bytes fixes (offset + 1) (second ∷ items) in
     ap (λ place. runs_from offset (place ∷ places_from fixes runs (offset + 1) n))
@@ -253,7 +251,7 @@ one_more fixes size n again p (run ∷ others) long from is = go (nat_lt p run.o
     go true e =
         let before : p < run.offset = ltb-true p run.offset e in
         let beyond : Beyond p (run ∷ others) =
-                (before, beyond_less p (run.offset + length run.items) others (omega arith) long.2) in
+        (before, beyond_less p (run.offset + length run.items) others (omega arith) long.2) in
         let from_next : p + 1 ≤ run.offset = omega arith in
         ap (λ place. runs_from p (place ∷ places_from fixes (run ∷ others) (p + 1) n))
         (found_none fixes (run ∷ others) p beyond)
@@ -371,10 +369,10 @@ fix_stands segment (run ∷ others) fix h =
         → (is_in_a_run segment others fix ≡ true → Stands fix.offset others) → Stands fix.offset (run ∷ others)
     go true e any later =
         let parts =
-                both (nat_le run.offset fix.offset) (nat_le (fix_end fix) (run.offset + length run.items)) e in
+        both (nat_le run.offset fix.offset) (nat_le (fix_end fix) (run.offset + length run.items)) e in
         let starts : run.offset ≤ fix.offset = leb-true run.offset fix.offset parts.0 in
         let ends : fix.offset + width_of fix.kind ≤ run.offset + length run.items =
-                leb-true (fix_end fix) (run.offset + length run.items) parts.1 in
+        leb-true (fix_end fix) (run.offset + length run.items) parts.1 in
         let some : 1 ≤ width_of fix.kind = some_width fix.kind in
         inl (starts, omega arith)
     go false e any later = inr (later any)
@@ -411,8 +409,7 @@ all_stand_later :
     → AllStand fixes (run_at p (first ∷ items) ∷ others) → AllStand fixes (run_at (p + 1) items ∷ others)
 all_stand_later [] p first items others asc stand = tt
 all_stand_later (fix ∷ fixes) p first items others asc stand =
-    let here : p + 1 ≤ fix.offset = asc.0 in
-    (
+    let here : p + 1 ≤ fix.offset = asc.0 in (
       stands_later fix.offset p first items others here stand.0,
       all_stand_later fixes p first items others
           (ascending_less (p + 1) (fix.offset + 1) fixes (omega arith) asc.1) stand.1,
@@ -449,9 +446,9 @@ one_byte all others p first items later (fix ∷ fixes) asc stand sees = go (fix
     go true e =
         let here : fix.offset ≡ p = eqb-true fix.offset p e in
         let at_place : fixup_at (fix ∷ fixes) p ≡ Some (fixup_of fix) =
-                ap (λ b. option_map fixup_of (cond b (Some fix) (find (λ (f : Fix). f.offset == p) fixes))) e in
+        ap (λ b. option_map fixup_of (cond b (Some fix) (find (λ (f : Fix). f.offset == p) fixes))) e in
         let after : Ascending (p + 1) fixes =
-                subst (λ q. Ascending (q + 1) fixes) here asc.1 in
+        subst (λ q. Ascending (q + 1) fixes) here asc.1 in
         ap (λ fixup.
         fixes_from p (record { value = first; fixup = fixup } ∷ fixed_bytes all (p + 1) items)
         ++ fixes_again all others) (sees p (omega arith) ∙ at_place)
@@ -501,7 +498,7 @@ stands_from :
 stands_from x run others beyond (inl within) = within.0
 stands_from x run others beyond (inr later) =
     let after : run.offset + length run.items < x =
-            stands_beyond x (run.offset + length run.items) others beyond later in
+    stands_beyond x (run.offset + length run.items) others beyond later in
     omega arith
 
 starts_later :

@@ -77,7 +77,12 @@ impl Model for SegmentBytes {
 impl SegmentBytes {
     /// A segment of a size with these bytes and fixes.
     pub fn new(size: u16, alignment: Alignment, runs: Vec<Run>, fixes: Vec<Fix>) -> SegmentBytes
-        ensures { result ≡ record { size = size; alignment = alignment; runs = runs.items; fixes = fixes.items } }
+        ensures { result ≡ record {
+          size = size;
+          alignment = alignment;
+          runs = runs.items;
+          fixes = fixes.items;
+        } }
     {
         SegmentBytes {
             size,

@@ -95,6 +95,7 @@ joined_found fixes offset bytes next others x is = go (nat_le offset x) refl (na
   where
     sized : length (bytes ++ next.items) ≡ length bytes + length next.items
     sized = length-append bytes next.items
+
     go : (b : Bool) → nat_le offset x ≡ b → (c : Bool) → nat_lt x (offset + length bytes) ≡ c
         → cond (nat_le offset x && nat_lt x (offset + length (bytes ++ next.items))) (Some (byte_here fixes offset x (bytes ++ next.items))) (found fixes others x)
         ≡ cond (nat_le offset x && nat_lt x (offset + length bytes)) (Some (byte_here fixes offset x bytes))
@@ -216,9 +217,11 @@ table_none fixes offset (suc count) x h =
     out : (x < offset) ⊎ (offset + suc count ≤ x) → (x < offset + 1) ⊎ (offset + 1 + count ≤ x)
     out (inl before) = inl (omega arith)
     out (inr after) = inr (omega arith)
+
     apart : (x < offset) ⊎ (offset + suc count ≤ x) → offset ≡ x → ⊥
     apart (inl before) is = omega arith
     apart (inr after) is = omega arith
+
     go : (slot : Option Fix) → fix_at fixes offset ≡ slot → fix_at (listed (fix_table fixes (offset + 1) count)) x ≡ None
         → fix_at (listed (fix_at fixes offset ∷ (fix_table fixes (offset + 1) count))) x ≡ None
     go None e later = ap (λ s. fix_at (listed (s ∷ (fix_table fixes (offset + 1) count))) x) e ∙ later
@@ -245,6 +248,7 @@ table_same fixes offset (suc count) x from to =
         ap (λ s. fix_at (listed (s ∷ (fix_table fixes (offset + 1) count))) x) e
         ∙ that_place fix (listed (fix_table fixes (offset + 1) count)) x (found_there fixes offset fix e ∙ is)
         ∙ sym (ap (fix_at fixes) (sym is) ∙ e)
+
     there : (slot : Option Fix) → fix_at fixes offset ≡ slot → offset ≢ x
         → fix_at (listed (fix_table fixes (offset + 1) count)) x ≡ fix_at fixes x
         → fix_at (listed (fix_at fixes offset ∷ (fix_table fixes (offset + 1) count))) x ≡ fix_at fixes x
@@ -253,6 +257,7 @@ table_same fixes offset (suc count) x from to =
         ap (λ s. fix_at (listed (s ∷ (fix_table fixes (offset + 1) count))) x) e
         ∙ other_place fix (listed (fix_table fixes (offset + 1) count)) x (λ is. not (sym (found_there fixes offset fix e) ∙ is))
         ∙ later
+
     go : (b : Bool) → (offset == x) ≡ b → (offset + 1 ≤ x → fix_at (listed (fix_table fixes (offset + 1) count)) x ≡ fix_at fixes x)
         → fix_at (listed (fix_at fixes offset ∷ (fix_table fixes (offset + 1) count))) x ≡ fix_at fixes x
     go true e later = here (fix_at fixes offset) refl (eqb-true offset x e)

@@ -330,8 +330,8 @@ within_open segment offset (first ∷ items) (next ∷ others) fix h =
         (is_in_a_run segment (next ∷ others) fix) h
 
 later_open :
-    (segment : Segment) (offset : ℕ) ((first ∷ items) : List ℕ) (runs : List (Run ℕ)) (fix : Fix)
-    → is_in_a_run segment runs fix ≡ true → is_in_a_run segment (open_run offset (first ∷ items) runs) fix ≡ true
+    (segment : Segment) (offset : ℕ) (bytes : List ℕ) (runs : List (Run ℕ)) (fix : Fix)
+    → is_in_a_run segment runs fix ≡ true → is_in_a_run segment (open_run offset bytes runs) fix ≡ true
 later_open segment offset [] runs fix h = h
 later_open segment offset (first ∷ items) [] fix h = absurd (let bad : false ≡ true = h in cc)
 later_open segment offset (first ∷ items) (next ∷ others) fix h =

@@ -38,10 +38,13 @@ before_joined offset xs next ys (third ∷ others) is = go (third.offset == next
   where
     sized : length (xs ++ ys) ≡ length xs + length ys
     sized = length-append xs ys
+
     ends : next + length ys ≡ offset + length (xs ++ ys)
     ends = omega (arith, is, sized)
+
     right : (third.offset == next + length ys) ≡ (third.offset == offset + length (xs ++ ys))
     right = ap (λ end. third.offset == end) ends
+
     go : (b : Bool) → (third.offset == next + length ys) ≡ b
         → before_kept offset xs
         (cond (third.offset == next + length ys) (run_at next (ys ++ third.items) ∷ others)
@@ -234,6 +237,7 @@ fix_at_more (first ∷ others) fix offset = go (first.offset == offset) (fix.off
     none : (c : Bool) → Some first ≡ cond (c && false) (Some fix) (Some first)
     none true = refl
     none false = refl
+
     go : (b c : Bool)
         → fix_at (others ++ fix ∷ []) offset
         ≡ cond (c && is_none (fix_at others offset)) (Some fix) (fix_at others offset)

@@ -57,10 +57,10 @@ pub is_told :
 unfolding module_by
 is_told walking parts fits is =
     let code =
-            segment_places walking.code_length walking.code_alignment Code walking.contents parts.code fits.code is.code in
+    segment_places walking.code_length walking.code_alignment Code walking.contents parts.code fits.code is.code in
     let data_places =
-            segment_places walking.data_length walking.data_alignment Data walking.contents parts.data_bytes
-            fits.data_bytes is.data_bytes in
+    segment_places walking.data_length walking.data_alignment Data walking.contents parts.data_bytes
+    fits.data_bytes is.data_bytes in
     let own : ObjectModule = module_of_parts parts in
     ap (λ name. record own { name = name }) is.name
     ∙ ap (λ code. record own { name = walking.name; code = code }) code

@@ -17,4 +17,3 @@ pub fn walk<'a>(alloc: Global, bytes: &'a [u8]) -> Result<Walk<'a>, Failure<Faul
 {
     Err(Failure::Memory)
 }
-

@@ -8,11 +8,11 @@ mod segments;
 mod walks;
 mod written;
 
+pub use judge::walk;
 pub use object_modules::{
     Alignment, Fault, Fix, FixKind, ModuleParts, Name, ObjectModule, OwnedPublic, PublicName, Run,
     SEGMENT_LIMIT, Segment, SegmentBytes, Target,
 };
 pub use reading::{ReadFault, read, read_from};
-pub use judge::walk;
 pub use walks::{Content, Walk};
 pub use written::write;
