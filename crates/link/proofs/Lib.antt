@@ -1,4 +1,0 @@
-pub mod NameLoops
-pub mod StartLoops
-pub mod Refusals
-pub mod MainPasses

@@ -1,5 +1,0 @@
-pub use Rattle.object_modules.specs.Merge
-pub mod Merging
-pub mod Views
-pub mod Streams
-pub mod internal

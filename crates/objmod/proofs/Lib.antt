@@ -1,4 +1,0 @@
-pub mod Kept
-pub mod KeptStored
-pub mod Opened
-pub mod Tables

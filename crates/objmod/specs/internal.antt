@@ -1,2 +1,0 @@
--- What proofs of reading speak of.
-pub mod Keeping
