@@ -18,7 +18,7 @@ use std::alloc::{AllocError, Global};
 use thiserror::Error;
 
 /// What is done with the sources.
-#[derive(Clone, Copy, Debug, PartialEq, Eq)]
+#[derive(Clone, Copy)]
 pub enum Action {
     /// Build the sources and run their image.
     Run,
@@ -27,7 +27,7 @@ pub enum Action {
 }
 
 /// What the command line asks for. The options are the texts of the words, which `Order::settings` reads.
-#[derive(Debug, Drop)]
+#[derive(Drop)]
 pub struct Order<'a> {
     /// What is done with the sources.
     pub action: Action,

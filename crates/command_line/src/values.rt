@@ -21,7 +21,7 @@ use thiserror::Error;
 const MOST: u64 = 1_000_000_000_000;
 
 /// Where the parts of a program are to lie.
-#[derive(Clone, Copy, Debug, PartialEq, Eq)]
+#[derive(Clone, Copy)]
 pub struct Plan {
     /// The address of the code.
     pub code: u16,
@@ -34,7 +34,7 @@ pub struct Plan {
 }
 
 /// A byte that a port gives.
-#[derive(Clone, Copy, Debug, PartialEq, Eq)]
+#[derive(Clone, Copy)]
 pub struct InputByte {
     /// The port.
     pub port: u8,
@@ -43,7 +43,7 @@ pub struct InputByte {
 }
 
 /// The values of an order's options.
-#[derive(Debug, Drop)]
+#[derive(Drop)]
 pub struct Settings {
     /// Where the parts of the program are to lie.
     pub plan: Plan,

@@ -6,7 +6,7 @@ use std::io::Write;
 use tool::ToolFault;
 
 /// How a command ended, by its exit status.
-#[derive(Clone, Copy, Debug, PartialEq, Eq)]
+#[derive(Clone, Copy)]
 pub(crate) enum Ending {
     /// The program ended, or help was printed.
     Done = 0,

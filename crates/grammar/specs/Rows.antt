@@ -9,7 +9,7 @@ use Rattle.trees.specs.declared.expression.BinaryOperator.TheVariants.{Add}
 use Rattle.trees.specs.declared.identifier.Identifier.{Identifier}
 use Rattle.trees.specs.declared.identifier.Place.{Place}
 use Rattle.grammar.specs.Forms.{ends_in_open_if}
-use Rattle.trees.specs.Names.{is_name}
+use Rattle.symbols.specs.Names.{is_name}
 use Rattle.grammar.specs.Nesting.{expression_height, module_height}
 use Rattle.grammar.specs.Symbols.{PlacedSymbol, SemicolonSymbol, UnknownSymbol, symbol_of}
 use Rattle.trees.specs.Trees.{ExpressionTree, ConstantLeaf, NumberConstant, ReferenceLeaf, AssignmentNode, BinaryNode, ReferenceTree, ReferenceTo, NoMember, NoArguments, MoreArguments, StatementTree, LabelledStatement, StatementKindTree, NullStatement, GotoStatement, IfStatement, ElseTree, NoElse, ElseStatement, NoStatements, MoreStatements, NoDeclarations, ModuleTree}

@@ -12,7 +12,7 @@ use Rattle.words.specs.Strings.{characters_of}
 use Rattle.trees.specs.declared.identifier.Identifier.{Identifier}
 use Rattle.trees.specs.declared.identifier.Number.{Number}
 use Rattle.trees.specs.declared.identifier.Place.{Place}
-use Rattle.trees.specs.Names.{is_name}
+use Rattle.symbols.specs.Names.{is_name}
 use Rattle.trees.specs.Trees.{StringTree}
 
 -- A name, a number and a string by what they stand for and where, a reserved word, for some with where it stands,

@@ -7,8 +7,8 @@ use Rattle.std.specs.Str.{bytes_eq}
 use Rattle.std.proofs.lemmas.Cmp.{nat_list_eq_equiv}
 use Rattle.std.proofs.lemmas.Slice.Eq.{bytes_eq-Decides}
 use Rattle.indexmap.specs.IndexMap.{insert_entry}
-use Rattle.trees.specs.contracts.name.NamePartialEq.TheImpl.{eq-value}
-use Rattle.trees.proofs.Keys.{same_keys}
+use Rattle.symbols.specs.contracts.name.NamePartialEq.TheImpl.{eq-value}
+use Rattle.symbols.proofs.Keys.{same_keys}
 use Rattle.layout.specs.Joined.{Global, agree, public_named, first_repeated, lacks_public, differs_from_public}
 use Rattle.join.specs.declared.publics.Publics.{Publics}
 use Rattle.join.specs.declared.shared.Shared.{Shared}

@@ -44,7 +44,7 @@ impl<'a> Publics<'a> {
     }
 
     // A name has this PUBLIC from now on.
-    #[tactic(auto, using(trees::proofs::Keys::same_keys))]
+    #[tactic(auto, using(symbols::proofs::Keys::same_keys))]
     fn insert(&mut self, name: Name, global: Shared<'a>) -> Result<(), Failure<Fault>>
         ensures entries { OnOk result
             (self.new.table.entries ≡ insert_entry bytes_eq self.old.table.entries name global.entry) }

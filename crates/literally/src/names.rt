@@ -13,7 +13,7 @@ use std::hash::{Hash, Hasher};
 
 /// A name, known by the bytes of its word. Names are equal where their characters are: `$` is ignored, and a small
 /// letter is read as its capital.
-#[derive(Clone, Copy, Debug)]
+#[derive(Clone, Copy)]
 pub(crate) struct Name<'a> {
     pub(crate) text: &'a [u8],
 }

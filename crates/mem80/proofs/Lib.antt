@@ -1,1 +1,3 @@
 pub mod MemoryLemmas
+pub mod Sums
+pub mod Ranges

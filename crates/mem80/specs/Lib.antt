@@ -1,2 +1,4 @@
 pub mod Memory
 pub mod Range
+pub mod Pieces
+pub mod Sums

@@ -1,5 +1,3 @@
-pub mod Walks
-pub mod Loops
+pub mod Lists
 pub mod Numbering
-pub mod References
 pub mod Parts

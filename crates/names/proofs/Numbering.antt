@@ -8,7 +8,7 @@ use Rattle.trees.specs.Views.{statement_trees}
 use Rattle.names.specs.declared.entity.Entity.TheVariants.{Label}
 use Rattle.names.specs.Environment.{Names, numbered_from}
 use Rattle.names.specs.Events.{labels_of}
-use Rattle.names.proofs.Loops.{statements_from}
+use Rattle.names.proofs.Lists.{statements_from}
 
 -- labels after others
 pub numbered_append : (first : ℕ) (labels others : List Identifier) (names : Names) → numbered_from first (labels ++ others) names ≡ numbered_from (first + length labels) others (numbered_from first labels names)

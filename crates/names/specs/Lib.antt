@@ -4,5 +4,4 @@ pub mod Declaring
 pub mod BuiltIns
 pub mod Uses
 pub mod Events
-pub mod Binding
 pub mod internal

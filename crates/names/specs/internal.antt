@@ -1,4 +1,2 @@
 pub mod Numbering
-pub mod Walks
 pub mod Parts
-pub mod Examples

@@ -3,7 +3,7 @@
 /// What a declaration makes a name stand for. Objects, procedures and labels are numbered from 0 each, in the order of
 /// the text; parameters are objects, numbered where DECLARE declares them. The labels of a list of statements follow
 /// each other, and are numbered before those of the lists within it.
-#[derive(Clone, Copy, Debug, PartialEq, Eq)]
+#[derive(Clone, Copy, PartialEq, Eq)]
 pub enum Entity {
     /// A variable or a parameter.
     Object(u32),
@@ -14,7 +14,7 @@ pub enum Entity {
 }
 
 /// The procedures that are known without a declaration.
-#[derive(Clone, Copy, Debug, PartialEq, Eq)]
+#[derive(Clone, Copy, PartialEq, Eq)]
 pub enum BuiltIn {
     Input,
     Output,
@@ -36,7 +36,7 @@ pub enum BuiltIn {
 }
 
 /// What a use of a name is bound to.
-#[derive(Clone, Copy, Debug, PartialEq, Eq)]
+#[derive(Clone, Copy, PartialEq, Eq)]
 pub enum Binding {
     /// A declaration.
     Declared(Entity),

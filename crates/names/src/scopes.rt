@@ -264,7 +264,6 @@ fn built_in(name: &[u8]) -> Option<BuiltIn>
 /// What names stand for at a place of a module, for who goes through its text from the start: each simple DO, each body
 /// of a procedure and each list of statements is opened before what stands in it and closed after it, and each name is
 /// declared where it stands. A call that is refused leaves the scopes for nothing more than to be dropped.
-#[derive(Drop)]
 pub struct Scopes {
     alloc: Global,
     body: BodyNames,
@@ -453,5 +452,19 @@ impl Scopes {
             Some(label) => Binding::Declared(label),
             None => Binding::UnknownLabel,
         }
+    }
+}
+
+// Written out, so that what they hold is let go here, and each crate that lets scopes go calls this.
+impl Drop for Scopes {
+    fn drop(self) {
+        let Scopes {
+            alloc: _,
+            body: _,
+            outer_bodies: _,
+            objects: _,
+            procedures: _,
+            labels: _,
+        } = self;
     }
 }

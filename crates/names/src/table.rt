@@ -52,7 +52,7 @@ impl Names {
     }
 
     /// A name stands for this from now on.
-    #[tactic(auto, using(trees::proofs::Keys::same_keys))]
+    #[tactic(auto, using(symbols::proofs::Keys::same_keys))]
     pub(crate) fn insert(&mut self, name: Name, entity: Entity) -> Result<(), Failure<Fault>>
         ensures ok { OnOk result (self.new ≡ insert_entry bytes_eq self.old name entity) }
         ensures err { IfFault result (λ _. ⊥) }

@@ -14,14 +14,14 @@ use std::alloc::{AllocError, Global};
 
 /// Where the objects and the constant lists of a module lie, by their numbers. For an object that has no storage and no
 /// AT place the address says nothing.
-#[derive(Debug, Drop)]
+#[derive(Drop)]
 pub struct ModulePlacement {
     pub objects: Vec<u16>,
     pub lists: Vec<u16>,
 }
 
 /// What a byte of memory is to a program.
-#[derive(Clone, Copy, Debug, PartialEq, Eq)]
+#[derive(Clone, Copy)]
 pub enum ByteKind {
     /// Nothing that is declared has it.
     Undeclared,

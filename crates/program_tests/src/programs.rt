@@ -1,4 +1,4 @@
-//! Modules that make a program, and why others make none.
+//! Modules that make a program.
 
 use crate::source::typed;
 use failure::Failure;
@@ -12,13 +12,6 @@ const CALLER: &[u8] =
 
 const SHOWER: &[u8] =
     b"B: DO; SHOW: PROCEDURE(X) PUBLIC; DECLARE X BYTE; OUTPUT(4) = X + 1; END SHOW; END B;";
-
-const LONG_SHOWER: &[u8] =
-    b"B: DO; SHOW: PROCEDURE(X) PUBLIC; DECLARE X ADDRESS; OUTPUT(4) = X + 1; END SHOW; END B;";
-
-const MAIN: &[u8] = b"M: DO; OUTPUT(1) = 42; END M;";
-
-const OF_NOTHING: &[u8] = b"M: DO; END M;";
 
 // What sources are joined to.
 fn joined(alloc: Global, sources: &[&[u8]]) -> Result<Result<Joined, Fault>, Fail> {
@@ -58,34 +51,11 @@ fn modules_stay_in_their_order(rt: HostRuntime) -> Result<(), Fail> {
     Ok(())
 }
 
-// The name of the EXTERNAL or PUBLIC that is at fault.
-fn name_of(fault: &Fault) -> &[u8] {
-    match fault {
-        Fault::NoPublic { name } => name.as_slice(),
-        Fault::PublicTwice { name } => name.as_slice(),
-        Fault::DeclarationsDiffer { name } => name.as_slice(),
-        Fault::NotOneMain => b"",
-    }
-}
-
-// Modules that make no program, the number of their fault and the name with it.
-static REFUSED: [(&[&[u8]], &str, &[u8]); 6] = [
-    (&[CALLER], "J1", b"SHOW"),
-    (&[CALLER, SHOWER, SHOWER], "J2", b"SHOW"),
-    (&[CALLER, LONG_SHOWER], "J3", b"SHOW"),
-    (&[OF_NOTHING], "J4", b""),
-    (&[MAIN, MAIN], "J4", b""),
-    (&[], "J4", b""),
-];
-
 #[test]
-fn the_first_fault_is_told(rt: HostRuntime) -> Result<(), Fail> {
-    for (sources, number, name) in REFUSED.iter() {
-        let Err(fault) = joined(rt.alloc(), sources)? else {
-            return Err(Fail::new("no fault"));
-        };
-        assert_eq!(rt; fault.number(), *number);
-        assert!(rt; name_of(&fault) == *name);
-    }
+fn no_modules_make_no_program(rt: HostRuntime) -> Result<(), Fail> {
+    let Err(fault) = joined(rt.alloc(), &[])? else {
+        return Err(Fail::new("no fault"));
+    };
+    assert_eq!(rt; fault.number(), "J4");
     Ok(())
 }

@@ -1,4 +1,4 @@
-//! Typed modules: their tables, and sources that have none.
+//! Typed modules: their tables.
 
 use crate::source::typed;
 use std::test::Fail;
@@ -53,24 +53,5 @@ fn shared_names_stand_in_order(rt: HostRuntime) -> Result<(), Fail> {
     assert!(rt; found.globals[0] == GlobalItem::GlobalProcedure(0));
     assert!(rt; found.globals[1] == GlobalItem::GlobalObject(1));
     assert!(rt; found.main.body.statements.is_empty());
-    Ok(())
-}
-
-// Sources with a fault, its number and its line.
-static REFUSED: [(&[u8], &str, u32); 3] = [
-    (b"M: DO; DECLARE X BYTE DATA (3);\nX = 1; END M;", "C16", 2),
-    (b"M: DO;\nGOTO L; DO WHILE 1; L: ; END; END M;", "C20", 2),
-    (b"M: DO; DO CASE 0;\nL: ; END; END M;", "C19", 2),
-];
-
-#[test]
-fn a_fault_is_told(rt: HostRuntime) -> Result<(), Fail> {
-    for (source, number, line) in REFUSED.iter() {
-        let Err(fault) = typed(rt.alloc(), source)? else {
-            return Err(Fail::new("no fault"));
-        };
-        assert_eq!(rt; fault.number(), *number);
-        assert_eq!(rt; fault.line(), *line);
-    }
     Ok(())
 }

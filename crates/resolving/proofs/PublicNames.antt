@@ -8,8 +8,8 @@ use Rattle.std.proofs.lemmas.Cmp.{nat_list_eq_equiv}
 use Rattle.std.proofs.lemmas.Iterator.Adapters.{position_from-zero}
 use Rattle.std.proofs.lemmas.Slice.Eq.{bytes_eq-Decides}
 use Rattle.indexmap.specs.IndexMap.{insert_entry}
-use Rattle.trees.specs.contracts.name.NamePartialEq.TheImpl.{eq-value}
-use Rattle.trees.proofs.Keys.{same_keys}
+use Rattle.symbols.specs.contracts.name.NamePartialEq.TheImpl.{eq-value}
+use Rattle.symbols.proofs.Keys.{same_keys}
 use Rattle.typed_trees.specs.declared.module.Typed.{Typed}
 use Rattle.typed_trees.specs.declared.module.TypedObject.{TypedObject as CodeObject}
 use Rattle.typed_trees.specs.declared.module.TypedProcedure.{TypedProcedure as CodeProcedure}

@@ -14,7 +14,7 @@ use trees::Name;
 use typed_trees::{Typed, TypedObject, TypedProcedure, Visibility};
 
 /// An object or a procedure of a program: by the number of its module and its own number there, both from 0 on.
-#[derive(Clone, Copy, Debug, PartialEq, Eq)]
+#[derive(Clone, Copy)]
 pub struct Found {
     pub number_of_module: usize,
     pub number: usize,
@@ -32,7 +32,7 @@ pub(crate) fn found_in(table: &IndexMap<Name, Found>, name: Name) -> Option<Foun
 }
 
 // A name has this entry from now on.
-#[tactic(auto, using(trees::proofs::Keys::same_keys))]
+#[tactic(auto, using(symbols::proofs::Keys::same_keys))]
 fn insert(table: &mut IndexMap<Name, Found>, name: Name, found: Found) -> Result<(), AllocError>
     ensures { OnOk result (table.new.entries ≡ insert_entry bytes_eq table.old.entries name found) }
 {

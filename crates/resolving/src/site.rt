@@ -16,7 +16,7 @@ pub struct Site<'a> {
 }
 
 /// What an object is found by.
-#[derive(Clone, Copy, Debug, PartialEq, Eq)]
+#[derive(Clone, Copy)]
 pub enum Storage {
     /// In the frame of the call that runs.
     Frame,

@@ -8,7 +8,7 @@ use std::alloc::{AllocError, Global};
 use typed_trees::{Typed, TypedExpression, TypedStatement, TypedTarget};
 
 /// `OUTPUT(port) = value;`: the port takes the low byte.
-#[derive(Clone, Copy, Debug, PartialEq, Eq)]
+#[derive(Clone, Copy)]
 pub struct Output {
     pub port: u8,
     pub value: u16,

@@ -11,7 +11,7 @@ use trees::ScalarType;
 use typed_trees::{TypedReference, TypedSubscript};
 
 /// What is done with a part of an object: its value is asked for, a value is written to it, or its address is asked for.
-#[derive(Clone, Copy, Debug, PartialEq, Eq)]
+#[derive(Clone, Copy)]
 pub(crate) enum Purpose {
     Reading(ScalarType),
     Writing(ScalarType),

@@ -1,5 +1,5 @@
 -- How the loop over operators goes on.
-use Rattle.std.proofs.Common.{◌≡◌, ℕ, suc, ◌≤◌, ◌<◌, ◌-◌, ◌+◌, zero, length-drop, Bool, true, false, nat_lt, List, [], ◌∷◌, drop, length, Option, Some, None, Ok, Err, if◌then◌else◌, refl, sym, ◌∙◌, ap, arith, rules}
+use Rattle.std.proofs.Common.{◌≡◌, ℕ, suc, ◌≤◌, ◌<◌, ◌-◌, ◌+◌, zero, length-drop, Bool, true, false, nat_lt, List, [], ◌∷◌, drop, length, Option, Some, None, Ok, Err, if◌then◌else◌, refl, sym, subst, ◌∙◌, ap, arith, rules}
 use Rattle.words.specs.declared.vocabulary.Mark.TheVariants.{LeftParenthesis, Period}
 use Rattle.trees.specs.declared.expression.BinaryOperator.{BinaryOperator}
 use Rattle.trees.specs.declared.identifier.Identifier.{Identifier}
@@ -208,6 +208,18 @@ operators_do_not_go_on room level lower height top whole left operator s after
     is ∙ operators_fail room level left operator s cause next fits
     (ap (λ a. expression room (suc (level_of operator)) a) (sym skipped)
     ∙ ap (λ l. expression room l after) (sym at) ∙ e)
+
+-- the loop fails where an operator stands after an operand that is too deep
+pub operators_too_deep : (room level height top : ℕ) (whole : Reading ExpressionTree) (left : ExpressionTree)
+    (operator : BinaryOperator) (s : List Symbol) (cause : Option Cause)
+    → whole ≡ all_operators (expression room) (suc room) level left s
+    → Some operator ≡ operator_on level top (next_operator s) → top ≡ top_level left
+    → height ≡ expression_height left → room < height → cause ≡ Some TooDeep → FailsBy cause whole
+operators_too_deep room level height top whole left operator s cause is on topmost high deep told =
+    let next : operator_on level (top_level left) (next_operator s) ≡ Some operator =
+    ap (λ t. operator_on level t (next_operator s)) (sym topmost) ∙ sym on in
+    let more : room < expression_height left = omega arith in
+    subst (λ c. FailsBy c whole) (sym told) (is ∙ operators_deep room level left operator s next more)
 
 -- a reference
 pub primary_reads : (inner deeper : ExpressionParser) (s after r : List Symbol) (base : Identifier)

@@ -26,7 +26,7 @@ use trees::{
 use words::{Kind, Mark, ReservedWord, Word};
 
 // What a statement begins with, by its first word.
-#[derive(Clone, Copy, Debug, PartialEq, Eq)]
+#[derive(Clone, Copy, PartialEq, Eq)]
 pub(crate) enum Beginning {
     Semicolon(Place),
     Name,

@@ -199,7 +199,7 @@ fn branches(rt: HostRuntime) {
     let alloc = rt.alloc();
     let halt = plain(alloc, StatementKind::halt(PLACE));
     let null = StatementKind::null(PLACE);
-    hold(&rt, matches!(null, StatementKind::Null(PLACE)));
+    hold(&rt, matches!(&null, StatementKind::Null(PLACE)));
     let null = Some(plain(alloc, null));
     let made = StatementKind::if_then(alloc, PLACE, number(1), halt, null);
     check_kind(&rt, alloc, made, b"(IF 1 (HALT) ;)");

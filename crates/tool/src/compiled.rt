@@ -72,7 +72,7 @@ fn compile(
 }
 
 /// A source that is not served, and the line of its first construct that is not.
-#[derive(Clone, Copy, Debug, PartialEq, Eq)]
+#[derive(Clone, Copy)]
 pub struct Unserved {
     pub file: usize,
     pub line: u32,

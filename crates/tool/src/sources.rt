@@ -26,7 +26,7 @@ use std::alloc::Global;
 pub const MOST_SOURCES: usize = 64;
 
 /// A source text and the name that it goes by.
-#[derive(Clone, Copy, Debug)]
+#[derive(Clone, Copy)]
 pub struct Source<'a> {
     pub name: &'a str,
     pub text: &'a [u8],

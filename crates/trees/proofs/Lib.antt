@@ -1,3 +1,1 @@
-pub mod Names
 pub mod Views
-pub mod Keys

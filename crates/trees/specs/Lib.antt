@@ -1,3 +1,2 @@
-pub mod Names
 pub mod Trees
 pub mod Views

@@ -4,21 +4,21 @@ use crate::identifier::{Constant, Identifier, Number, Place, StringLiteral};
 use std::alloc::{AllocError, Global};
 
 /// BYTE or ADDRESS.
-#[derive(Clone, Copy, Debug, PartialEq, Eq)]
+#[derive(Clone, Copy)]
 pub enum ScalarType {
     Byte,
     Address,
 }
 
 /// `+` or `-` between constants.
-#[derive(Clone, Copy, Debug, PartialEq, Eq)]
+#[derive(Clone, Copy)]
 pub enum Sign {
     Plus,
     Minus,
 }
 
 /// How many elements an array has.
-#[derive(Clone, Copy, Debug, PartialEq, Eq)]
+#[derive(Clone, Copy)]
 pub enum Dimension {
     /// `(number)`
     Count(Number),
@@ -27,14 +27,14 @@ pub enum Dimension {
 }
 
 /// PUBLIC or EXTERNAL, and where the word stands.
-#[derive(Clone, Copy, Debug, PartialEq, Eq)]
+#[derive(Clone, Copy)]
 pub enum Linkage {
     Public(Place),
     External(Place),
 }
 
 /// A member of a structure: `name [(number)] BYTE` or `name [(number)] ADDRESS`.
-#[derive(Clone, Copy, Debug, PartialEq, Eq)]
+#[derive(Clone, Copy)]
 pub struct Member {
     pub name: Identifier,
     pub dimension: Option<Number>,
@@ -42,7 +42,6 @@ pub struct Member {
 }
 
 /// The type of a variable or of an element of an array.
-#[derive(Drop)]
 pub enum ItemType {
     Scalar(ScalarType),
     /// STRUCTURE and its members, of which there is one at least.
@@ -50,7 +49,6 @@ pub enum ItemType {
 }
 
 /// What a restricted expression begins with.
-#[derive(Drop)]
 pub enum Origin {
     Constant(Constant),
     /// `.name`
@@ -58,42 +56,37 @@ pub enum Origin {
 }
 
 /// `+` or `-`, and a constant.
-#[derive(Drop)]
 pub struct Offset {
     pub sign: Sign,
     pub constant: Constant,
 }
 
 /// A restricted expression: a constant or a location, with constants added or subtracted.
-#[derive(Drop)]
 pub struct Restricted {
     pub origin: Origin,
     pub offsets: Vec<Offset>,
 }
 
 /// `AT (..)`, and where the word AT stands.
-#[derive(Drop)]
 pub struct At {
     pub place: Place,
     pub address: Restricted,
 }
 
 /// INITIAL or DATA, and where the word stands.
-#[derive(Clone, Copy, Debug, PartialEq, Eq)]
+#[derive(Clone, Copy)]
 pub enum Storage {
     Initial(Place),
     Data(Place),
 }
 
 /// `INITIAL (..)` or `DATA (..)`, with one value at least.
-#[derive(Drop)]
 pub struct ValueList {
     pub storage: Storage,
     pub values: Vec<Restricted>,
 }
 
 /// What an item declares.
-#[derive(Drop)]
 pub enum Subject {
     /// A name, and the name after BASED, if there is one.
     Single {
@@ -105,7 +98,6 @@ pub enum Subject {
 }
 
 /// Variables that are declared together.
-#[derive(Drop)]
 pub struct Item {
     pub subject: Subject,
     pub dimension: Option<Dimension>,
@@ -116,14 +108,12 @@ pub struct Item {
 }
 
 /// A name and the text that it stands for: `name LITERALLY string`.
-#[derive(Drop)]
 pub struct Definition {
     pub name: Identifier,
     pub text: StringLiteral,
 }
 
 /// An element of a DECLARE.
-#[derive(Drop)]
 pub enum Element {
     /// `name LITERALLY string`
     Literally(Box<Definition>),
@@ -151,5 +141,93 @@ impl Element {
         ensures view { IfOk result (λ made. element_tree made ≡ ItemElement (item_tree item)) }
     {
         Ok(Element::Item(Box::new(alloc, item)?))
+    }
+}
+
+// Written out, so that what these hold is let go here, and each crate that lets one go calls this.
+impl Drop for ItemType {
+    fn drop(self) {
+        match self {
+            ItemType::Scalar(_) | ItemType::Structure(_) => {}
+        }
+    }
+}
+
+impl Drop for Origin {
+    fn drop(self) {
+        match self {
+            Origin::Constant(_) | Origin::Location(_) => {}
+        }
+    }
+}
+
+impl Drop for Offset {
+    fn drop(self) {
+        let Offset {
+            sign: _,
+            constant: _,
+        } = self;
+    }
+}
+
+impl Drop for Restricted {
+    fn drop(self) {
+        let Restricted {
+            origin: _,
+            offsets: _,
+        } = self;
+    }
+}
+
+impl Drop for At {
+    fn drop(self) {
+        let At {
+            place: _,
+            address: _,
+        } = self;
+    }
+}
+
+impl Drop for ValueList {
+    fn drop(self) {
+        let ValueList {
+            storage: _,
+            values: _,
+        } = self;
+    }
+}
+
+impl Drop for Subject {
+    fn drop(self) {
+        match self {
+            Subject::Single { name: _, base: _ } | Subject::Group(_) => {}
+        }
+    }
+}
+
+impl Drop for Item {
+    fn drop(self) {
+        let Item {
+            subject: _,
+            dimension: _,
+            item_type: _,
+            linkage: _,
+            at: _,
+            value_list: _,
+        } = self;
+    }
+}
+
+impl Drop for Definition {
+    fn drop(self) {
+        let Definition { name: _, text: _ } = self;
+    }
+}
+
+impl Drop for Element {
+    fn drop(self) {
+        match self {
+            Element::Literally(_) | Element::Item(_) => {}
+        }
     }
 }

@@ -4,7 +4,7 @@ use crate::identifier::{Constant, Identifier};
 use std::alloc::{AllocError, Global};
 
 /// An operator with one operand.
-#[derive(Clone, Copy, Debug, PartialEq, Eq)]
+#[derive(Clone, Copy)]
 pub enum UnaryOperator {
     /// NOT
     Not,
@@ -13,7 +13,7 @@ pub enum UnaryOperator {
 }
 
 /// An operator between two operands.
-#[derive(Clone, Copy, Debug, PartialEq, Eq)]
+#[derive(Clone, Copy)]
 pub enum BinaryOperator {
     /// OR
     Or,
@@ -47,7 +47,6 @@ pub enum BinaryOperator {
 
 /// An expression. Parentheses stay in it.
 #[cycle(expression)]
-#[derive(Drop)]
 pub enum Expression {
     /// A number or a string.
     Constant(Constant),
@@ -77,7 +76,6 @@ const _: () = prove!(size_of::<Reference>() <= 80);
 
 /// A name with its subscripts or arguments, which stand in parentheses; no parentheses are an empty list.
 #[cycle(expression)]
-#[derive(Drop)]
 pub struct Selector {
     pub name: Identifier,
     pub arguments: Vec<Expression>,
@@ -85,11 +83,22 @@ pub struct Selector {
 
 /// A name with subscripts or arguments, and a member of it, if one is named.
 #[cycle(expression)]
-#[derive(Drop)]
 pub struct Reference {
     pub name: Identifier,
     pub arguments: Vec<Expression>,
     pub member: Option<Box<Selector>>,
+}
+
+impl Selector {
+    ghost use Rattle.std.specs.Prelude.{◌≡◌};
+
+    // Its name and its arguments.
+    fn into_parts(self) -> (Identifier, Vec<Expression>)
+        ensures { result ≡ (self.name, self.arguments) }
+    {
+        let Selector { name, arguments } = self;
+        (name, arguments)
+    }
 }
 
 impl Reference {
@@ -105,7 +114,7 @@ impl Reference {
     ) -> Result<Reference, AllocError>
         ensures view { IfOk result (λ made. reference_tree made ≡ reference_of base (member_tree member)) }
     {
-        let Selector { name, arguments } = base;
+        let (name, arguments) = base.into_parts();
         let member = match member {
             Some(selector) => Some(Box::new(alloc, selector)?),
             None => None,
@@ -209,5 +218,46 @@ impl Expression {
             Expression::Reference(reference) => Ok(Box::into_inner(reference)),
             other => Err(other),
         }
+    }
+}
+
+// Written out, so that what these hold is let go here, and each crate that lets one go calls this.
+impl Drop for Expression {
+    #[cycle(let_go_expression)]
+    fn drop(self) {
+        match self {
+            Expression::Constant(_)
+            | Expression::Reference(_)
+            | Expression::Location(_)
+            | Expression::List(_)
+            | Expression::Parenthesized(_)
+            | Expression::Assignment {
+                target: _,
+                value: _,
+            }
+            | Expression::Unary(_, _)
+            | Expression::Binary(_, _, _) => {}
+        }
+    }
+}
+
+impl Drop for Selector {
+    #[cycle(let_go_expression)]
+    fn drop(self) {
+        let Selector {
+            name: _,
+            arguments: _,
+        } = self;
+    }
+}
+
+impl Drop for Reference {
+    #[cycle(let_go_expression)]
+    fn drop(self) {
+        let Reference {
+            name: _,
+            arguments: _,
+            member: _,
+        } = self;
     }
 }

@@ -5,7 +5,6 @@ mod declaration;
 mod expression;
 mod identifier;
 mod module;
-mod name;
 mod statement;
 
 pub use declaration::{
@@ -15,8 +14,8 @@ pub use declaration::{
 pub use expression::{BinaryOperator, Expression, Reference, Selector, UnaryOperator};
 pub use identifier::{Constant, Identifier, Number, Place, StringLiteral};
 pub use module::Module;
-pub use name::Name;
 pub use statement::{
     Assignment, Block, Declaration, DoCase, DoWhile, Heading, IfThen, Iteration, IterativeDo,
     Procedure, Statement, StatementKind,
 };
+pub use symbols::Name;

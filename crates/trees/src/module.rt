@@ -4,11 +4,22 @@ use crate::identifier::{Identifier, Place};
 use crate::statement::Block;
 
 /// A module, with the name after its END, if there is one. It borrows nothing from the source.
-#[derive(Drop)]
 pub struct Module {
     pub name: Identifier,
     /// Where the word DO stands.
     pub place: Place,
     pub body: Block,
     pub end_name: Option<Identifier>,
+}
+
+// Written out, so that what a module holds is let go here, and each crate that lets a module go calls this.
+impl Drop for Module {
+    fn drop(self) {
+        let Module {
+            name: _,
+            place: _,
+            body: _,
+            end_name: _,
+        } = self;
+    }
 }

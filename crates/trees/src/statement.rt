@@ -6,7 +6,6 @@ use crate::identifier::{Identifier, Place};
 use std::alloc::{AllocError, Global};
 
 /// The head of an iterative DO: `variable = first TO last [BY step]`.
-#[derive(Drop)]
 pub struct Iteration {
     pub variable: Identifier,
     pub first: Expression,
@@ -15,7 +14,6 @@ pub struct Iteration {
 }
 
 /// The targets of an assignment, and the value that they get.
-#[derive(Drop)]
 pub struct Assignment {
     pub target: Reference,
     /// The targets after the first.
@@ -25,7 +23,6 @@ pub struct Assignment {
 
 /// A statement with the labels before it.
 #[cycle(statement)]
-#[derive(Drop)]
 pub struct Statement {
     pub labels: Vec<Identifier>,
     pub kind: StatementKind,
@@ -33,7 +30,6 @@ pub struct Statement {
 
 /// What a statement does.
 #[cycle(statement)]
-#[derive(Drop)]
 pub enum StatementKind {
     /// `;`, with where it stands.
     Null(Place),
@@ -78,7 +74,6 @@ const _: () = prove!(size_of::<Statement>() <= 56);
 
 /// IF a condition THEN a statement ELSE another, if there is one, with where the word IF stands.
 #[cycle(statement)]
-#[derive(Drop)]
 pub struct IfThen {
     pub place: Place,
     pub condition: Expression,
@@ -88,7 +83,6 @@ pub struct IfThen {
 
 /// DO WHILE a condition, with where the word DO stands.
 #[cycle(statement)]
-#[derive(Drop)]
 pub struct DoWhile {
     pub place: Place,
     pub condition: Expression,
@@ -97,7 +91,6 @@ pub struct DoWhile {
 
 /// An iterative DO, with where the word DO stands.
 #[cycle(statement)]
-#[derive(Drop)]
 pub struct IterativeDo {
     pub place: Place,
     pub iteration: Iteration,
@@ -106,7 +99,6 @@ pub struct IterativeDo {
 
 /// DO CASE a number, with where the word DO stands.
 #[cycle(statement)]
-#[derive(Drop)]
 pub struct DoCase {
     pub place: Place,
     pub choice: Expression,
@@ -294,7 +286,6 @@ impl StatementKind {
 
 /// Declarations, and then statements.
 #[cycle(statement)]
-#[derive(Drop)]
 pub struct Block {
     pub declarations: Vec<Declaration>,
     pub statements: Vec<Statement>,
@@ -302,7 +293,6 @@ pub struct Block {
 
 /// A declaration.
 #[cycle(statement)]
-#[derive(Drop)]
 pub enum Declaration {
     /// DECLARE, with one element at least.
     Declare(Vec<Element>),
@@ -341,7 +331,6 @@ impl Declaration {
 }
 
 /// The head of a procedure. No parentheses are an empty list of parameters.
-#[derive(Drop)]
 pub struct Heading {
     pub name: Identifier,
     pub parameters: Vec<Identifier>,
@@ -353,9 +342,146 @@ pub struct Heading {
 
 /// A procedure, with the name after its END, if there is one.
 #[cycle(statement)]
-#[derive(Drop)]
 pub struct Procedure {
     pub heading: Heading,
     pub body: Block,
     pub end_name: Option<Identifier>,
+}
+
+// Written out, so that what these hold is let go here, and each crate that lets one go calls this.
+impl Drop for Iteration {
+    fn drop(self) {
+        let Iteration {
+            variable: _,
+            first: _,
+            last: _,
+            step: _,
+        } = self;
+    }
+}
+
+impl Drop for Assignment {
+    fn drop(self) {
+        let Assignment {
+            target: _,
+            others: _,
+            value: _,
+        } = self;
+    }
+}
+
+impl Drop for Statement {
+    #[cycle(let_go_statement)]
+    fn drop(self) {
+        let Statement { labels: _, kind: _ } = self;
+    }
+}
+
+impl Drop for StatementKind {
+    #[cycle(let_go_statement)]
+    fn drop(self) {
+        match self {
+            StatementKind::Null(_)
+            | StatementKind::Assignment(_)
+            | StatementKind::Call {
+                place: _,
+                procedure: _,
+            }
+            | StatementKind::Return { place: _, value: _ }
+            | StatementKind::Halt(_)
+            | StatementKind::Goto { place: _, label: _ }
+            | StatementKind::If(_)
+            | StatementKind::Do { place: _, block: _ }
+            | StatementKind::While(_)
+            | StatementKind::Iterate(_)
+            | StatementKind::Case(_) => {}
+        }
+    }
+}
+
+impl Drop for IfThen {
+    #[cycle(let_go_statement)]
+    fn drop(self) {
+        let IfThen {
+            place: _,
+            condition: _,
+            body: _,
+            otherwise: _,
+        } = self;
+    }
+}
+
+impl Drop for DoWhile {
+    #[cycle(let_go_statement)]
+    fn drop(self) {
+        let DoWhile {
+            place: _,
+            condition: _,
+            body: _,
+        } = self;
+    }
+}
+
+impl Drop for IterativeDo {
+    #[cycle(let_go_statement)]
+    fn drop(self) {
+        let IterativeDo {
+            place: _,
+            iteration: _,
+            body: _,
+        } = self;
+    }
+}
+
+impl Drop for DoCase {
+    #[cycle(let_go_statement)]
+    fn drop(self) {
+        let DoCase {
+            place: _,
+            choice: _,
+            body: _,
+        } = self;
+    }
+}
+
+impl Drop for Block {
+    #[cycle(let_go_statement)]
+    fn drop(self) {
+        let Block {
+            declarations: _,
+            statements: _,
+        } = self;
+    }
+}
+
+impl Drop for Declaration {
+    #[cycle(let_go_statement)]
+    fn drop(self) {
+        match self {
+            Declaration::Declare(_) | Declaration::Procedure(_) => {}
+        }
+    }
+}
+
+impl Drop for Heading {
+    fn drop(self) {
+        let Heading {
+            name: _,
+            parameters: _,
+            result: _,
+            linkage: _,
+            reentrant: _,
+        } = self;
+    }
+}
+
+impl Drop for Procedure {
+    #[cycle(let_go_statement)]
+    fn drop(self) {
+        let Procedure {
+            heading: _,
+            body: _,
+            end_name: _,
+        } = self;
+    }
 }

@@ -9,8 +9,8 @@ use Rattle.std.proofs.lemmas.List.Sums.{sum_by-cons, sum_by_push}
 use Rattle.std.proofs.lemmas.Option.{slice_get-map}
 use Rattle.std.proofs.Math.Decide.{dec_lt}
 use Rattle.indexmap.specs.IndexMap.{insert_entry}
-use Rattle.trees.specs.contracts.name.NamePartialEq.TheImpl.{eq-value}
-use Rattle.trees.proofs.Keys.{names_equal}
+use Rattle.symbols.specs.contracts.name.NamePartialEq.TheImpl.{eq-value}
+use Rattle.symbols.proofs.Keys.{names_equal}
 use Rattle.typed_trees.proofs.Capped.{capped_sum}
 use Rattle.typed_trees.specs.declared.members.Entry.{Entry}
 use Rattle.typed_trees.specs.declared.members.FoundMember.{FoundMember}

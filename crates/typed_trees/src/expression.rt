@@ -6,7 +6,6 @@ use trees::{BinaryOperator, ScalarType, UnaryOperator};
 
 /// An expression.
 #[cycle(expression)]
-#[derive(Drop)]
 pub enum TypedExpression {
     /// A number of a type.
     Number {
@@ -71,7 +70,6 @@ pub enum TypedExpression {
 /// An object or a part of it: an element, a member of the element, by its position in the structure and where it begins
 /// there (0 where no member is meant), and an element of the member.
 #[cycle(expression)]
-#[derive(Drop)]
 pub struct TypedReference {
     pub object: u32,
     pub subscript: TypedSubscript,
@@ -82,7 +80,6 @@ pub struct TypedReference {
 
 /// A subscript, which is an ADDRESS, with the size of an element and how many there are; or none.
 #[cycle(expression)]
-#[derive(Drop)]
 pub enum TypedSubscript {
     Absent,
     Present {
@@ -94,7 +91,6 @@ pub enum TypedSubscript {
 
 /// What a value of the type `from` goes to.
 #[cycle(expression)]
-#[derive(Drop)]
 pub enum TypedTarget {
     /// A scalar of the type `to`, which the value is converted to.
     Stored {
@@ -168,5 +164,101 @@ fn type_of_result(operator: BinaryOperator, operands: ScalarType) -> ScalarType
         | BinaryOperator::GreaterOrEqual
         | BinaryOperator::Unequal => ScalarType::Byte,
         _ => operands,
+    }
+}
+
+// Written out, so that what these hold is let go here, and each crate that lets one go calls this.
+impl Drop for TypedExpression {
+    #[cycle(let_go_expression)]
+    fn drop(self) {
+        match self {
+            TypedExpression::Number {
+                scalar: _,
+                value: _,
+                origin: _,
+            }
+            | TypedExpression::Value {
+                scalar: _,
+                reference: _,
+            }
+            | TypedExpression::Location(_)
+            | TypedExpression::List(_)
+            | TypedExpression::Conversion {
+                scalar: _,
+                inner: _,
+            }
+            | TypedExpression::Assignment {
+                target: _,
+                value: _,
+            }
+            | TypedExpression::Unary {
+                scalar: _,
+                operator: _,
+                operand: _,
+            }
+            | TypedExpression::Binary {
+                operands: _,
+                operator: _,
+                left: _,
+                right: _,
+            }
+            | TypedExpression::Call {
+                procedure: _,
+                scalar: _,
+                arguments: _,
+            }
+            | TypedExpression::Function {
+                function: _,
+                operand: _,
+            }
+            | TypedExpression::Shift {
+                scalar: _,
+                function: _,
+                value: _,
+                count: _,
+            }
+            | TypedExpression::Input(_) => {}
+        }
+    }
+}
+
+impl Drop for TypedReference {
+    #[cycle(let_go_expression)]
+    fn drop(self) {
+        let TypedReference {
+            object: _,
+            subscript: _,
+            member: _,
+            offset: _,
+            member_subscript: _,
+        } = self;
+    }
+}
+
+impl Drop for TypedSubscript {
+    #[cycle(let_go_expression)]
+    fn drop(self) {
+        match self {
+            TypedSubscript::Absent
+            | TypedSubscript::Present {
+                stride: _,
+                count: _,
+                index: _,
+            } => {}
+        }
+    }
+}
+
+impl Drop for TypedTarget {
+    #[cycle(let_go_expression)]
+    fn drop(self) {
+        match self {
+            TypedTarget::Stored {
+                from: _,
+                to: _,
+                reference: _,
+            }
+            | TypedTarget::Sent { from: _, port: _ } => {}
+        }
     }
 }

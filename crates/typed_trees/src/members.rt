@@ -12,7 +12,7 @@ use trees::{Name, ScalarType};
 
 /// A member that a structure has: its position, counted from 0, where it begins in an element (4,294,967,295 where it
 /// begins further on), and the member.
-#[derive(Clone, Copy, Debug, PartialEq, Eq)]
+#[derive(Clone, Copy)]
 pub struct FoundMember {
     pub position: usize,
     pub offset: u32,
@@ -20,7 +20,7 @@ pub struct FoundMember {
 }
 
 /// What the table holds of a member beside its name: where it begins is after the members before it.
-#[derive(Clone, Copy, Debug, PartialEq, Eq)]
+#[derive(Clone, Copy)]
 pub(crate) struct Entry {
     dimension: Option<u16>,
     scalar: ScalarType,
@@ -28,7 +28,6 @@ pub(crate) struct Entry {
 }
 
 /// The members of a structure, in their order.
-#[derive(Drop)]
 pub struct Members {
     entries: IndexMap<Name, Entry>,
     size: u32,
@@ -132,5 +131,15 @@ fn member_at(name: &Name, entry: &Entry) -> TypedMember
         name: *name,
         dimension: entry.dimension,
         scalar: entry.scalar,
+    }
+}
+
+// Written out, so that what they hold is let go here, and each crate that lets members go calls this.
+impl Drop for Members {
+    fn drop(self) {
+        let Members {
+            entries: _,
+            size: _,
+        } = self;
     }
 }

@@ -7,7 +7,6 @@ use std::rc::Rc;
 use trees::{Name, ScalarType};
 
 /// The type of an object, or of the elements of an array.
-#[derive(Drop)]
 pub enum ObjectType {
     Scalar(ScalarType),
     /// The members of a structure, which the names of an item share.
@@ -15,7 +14,6 @@ pub enum ObjectType {
 }
 
 /// Where an object lives.
-#[derive(Drop)]
 pub enum Home {
     /// In the data segment, filled by INITIAL from its start on.
     Data(Vec<InitialValue>),
@@ -34,7 +32,6 @@ pub enum Home {
 }
 
 /// A variable or a parameter.
-#[derive(Drop)]
 pub struct TypedObject {
     pub name: Name,
     /// How many elements an array has.
@@ -46,7 +43,6 @@ pub struct TypedObject {
 }
 
 /// A procedure, or the main program of a module as one.
-#[derive(Drop)]
 pub struct TypedProcedure {
     pub name: Name,
     pub visibility: Visibility,
@@ -63,7 +59,6 @@ pub struct TypedProcedure {
 }
 
 /// A typed module. Its tables are in the order of the text.
-#[derive(Drop)]
 pub struct Typed {
     pub name: Name,
     pub objects: Vec<TypedObject>,
@@ -116,5 +111,70 @@ impl TypedObject {
             None => 1,
         };
         count.saturating_mul(self.element_size())
+    }
+}
+
+// Written out, so that what these hold is let go here, and each crate that lets one go calls this.
+impl Drop for ObjectType {
+    fn drop(self) {
+        match self {
+            ObjectType::Scalar(_) | ObjectType::Structure(_) => {}
+        }
+    }
+}
+
+impl Drop for Home {
+    fn drop(self) {
+        match self {
+            Home::Data(_)
+            | Home::Constant(_)
+            | Home::At(_)
+            | Home::Based(_)
+            | Home::External
+            | Home::Absent
+            | Home::Frame(_) => {}
+        }
+    }
+}
+
+impl Drop for TypedObject {
+    fn drop(self) {
+        let TypedObject {
+            name: _,
+            dimension: _,
+            object_type: _,
+            home: _,
+            is_public: _,
+            is_parameter: _,
+        } = self;
+    }
+}
+
+impl Drop for TypedProcedure {
+    fn drop(self) {
+        let TypedProcedure {
+            name: _,
+            visibility: _,
+            result: _,
+            is_reentrant: _,
+            parameter_types: _,
+            parameters: _,
+            frame_bytes: _,
+            body: _,
+        } = self;
+    }
+}
+
+impl Drop for Typed {
+    fn drop(self) {
+        let Typed {
+            name: _,
+            objects: _,
+            procedures: _,
+            lists: _,
+            constants: _,
+            globals: _,
+            main: _,
+        } = self;
     }
 }

@@ -3,7 +3,7 @@
 use trees::{Name, ScalarType};
 
 /// The built-in functions of one value.
-#[derive(Clone, Copy, Debug, PartialEq, Eq)]
+#[derive(Clone, Copy)]
 pub enum UnaryFunction {
     /// The low byte.
     Low,
@@ -14,7 +14,7 @@ pub enum UnaryFunction {
 }
 
 /// The built-in functions that move the bits of a value by a count.
-#[derive(Clone, Copy, Debug, PartialEq, Eq)]
+#[derive(Clone, Copy)]
 pub enum ShiftFunction {
     ShiftLeft,
     ShiftRight,
@@ -23,7 +23,7 @@ pub enum ShiftFunction {
 }
 
 /// The built-in functions of an object that are numbers.
-#[derive(Clone, Copy, Debug, PartialEq, Eq)]
+#[derive(Clone, Copy)]
 pub enum Measure {
     /// How many elements an array has.
     Length,
@@ -34,7 +34,7 @@ pub enum Measure {
 }
 
 /// How a number was written.
-#[derive(Clone, Copy, Debug, PartialEq, Eq)]
+#[derive(Clone, Copy)]
 pub enum NumberOrigin {
     /// In digits.
     FromDigits,
@@ -49,7 +49,7 @@ pub enum NumberOrigin {
 }
 
 /// Which modules see a procedure: its own, others too, or it is another's.
-#[derive(Clone, Copy, Debug, PartialEq, Eq)]
+#[derive(Clone, Copy)]
 pub enum Visibility {
     Private,
     Public,
@@ -57,7 +57,7 @@ pub enum Visibility {
 }
 
 /// A member of a structure.
-#[derive(Clone, Copy, Debug, PartialEq, Eq)]
+#[derive(Clone, Copy)]
 pub struct TypedMember {
     pub name: Name,
     /// How many elements it has, if it is an array.
@@ -66,7 +66,7 @@ pub struct TypedMember {
 }
 
 /// What the bytes of an object are filled with.
-#[derive(Clone, Copy, Debug, PartialEq, Eq)]
+#[derive(Clone, Copy)]
 pub enum InitialValue {
     /// A byte.
     ByteValue(u8),
@@ -77,7 +77,7 @@ pub enum InitialValue {
 }
 
 /// Where AT puts an object.
-#[derive(Clone, Copy, Debug, PartialEq, Eq)]
+#[derive(Clone, Copy, PartialEq, Eq)]
 pub enum AtAddress {
     /// At an address.
     AtNumber(u16),
@@ -86,7 +86,7 @@ pub enum AtAddress {
 }
 
 /// What stands among the constants of a module, by its number.
-#[derive(Clone, Copy, Debug, PartialEq, Eq)]
+#[derive(Clone, Copy)]
 pub enum ConstantItem {
     /// An object with DATA.
     ConstantObject(u32),
@@ -95,7 +95,7 @@ pub enum ConstantItem {
 }
 
 /// What is PUBLIC or EXTERNAL in a module, by its number.
-#[derive(Clone, Copy, Debug, PartialEq, Eq)]
+#[derive(Clone, Copy, PartialEq, Eq)]
 pub enum GlobalItem {
     GlobalObject(u32),
     GlobalProcedure(u32),

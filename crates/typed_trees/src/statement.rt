@@ -4,7 +4,6 @@ use crate::expression::{TypedExpression, TypedTarget};
 use trees::ScalarType;
 
 /// The head of an iterative DO: the variable with its type, which the first value is converted to as it is stored.
-#[derive(Drop)]
 pub struct TypedIteration {
     pub variable: u32,
     pub scalar: ScalarType,
@@ -14,14 +13,12 @@ pub struct TypedIteration {
 }
 
 /// Targets and the value that all of them get.
-#[derive(Drop)]
 pub struct TypedAssignment {
     pub targets: Vec<TypedTarget>,
     pub value: TypedExpression,
 }
 
 /// What CALL MOVE copies: so many bytes, from where, to where. Each is an ADDRESS.
-#[derive(Drop)]
 pub struct TypedMove {
     pub count: TypedExpression,
     pub source: TypedExpression,
@@ -30,7 +27,6 @@ pub struct TypedMove {
 
 /// A statement.
 #[cycle(statement)]
-#[derive(Drop)]
 pub enum TypedStatement {
     /// A label, which stands before the statement that it names.
     Label(u32),
@@ -61,7 +57,6 @@ const _: () = prove!(size_of::<TypedStatement>() <= 40);
 
 /// IF a condition THEN a statement ELSE another, if there is one.
 #[cycle(statement)]
-#[derive(Drop)]
 pub struct TypedIf {
     pub condition: TypedExpression,
     pub body: TypedStatement,
@@ -70,7 +65,6 @@ pub struct TypedIf {
 
 /// DO WHILE a condition.
 #[cycle(statement)]
-#[derive(Drop)]
 pub struct TypedWhile {
     pub condition: TypedExpression,
     pub body: TypedList,
@@ -78,7 +72,6 @@ pub struct TypedWhile {
 
 /// An iterative DO.
 #[cycle(statement)]
-#[derive(Drop)]
 pub struct TypedIterate {
     pub head: TypedIteration,
     pub body: TypedList,
@@ -86,7 +79,6 @@ pub struct TypedIterate {
 
 /// DO CASE a number.
 #[cycle(statement)]
-#[derive(Drop)]
 pub struct TypedCase {
     pub choice: TypedExpression,
     pub body: Vec<TypedStatement>,
@@ -94,9 +86,110 @@ pub struct TypedCase {
 
 /// A list of statements that may hold labels, numbered in a row from the first on, each with where it stands in the list.
 #[cycle(statement)]
-#[derive(Drop)]
 pub struct TypedList {
     pub first_label: u32,
     pub places: Vec<u32>,
     pub statements: Vec<TypedStatement>,
+}
+
+// Written out, so that what these hold is let go here, and each crate that lets one go calls this.
+impl Drop for TypedIteration {
+    fn drop(self) {
+        let TypedIteration {
+            variable: _,
+            scalar: _,
+            first: _,
+            last: _,
+            step: _,
+        } = self;
+    }
+}
+
+impl Drop for TypedAssignment {
+    fn drop(self) {
+        let TypedAssignment {
+            targets: _,
+            value: _,
+        } = self;
+    }
+}
+
+impl Drop for TypedMove {
+    fn drop(self) {
+        let TypedMove {
+            count: _,
+            source: _,
+            destination: _,
+        } = self;
+    }
+}
+
+impl Drop for TypedStatement {
+    #[cycle(let_go_statement)]
+    fn drop(self) {
+        match self {
+            TypedStatement::Label(_)
+            | TypedStatement::Null
+            | TypedStatement::Assignment(_)
+            | TypedStatement::Call {
+                procedure: _,
+                arguments: _,
+            }
+            | TypedStatement::Move(_)
+            | TypedStatement::Return(_)
+            | TypedStatement::Halt
+            | TypedStatement::Goto(_)
+            | TypedStatement::If(_)
+            | TypedStatement::Do(_)
+            | TypedStatement::While(_)
+            | TypedStatement::Iterate(_)
+            | TypedStatement::Case(_) => {}
+        }
+    }
+}
+
+impl Drop for TypedIf {
+    #[cycle(let_go_statement)]
+    fn drop(self) {
+        let TypedIf {
+            condition: _,
+            body: _,
+            otherwise: _,
+        } = self;
+    }
+}
+
+impl Drop for TypedWhile {
+    #[cycle(let_go_statement)]
+    fn drop(self) {
+        let TypedWhile {
+            condition: _,
+            body: _,
+        } = self;
+    }
+}
+
+impl Drop for TypedIterate {
+    #[cycle(let_go_statement)]
+    fn drop(self) {
+        let TypedIterate { head: _, body: _ } = self;
+    }
+}
+
+impl Drop for TypedCase {
+    #[cycle(let_go_statement)]
+    fn drop(self) {
+        let TypedCase { choice: _, body: _ } = self;
+    }
+}
+
+impl Drop for TypedList {
+    #[cycle(let_go_statement)]
+    fn drop(self) {
+        let TypedList {
+            first_label: _,
+            places: _,
+            statements: _,
+        } = self;
+    }
 }

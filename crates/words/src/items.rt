@@ -13,7 +13,7 @@ use crate::strings::{comment_end, string_end};
 use crate::vocabulary::Kind;
 
 /// Why no word stands at a place.
-#[derive(Clone, Copy, Debug, PartialEq, Eq)]
+#[derive(Clone, Copy)]
 pub enum Cause {
     BadCharacter,
     NotClosed,
@@ -22,7 +22,7 @@ pub enum Cause {
 }
 
 /// What stands at one place of a text, with how many bytes it takes.
-#[derive(Clone, Copy, Debug, PartialEq, Eq)]
+#[derive(Clone, Copy)]
 pub enum Item {
     /// The text ends there.
     Ending,

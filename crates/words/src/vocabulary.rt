@@ -1,7 +1,7 @@
 //! The kinds of words, the reserved words and the marks.
 
 /// A reserved word, which is no name.
-#[derive(Clone, Copy, Debug, PartialEq, Eq)]
+#[derive(Clone, Copy, PartialEq, Eq)]
 pub enum ReservedWord {
     Address,
     And,
@@ -45,7 +45,7 @@ pub enum ReservedWord {
 }
 
 /// A mark: an operator or a separator, written with one or two special characters.
-#[derive(Clone, Copy, Debug, PartialEq, Eq)]
+#[derive(Clone, Copy, PartialEq, Eq)]
 pub enum Mark {
     /// `=`
     EqualSign,
@@ -84,7 +84,7 @@ pub enum Mark {
 }
 
 /// What a word is. The characters of a name and the bytes of a string stand in the word's text.
-#[derive(Clone, Copy, Debug, PartialEq, Eq)]
+#[derive(Clone, Copy, PartialEq, Eq)]
 pub enum Kind {
     Name,
     Reserved(ReservedWord),

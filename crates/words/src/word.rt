@@ -7,7 +7,7 @@ use crate::vocabulary::Kind;
 
 /// A word of a source text: what it is, its bytes, the place of the first of them, counted from 0, and its line,
 /// counted from 1. It is no longer than a source text may be.
-#[derive(Clone, Copy, Debug, PartialEq, Eq)]
+#[derive(Clone, Copy)]
 pub struct Word<'a> {
     pub kind: Kind,
     pub text: &'a [u8],

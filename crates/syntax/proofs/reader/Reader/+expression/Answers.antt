@@ -4,7 +4,7 @@ use Rattle.trees.specs.Views.{expression_tree}
 use Rattle.syntax.specs.internal.Expressions.{expression}
 use Rattle.syntax.proofs.ExpressionSound.{expression-keeps}
 use Rattle.syntax.proofs.ListLoops.{list_more, list_ends, list_fails, gives_exit}
-use Rattle.syntax.proofs.ExpressionLoops.{shorter_after, operators_go_on, operators_do_not_go_on, primary_reads, primary_fails}
+use Rattle.syntax.proofs.ExpressionLoops.{shorter_after, operators_go_on, operators_do_not_go_on, operators_too_deep, primary_reads, primary_fails}
 use Rattle.syntax.proofs.reader.Reader.+expression.Goals as goal
 
 pub expressions-returns-in_err-next-clause-gives : goal.expressions-returns-in_err-next-clause-gives
@@ -34,6 +34,12 @@ expressions-returns-clause-gives t c =
     let keeps = expression-keeps c.args.room expression_level in
     list_ends (expression c.args.room expression_level) keeps expression_tree _ _ _ _ _ c.more.invariant.all
     c.at_mark.ensures c.more-test.false c.shrink.ensures.view
+
+pub operators-returns-then-left-room-clause-gives : goal.operators-returns-then-left-room-clause-gives
+operators-returns-then-left-room-clause-gives t c =
+    operators_too_deep c.args.room c.args.level c.more.left.height c.more.left.level _ _ _ _ _
+    c.more.invariant.all c.in-Some.ensures c.more.left.leveled c.more.left.measured c.if-left-room.true
+    c.too_deep.ensures
 
 pub operators-returns-in_err-right-clause-gives : goal.operators-returns-in_err-right-clause-gives
 operators-returns-in_err-right-clause-gives t c =

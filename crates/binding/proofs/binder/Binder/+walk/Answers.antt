@@ -1,0 +1,93 @@
+use Rattle.std.proofs.Common.{List, rules}
+use Rattle.trees.specs.declared.statement.Declaration.{Declaration}
+use Rattle.trees.specs.declared.statement.Statement.{Statement}
+use Rattle.trees.specs.Views.{declaration_tree, declaration_trees, kind_tree, statement_tree, statement_trees}
+use Rattle.names.specs.Events.{see_cases, see_declaration, see_declarations, see_kind, see_statement, see_statements}
+use Rattle.binding.specs.internal.Walks.{gives}
+use Rattle.binding.proofs.Loops.{goes_on, fails_within, ended, hands_on}
+use Rattle.binding.proofs.Walks.{gives_turn, gives_nothing}
+use Rattle.binding.proofs.binder.Binder.+walk.Goals as goal
+
+pub statements-loop-statement-preserved : goal.statements-loop-statement-preserved
+statements-loop-statement-preserved t c =
+    goes_on
+    (λ (statement : Statement) walk. gives (see_statement (statement_tree statement)) walk)
+    (λ (statements : List Statement) walk. gives (see_statements (statement_trees statements)) walk)
+    (λ statement statements walk. gives_turn (see_statement (statement_tree statement)) (see_statements (statement_trees statements)) walk)
+    c.args.statements.now c.loop-statement.statement-index c.statement-item.result c.loop-statement.self c.statement.new.self _
+    c.loop-statement-test.true c.statement-item.is c.loop-statement.invariant c.in_ok-statement.ensures
+
+pub statements-returns-in_err-statement : goal.statements-returns-in_err-statement
+statements-returns-in_err-statement t c =
+    hands_on c.from_residual.result c.in_err-statement.field-0.0 c.statement.new.self _ (search rules)
+    (fails_within
+    (λ (statement : Statement) walk. gives (see_statement (statement_tree statement)) walk)
+    (λ (statements : List Statement) walk. gives (see_statements (statement_trees statements)) walk)
+    (λ statement statements walk. gives_turn (see_statement (statement_tree statement)) (see_statements (statement_trees statements)) walk)
+    c.args.statements.now c.loop-statement.statement-index c.statement-item.result c.loop-statement.self _ _
+    c.loop-statement-test.true c.statement-item.is c.loop-statement.invariant c.in_err-statement.ensures)
+
+pub statements-returns : goal.statements-returns
+statements-returns t c =
+    ended
+    (λ (statement : Statement) walk. gives (see_statement (statement_tree statement)) walk)
+    (λ (statements : List Statement) walk. gives (see_statements (statement_trees statements)) walk)
+    (λ statement statements walk. gives_turn (see_statement (statement_tree statement)) (see_statements (statement_trees statements)) walk)
+    c.args.statements.now c.loop-statement.statement-index c.loop-statement.self _ _ c.loop-statement-test.false c.loop-statement.invariant
+    (gives_nothing c.loop-statement.self)
+
+pub cases-loop-statement-preserved : goal.cases-loop-statement-preserved
+cases-loop-statement-preserved t c =
+    goes_on
+    (λ (statement : Statement) walk. gives (see_kind (kind_tree statement.kind)) walk)
+    (λ (statements : List Statement) walk. gives (see_cases (statement_trees statements)) walk)
+    (λ statement statements walk. gives_turn (see_kind (kind_tree statement.kind)) (see_cases (statement_trees statements)) walk)
+    c.args.statements.now c.loop-statement.statement-index c.statement-item.result c.loop-statement.self c.kind.new.self _
+    c.loop-statement-test.true c.statement-item.is c.loop-statement.invariant c.in_ok-kind.ensures
+
+pub cases-returns-in_err-kind : goal.cases-returns-in_err-kind
+cases-returns-in_err-kind t c =
+    hands_on c.from_residual.result c.in_err-kind.field-0.0 c.kind.new.self _ (search rules)
+    (fails_within
+    (λ (statement : Statement) walk. gives (see_kind (kind_tree statement.kind)) walk)
+    (λ (statements : List Statement) walk. gives (see_cases (statement_trees statements)) walk)
+    (λ statement statements walk. gives_turn (see_kind (kind_tree statement.kind)) (see_cases (statement_trees statements)) walk)
+    c.args.statements.now c.loop-statement.statement-index c.statement-item.result c.loop-statement.self _ _
+    c.loop-statement-test.true c.statement-item.is c.loop-statement.invariant c.in_err-kind.ensures)
+
+pub cases-returns : goal.cases-returns
+cases-returns t c =
+    ended
+    (λ (statement : Statement) walk. gives (see_kind (kind_tree statement.kind)) walk)
+    (λ (statements : List Statement) walk. gives (see_cases (statement_trees statements)) walk)
+    (λ statement statements walk. gives_turn (see_kind (kind_tree statement.kind)) (see_cases (statement_trees statements)) walk)
+    c.args.statements.now c.loop-statement.statement-index c.loop-statement.self _ _ c.loop-statement-test.false c.loop-statement.invariant
+    (gives_nothing c.loop-statement.self)
+
+pub declarations-loop-declaration-preserved : goal.declarations-loop-declaration-preserved
+declarations-loop-declaration-preserved t c =
+    goes_on
+    (λ (declaration : Declaration) walk. gives (see_declaration (declaration_tree declaration)) walk)
+    (λ (declarations : List Declaration) walk. gives (see_declarations (declaration_trees declarations)) walk)
+    (λ declaration declarations walk. gives_turn (see_declaration (declaration_tree declaration)) (see_declarations (declaration_trees declarations)) walk)
+    c.args.declarations.now c.loop-declaration.declaration-index c.declaration-item.result c.loop-declaration.self c.declaration.new.self _
+    c.loop-declaration-test.true c.declaration-item.is c.loop-declaration.invariant c.in_ok-declaration.ensures
+
+pub declarations-returns-in_err-declaration : goal.declarations-returns-in_err-declaration
+declarations-returns-in_err-declaration t c =
+    hands_on c.from_residual.result c.in_err-declaration.field-0.0 c.declaration.new.self _ (search rules)
+    (fails_within
+    (λ (declaration : Declaration) walk. gives (see_declaration (declaration_tree declaration)) walk)
+    (λ (declarations : List Declaration) walk. gives (see_declarations (declaration_trees declarations)) walk)
+    (λ declaration declarations walk. gives_turn (see_declaration (declaration_tree declaration)) (see_declarations (declaration_trees declarations)) walk)
+    c.args.declarations.now c.loop-declaration.declaration-index c.declaration-item.result c.loop-declaration.self _ _
+    c.loop-declaration-test.true c.declaration-item.is c.loop-declaration.invariant c.in_err-declaration.ensures)
+
+pub declarations-returns : goal.declarations-returns
+declarations-returns t c =
+    ended
+    (λ (declaration : Declaration) walk. gives (see_declaration (declaration_tree declaration)) walk)
+    (λ (declarations : List Declaration) walk. gives (see_declarations (declaration_trees declarations)) walk)
+    (λ declaration declarations walk. gives_turn (see_declaration (declaration_tree declaration)) (see_declarations (declaration_trees declarations)) walk)
+    c.args.declarations.now c.loop-declaration.declaration-index c.loop-declaration.self _ _ c.loop-declaration-test.false c.loop-declaration.invariant
+    (gives_nothing c.loop-declaration.self)

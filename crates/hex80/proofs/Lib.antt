@@ -1,0 +1,13 @@
+pub mod Digits
+pub mod LineLaws
+pub mod Judged
+pub mod TextsAgain
+pub mod Counting
+pub mod Rows
+pub mod TextLines
+pub mod Written
+pub mod Ordered
+pub mod SumLemmas
+pub mod ReadLemmas
+pub mod TableLemmas
+pub mod WriteLemmas

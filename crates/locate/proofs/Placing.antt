@@ -1,0 +1,77 @@
+-- What placing a module rests on.
+use Rattle.std.proofs.Common.{◌≡◌, ℕ, ◌+◌, ◌<◌, ◌≤◌, Bool, true, false, cond, List, [], ◌∷◌, length, All, None, refl, ap, sym, subst, ◌∙◌, arith}
+use Rattle.std.proofs.lemmas.Bool.{le-leb, lt-leb}
+use Rattle.std.proofs.lemmas.List.Elements.{All-from_recursion}
+use Rattle.std.specs.List.{AllByRecursion}
+use Rattle.mem80.specs.declared.range.Piece.{Piece}
+use Rattle.mem80.specs.Pieces.{AreLongestRuns, EndsInMemory, are_runs}
+use Rattle.object_modules.specs.declared.segment.Segment.TheVariants.{Code, Data}
+use Rattle.object_modules.specs.Image.{Plan, base_of, image_at, placed, placement_refusal}
+use Rattle.object_modules.specs.Module.{ObjectModule, places_of}
+use Rattle.locate.specs.Locating.{Absolute, IsPlaced}
+use Rattle.locate.specs.internal.Images.{segment_pieces, in_turn, image_pieces}
+use Rattle.locate.proofs.Pieces.{Ends}
+use Rattle.locate.proofs.Images.{allowed, image_is}
+
+-- each segment has room
+pub code_room :
+    (plan : Plan) (object : ObjectModule) → placement_refusal plan object ≡ None
+    → base_of plan Code + length (places_of object Code) ≤ 65536
+code_room plan object h = (allowed plan object h).code
+
+pub data_room :
+    (plan : Plan) (object : ObjectModule) → placement_refusal plan object ≡ None
+    → base_of plan Data + length (places_of object Data) ≤ 65536
+data_room plan object h = (allowed plan object h).data_places
+
+-- the segment that begins first comes first
+pub code_first :
+    (plan : Plan) (object : ObjectModule) → plan.code_base ≤ plan.data_base
+    → in_turn (segment_pieces plan object Code) (segment_pieces plan object Data) ≡ image_pieces plan object
+code_first plan object h =
+    sym (ap (λ b. cond b (in_turn (segment_pieces plan object Code) (segment_pieces plan object Data))
+    (in_turn (segment_pieces plan object Data) (segment_pieces plan object Code)))
+    (le-leb plan.code_base plan.data_base h))
+
+pub data_first :
+    (plan : Plan) (object : ObjectModule) → plan.data_base < plan.code_base
+    → in_turn (segment_pieces plan object Data) (segment_pieces plan object Code) ≡ image_pieces plan object
+data_first plan object h =
+    sym (ap (λ b. cond b (in_turn (segment_pieces plan object Code) (segment_pieces plan object Data))
+    (in_turn (segment_pieces plan object Data) (segment_pieces plan object Code)))
+    (lt-leb plan.code_base plan.data_base h))
+
+in_memory_by : (pieces : List Piece) → Ends 65536 pieces → AllByRecursion EndsInMemory pieces
+in_memory_by [] ends = tt
+in_memory_by (piece ∷ others) ends = (ends.0, in_memory_by others ends.1)
+
+-- the pieces of an image are runs in memory
+pub image_runs :
+    (plan : Plan) (object : ObjectModule) (pieces : List Piece) → placement_refusal plan object ≡ None
+    → pieces ≡ image_pieces plan object → are_runs pieces ≡ true
+image_runs plan object pieces h same =
+    ap are_runs same ∙ ((image_is plan object h).longest).runs
+
+pub image_in_memory :
+    (plan : Plan) (object : ObjectModule) (pieces : List Piece) → placement_refusal plan object ≡ None
+    → pieces ≡ image_pieces plan object → All EndsInMemory pieces
+image_in_memory plan object pieces h same =
+    let P : List Piece → Type 0 = λ these. All EndsInMemory these in
+    subst P (sym same)
+    (All-from_recursion EndsInMemory (image_pieces plan object)
+    (in_memory_by (image_pieces plan object) (image_is plan object h).ends))
+
+-- what has them is the module, placed
+pub is_placed :
+    (plan : Plan) (object : ObjectModule) (absolute : Absolute)
+    → placement_refusal plan object ≡ None → absolute.pieces ≡ image_pieces plan object
+    → absolute.start ≡ (placed plan object).start → absolute.symbols ≡ (placed plan object).symbols
+    → IsPlaced plan object absolute
+is_placed plan object absolute h same start symbols =
+    let P : List Piece → Type 0 = λ these. AreLongestRuns these (image_at plan object) in
+    record {
+      allowed = h;
+      pieces = subst P (sym same) (image_is plan object h).longest;
+      start = start;
+      symbols = symbols;
+    }

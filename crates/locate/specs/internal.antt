@@ -1,0 +1,5 @@
+pub mod Fixing
+pub mod Putting
+pub mod Views
+pub mod Images
+pub mod Refusing

@@ -1,0 +1,15 @@
+//! Object modules placed in memory by a plan.
+#![tactic(auto)]
+
+mod absolute;
+mod fault;
+mod placed;
+mod plan;
+mod putting;
+mod refusals;
+mod walk;
+
+pub use absolute::{Absolute, Symbol};
+pub use fault::LocateFault;
+pub use placed::locate;
+pub use plan::Plan;

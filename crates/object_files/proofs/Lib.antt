@@ -1,0 +1,12 @@
+pub mod FrontsAgain
+pub mod PartsAgain
+pub mod Judged
+pub mod FilesAgain
+pub mod Unique
+pub mod Walks
+pub mod AnyCount
+pub mod Bytes
+pub mod Accepted
+pub mod FixesOfContents
+pub mod Contents
+pub mod Valid

@@ -1,0 +1,11 @@
+pub mod Moves
+pub mod MovedValid
+pub mod MergeValid
+pub mod RunsJoined
+pub mod FixesOfPlaces
+pub mod RunsMoved
+pub mod PiecesJoined
+pub mod PlacesKept
+pub mod PiecesByRuns
+pub mod MergedParts
+pub mod HighBytes

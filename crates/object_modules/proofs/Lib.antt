@@ -1,0 +1,4 @@
+pub mod Fronts
+pub mod ReadBack
+pub mod StoredRuns
+pub mod ObjectLaws

@@ -1,0 +1,37 @@
+//! Public names of object modules.
+
+use crate::segment::Segment;
+use symbols::Name;
+
+/// A public name of a module: an offset of a segment, 0 to 65535, that other modules may refer to by the name
+/// (Public Declarations Record).
+#[derive(Clone, Copy, Debug, PartialEq, Eq)]
+pub struct OwnedPublic {
+    pub segment: Segment,
+    pub offset: u16,
+    pub name: Name,
+}
+
+/// A public name, whose characters stand elsewhere.
+#[derive(Clone, Copy, Debug, PartialEq, Eq)]
+pub struct PublicName<'a> {
+    pub segment: Segment,
+    pub offset: u16,
+    pub name: &'a [u8],
+}
+
+impl OwnedPublic {
+    ghost use Rattle.std.specs.Prelude.{◌≡◌};
+    ghost use Rattle.object_modules.specs.Views.{owned_public_view, public_view};
+
+    /// The same public name, with the characters that stand here.
+    pub fn borrowed(&self) -> PublicName<'_>
+        ensures { public_view result ≡ owned_public_view self.now }
+    {
+        PublicName {
+            segment: self.segment,
+            offset: self.offset,
+            name: self.name.as_slice(),
+        }
+    }
+}

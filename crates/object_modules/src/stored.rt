@@ -1,0 +1,143 @@
+//! Segments as they are kept: runs of bytes, and the places that depend on where something lies.
+
+ghost use Rattle.std.specs.Prelude.{◌≡◌, ◌++◌, OnErr, OnOk};
+
+use crate::segment::{Alignment, Fix};
+use std::alloc::AllocError;
+use std::marker::Model;
+
+/// Bytes that are set one after another, from an offset of their segment on.
+pub struct Run {
+    offset: u16,
+    bytes: Vec<u8>,
+}
+
+impl Model for Run {
+    ghost use Rattle.std.specs.Prelude.{ℕ};
+    ghost use Rattle.object_modules.specs.Text.{Run as Placed};
+
+    ghost Value = { Placed ℕ };
+
+    ghost view = { λ run. record { offset = run.offset; items = run.bytes.items } };
+}
+
+impl Run {
+    /// Bytes from an offset on.
+    pub fn new(offset: u16, bytes: Vec<u8>) -> Run
+        ensures { result ≡ record { offset = offset; items = bytes.items } }
+    {
+        Run { offset, bytes }
+    }
+
+    /// Where the first of its bytes is set.
+    pub fn offset(&self) -> u16
+        ensures { result ≡ self.now.offset }
+    {
+        self.offset
+    }
+
+    /// Its bytes.
+    pub fn bytes(&self) -> &[u8]
+        ensures { result.now ≡ self.now.items }
+    {
+        self.bytes.as_slice()
+    }
+
+    /// Adds bytes after its last one. Out of memory: nothing changes.
+    pub fn append(&mut self, bytes: &[u8]) -> Result<(), AllocError>
+        ensures offset { self.new.offset ≡ self.old.offset }
+        ensures ok { OnOk result (self.new.items ≡ self.old.items ++ bytes.now) }
+        ensures err { OnErr result (self.new.items ≡ self.old.items) }
+    {
+        self.bytes.extend_from_slice(bytes)
+    }
+}
+
+/// A segment: how many bytes it has, where it may begin, the bytes that are set, and the fixes of these.
+pub struct SegmentBytes {
+    size: u16,
+    alignment: Alignment,
+    runs: Vec<Run>,
+    fixes: Vec<Fix>,
+}
+
+impl Model for SegmentBytes {
+    ghost use Rattle.object_modules.specs.Stored.{StoredSegment};
+
+    ghost Value = { StoredSegment };
+
+    ghost view = { λ segment. record {
+      size = segment.size;
+      alignment = segment.alignment;
+      runs = segment.runs.items;
+      fixes = segment.fixes.items;
+    } };
+}
+
+impl SegmentBytes {
+    /// A segment of a size with these bytes and fixes.
+    pub fn new(size: u16, alignment: Alignment, runs: Vec<Run>, fixes: Vec<Fix>) -> SegmentBytes
+        ensures { result ≡ record {
+          size = size;
+          alignment = alignment;
+          runs = runs.items;
+          fixes = fixes.items;
+        } }
+    {
+        SegmentBytes {
+            size,
+            alignment,
+            runs,
+            fixes,
+        }
+    }
+
+    /// How many bytes it has.
+    pub fn size(&self) -> u16
+        ensures { result ≡ self.now.size }
+    {
+        self.size
+    }
+
+    /// Where it may begin.
+    pub fn alignment(&self) -> Alignment
+        ensures { result ≡ self.now.alignment }
+    {
+        self.alignment
+    }
+
+    /// The bytes that are set.
+    pub fn runs(&self) -> &[Run]
+        ensures { result.now ≡ self.now.runs }
+    {
+        self.runs.as_slice()
+    }
+
+    /// The places that depend on where something lies.
+    pub fn fixes(&self) -> &[Fix]
+        ensures { result.now ≡ self.now.fixes }
+    {
+        self.fixes.as_slice()
+    }
+}
+
+// Written out, so that what these hold is let go here, and each crate that lets one go calls this.
+impl Drop for Run {
+    fn drop(self) {
+        let Run {
+            offset: _,
+            bytes: _,
+        } = self;
+    }
+}
+
+impl Drop for SegmentBytes {
+    fn drop(self) {
+        let SegmentBytes {
+            size: _,
+            alignment: _,
+            runs: _,
+            fixes: _,
+        } = self;
+    }
+}

@@ -1,0 +1,15 @@
+pub mod Groups
+pub mod Counted
+pub mod Runs
+pub mod Cuts
+pub mod Fixes
+pub mod Laid
+pub mod Accepting
+pub mod NamesAccepted
+pub mod ContentsAccepted
+pub mod ContentsTold
+pub mod Headed
+pub mod SegmentWritten
+pub mod NamesWritten
+pub mod Written
+pub mod WrittenAgain

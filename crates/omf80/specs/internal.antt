@@ -1,0 +1,2 @@
+-- Worked records.
+pub mod Examples

@@ -1,0 +1,11 @@
+//! A record of a file.
+
+use crate::kind::RecordKind;
+
+/// A record of a file.
+#[derive(Clone, Copy, Debug)]
+pub struct Record<'a> {
+    pub kind: RecordKind,
+    /// The bytes between the length and the checksum, at most 1027.
+    pub body: &'a [u8],
+}

@@ -1,0 +1,113 @@
+//! Programs that are interpreted: over ports of which a read fails, and after memory was refused; and a program of no sources.
+
+use crate::events::print_events;
+use crate::faulty::FaultyPorts;
+use failure::Failure;
+use interpretation::read_program;
+use interpreter::{RunFault, SourceEnd, interpret};
+use mem80::Memory;
+use ports::{Ports, Script};
+use std::alloc::Global;
+use std::io::Write;
+use tool::{Built, Plan, Source, ToolFault, build};
+
+// How a source ends that is interpreted over these ports, or why it is no program.
+#[tactic(auto, using(interpretation::proofs::Programs::has_table, interpretation::proofs::Programs::has_sound_jumps))]
+fn interpreted<P: Ports>(
+    alloc: Global,
+    text: &[u8],
+    ports: &mut P,
+) -> Result<Result<SourceEnd, RunFault>, Failure<ToolFault>> {
+    let sources = [Source {
+        name: "a.plm",
+        text,
+    }];
+    let readied = read_program(alloc, sources.as_slice(), &Plan::usual())?;
+    let Ok(memory) = Memory::new(alloc) else {
+        return Err(Failure::Memory);
+    };
+    Ok(interpret(
+        alloc,
+        &readied.program,
+        &readied.placement,
+        1024,
+        memory,
+        ports,
+        100,
+    ))
+}
+
+// How it ends, in a word.
+fn word_of_end<P: Ports>(alloc: Global, text: &[u8], ports: &mut P) -> &'static str {
+    match interpreted(alloc, text, ports) {
+        Ok(Ok(SourceEnd::Ended)) => "ended",
+        Ok(Ok(_)) => "not ended",
+        Ok(Err(RunFault::Port)) => "a port failed",
+        Ok(Err(RunFault::Memory)) | Err(Failure::Memory) => "out of memory",
+        Err(Failure::Fault(_)) => "refused",
+    }
+}
+
+const READS_TWICE: &[u8] = b"M: DO; OUTPUT(5) = INPUT(1) - INPUT(1); END M;";
+
+// Prints how the program ends on ports of which a read may fail.
+fn print_faulty_run<W: Write>(
+    alloc: Global,
+    out: &mut W,
+    ports: &mut FaultyPorts,
+) -> anyhow::Result<()> {
+    let end = word_of_end(alloc, READS_TWICE, ports);
+    let failures = ports.failed;
+    writeln!(out, "{end}, failures: {failures}")?;
+    print_events(out, ports.script.events())
+}
+
+// A program on ports whose second read fails, and then once more from its beginning on.
+fn print_port_fault<W: Write>(alloc: Global, out: &mut W) -> anyhow::Result<()> {
+    let mut ports = FaultyPorts::with_two_inputs(alloc)?;
+    print_faulty_run(alloc, out, &mut ports)?;
+    print_faulty_run(alloc, out, &mut ports)
+}
+
+const CALLS: &[u8] =
+    b"M: DO; DECLARE A(2) BYTE INITIAL (1, 2), P ADDRESS, X BASED P BYTE; F: PROCEDURE (N) BYTE REENTRANT; DECLARE (N, V) BYTE; \
+V = N; IF N = 0 THEN RETURN 0; RETURN F(N - 1) + V; END F; P = .(7, 'AB'); OUTPUT(0) = X; OUTPUT(0) = F(3) + A(1); END M;";
+
+// Prints how the program ends, and its events.
+fn print_calls<W: Write>(alloc: Global, out: &mut W) -> anyhow::Result<()> {
+    let mut script = Script::new(alloc);
+    let end = word_of_end(alloc, CALLS, &mut script);
+    writeln!(out, "{end}")?;
+    print_events(out, script.events())
+}
+
+// The program twice: to be run with each allocation refused in turn, of which at most one is.
+fn print_second_run<W: Write>(alloc: Global, out: &mut W) -> anyhow::Result<()> {
+    print_calls(alloc, out)?;
+    print_calls(alloc, out)
+}
+
+// How a build ends, in a word.
+fn word_of_build(answer: &Result<Built, Failure<ToolFault>>) -> &'static str {
+    match answer {
+        Ok(_) => "built",
+        Err(Failure::Fault(fault)) => fault.number(),
+        Err(Failure::Memory) => "MEMORY",
+    }
+}
+
+// What is said of a program of no sources.
+fn print_no_sources<W: Write>(alloc: Global, out: &mut W) -> anyhow::Result<()> {
+    let plan = Plan::usual();
+    let answer = build(alloc, &[], &plan);
+    let word = word_of_build(&answer);
+    writeln!(out, "no sources: {word}")?;
+    Ok(())
+}
+
+/// Prints how these programs end.
+pub fn print_programs<W: Write>(alloc: Global, out: &mut W) -> anyhow::Result<()> {
+    print_port_fault(alloc, out)?;
+    print_second_run(alloc, out)?;
+    print_no_sources(alloc, out)
+}

@@ -1,0 +1,94 @@
+//! Carries out the command lines of standard input over files in memory, and prints those that answer otherwise than is said
+//! of them. A block begins with the words of a command line after `$ `. Then come its files, each a line `@ NAME` and the
+//! lines of its text, where a last line that ends in `\` has no line feed; then what is printed, a line after `> `, and as
+//! faults, a line after `! `; then how many calls of files failed, after `% `, where some did; then the exit status after
+//! `= `; and at last a line `====`. A line `* COUNT PIECE` of a text stands for so many pieces without an end, and `>* COUNT
+//! LINE` for so many lines of what is printed; `>?` and `!?` say only that something is printed. So no line of a text begins
+//! with `$ `, `@ `, `% `, `= `, `* `, `>` or `!`. Of the carriage returns that end a line the last one is no part of it.
+//! Then it prints what the machine, its parts and the interpreter do, as the manuals say it.
+//!
+//! What is said was written by hand from the rules of the language in `docs/language.md`, or computed from them by another
+//! program that shares nothing with this one.
+#![tactic(auto)]
+
+mod adjusting;
+mod block;
+mod codes;
+mod events;
+mod faulty;
+mod interpreting;
+mod memory_files;
+mod operations;
+mod runs;
+mod scripts;
+mod texts;
+
+use adjusting::print_adjusting;
+use anyhow::Result;
+use block::{Answer, Block};
+use codes::print_codes;
+use interpreting::print_programs;
+use operations::print_operations;
+use runs::print_runs;
+use scripts::print_scripts;
+use std::alloc::Global;
+use std::io::{Write, read_to_string};
+
+// The line after a block.
+const END_OF_BLOCK: &str = "====";
+
+// How many blocks there were, and how many of them had another answer.
+#[derive(Clone, Copy)]
+struct Counts {
+    blocks: u64,
+    differ: u64,
+}
+
+// Whether a command line has the answer that is said of it; where not, prints both.
+fn is_as_said(rt: &HostRuntime, block: &Block) -> Result<bool> {
+    let answer = Answer::of(rt.alloc(), block)?;
+    let is_as_said = answer.is_as_said(block);
+    if !is_as_said {
+        println!(rt; "line {}: {answer}", block.place())?;
+    }
+    Ok(is_as_said)
+}
+
+// Carries out the command lines of standard input.
+fn print_command_lines(rt: &HostRuntime) -> Result<()> {
+    let mut counts = Counts {
+        blocks: 0,
+        differ: 0,
+    };
+    let mut block = Block::new(rt.alloc());
+    let rows = read_to_string(rt.alloc(), rt.reader())?;
+    for (before, line) in rows.lines().enumerate() {
+        if line == END_OF_BLOCK {
+            counts.blocks = counts.blocks.saturating_add(1);
+            if !is_as_said(rt, &block)? {
+                counts.differ = counts.differ.saturating_add(1);
+            }
+            block = Block::new(rt.alloc());
+        } else {
+            block.read(rt.alloc(), before.saturating_add(1), line)?;
+        }
+    }
+    println!(rt; "{} command lines, {} differ", counts.blocks, counts.differ)?;
+    Ok(())
+}
+
+// Prints what the parts of the machine do, and the interpreter.
+fn print_parts<W: Write>(alloc: Global, out: &mut W) -> Result<()> {
+    print_codes(out)?;
+    print_operations(out)?;
+    print_runs(alloc, out)?;
+    print_scripts(alloc, out)?;
+    print_programs(alloc, out)?;
+    print_adjusting(alloc, out)
+}
+
+fn main(rt: HostRuntime) -> Result<()> {
+    print_command_lines(&rt)?;
+    let mut out = rt.stdout();
+    print_parts(rt.alloc(), &mut out)
+}
