@@ -1,0 +1,3 @@
+pub mod NewNames
+pub mod FixMarks
+pub mod FixReferences

@@ -20,6 +20,19 @@ pub(crate) struct Extents {
     pub(crate) stack_length: u16,
 }
 
+/// Where no header is.
+pub(crate) fn nothing_said() -> Extents
+    ensures { result ≡ nothing_said }
+{
+    Extents {
+        code_length: 0,
+        code_alignment: Alignment::Byte,
+        data_length: 0,
+        data_alignment: Alignment::Byte,
+        stack_length: 0,
+    }
+}
+
 // The number of a segment.
 fn number_of(segment: Segment) -> u8
     ensures { result ≡ segment_number segment }
@@ -86,13 +99,7 @@ fn extents_with(segment: Segment, length: u16, alignment: u8, extents: Extents) 
 pub(crate) fn extents_of(entries: &[u8]) -> Result<Extents, Fault>
     ensures { result ≡ extents_in 0 nothing_said true entries.now }
 {
-    let mut extents = Extents {
-        code_length: 0,
-        code_alignment: Alignment::Byte,
-        data_length: 0,
-        data_alignment: Alignment::Byte,
-        stack_length: 0,
-    };
+    let mut extents = nothing_said();
     let mut number = 0;
     let mut served = true;
     let mut rest = entries;

@@ -1,7 +1,6 @@
 //! Entries of fix records are judged by the names and the segments that they refer to.
 
-ghost use Rattle.std.specs.Prelude.{◌≡◌, not, ◌&&◌};
-ghost use Rattle.object_modules.specs.Before.{same_segment};
+ghost use Rattle.std.specs.Prelude.{◌≡◌};
 ghost use Rattle.object_judgement.specs.internal.References.{is_known, entries_fit, target_fits};
 
 use object_entries::fix_in_front;

@@ -1,9 +1,10 @@
 //! What the judgement of a file knows of the records that it has passed.
 
-ghost use Rattle.std.specs.Prelude.{◌≡◌, ◌≤◌, [], true, Ok, Err, Some, length, is_some, OnOk, IfOk, IfErr, option_map};
+ghost use Rattle.std.specs.Prelude.{◌≡◌, ◌≤◌, Ok, Err, length, OnOk};
 ghost use Rattle.failure.specs.Failure.{IfFault};
-ghost use Rattle.object_modules.specs.Before.{content_end};
-ghost use Rattle.object_judgement.specs.internal.States.{State as StateValue, beginning, state_view, extent_of, end_of, fits, with_content, header_taken, externals_taken, publics_taken, content_taken, fixes_taken, start_stated, end_taken, last_taken, body_taken, record_taken};
+ghost use Rattle.object_entries.specs.Views.{content_view};
+ghost use Rattle.object_judgement.specs.internal.Order.{is_over};
+ghost use Rattle.object_judgement.specs.internal.States.{beginning, state_view, extent_of, end_of, fits, with_content, header_taken, externals_taken, publics_taken, content_taken, fixes_taken, start_stated, end_taken, body_taken, record_taken, Tells};
 
 use crate::extents::{Extents, extents_of, nothing_said};
 use crate::header::Header;
@@ -134,7 +135,7 @@ impl<'a> State<'a> {
         let [number, entries @ ..] = body else {
             return Err(Failure::Fault(Fault::WrongBody));
         };
-        let (Some(Segment::Absolute | Segment::Code | Segment::Data)) = segment_of(*number) else {
+        let Some(Segment::Absolute | Segment::Code | Segment::Data) = segment_of(*number) else {
             return Err(Failure::Fault(Fault::WrongBody));
         };
         if entries.is_empty() {
@@ -270,14 +271,14 @@ impl<'a> State<'a> {
 
     /// Whether the latest record ends the file.
     pub(crate) fn is_ended(&self) -> bool
-        ensures { result ≡ is_over (state_view self.now) }
+        ensures { result ≡ is_over self.now.latest }
     {
         matches!(self.latest, Some(RecordKind::EndOfFile))
     }
 
     /// What the file tells of itself.
     pub(crate) fn header(&self) -> Header<'a>
-        ensures { header_view result ≡ header_of (state_view self.now) }
+        ensures { Tells result (state_view self.now) }
     {
         Header {
             name: self.name,
