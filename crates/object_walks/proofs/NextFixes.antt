@@ -1,0 +1,279 @@
+-- The next fix record after a content, and the next fix of it.
+use Rattle.std.proofs.Common.{◌≡◌, ℕ, ◌+◌, ◌*◌, ◌<◌, Bool, true, false, List, [], ◌∷◌, ◌++◌, length, drop, flat_map, take_while, cond, map, slice_index, Option, Some, None, IsTrue, is_some, IfNone, option_map, option_and_then, unwrap_or, refl, ap, sym, subst, ◌∙◌, arith}
+use Rattle.std.proofs.lemmas.List.Sums.{take_while-cons}
+use Rattle.std.proofs.lemmas.Option.{none-some, some_pair_parts}
+use Rattle.omf80.specs.Records.{word_bytes, kind_of_type, record_end, record_fault, first_body}
+use Rattle.omf80.specs.declared.fault.Fault.{Fault as RecordFault}
+use Rattle.omf80.specs.declared.kind.RecordKind.{RecordKind}
+use Rattle.object_modules.specs.declared.segment.Fix.{Fix}
+use Rattle.object_modules.specs.declared.segment.FixKind.{FixKind}
+use Rattle.object_modules.specs.declared.segment.Segment.{Segment}
+use Rattle.object_modules.specs.declared.segment.Segment.TheVariants.{Absolute}
+use Rattle.object_modules.specs.Before.{is_fix_record, fixes_of, leading_fixes}
+use Rattle.object_modules.specs.Parts.{Reference, Part, HeaderPart, ExternalNamesPart, PublicsPart, ContentPart, ExternalReferencesPart, RelocationPart, IntersegmentPart, ModuleEndPart, EndOfFilePart, kind_of_part, body_of, reference_bytes, segment_number, fix_kind_number}
+use Rattle.object_modules.specs.Reading.{segment_of, fix_kind_of, references_in, words_in}
+use Rattle.object_modules.specs.Walking.{parts_from}
+use Rattle.object_files.proofs.FrontsAgain.{segment_again, fix_kind_again, references_again, words_again}
+use Rattle.object_walks.specs.internal.Cursors.{fixes_in}
+use Rattle.object_walks.specs.internal.Entries.{AreParts}
+use Rattle.object_walks.specs.internal.Fixes.{AreFixEntries, external_fix, segment_fix, fix_in_front, FixHead, fix_head, fix_where, fixes_after, AreHeadEntries}
+use Rattle.object_walks.proofs.NextParts.{NextPart, next_part, nothing_left, nothing_from, same_kind}
+
+-- the fix that entries begin with is handed out
+pub record NextFix (target : Option Segment) (kind : FixKind) (entries : List ℕ) (fix : Fix) (after : List ℕ) : Type 0 where
+  pub left : fixes_in target kind entries ≡ fix ∷ fixes_in target kind after
+  pub are : AreFixEntries target after
+
+reference_first :
+    (kind : FixKind) (low high offset_low offset_high : ℕ) (rest : List ℕ) (others : Option (List Reference))
+    → references_in rest ≡ others
+    → IsTrue (is_some (option_map (λ (later : List Reference). record { external = low + 256 * high; offset = offset_low + 256 * offset_high } ∷ later) others))
+    → NextFix None kind (low ∷ high ∷ offset_low ∷ offset_high ∷ rest)
+    (external_fix kind (low + 256 * high) (offset_low + 256 * offset_high)) rest
+reference_first kind low high offset_low offset_high rest None e are = absurd (let bad : false ≡ true = are in cc)
+reference_first kind low high offset_low offset_high rest (Some others) e are =
+    let first : Reference = record { external = low + 256 * high; offset = offset_low + 256 * offset_high } in
+    record {
+      left =
+          ap (λ o. fixes_of Absolute (ExternalReferencesPart kind
+          (unwrap_or (option_map (λ (later : List Reference). first ∷ later) o) []))) e
+          ∙ ap (λ o.
+          external_fix kind (low + 256 * high) (offset_low + 256 * offset_high)
+          ∷ fixes_of Absolute (ExternalReferencesPart kind (unwrap_or o []))) (sym e);
+      are = ap is_some e;
+    }
+
+word_first :
+    (target : Segment) (kind : FixKind) (low high : ℕ) (rest : List ℕ) (others : Option (List ℕ))
+    → words_in rest ≡ others
+    → IsTrue (is_some (option_map (λ (later : List ℕ). (low + 256 * high) ∷ later) others))
+    → NextFix (Some target) kind (low ∷ high ∷ rest)
+    (segment_fix kind target (low + 256 * high)) rest
+word_first target kind low high rest None e are = absurd (let bad : false ≡ true = are in cc)
+word_first target kind low high rest (Some others) e are = record {
+  left =
+      ap (λ o. fixes_of target (RelocationPart kind
+      (unwrap_or (option_map (λ (later : List ℕ). (low + 256 * high) ∷ later) o) []))) e
+      ∙ ap (λ o.
+      segment_fix kind target (low + 256 * high)
+      ∷ fixes_of target (RelocationPart kind (unwrap_or o []))) (sym e);
+  are = ap is_some e;
+}
+
+fix_first :
+    (target : Option Segment) (kind : FixKind) (entries : List ℕ) (fix found : Fix) (after rest : List ℕ)
+    → NextFix target kind entries found rest → ◌≡◌ {A = Option (Fix × List ℕ)} (Some (found, rest)) (Some (fix, after))
+    → NextFix target kind entries fix after
+fix_first target kind entries fix found after rest n e =
+    let p : (found ≡ fix) × (rest ≡ after) = some_pair_parts found fix rest after e in
+    subst (λ f. NextFix target kind entries f after) p.0 (subst (NextFix target kind entries found) p.1 n)
+
+pub next_fix_is :
+    (target : Option Segment) (kind : FixKind) (entries : List ℕ) (fix : Fix) (after : List ℕ)
+    → AreFixEntries target entries → fix_in_front target kind entries ≡ Some (fix, after)
+    → NextFix target kind entries fix after
+next_fix_is None kind [] fix after are e = absurd (none-some (fix, after) e)
+next_fix_is None kind (a ∷ []) fix after are e = absurd (none-some (fix, after) e)
+next_fix_is None kind (a ∷ b ∷ []) fix after are e = absurd (none-some (fix, after) e)
+next_fix_is None kind (a ∷ b ∷ c ∷ []) fix after are e = absurd (none-some (fix, after) e)
+next_fix_is None kind (low ∷ high ∷ offset_low ∷ offset_high ∷ rest) fix after are e =
+    fix_first None kind (low ∷ high ∷ offset_low ∷ offset_high ∷ rest) fix
+    (external_fix kind (low + 256 * high) (offset_low + 256 * offset_high)) after rest
+    (reference_first kind low high offset_low offset_high rest (references_in rest) refl are) e
+next_fix_is (Some target) kind [] fix after are e = absurd (none-some (fix, after) e)
+next_fix_is (Some target) kind (a ∷ []) fix after are e = absurd (none-some (fix, after) e)
+next_fix_is (Some target) kind (low ∷ high ∷ rest) fix after are e =
+    fix_first (Some target) kind (low ∷ high ∷ rest) fix
+    (segment_fix kind target (low + 256 * high)) after rest
+    (word_first target kind low high rest (words_in rest) refl are) e
+
+pub no_fix :
+    (target : Option Segment) (kind : FixKind) (entries : List ℕ) → AreFixEntries target entries
+    → fix_in_front target kind entries ≡ None → entries ≡ []
+no_fix None kind [] are e = refl
+no_fix None kind (a ∷ []) are e = absurd (let bad : false ≡ true = are in cc)
+no_fix None kind (a ∷ b ∷ []) are e = absurd (let bad : false ≡ true = are in cc)
+no_fix None kind (a ∷ b ∷ c ∷ []) are e = absurd (let bad : false ≡ true = are in cc)
+no_fix None kind (low ∷ high ∷ offset_low ∷ offset_high ∷ rest) are e =
+    absurd (none-some (external_fix kind (low + 256 * high) (offset_low + 256 * offset_high), rest) (sym e))
+no_fix (Some target) kind [] are e = refl
+no_fix (Some target) kind (a ∷ []) are e = absurd (let bad : false ≡ true = are in cc)
+no_fix (Some target) kind (low ∷ high ∷ rest) are e =
+    absurd (none-some (segment_fix kind target (low + 256 * high), rest) (sym e))
+
+-- a record is passed: the fixes that it lists are those to be handed out, or no fix follows
+pub record FixesPassed (own : Segment) (rest : List ℕ) (kind : RecordKind) : Type 0 where
+  pub left :
+      leading_fixes own (parts_from rest)
+      ≡ fixes_after own (fix_where own kind (first_body rest)) (drop (record_end rest) rest)
+  pub entries : AreHeadEntries (fix_where own kind (first_body rest))
+  pub after : AreParts (drop (record_end rest) rest)
+
+-- the same, by the head of the record
+record HeadIs (own : Segment) (rest : List ℕ) (part : Part) (head : Option FixHead) : Type 0 where
+  left : leading_fixes own (part ∷ parts_from (drop (record_end rest) rest)) ≡ fixes_after own head (drop (record_end rest) rest)
+  entries : AreHeadEntries head
+
+-- the fixes of a fix record come first
+leading_step :
+    (own : Segment) (part : Part) (later : List Part) → is_fix_record (kind_of_part part) ≡ true
+    → leading_fixes own (part ∷ later) ≡ fixes_of own part ++ leading_fixes own later
+leading_step own part later is =
+    ap (flat_map (fixes_of own)) (take_while-cons (λ p. is_fix_record (kind_of_part p)) part later)
+    ∙ ap (λ b. flat_map (fixes_of own) (cond b (part ∷ take_while (λ p. is_fix_record (kind_of_part p)) later) [])) is
+
+head_of :
+    (own : Segment) (rest : List ℕ) (part : Part)
+    → (head : Option FixHead) × (fix_where own (kind_of_part part) (body_of part) ≡ head) × HeadIs own rest part head
+head_of own rest (HeaderPart name translator version entries) = (None, refl, record { left = refl; entries = tt })
+head_of own rest (ExternalNamesPart names) = (None, refl, record { left = refl; entries = tt })
+head_of own rest (PublicsPart segment definitions) = (None, refl, record { left = refl; entries = tt })
+head_of own rest (ContentPart content) = (None, refl, record { left = refl; entries = tt })
+head_of own rest (ExternalReferencesPart kind references) =
+    let bytes : List ℕ = flat_map reference_bytes references in (
+      Some (fix_head None bytes kind),
+      ap (option_map (fix_head None bytes)) (fix_kind_again kind),
+      record {
+        left =
+            leading_step own (ExternalReferencesPart kind references) (parts_from (drop (record_end rest) rest)) refl
+            ∙ ap (λ o.
+            fixes_of Absolute (ExternalReferencesPart kind (unwrap_or o []))
+            ++ leading_fixes own (parts_from (drop (record_end rest) rest)))
+            (sym (references_again references));
+        entries = ap is_some (references_again references);
+      },
+    )
+head_of own rest (RelocationPart kind offsets) =
+    let bytes : List ℕ = flat_map word_bytes offsets in (
+      Some (fix_head (Some own) bytes kind),
+      ap (option_map (fix_head (Some own) bytes)) (fix_kind_again kind),
+      record {
+        left =
+            leading_step own (RelocationPart kind offsets) (parts_from (drop (record_end rest) rest)) refl
+            ∙ ap (λ o.
+            fixes_of own (RelocationPart kind (unwrap_or o []))
+            ++ leading_fixes own (parts_from (drop (record_end rest) rest)))
+            (sym (words_again offsets));
+        entries = ap is_some (words_again offsets);
+      },
+    )
+head_of own rest (IntersegmentPart target kind offsets) =
+    let bytes : List ℕ = flat_map word_bytes offsets in (
+      Some (fix_head (Some target) bytes kind),
+      ap (option_and_then
+          (λ (s : Segment). option_map (fix_head (Some s) bytes) (fix_kind_of (fix_kind_number kind))))
+          (segment_again target)
+          ∙ ap (option_map (fix_head (Some target) bytes)) (fix_kind_again kind),
+      record {
+        left =
+            leading_step own (IntersegmentPart target kind offsets) (parts_from (drop (record_end rest) rest)) refl
+            ∙ ap (λ o.
+            fixes_of target (RelocationPart kind (unwrap_or o []))
+            ++ leading_fixes own (parts_from (drop (record_end rest) rest)))
+            (sym (words_again offsets));
+        entries = ap is_some (words_again offsets);
+      },
+    )
+head_of own rest (ModuleEndPart start) = (None, refl, record { left = refl; entries = tt })
+head_of own rest EndOfFilePart = (None, refl, record { left = refl; entries = tt })
+
+pub fixes_passed :
+    (own : Segment) (rest : List ℕ) (kind : RecordKind) → AreParts rest → record_fault rest ≡ None
+    → kind_of_type (slice_index rest 0) ≡ Some kind → FixesPassed own rest kind
+fixes_passed own rest kind are none known =
+    let n = next_part rest are none in
+    let same : kind_of_part n.0 ≡ kind = same_kind (kind_of_part n.0) kind (sym (n.1).of_type ∙ known) in
+    let h = head_of own rest n.0 in
+    let head : fix_where own (kind_of_part n.0) (first_body rest) ≡ h.0 =
+    ap (fix_where own (kind_of_part n.0)) (n.1).body_is ∙ h.1 in
+    subst (FixesPassed own rest) same
+    (record {
+      left =
+          ap (leading_fixes own) (n.1).parts_are ∙ (h.2).left
+          ∙ ap (λ o. fixes_after own o (drop (record_end rest) rest)) (sym head);
+      entries = subst AreHeadEntries (sym head) (h.2).entries;
+      after = (n.1).after;
+    })
+
+-- no record is left, so no fix follows
+pub no_fixes_left :
+    (own : Segment) (rest : List ℕ) (fault : RecordFault) → AreParts rest → record_fault rest ≡ Some fault
+    → leading_fixes own (parts_from rest) ≡ []
+no_fixes_left own rest fault are some = ap (leading_fixes own) (nothing_left rest fault are some)
+
+-- the same facts one by one, as the code has them
+pub fixes_follow :
+    (own : Segment) (target : Option Segment) (kind : FixKind) (rest body entries after : List ℕ) (of : RecordKind)
+    → AreParts rest → record_fault rest ≡ None → kind_of_type (slice_index rest 0) ≡ Some of → body ≡ first_body rest
+    → ◌≡◌ {A = Option FixHead} (Some (target, kind, entries)) (fix_where own of body)
+    → after ≡ drop (record_end rest) rest
+    → leading_fixes own (parts_from rest) ≡ fixes_in target kind entries ++ leading_fixes own (parts_from after)
+fixes_follow own target kind rest body entries after of are none known b e f =
+    (fixes_passed own rest of are none known).left
+    ∙ ap (λ h. fixes_after own h (drop (record_end rest) rest)) (sym (e ∙ ap (fix_where own of) b))
+    ∙ ap (λ l. fixes_in target kind entries ++ leading_fixes own (parts_from l)) (sym f)
+
+pub fix_entries :
+    (own : Segment) (target : Option Segment) (kind : FixKind) (rest body entries : List ℕ) (of : RecordKind)
+    → AreParts rest → record_fault rest ≡ None → kind_of_type (slice_index rest 0) ≡ Some of → body ≡ first_body rest
+    → ◌≡◌ {A = Option FixHead} (Some (target, kind, entries)) (fix_where own of body)
+    → AreFixEntries target entries
+fix_entries own target kind rest body entries of are none known b e =
+    subst AreHeadEntries (sym (e ∙ ap (fix_where own of) b)) (fixes_passed own rest of are none known).entries
+
+pub no_fixes_follow :
+    (own : Segment) (rest body : List ℕ) (of : RecordKind) → AreParts rest → record_fault rest ≡ None
+    → kind_of_type (slice_index rest 0) ≡ Some of → body ≡ first_body rest
+    → None ≡ fix_where own of body → leading_fixes own (parts_from rest) ≡ []
+no_fixes_follow own rest body of are none known b e =
+    (fixes_passed own rest of are none known).left
+    ∙ ap (λ h. fixes_after own h (drop (record_end rest) rest)) (sym (e ∙ ap (fix_where own of) b))
+
+pub nothing_follows : (own : Segment) (rest : List ℕ) → rest ≡ [] → leading_fixes own (parts_from rest) ≡ []
+nothing_follows own rest e = ap (λ b. leading_fixes own (parts_from b)) e ∙ ap (leading_fixes own) nothing_from
+
+pub fixes_then :
+    (target : Option Segment) (kind : FixKind) (entries : List ℕ) (fix : Fix) (after : List ℕ)
+    → AreFixEntries target entries → fix_in_front target kind entries ≡ Some (fix, after)
+    → fixes_in target kind entries ≡ fix ∷ fixes_in target kind after
+fixes_then target kind entries fix after are e = (next_fix_is target kind entries fix after are e).left
+
+pub entries_then :
+    (target : Option Segment) (kind : FixKind) (entries : List ℕ) (fix : Fix) (after : List ℕ)
+    → AreFixEntries target entries → fix_in_front target kind entries ≡ Some (fix, after) → AreFixEntries target after
+entries_then target kind entries fix after are e = (next_fix_is target kind entries fix after are e).are
+
+same_length : (kind : FixKind) (a b : List ℕ) (found fix : Fix)
+    → ◌≡◌ {A = Option (Fix × List ℕ)} (Some (found, a)) (Some (fix, b)) → length a ≡ length b
+same_length kind a b found fix e = ap length (some_pair_parts found fix a b e).1
+
+pub fewer_then :
+    (target : Option Segment) (kind : FixKind) (entries : List ℕ) (fix : Fix) (after : List ℕ)
+    → fix_in_front target kind entries ≡ Some (fix, after) → length after < length entries
+fewer_then None kind [] fix after e = absurd (none-some (fix, after) e)
+fewer_then None kind (a ∷ []) fix after e = absurd (none-some (fix, after) e)
+fewer_then None kind (a ∷ b ∷ []) fix after e = absurd (none-some (fix, after) e)
+fewer_then None kind (a ∷ b ∷ c ∷ []) fix after e = absurd (none-some (fix, after) e)
+fewer_then None kind (low ∷ high ∷ offset_low ∷ offset_high ∷ rest) fix after e =
+    let same : length rest ≡ length after = same_length kind rest after
+    (external_fix kind (low + 256 * high) (offset_low + 256 * offset_high)) fix e in
+    omega (arith, same)
+fewer_then (Some target) kind [] fix after e = absurd (none-some (fix, after) e)
+fewer_then (Some target) kind (a ∷ []) fix after e = absurd (none-some (fix, after) e)
+fewer_then (Some target) kind (low ∷ high ∷ rest) fix after e =
+    let same : length rest ≡ length after = same_length kind rest after
+    (segment_fix kind target (low + 256 * high)) fix e in
+    omega (arith, same)
+
+-- a fix is handed out, or none is left
+pub fix_handed :
+    (own : Segment) (target : Option Segment) (kind : FixKind) (entries : List ℕ) (fix : Fix) (after rest : List ℕ)
+    → AreFixEntries target entries → fix_in_front target kind entries ≡ Some (fix, after)
+    → fixes_in target kind entries ++ leading_fixes own (parts_from rest)
+    ≡ fix ∷ (fixes_in target kind after ++ leading_fixes own (parts_from rest))
+fix_handed own target kind entries fix after rest are e =
+    ap (λ l. l ++ leading_fixes own (parts_from rest)) (fixes_then target kind entries fix after are e)
+
+pub on_none : {A : Type 0} (o : Option A) (P : Type 0) → P → IfNone o P
+on_none None P p = p
+on_none (Some x) P p = tt

@@ -1,0 +1,3 @@
+pub use Rattle.object_modules.specs.Walking
+pub mod Views
+pub mod internal

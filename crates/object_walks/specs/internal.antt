@@ -1,0 +1,4 @@
+-- What proofs of walks speak of.
+pub mod Entries
+pub mod Cursors
+pub mod Fixes
