@@ -17,7 +17,7 @@ use Rattle.object_modules.specs.Spelling.{fixed_contents, publics_of}
 use Rattle.object_modules.specs.Walking.{parts_from, entries_left, externals_left, publics_left, contents_left}
 use Rattle.object_files.proofs.FrontsAgain.{ReadsAgain, all_again, listed_name_again, definition_again, segment_again, word_of}
 use Rattle.object_files.proofs.Walks.{part_first}
-use Rattle.object_walks.specs.internal.Entries.{AreParts, AreEntries, body_where, publics_where, content_where, content_at, definition_at, contents_after, is_external_names, is_publics, is_content}
+use Rattle.object_entries.specs.Entries.{AreParts, AreEntries, body_where, publics_where, content_where, content_at, definition_at, contents_after, is_external_names, is_publics, is_content}
 
 -- what is known of the record that parts begin with
 pub record NextPart (rest : List ℕ) (part : Part) : Type 0 where
@@ -103,7 +103,8 @@ pub record ExternalsPassed (rest : List ℕ) (kind : RecordKind) : Type 0 where
   pub entries : AreEntries listed_name_bytes (body_where (is_external_names kind) (first_body rest))
   pub after : AreParts (drop (record_end rest) rest)
 
-no_names : AreEntries listed_name_bytes []
+-- no entries
+pub no_names : AreEntries listed_name_bytes []
 no_names = record { items = []; spelled = refl }
 
 externals_by :
@@ -148,7 +149,8 @@ pub record PublicsPassed (segment : Segment) (rest : List ℕ) (kind : RecordKin
   pub entries : AreEntries definition_bytes (publics_where (is_publics kind) (first_body rest)).1
   pub after : AreParts (drop (record_end rest) rest)
 
-no_definitions : AreEntries definition_bytes []
+-- no entries
+pub no_definitions : AreEntries definition_bytes []
 no_definitions = record { items = []; spelled = refl }
 
 publics_by :
@@ -229,11 +231,6 @@ content_passed rest kind are none known =
 pub nothing_from : parts_from [] ≡ []
 unfolding parts_from
 nothing_from = refl
-
--- no record is left
-pub nothing_left :
-    (rest : List ℕ) (fault : RecordFault) → AreParts rest → record_fault rest ≡ Some fault → parts_from rest ≡ []
-nothing_left rest fault are some = ap parts_from (no_part rest fault are some) ∙ nothing_from
 
 -- the same facts one by one, as the code has them
 pub parts_after :

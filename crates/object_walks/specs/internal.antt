@@ -1,4 +1,2 @@
 -- What proofs of walks speak of.
-pub mod Entries
 pub mod Cursors
-pub mod Fixes

@@ -1,97 +1,22 @@
 //! Where a walk stands in a file.
 
-ghost use Rattle.std.specs.Prelude.{◌≡◌, ℕ, ◌+◌, ◌*◌, ◌<◌, [], None, Some, length, drop, slice_index, IfSome, IfNone};
+ghost use Rattle.std.specs.Prelude.{◌≡◌, ◌<◌, [], None, Some, length, drop, slice_index, IfSome, IfNone};
 ghost use Rattle.std.specs.Option.{option_map};
 ghost use Rattle.omf80.specs.Records.{kind_of_type, record_fault, first_body, record_end};
 ghost use Rattle.object_modules.specs.Parts.{listed_name_bytes, definition_bytes};
-ghost use Rattle.object_modules.specs.Reading.{name_in_front, listed_name_in_front, definition_in_front, segment_of};
 ghost use Rattle.object_modules.specs.Walking.{externals_left, publics_left, contents_left};
-ghost use Rattle.object_walks.specs.internal.Entries.{AreParts, AreEntries, body_where, publics_where, content_where, contents_after, definition_at, is_external_names, is_publics, is_content};
-ghost use Rattle.object_walks.specs.Views.{content_view};
+ghost use Rattle.object_entries.specs.Entries.{AreParts, AreEntries, body_where, publics_where, contents_after, is_external_names, is_publics};
+ghost use Rattle.object_entries.specs.Views.{content_view};
 
-use crate::content::Content;
-use byteorder::{ByteOrder, LittleEndian};
-use object_modules::{FixKind, Segment};
+use object_entries::{Content, content_of, segment_of};
+use object_modules::Segment;
 use omf80::{Record, RecordKind, Records};
 
 /// Entries of a record that were not handed out, and the bytes after the record.
-#[derive(Clone, Copy, Debug)]
+#[derive(Clone, Copy)]
 pub(crate) struct Cursor<'a> {
     pub(crate) entries: &'a [u8],
     pub(crate) rest: &'a [u8],
-}
-
-/// Fixes of a content that were not handed out: entries of a fix record, and the bytes after the record. The target
-/// is a segment, or without one each entry names an external name.
-#[derive(Clone, Copy, Debug)]
-pub(crate) struct FixCursor<'a> {
-    pub(crate) own: Segment,
-    pub(crate) target: Option<Segment>,
-    pub(crate) kind: FixKind,
-    pub(crate) entries: &'a [u8],
-    pub(crate) rest: &'a [u8],
-}
-
-/// The number of two bytes, the low one first.
-pub(crate) fn word(low: u8, high: u8) -> u16
-    ensures { result ≡ low + 256 * high }
-{
-    LittleEndian::read_u16(&[low, high])
-}
-
-/// The segment with a number.
-pub(crate) fn segment_of(number: u8) -> Option<Segment>
-    ensures { result ≡ segment_of number }
-{
-    match number {
-        0 => Some(Segment::Absolute),
-        1 => Some(Segment::Code),
-        2 => Some(Segment::Data),
-        3 => Some(Segment::Stack),
-        _ => None,
-    }
-}
-
-/// A length and so many bytes, and the bytes after those.
-pub(crate) fn name_in_front(bytes: &[u8]) -> Option<(&[u8], &[u8])>
-    ensures { option_map (λ named. (named.0.now, named.1.now)) result ≡ name_in_front bytes.now }
-{
-    let [size, rest @ ..] = bytes else {
-        return None;
-    };
-    let size = *size as usize;
-    if size <= rest.len() {
-        Some((&rest[..size], &rest[size..]))
-    } else {
-        None
-    }
-}
-
-/// A name that a byte of 0 ends, and the bytes after that.
-pub(crate) fn listed_name_in_front(bytes: &[u8]) -> Option<(&[u8], &[u8])>
-    ensures { option_map (λ named. (named.0.now, named.1.now)) result ≡ listed_name_in_front bytes.now }
-{
-    let (name, rest) = name_in_front(bytes)?;
-    let [last, after @ ..] = rest else {
-        return None;
-    };
-    if *last == 0 {
-        Some((name, after))
-    } else {
-        None
-    }
-}
-
-/// An offset and a name that a byte of 0 ends, and the bytes after that.
-pub(crate) fn definition_in_front(bytes: &[u8]) -> Option<(u16, &[u8], &[u8])>
-    ensures { option_map (λ placed. (definition_at placed.0 placed.1.now, placed.2.now)) result
-        ≡ definition_in_front bytes.now }
-{
-    let [low, high, rest @ ..] = bytes else {
-        return None;
-    };
-    let (name, after) = listed_name_in_front(rest)?;
-    Some((word(*low, *high), name, after))
 }
 
 /// The record that parts of a file begin with, and the bytes after it.
@@ -166,7 +91,7 @@ pub(crate) fn names_from<'a>(entries: &'a [u8], rest: &'a [u8]) -> Cursor<'a>
 }
 
 /// Public names of a segment that were not handed out: entries of a record, and the bytes after the record.
-#[derive(Clone, Copy, Debug)]
+#[derive(Clone, Copy)]
 pub(crate) struct PublicCursor<'a> {
     pub(crate) segment: Segment,
     pub(crate) entries: &'a [u8],
@@ -249,27 +174,6 @@ pub(crate) fn publics_from<'a>(
         segment,
         entries,
         rest,
-    }
-}
-
-// The content that a record is.
-fn content_of<'a>(read: &Record<'a>) -> Option<Content<'a>>
-    ensures { option_map content_view result ≡ content_where (is_content read.now.kind) read.now.body.now }
-{
-    match read.kind {
-        RecordKind::Content => {
-            let [number, low, high, bytes @ ..] = read.body else {
-                return None;
-            };
-            let segment = segment_of(*number)?;
-            let offset = word(*low, *high);
-            Some(Content {
-                segment,
-                offset,
-                bytes,
-            })
-        }
-        _ => None,
     }
 }
 

@@ -2,16 +2,15 @@
 
 ghost use Rattle.std.specs.Prelude.{◌≡◌};
 ghost use Rattle.std.specs.Option.{option_map};
-ghost use Rattle.object_modules.specs.Walking.{HandsOut, HandsOutContent, length_by, alignment_by};
+ghost use Rattle.object_modules.specs.Walking.{WalksOver, HandsOut, HandsOutContent, length_by, alignment_by};
 ghost use Rattle.object_modules.specs.Views.{public_view};
-ghost use Rattle.object_walks.specs.Views.{content_view};
+ghost use Rattle.object_entries.specs.Views.{content_view};
+ghost use Rattle.object_judgement.specs.Judging.{IsJudged};
 
-use crate::content::Content;
-use crate::cursor::{
-    Cursor, FixCursor, PublicCursor, content_from, definition_in_front, listed_name_in_front,
-    names_from, publics_from,
-};
-use crate::cursor_fixes::{fix_in_front, fixes_from};
+use crate::cursor::{Cursor, PublicCursor, content_from, names_from, publics_from};
+use crate::cursor_fixes::{FixCursor, fixes_from};
+use object_entries::{Content, definition_in_front, fix_in_front, listed_name_in_front};
+use object_judgement::Header;
 use object_modules::{Alignment, Fix, FixKind, PublicName, Segment};
 use std::marker::Model;
 
@@ -36,8 +35,8 @@ impl<'a> Model for Walk<'a> {
     ghost use Rattle.object_modules.specs.Walking.{Walking, externals_left, publics_left, contents_left};
     ghost use Rattle.object_modules.specs.Parts.{listed_name_bytes, definition_bytes};
     ghost use Rattle.object_walks.specs.internal.Cursors.{fixes_left};
-    ghost use Rattle.object_walks.specs.internal.Entries.{AreParts, AreEntries};
-    ghost use Rattle.object_walks.specs.internal.Fixes.{AreFixEntries};
+    ghost use Rattle.object_entries.specs.Entries.{AreParts, AreEntries};
+    ghost use Rattle.object_entries.specs.Fixes.{AreFixEntries};
 
     ghost Value = { Walking };
 
@@ -67,6 +66,39 @@ impl<'a> Model for Walk<'a> {
 }
 
 impl<'a> Walk<'a> {
+    // A walk from the front of a file that was judged.
+    pub(crate) fn at_front(bytes: &'a [u8], header: &Header<'a>) -> Walk<'a>
+        requires { IsJudged bytes.now header.now }
+        ensures { WalksOver bytes.now result }
+    {
+        Walk {
+            name: header.name,
+            code_length: header.code_length,
+            code_alignment: header.code_alignment,
+            data_length: header.data_length,
+            data_alignment: header.data_alignment,
+            stack_length: header.stack_length,
+            start: header.start,
+            externals: Cursor {
+                entries: &[],
+                rest: bytes,
+            },
+            publics: PublicCursor {
+                segment: Segment::Absolute,
+                entries: &[],
+                rest: bytes,
+            },
+            contents: bytes,
+            fixes: FixCursor {
+                own: Segment::Absolute,
+                target: None,
+                kind: FixKind::Low,
+                entries: &[],
+                rest: &[],
+            },
+        }
+    }
+
     /// The name of the module.
     pub fn name(&self) -> &'a [u8]
         ensures { result.now ≡ self.now.name }
@@ -123,6 +155,7 @@ impl<'a> Walk<'a> {
             fixes: self.fixes,
         }
     }
+
     /// The next external name.
     #[tactic(auto, using(crate::proofs::NextParts::names_then, crate::proofs::NextParts::names_are_after, crate::proofs::NextParts::names_over,))]
     pub fn next_external(&mut self) -> Option<&'a [u8]>
@@ -193,7 +226,7 @@ impl<'a> Walk<'a> {
     }
 
     /// The next fix of the content that was handed out last.
-    #[tactic(auto, using(crate::proofs::NextFixes::fix_handed, crate::proofs::NextFixes::entries_then, crate::proofs::NextFixes::no_fix,))]
+    #[tactic(auto, using(crate::proofs::NextFixes::fix_handed, object_entries::proofs::FixEntries::entries_then, object_entries::proofs::FixEntries::no_fix,))]
     pub fn next_fix(&mut self) -> Option<Fix>
         ensures next { HandsOut self.old.fixes self.new.fixes result }
         ensures rest { self.new ≡ record self.old { fixes = self.new.fixes } }

@@ -1,6 +1,6 @@
 use Rattle.std.proofs.Common.{◌≡◌, length}
 use Rattle.object_modules.specs.Walking.{contents_left}
-use Rattle.object_walks.specs.internal.Entries.{AreParts}
+use Rattle.object_entries.specs.Entries.{AreParts}
 use Rattle.object_walks.proofs.cursor.content_from.Given as goal
 
 abbrev pub invariant-loop-found : goal.invariant-loop-found

@@ -1,7 +1,7 @@
 use Rattle.std.proofs.Common.{◌≡◌, length}
 use Rattle.object_modules.specs.Parts.{definition_bytes}
 use Rattle.object_modules.specs.Walking.{publics_left}
-use Rattle.object_walks.specs.internal.Entries.{AreParts, AreEntries}
+use Rattle.object_entries.specs.Entries.{AreParts, AreEntries}
 use Rattle.object_walks.proofs.cursor.publics_from.Given as goal
 
 abbrev pub invariant-loop-entries : goal.invariant-loop-entries

@@ -1,7 +1,7 @@
 use Rattle.std.proofs.Common.{◌≡◌, length}
 use Rattle.object_walks.specs.internal.Cursors.{fixes_left}
-use Rattle.object_walks.specs.internal.Entries.{AreParts}
-use Rattle.object_walks.specs.internal.Fixes.{AreFixEntries}
+use Rattle.object_entries.specs.Entries.{AreParts}
+use Rattle.object_entries.specs.Fixes.{AreFixEntries}
 use Rattle.object_walks.proofs.cursor_fixes.fixes_from.Given as goal
 
 abbrev pub invariant-loop-cursor : goal.invariant-loop-cursor

@@ -1,6 +1,7 @@
 use Rattle.std.proofs.Common.{sym, ap, ◌∙◌}
 use Rattle.object_modules.specs.Walking.{Walking}
-use Rattle.object_walks.proofs.NextFixes.{fix_handed, entries_then}
+use Rattle.object_entries.proofs.FixEntries.{entries_then}
+use Rattle.object_walks.proofs.NextFixes.{fix_handed}
 use Rattle.object_walks.proofs.walks.Walk.next_fix.Goals as goal
 
 pub invariant_of-self : goal.invariant_of-self
