@@ -1,3 +1,3 @@
 pub mod NextParts
 pub mod NextFixes
-pub mod Front
+pub mod AtFront
