@@ -1,9 +1,7 @@
 -- Before anything is handed out, a walk tells what the parts of its file say.
-use Rattle.std.proofs.Common.{◌≡◌, ℕ, ◌≤◌, true, List, [], ◌∷◌, length, flat_map, Option, refl, ap, sym, ◌∙◌}
+use Rattle.std.proofs.Common.{◌≡◌, ℕ, ◌≤◌, true, List, [], ◌∷◌, length, flat_map, refl, ap}
 use Rattle.std.specs.List.{AllByRecursion}
-use Rattle.object_modules.specs.declared.segment.Alignment.{Alignment}
 use Rattle.object_modules.specs.declared.segment.Fix.{Fix}
-use Rattle.object_modules.specs.declared.segment.FixKind.TheVariants.{Low}
 use Rattle.object_modules.specs.declared.segment.Segment.TheVariants.{Absolute}
 use Rattle.object_modules.specs.Before.{externals_of, leading_fixes}
 use Rattle.object_modules.specs.Parts.{Part, body_of}
@@ -14,7 +12,6 @@ use Rattle.object_modules.proofs.ReadBack.{both}
 use Rattle.object_files.proofs.FilesAgain.{limit_of}
 use Rattle.object_files.proofs.Walks.{parts_from_is}
 use Rattle.object_entries.specs.Entries.{AreParts}
-use Rattle.object_entries.specs.Fixes.{fixes_in}
 use Rattle.object_judgement.specs.declared.header.Header.{Header}
 use Rattle.object_judgement.specs.Judging.{IsJudged}
 use Rattle.object_walks.proofs.NextParts.{nothing_from}

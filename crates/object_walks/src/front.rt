@@ -12,7 +12,8 @@ use object_judgement::judge;
 use object_modules::Fault;
 use std::alloc::Global;
 
-/// Judges a whole file, and hands out its parts. Takes memory for the names of the file, and none afterwards.
+/// Judges a whole file, and hands out its parts. It takes memory for the names of the file while it judges, and
+/// none afterwards.
 pub fn walk<'a>(alloc: Global, bytes: &'a [u8]) -> Result<Walk<'a>, Failure<Fault>>
     ensures walk { IfOk result (λ walk. WalksOver bytes.now walk) }
     ensures fault { IfFault result (λ fault. HasFirstFault bytes.now fault) }

@@ -1,4 +1,4 @@
-//! Object files whose parts are handed out one after another.
+//! Walks over object files: the parts of a valid file, handed out one after another.
 #![tactic(auto)]
 
 mod cursor;

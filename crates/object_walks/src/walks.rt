@@ -14,8 +14,8 @@ use object_judgement::Header;
 use object_modules::{Alignment, Fix, FixKind, PublicName, Segment};
 use std::marker::Model;
 
-/// A walk over a file: what the file tells at any time, and its parts from its front, in the order of the file. It
-/// borrows the file and takes no memory.
+/// A walk over a file that was judged: what the file tells at any time, and its parts from its front, in the order
+/// of the file. It borrows the file and takes no memory.
 #[derive(Drop)]
 pub struct Walk<'a> {
     name: &'a [u8],
@@ -66,7 +66,7 @@ impl<'a> Model for Walk<'a> {
 }
 
 impl<'a> Walk<'a> {
-    // A walk from the front of a file that was judged.
+    /// The walk from the front of a file that was judged.
     pub(crate) fn at_front(bytes: &'a [u8], header: &Header<'a>) -> Walk<'a>
         requires { IsJudged bytes.now header.now }
         ensures { WalksOver bytes.now result }
@@ -156,7 +156,7 @@ impl<'a> Walk<'a> {
         }
     }
 
-    /// The next external name.
+    /// The next external name, 1 to 31 characters.
     #[tactic(auto, using(crate::proofs::NextParts::names_then, crate::proofs::NextParts::names_are_after, crate::proofs::NextParts::names_over,))]
     pub fn next_external(&mut self) -> Option<&'a [u8]>
         ensures next { HandsOut self.old.externals self.new.externals (option_map (λ name. name.now) result) }
