@@ -8,19 +8,17 @@ use Rattle.omf80.proofs.Conditions.{IsBytes}
 use Rattle.object_modules.specs.declared.segment.Fix.{Fix}
 use Rattle.object_modules.specs.declared.segment.Segment.{Segment}
 use Rattle.object_modules.specs.declared.segment.Segment.TheVariants.{Code, Data}
-use Rattle.object_modules.specs.Module.{IsObjectModule, is_both}
+use Rattle.object_modules.specs.Module.{is_both}
 use Rattle.object_modules.specs.Parts.{SegmentEntry, Part, HeaderPart, ExternalNamesPart, PublicsPart, ContentPart, ExternalReferencesPart, RelocationPart, IntersegmentPart, ModuleEndPart, EndOfFilePart}
 use Rattle.object_modules.specs.Before.{content_end, end_by_content, entries_of, externals_of, is_ended, length_in, stated_length_of}
 use Rattle.object_modules.specs.Rules.{are_accepted}
 use Rattle.object_modules.specs.Spelling.{FixedContent, fixed_contents}
-use Rattle.object_modules.specs.Walking.{Walking, WalksOver, module_by, walk_over}
+use Rattle.object_modules.specs.Walking.{Walking, WalksOver, walk_over}
 use Rattle.object_files.proofs.Accepted.{both_fit, no_entries}
 use Rattle.object_files.proofs.Bytes.{InRange, parts_range}
 use Rattle.object_files.proofs.Contents.{Ascend, Follow, contents_ascend}
 use Rattle.object_files.proofs.FixesOfContents.{begins_at, word_at, clash}
-use Rattle.object_files.proofs.Valid.{spelled_is_object}
 use Rattle.objmod.specs.internal.Keeping.{AllFit, Clear, ContentsFit, Placed, SegmentFits, fix_at, is_in}
-use Rattle.objmod.proofs.ReadParts.{walk_spells}
 
 -- where no word begins right before a fix, the second bytes of words are clear
 no_second :
@@ -158,10 +156,3 @@ contents_fit bytes walking all over =
             parts_range over.parts (subst IsBytes (over.file).spelled all) in
     subst ContentsFit (sym over.from_the_front)
     (walk_fits over.parts (over.file).accepted (over.file).ended range)
-
--- the module that it tells is valid
-pub walk_valid :
-    (bytes : List ℕ) (walking : Walking) → IsBytes bytes → WalksOver bytes walking
-    → IsObjectModule (module_by walking)
-walk_valid bytes walking all over =
-    spelled_is_object bytes all (module_by walking) (walk_spells bytes walking over)

@@ -1,20 +1,29 @@
 -- The parts that are put together of a walk are those of the module that it tells.
-use Rattle.std.proofs.Common.{◌≡◌, ℕ, List, filter, length, flat_map, map, refl, ap, sym, subst, ◌∙◌}
+use Rattle.std.proofs.Common.{◌≡◌, ℕ, true, ◌&&◌, List, ◌++◌, filter, length, flat_map, map, refl, ap, sym, subst, ◌∙◌}
+use Rattle.std.specs.List.{list_all}
+use Rattle.std.proofs.lemmas.Bool.{and_parts}
+use Rattle.std.proofs.lemmas.List.Folds.{list_all-append}
 use Rattle.object_modules.specs.declared.object.ModuleParts.{ModuleParts}
 use Rattle.object_modules.specs.declared.segment.Alignment.{Alignment}
 use Rattle.object_modules.specs.declared.segment.Segment.{Segment}
 use Rattle.object_modules.specs.declared.segment.Segment.TheVariants.{Code, Data}
-use Rattle.object_modules.specs.Module.{ObjectModule, IsObjectModule, Places}
-use Rattle.object_modules.specs.Spelling.{FixedContent, Spells, module_of}
+use Rattle.symbols.specs.Names.{is_name}
+use Rattle.object_modules.specs.Module.{ObjectModule, IsObjectModule, Public}
+use Rattle.object_modules.specs.Spelling.{FixedContent}
 use Rattle.object_modules.specs.Stored.{StoredSegment, IsStored, places_stored}
 use Rattle.object_modules.specs.Views.{AreKept, module_of_parts, owned_public_view}
-use Rattle.object_modules.specs.Walking.{Walking, WalksOver, module_by, places_by, walk_over}
-use Rattle.object_files.proofs.Walks.{module_is}
+use Rattle.object_modules.specs.Walking.{Walking, module_by, places_by}
 use Rattle.objmod.specs.internal.Keeping.{ContentsFit, SegmentFits, closed_runs, fixes_by_place, is_in, kept_in, kept_segment, nothing_opened, put_together, runs_kept}
 use Rattle.objmod.specs.internal.Told.{IsPutTogether}
 use Rattle.objmod.proofs.Kept.{kept_places}
 use Rattle.objmod.proofs.KeptStored.{kept_stored}
 use Rattle.objmod.proofs.Opened.{fixes_put_together, runs_put_together}
+
+both_all :
+    (xs ys : List (List ℕ)) → list_all is_name (xs ++ ys) ≡ true
+    → (list_all is_name xs ≡ true) × (list_all is_name ys ≡ true)
+both_all xs ys h =
+    and_parts (list_all is_name xs) (list_all is_name ys) (sym (list_all-append is_name xs ys) ∙ h)
 
 put_together_is :
     (size : ℕ) (alignment : Alignment) (segment : Segment) (contents : List FixedContent)
@@ -51,7 +60,7 @@ segment_places size alignment segment contents stored fits is =
     ap (places_stored segment) (is ∙ put_together_is size alignment segment contents)
     ∙ sym (kept_places size alignment segment contents fits.placed)
 
-pub is_told :
+is_told :
     (walking : Walking) (parts : ModuleParts) → ContentsFit walking → IsPutTogether walking parts
     → module_of_parts parts ≡ module_by walking
 unfolding module_by
@@ -112,11 +121,26 @@ are_kept walking parts object fits is = record {
   object = subst IsObjectModule (sym (is_told walking parts fits is)) object;
 }
 
--- a walk over a file tells the module that the file spells
-pub walk_spells :
-    (bytes : List ℕ) (walking : Walking) → WalksOver bytes walking → Spells bytes (module_by walking)
-walk_spells bytes walking over = record {
-  parts = over.parts;
-  file = over.file;
-  said = ap module_by over.from_the_front ∙ sym (module_is over.parts);
-}
+pub module_told :
+    (walking : Walking) (parts : ModuleParts) (object : ObjectModule) → ContentsFit walking
+    → IsPutTogether walking parts → object ≡ module_of_parts parts → object ≡ module_by walking
+module_told walking parts object fits is made = made ∙ is_told walking parts fits is
+
+-- the names of a module that is valid
+pub name_told :
+    (walking : Walking) → IsObjectModule (module_by walking) → is_name walking.name ≡ true
+unfolding module_by
+name_told walking object = object.name
+
+pub externals_told :
+    (walking : Walking) → IsObjectModule (module_by walking) → list_all is_name walking.externals ≡ true
+unfolding module_by
+externals_told walking object =
+    (both_all walking.externals (map (λ (public : Public). public.name) walking.publics) object.names).0
+
+pub publics_told :
+    (walking : Walking) → IsObjectModule (module_by walking)
+    → list_all is_name (map (λ (public : Public). public.name) walking.publics) ≡ true
+unfolding module_by
+publics_told walking object =
+    (both_all walking.externals (map (λ (public : Public). public.name) walking.publics) object.names).1

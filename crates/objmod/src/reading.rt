@@ -5,13 +5,15 @@ ghost use Rattle.failure.specs.Failure.{IfFault};
 ghost use Rattle.object_modules.specs.Module.{IsObjectModule, ObjectModule as ObjectValue};
 ghost use Rattle.object_modules.specs.Spelling.{HasFirstFault, Spells};
 ghost use Rattle.object_modules.specs.Text.{text_of, with_publics_in_order};
+ghost use Rattle.object_modules.specs.Walking.{module_by};
+ghost use Rattle.objmod.specs.internal.Keeping.{ContentsFit};
 ghost use Rattle.objmod.specs.Streams.{HasReadFault, ReadsModule, TakesSome};
 
-use object_walks::walk;
+use object_walks::{Walk, walk};
 use crate::parts::read_parts;
 use failure::Failure;
 use object_modules::{Fault, ObjectModule};
-use std::alloc::Global;
+use std::alloc::{AllocError, Global};
 use std::io;
 use std::io::Read;
 use thiserror::Error;
@@ -42,8 +44,19 @@ impl ReadFault {
     }
 }
 
+// The module that a walk tells which has handed out nothing.
+#[tactic(auto, using(crate::proofs::ReadParts::are_kept, crate::proofs::ReadParts::module_told))]
+fn module_of_walk(alloc: Global, walk: &mut Walk<'_>) -> Result<ObjectModule, AllocError>
+    requires object { IsObjectModule (module_by walk.old) }
+    requires contents { ContentsFit walk.old }
+    ensures { IfOk result (λ object. object ≡ module_by walk.old) }
+{
+    let parts = read_parts(alloc, walk)?;
+    Ok(ObjectModule::from_parts(parts))
+}
+
 /// The module that a file spells.
-#[tactic(auto, using(crate::proofs::ReadParts::are_kept, crate::proofs::ReadParts::is_told, crate::proofs::ReadParts::walk_spells))]
+#[tactic(auto, using(crate::proofs::ReadFiles::walk_valid, crate::proofs::ReadFiles::walk_fits, crate::proofs::ReadFiles::told_spells, crate::proofs::ReadFiles::told_written, crate::proofs::ReadFiles::told_ended, object_texts::proofs::WrittenAgain::written_not_refused, object_texts::proofs::WrittenAgain::more_is_out_of_order))]
 pub fn read(alloc: Global, bytes: &[u8]) -> Result<ObjectModule, Failure<Fault>>
     ensures spelled { IfOk result (λ object. Spells bytes.now object) }
     ensures fault { IfFault result (λ fault. HasFirstFault bytes.now fault) }
@@ -58,8 +71,7 @@ pub fn read(alloc: Global, bytes: &[u8]) -> Result<ObjectModule, Failure<Fault>>
         → bytes.now ≡ text_of object ++ first ∷ rest → IfOk result (λ _. ⊥) }
 {
     let mut file = walk(alloc, bytes)?;
-    let parts = read_parts(alloc, &mut file)?;
-    Ok(ObjectModule::from_parts(parts))
+    Ok(module_of_walk(alloc, &mut file)?)
 }
 
 /// Reads a module from a reader, to its end.
