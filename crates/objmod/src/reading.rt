@@ -45,7 +45,6 @@ impl ReadFault {
 }
 
 // The module that a walk tells which has handed out nothing.
-#[tactic(auto, using(crate::proofs::ReadParts::are_kept, crate::proofs::ReadParts::module_told))]
 fn module_of_walk(alloc: Global, walk: &mut Walk<'_>) -> Result<ObjectModule, AllocError>
     requires object { IsObjectModule (module_by walk.old) }
     requires contents { ContentsFit walk.old }
@@ -56,7 +55,7 @@ fn module_of_walk(alloc: Global, walk: &mut Walk<'_>) -> Result<ObjectModule, Al
 }
 
 /// The module that a file spells.
-#[tactic(auto, using(crate::proofs::ReadFiles::walk_valid, crate::proofs::ReadFiles::walk_fits, crate::proofs::ReadFiles::told_spells, crate::proofs::ReadFiles::told_written, crate::proofs::ReadFiles::told_ended, object_texts::proofs::WrittenAgain::written_not_refused, object_texts::proofs::WrittenAgain::more_is_out_of_order))]
+#[tactic(auto, using(crate::proofs::ReadFiles::walk_valid, crate::proofs::ReadFiles::walk_fits, crate::proofs::ReadFiles::told_spells, object_texts::proofs::WrittenAgain::written_not_refused, object_texts::proofs::WrittenAgain::more_is_out_of_order))]
 pub fn read(alloc: Global, bytes: &[u8]) -> Result<ObjectModule, Failure<Fault>>
     ensures spelled { IfOk result (λ object. Spells bytes.now object) }
     ensures fault { IfFault result (λ fault. HasFirstFault bytes.now fault) }
