@@ -1,7 +1,7 @@
 -- The contents that a walk over a file hands out ascend within their segments, and their fixes are within them
 -- and apart.
-use Rattle.std.proofs.Common.{◌≡◌, ℕ, ◌+◌, ◌≤◌, Bool, true, false, cond, ◌&&◌, ◌||◌, ◌==◌, List, [], ◌∷◌, ◌++◌, length, filter, flat_map, find, reverse, Option, Some, None, refl, ap, sym, subst, ◌∙◌, arith}
-use Rattle.std.specs.List.{list_all, list_any, AllByRecursion}
+use Rattle.std.proofs.Common.{◌≡◌, ℕ, ◌+◌, Bool, true, false, cond, ◌&&◌, ◌||◌, ◌==◌, List, [], ◌∷◌, ◌++◌, length, filter, flat_map, reverse, Some, None, refl, ap, sym, subst, ◌∙◌, arith}
+use Rattle.std.specs.List.{list_any, AllByRecursion}
 use Rattle.std.proofs.lemmas.List.{append-nil}
 use Rattle.std.proofs.lemmas.Option.{same_Some}
 use Rattle.omf80.proofs.Conditions.{IsBytes}
@@ -42,6 +42,7 @@ is_word (first ∷ others) offset fix h wide =
     or_right : (a b : Bool) → b ≡ true → (a || b) ≡ true
     or_right true b k = refl
     or_right false b k = k
+
     go : (b : Bool) → (first.offset == offset) ≡ b → cond b (Some first) (fix_at others offset) ≡ Some fix
         → (fix_at others offset ≡ Some fix → list_any (word_at offset) others ≡ true)
         → ((is_both first.kind && (first.offset == offset)) || list_any (word_at offset) others) ≡ true
@@ -76,10 +77,9 @@ fits_in count size segment end (fixed ∷ others) ascend =
     go true e later =
         let own = ascend.0 e in
         let next =
-                subst
-                (λ after. Both_fit size after (filter (is_in segment) others))
-                (ap (λ b. cond b (content_end fixed.content) end) e) later in
-        (
+        subst
+        (λ after. Both_fit size after (filter (is_in segment) others))
+        (ap (λ b. cond b (content_end fixed.content) end) e) later in (
           (own.begins, (own.sound).ends, next.0),
           ((own.sound).within, clear_of fixed.fixes (own.sound).clear, next.1),
         )
@@ -101,7 +101,7 @@ header_fits name translator version entries others accepted range segment =
     let cut = both_fit [] header others accepted in
     let none = no_entries header [] others cut.1 in
     let lengths : flat_map entries_of (header ∷ others) ≡ entries =
-            ap (λ e. entries ++ e) none ∙ append-nil entries in
+    ap (λ e. entries ++ e) none ∙ append-nil entries in
     let follow : Follow (length (flat_map externals_of (header ∷ others))) entries (header ∷ []) others = record {
       header = append-nil entries;
       known = omega arith;
@@ -109,8 +109,8 @@ header_fits name translator version entries others accepted range segment =
       accepted = cut.1;
     } in
     let fits : Both_fit (length_in entries segment) 0 (filter (is_in segment) (fixed_contents others)) =
-            fits_in count (length_in entries segment) segment 0 (fixed_contents others)
-            (contents_ascend count entries segment header [] others follow) in
+    fits_in count (length_in entries segment) segment 0 (fixed_contents others)
+    (contents_ascend count entries segment header [] others follow) in
     subst (λ e. SegmentFits (length_in e segment) segment (fixed_contents (header ∷ others))) (sym lengths)
     (record { placed = fits.0; fit = fits.1 })
 
@@ -153,6 +153,6 @@ pub contents_fit :
     (bytes : List ℕ) (walking : Walking) → IsBytes bytes → WalksOver bytes walking → ContentsFit walking
 contents_fit bytes walking all over =
     let range : AllByRecursion InRange over.parts =
-            parts_range over.parts (subst IsBytes (over.file).spelled all) in
+    parts_range over.parts (subst IsBytes (over.file).spelled all) in
     subst ContentsFit (sym over.from_the_front)
     (walk_fits over.parts (over.file).accepted (over.file).ended range)

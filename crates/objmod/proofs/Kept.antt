@@ -1,8 +1,7 @@
 -- What is kept of the contents of a segment sets what they set.
-use Rattle.std.proofs.Common.{◌≡◌, ℕ, zero, suc, ◌+◌, ◌-◌, ◌<◌, ◌≤◌, ◌≢◌, Bool, true, false, cond, not, ◌&&◌, ◌||◌, ◌==◌, nat_lt, nat_le, ◌⊎◌, inl, inr, List, [], ◌∷◌, ◌++◌, length, map, flat_map, filter, filter_map, find, Option, Some, None, option_map, slice_index, refl, ap, sym, subst, ◌∙◌, arith}
-use Rattle.std.specs.List.{list_all, list_any, range_with_len}
+use Rattle.std.proofs.Common.{◌≡◌, ℕ, zero, suc, ◌+◌, ◌-◌, ◌<◌, ◌≤◌, ◌≢◌, Bool, true, false, cond, not, ◌&&◌, ◌==◌, nat_lt, nat_le, ◌⊎◌, inl, inr, List, [], ◌∷◌, ◌++◌, length, map, flat_map, filter, find, Option, Some, None, option_map, slice_index, refl, ap, sym, ◌∙◌, arith}
 use Rattle.std.proofs.lemmas.Bool.{eqb-true, eqb-false, eq-eqb, ne_eqb, leb-true, leb-false, le-leb, lt-leb, ltb-true, ltb-false, lt-ltb, le-ltb}
-use Rattle.std.proofs.lemmas.List.{length-append, append-nil, append_assoc}
+use Rattle.std.proofs.lemmas.List.{length-append}
 use Rattle.omf80.proofs.Conditions.{find_passes}
 use Rattle.object_modules.specs.declared.segment.Alignment.{Alignment}
 use Rattle.object_modules.specs.declared.segment.Fix.{Fix}
@@ -12,10 +11,10 @@ use Rattle.object_modules.specs.Before.{same_segment, content_end}
 use Rattle.object_modules.specs.Module.{Fixup, SetByte}
 use Rattle.object_modules.specs.Runs.{fixup_at}
 use Rattle.object_modules.specs.Spelling.{FixedContent, holds_place, set_at, set_in}
-use Rattle.object_modules.specs.Stored.{StoredSegment, places_stored}
+use Rattle.object_modules.specs.Stored.{places_stored}
 use Rattle.object_modules.specs.Text.{Run}
 use Rattle.object_modules.specs.Walking.{places_by}
-use Rattle.object_modules.proofs.StoredRuns.{content_with, byte_in_run, found, found_is, in_run, run_at, same_over}
+use Rattle.object_modules.proofs.StoredRuns.{content_with, byte_in_run, found, found_is, run_at, same_over}
 use Rattle.objmod.specs.internal.Keeping.{before_kept, open_run, is_in, runs_kept, fix_at, fix_table, listed, fixes_by_place, kept_segment, Placed}
 
 -- What contents of one segment set at a place.

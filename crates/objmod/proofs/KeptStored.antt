@@ -1,6 +1,6 @@
 -- What is kept of the contents of a segment is what each segment that is kept keeps to.
-use Rattle.std.proofs.Common.{◌≡◌, ℕ, zero, suc, ◌+◌, ◌<◌, ◌≤◌, Bool, true, false, cond, not, ◌&&◌, ◌||◌, ◌==◌, nat_lt, nat_le, List, [], ◌∷◌, ◌++◌, length, map, flat_map, filter, filter_map, find, Option, Some, None, refl, ap, sym, subst, ◌∙◌, arith}
-use Rattle.std.specs.List.{list_all, list_any, range_with_len}
+use Rattle.std.proofs.Common.{◌≡◌, ℕ, zero, suc, ◌+◌, ◌<◌, ◌≤◌, Bool, true, false, cond, not, ◌&&◌, ◌||◌, ◌==◌, nat_lt, nat_le, List, [], ◌∷◌, ◌++◌, length, flat_map, filter, Option, Some, None, refl, sym, subst, arith}
+use Rattle.std.specs.List.{list_all}
 use Rattle.std.proofs.lemmas.Bool.{and_from, eqb-true, eqb-false, leb-true, le-leb, lt-ltb}
 use Rattle.std.proofs.lemmas.List.{length-append}
 use Rattle.std.proofs.lemmas.Option.{same_Some}
@@ -17,7 +17,7 @@ use Rattle.object_modules.specs.Spelling.{FixedContent}
 use Rattle.object_modules.specs.Stored.{IsStored, are_longest, content_of_run, fixes_ascend, is_in_a_run}
 use Rattle.object_modules.specs.Text.{Run}
 use Rattle.object_modules.proofs.ReadBack.{both}
-use Rattle.object_modules.proofs.StoredRuns.{Beyond, Longest, beyond_less, run_at}
+use Rattle.object_modules.proofs.StoredRuns.{Longest, beyond_less, run_at}
 use Rattle.objmod.specs.internal.Keeping.{before_kept, open_run, is_in, runs_kept, fix_at, fix_table, listed, fixes_by_place, kept_segment, Placed, Clear, AllFit}
 use Rattle.objmod.proofs.Kept.{found_there}
 
@@ -46,6 +46,7 @@ before_lie size end offset first items (next ∷ others) begins ends lie =
   where
     sized : length ((first ∷ items) ++ next.items) ≡ length (first ∷ items) + length next.items
     sized = length-append (first ∷ items) next.items
+
     go : (b : Bool) → (next.offset == offset + length (first ∷ items)) ≡ b
         → Lie size end
         (cond b (run_at offset ((first ∷ items) ++ next.items) ∷ others) (run_at offset (first ∷ items) ∷ next ∷ others))
@@ -54,7 +55,7 @@ before_lie size end offset first items (next ∷ others) begins ends lie =
         let long : Longest size (next ∷ others) = lie.long in
         let reach : next.offset + length next.items ≤ size = long.1 in
         let last : offset + length ((first ∷ items) ++ next.items) ≡ next.offset + length next.items =
-                omega (arith, is, sized) in
+        omega (arith, is, sized) in
         record {
           from = begins;
           long = (
@@ -67,7 +68,7 @@ before_lie size end offset first items (next ∷ others) begins ends lie =
         }
     go false e =
         let apart : next.offset ≡ offset + length (first ∷ items) → ⊥ =
-                eqb-false next.offset (offset + length (first ∷ items)) e in
+        eqb-false next.offset (offset + length (first ∷ items)) e in
         let least : offset + length (first ∷ items) ≤ next.offset = lie.from in
         let after : offset + length (first ∷ items) < next.offset = omega (arith, apart) in
         let long : Longest size (next ∷ others) = lie.long in
@@ -155,7 +156,7 @@ chain_after_word :
 chain_after_word fixes zero offset none chains = tt
 chain_after_word fixes (suc count) offset none chains =
     let rest : Chain (offset + 1 + 1) (listed (fix_table fixes (offset + 1 + 1) count)) =
-            chains count refl (offset + 1 + 1) in
+    chains count refl (offset + 1 + 1) in
     subst (λ slot. Chain (offset + 2) (listed (slot ∷ fix_table fixes (offset + 1 + 1) count))) (sym none)
     (chain_less (offset + 2) (offset + 1 + 1) (listed (fix_table fixes (offset + 1 + 1) count)) (omega arith) rest)
 
@@ -173,6 +174,7 @@ one_more_place fixes clear count chains less offset = go (fix_at fixes offset) r
     after fix e false f is =
         let end : fix_end fix ≤ offset + 1 = let w = narrow fix f in omega (arith, is, w) in
         chain_less (fix_end fix) (offset + 1) (listed (fix_table fixes (offset + 1) count)) end (chains (offset + 1))
+
     go : (slot : Option Fix) → fix_at fixes offset ≡ slot
         → Chain offset (listed (slot ∷ fix_table fixes (offset + 1) count))
     go None e = chain_less offset (offset + 1) (listed (fix_table fixes (offset + 1) count)) (omega arith) (chains (offset + 1))
@@ -344,11 +346,12 @@ later_open segment offset (first ∷ items) (next ∷ others) fix h =
         let parts = both (nat_le next.offset fix.offset) (nat_le (fix_end fix) (next.offset + length next.items)) k in
         let starts : next.offset ≤ fix.offset = leb-true next.offset fix.offset parts.0 in
         let ends : fix_end fix ≤ next.offset + length next.items =
-                leb-true (fix_end fix) (next.offset + length next.items) parts.1 in
+        leb-true (fix_end fix) (next.offset + length next.items) parts.1 in
         let sized : length ((first ∷ items) ++ next.items) ≡ length (first ∷ items) + length next.items = length-append (first ∷ items) next.items in
         and_from (nat_le offset fix.offset) (nat_le (fix_end fix) (offset + length ((first ∷ items) ++ next.items)))
         (le-leb offset fix.offset (omega (arith, is, starts)))
         (le-leb (fix_end fix) (offset + length ((first ∷ items) ++ next.items)) (omega (arith, is, sized, ends)))
+
     go : (b : Bool) → (next.offset == offset + length (first ∷ items)) ≡ b
         → is_in_a_run segment
         (cond b (run_at offset ((first ∷ items) ++ next.items) ∷ others) (run_at offset (first ∷ items) ∷ next ∷ others)) fix ≡ true

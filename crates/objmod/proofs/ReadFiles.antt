@@ -1,5 +1,5 @@
 -- The module that a walk over a file tells is the one that the file spells.
-use Rattle.std.proofs.Common.{◌≡◌, ℕ, suc, ◌<◌, ◌^◌, List, [], ◌∷◌, ◌++◌, slice_index_or, Fits, w8, refl, ap, sym, subst, ◌∙◌, arith}
+use Rattle.std.proofs.Common.{◌≡◌, ℕ, suc, ◌<◌, ◌^◌, List, [], ◌∷◌, ◌++◌, slice_index_or, Fits, w8, ap, sym, subst, ◌∙◌, arith}
 use Rattle.omf80.proofs.Conditions.{IsBytes}
 use Rattle.object_modules.specs.Module.{IsObjectModule, ObjectModule}
 use Rattle.object_modules.specs.Spelling.{Spells}

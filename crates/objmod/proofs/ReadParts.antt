@@ -1,5 +1,5 @@
 -- The parts that are put together of a walk are those of the module that it tells.
-use Rattle.std.proofs.Common.{◌≡◌, ℕ, true, ◌&&◌, List, ◌++◌, filter, length, flat_map, map, refl, ap, sym, subst, ◌∙◌}
+use Rattle.std.proofs.Common.{◌≡◌, ℕ, true, List, ◌++◌, filter, map, ap, sym, subst, ◌∙◌}
 use Rattle.std.specs.List.{list_all}
 use Rattle.std.proofs.lemmas.Bool.{and_parts}
 use Rattle.std.proofs.lemmas.List.Folds.{list_all-append}
@@ -11,9 +11,9 @@ use Rattle.symbols.specs.Names.{is_name}
 use Rattle.object_modules.specs.Module.{ObjectModule, IsObjectModule, Public}
 use Rattle.object_modules.specs.Spelling.{FixedContent}
 use Rattle.object_modules.specs.Stored.{StoredSegment, IsStored, places_stored}
-use Rattle.object_modules.specs.Views.{AreKept, module_of_parts, owned_public_view}
+use Rattle.object_modules.specs.Views.{AreKept, module_of_parts}
 use Rattle.object_modules.specs.Walking.{Walking, module_by, places_by}
-use Rattle.objmod.specs.internal.Keeping.{ContentsFit, SegmentFits, closed_runs, fixes_by_place, is_in, kept_in, kept_segment, nothing_opened, put_together, runs_kept}
+use Rattle.objmod.specs.internal.Keeping.{ContentsFit, SegmentFits, is_in, kept_in, kept_segment, nothing_opened, put_together, runs_kept}
 use Rattle.objmod.specs.internal.Told.{IsPutTogether}
 use Rattle.objmod.proofs.Kept.{kept_places}
 use Rattle.objmod.proofs.KeptStored.{kept_stored}

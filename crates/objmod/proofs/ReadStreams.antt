@@ -1,5 +1,5 @@
 -- What a reader gave, once all of it was read.
-use Rattle.std.proofs.Common.{◌≡◌, ℕ, List, [], drop, Option, refl, sym, subst}
+use Rattle.std.proofs.Common.{◌≡◌, ℕ, List, [], Option, subst}
 use Rattle.std.specs.Io.{appended_bytes}
 use Rattle.std.specs.Io.KnownBytes.{Consumes, IsAtEnd}
 use Rattle.object_modules.specs.declared.fault.Fault.{Fault}

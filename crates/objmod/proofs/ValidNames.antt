@@ -1,5 +1,5 @@
 -- A name that is one already is the name that its characters are in a source.
-use Rattle.std.proofs.Common.{◌≡◌, ℕ, ◌<◌, ◌≤◌, Bool, true, false, cond, not, ◌&&◌, ◌==◌, nat_le, List, [], ◌∷◌, length, map, filter, refl, ap, ◌∙◌, arith}
+use Rattle.std.proofs.Common.{◌≡◌, ℕ, true, cond, not, ◌&&◌, ◌==◌, nat_le, List, [], ◌∷◌, length, map, filter, refl, ap, ◌∙◌, arith}
 use Rattle.std.specs.Char.{is_ascii_uppercase, to_ascii_uppercase}
 use Rattle.std.specs.List.{list_all}
 use Rattle.std.proofs.lemmas.Bool.{and_parts}

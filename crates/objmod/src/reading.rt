@@ -9,10 +9,10 @@ ghost use Rattle.object_modules.specs.Walking.{module_by};
 ghost use Rattle.objmod.specs.internal.Keeping.{ContentsFit};
 ghost use Rattle.objmod.specs.Streams.{HasReadFault, ReadsModule, TakesSome};
 
-use object_walks::{Walk, walk};
 use crate::parts::read_parts;
 use failure::Failure;
 use object_modules::{Fault, ObjectModule};
+use object_walks::{Walk, walk};
 use std::alloc::{AllocError, Global};
 use std::io;
 use std::io::Read;
