@@ -1,0 +1,4 @@
+pub mod NameLoops
+pub mod StartLoops
+pub mod MainPasses
+pub mod Refusals
