@@ -5,6 +5,8 @@ ghost use Rattle.failure.specs.Failure.{IfFault};
 ghost use Rattle.object_modules.specs.Displacements.{starts_of as start_list};
 ghost use Rattle.object_modules.specs.Merge.{merge_of};
 ghost use Rattle.link.specs.Merging.{refusal_of};
+ghost use Rattle.link.specs.Views.{main_view};
+ghost use Rattle.link_laws.specs.internal.Building.{AreJoined};
 
 use crate::fault::LinkFault;
 use crate::highs::high_byte_moves;
@@ -25,6 +27,8 @@ fn parts_of(
     publics: Publics,
     main: MainModule,
 ) -> Result<ModuleParts, AllocError>
+    ensures { IfOk result (λ parts.
+        AreJoined publics pieces.now.placed.items pieces.now.stack_length (main_view main) parts) }
 {
     let code = merged_segment(alloc, Segment::Code, &publics, pieces.placed.as_slice())?;
     let data_bytes = merged_segment(alloc, Segment::Data, &publics, pieces.placed.as_slice())?;

@@ -2,7 +2,7 @@
 
 ghost use Rattle.std.specs.Prelude.{◌≡◌, ◌++◌, flat_map, [], IfOk, OnOk};
 ghost use Rattle.object_modules.specs.internal.Joining.{with_runs};
-ghost use Rattle.link_laws.specs.internal.Building.{alignment_joined, end_joined, piece_fixes, piece_runs, runs_joined, stored_joined};
+ghost use Rattle.link_laws.specs.internal.Building.{alignment_joined, end_in, end_joined, piece_fixes, piece_runs, runs_joined, stored_joined};
 
 use crate::placed::Placed;
 use crate::publics::Publics;
@@ -90,7 +90,7 @@ fn merged_fixes(
 
 // Where the last piece ends.
 fn merged_end(segment: Segment, placed: &[Placed]) -> u16
-    ensures { result ≡ end_joined segment 0 placed.now }
+    ensures { result ≡ end_joined (end_in segment) 0 placed.now }
 {
     let mut end = 0;
     for one in placed {

@@ -75,7 +75,7 @@ gathered_by known (name ∷ others) ys found h =
     go true later is = ap (onward ys) is
     go false later is = later is
 
-views_named : (publics : List OwnedPublic) → map name_of publics ≡ map (λ (public : Public). public.name) (map owned_public_view publics)
+pub views_named : (publics : List OwnedPublic) → map name_of publics ≡ map (λ (public : Public). public.name) (map owned_public_view publics)
 views_named [] = refl
 views_named (public ∷ others) = ap (λ names. public.name ∷ names) (views_named others)
 

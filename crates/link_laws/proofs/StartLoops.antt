@@ -1,14 +1,14 @@
 -- The loop over modules that finds where their pieces begin, and whether a segment is too long.
-use Rattle.std.proofs.Common.{◌≡◌, ℕ, ◌+◌, ◌<◌, ◌≤◌, true, false, ◌||◌, List, [], ◌∷◌, ◌++◌, map, length, drop, get_or, sum_by, fold, refl, ap, sym, ◌∙◌, arith}
+use Rattle.std.proofs.Common.{◌≡◌, ℕ, ◌+◌, ◌<◌, ◌≤◌, true, false, ◌||◌, List, [], ◌∷◌, ◌++◌, All, length, drop, get_or, sum_by, fold, refl, ap, sym, subst, ◌∙◌, arith}
+use Rattle.std.specs.List.{AllByRecursion}
 use Rattle.std.proofs.lemmas.Bool.{or_left, or_right, or_from, lt-ltb, le-ltb}
-use Rattle.std.proofs.lemmas.List.{append_assoc, append-nil, map-append}
+use Rattle.std.proofs.lemmas.List.Elements.{All-from_recursion}
+use Rattle.std.proofs.lemmas.List.{append_assoc, append-nil}
 use Rattle.object_modules.specs.declared.segment.Alignment.{Alignment}
 use Rattle.object_modules.specs.declared.segment.Alignment.TheVariants.{Byte, Page}
-use Rattle.object_modules.specs.Displacements.{Start, Linked, code_end, data_end, start_after, linked_after, linked_from, linked_modules, starts_of}
+use Rattle.object_modules.specs.Displacements.{Start, Linked, code_end, data_end, start_after, linked_after, linked_from, linked_modules}
 use Rattle.object_modules.specs.Merge.{last_end, is_too_long, some_segment_is_too_long}
-use Rattle.object_modules.specs.Module.{ObjectModule}
-use Rattle.link_laws.specs.Views.{start_view}
-use Rattle.link_laws.specs.declared.merged.ModuleStart.{ModuleStart}
+use Rattle.object_modules.specs.Module.{ObjectModule, IsObjectModule}
 use Rattle.link_laws.specs.internal.Passes.{code_after, data_after}
 use Rattle.link_laws.proofs.NameLoops.{at_item, at_end}
 
@@ -80,24 +80,24 @@ stack_grows stack (object ∷ others) =
     omega (arith, later)
 
 -- what is known before each module
-pub record SoFar (code data_end stack : ℕ) (starts : List ModuleStart) (left all : List ObjectModule) : Type 0 where
+pub record SoFar (code data_end stack : ℕ) (placed : List Linked) (left all : List ObjectModule) : Type 0 where
   pub code_limit : code ≤ 65535
   pub data_limit : data_end ≤ 65535
   pub stack_limit : stack ≤ 65535
   pub code_rest : code_after code data_end left ≡ code_after 0 0 all
   pub data_rest : data_after code data_end left ≡ data_after 0 0 all
   pub stack_rest : stack_after stack left ≡ stack_after 0 all
-  pub starts_rest :
-      map start_view starts ++ map (λ (one : Linked). one.start) (linked_from code data_end left) ≡ starts_of all
+  pub placed_rest : placed ++ linked_from code data_end left ≡ linked_modules all
+  pub valid_rest : AllByRecursion IsObjectModule left → AllByRecursion IsObjectModule all
 
 first_passes : (n : ℕ) → 65535 < n → is_too_long n ≡ true
 first_passes n h = lt-ltb 65535 n h
 
-abbrev pub start_of : (code data_start : ℕ) → Start
-start_of code data_start = record { code = code; data_start = data_start }
+abbrev pub start_at : (code data_start : ℕ) → Start
+start_at code data_start = record { code = code; data_start = data_start }
 
 -- one module more
-module _ (code data_before stack : ℕ) (starts : List ModuleStart) (modules : List ObjectModule) (i : ℕ) (known : SoFar code data_before stack starts (drop i modules) modules) (object : ObjectModule) (within : i < length modules) (is : object ≡ get_or modules i object) where
+module _ (code data_before stack : ℕ) (placed : List Linked) (modules : List ObjectModule) (i : ℕ) (known : SoFar code data_before stack placed (drop i modules) modules) (object : ObjectModule) (within : i < length modules) (is : object ≡ get_or modules i object) where
   left_is : drop i modules ≡ object ∷ drop (i + 1) modules
   left_is = at_item (λ (left : List ObjectModule). left) modules i object within is
 
@@ -153,55 +153,61 @@ module _ (code data_before stack : ℕ) (starts : List ModuleStart) (modules : L
       (is_too_long (sum_by stack_of modules)) (first_passes (stack_after 0 modules) past)
 
   pub one_more :
-      (code_start data_start code_size data_size more : ℕ) (new : List ModuleStart) (start : ModuleStart)
+      (code_start data_start code_size data_size more : ℕ) (new : List Linked) (one : Linked)
       → code_start ≡ start_after code object.code.alignment → data_start ≡ start_after data_before object.data_places.alignment
       → code_size ≡ length object.code.places → data_size ≡ length object.data_places.places → more ≡ object.stack_length
       → code_start + code_size ≤ 65535 → data_start + data_size ≤ 65535 → stack + more ≤ 65535
-      → start_view start ≡ start_of code_start data_start → new ≡ starts ++ start ∷ []
+      → one.object ≡ object → one.start ≡ start_at code_start data_start → IsObjectModule object → new ≡ placed ++ one ∷ []
       → SoFar (code_start + code_size) (data_start + data_size) (stack + more) new (drop (i + 1) modules) modules
-  one_more code_start data_start code_size data_size more new start a b c d e f g h pushed made =
-      let one : Linked = linked_after code data_before object in
+  one_more code_start data_start code_size data_size more new one a b c d e f g h same begins valid made =
+      let next : Linked = linked_after code data_before object in
       let rest : List ObjectModule = drop (i + 1) modules in
-      let code_is : code_start + code_size ≡ code_end one = ap (λ n. n + code_size) a ∙ ap (λ n. start_after code object.code.alignment + n) c in
-      let data_is : data_start + data_size ≡ data_end one =
+      let code_is : code_start + code_size ≡ code_end next = ap (λ n. n + code_size) a ∙ ap (λ n. start_after code object.code.alignment + n) c in
+      let data_is : data_start + data_size ≡ data_end next =
       ap (λ n. n + data_size) b ∙ ap (λ n. start_after data_before object.data_places.alignment + n) d in
-      let start_is : start_view start ≡ one.start =
-      pushed ∙ ap (λ n. start_of n data_start) a ∙ ap (start_of (start_after code object.code.alignment)) b in
+      let start_is : one.start ≡ next.start =
+      begins ∙ ap (λ n. start_at n data_start) a ∙ ap (start_at (start_after code object.code.alignment)) b in
+      let one_is : one ≡ next = λ j. record { object = same j; start = start_is j } in
       record {
         code_limit = f;
         data_limit = g;
         stack_limit = h;
         code_rest =
-            ap (λ n. code_after n (data_start + data_size) rest) code_is ∙ ap (λ n. code_after (code_end one) n rest) data_is
+            ap (λ n. code_after n (data_start + data_size) rest) code_is ∙ ap (λ n. code_after (code_end next) n rest) data_is
             ∙ sym (ap (code_after code data_before) left_is) ∙ known.code_rest;
         data_rest =
-            ap (λ n. data_after n (data_start + data_size) rest) code_is ∙ ap (λ n. data_after (code_end one) n rest) data_is
+            ap (λ n. data_after n (data_start + data_size) rest) code_is ∙ ap (λ n. data_after (code_end next) n rest) data_is
             ∙ sym (ap (data_after code data_before) left_is) ∙ known.data_rest;
         stack_rest =
             ap (λ n. stack_after (stack + n) rest) e ∙ sym (ap (stack_after stack) left_is) ∙ known.stack_rest;
-        starts_rest =
-            ap (λ n. map start_view n ++ map (λ (l : Linked). l.start) (linked_from (code_start + code_size) (data_start + data_size) rest)) made
-            ∙ ap (λ s. s ++ map (λ (l : Linked). l.start) (linked_from (code_start + code_size) (data_start + data_size) rest))
-            (map-append start_view starts (start ∷ []))
-            ∙ append_assoc (map start_view starts) (start_view start ∷ [])
-            (map (λ (l : Linked). l.start) (linked_from (code_start + code_size) (data_start + data_size) rest))
-            ∙ ap (λ s. map start_view starts ++ s ∷ map (λ (l : Linked). l.start) (linked_from (code_start + code_size) (data_start + data_size) rest)) start_is
-            ∙ ap (λ n. map start_view starts ++ one.start ∷ map (λ (l : Linked). l.start) (linked_from n (data_start + data_size) rest)) code_is
-            ∙ ap (λ n. map start_view starts ++ one.start ∷ map (λ (l : Linked). l.start) (linked_from (code_end one) n rest)) data_is
-            ∙ sym (ap (λ left. map start_view starts ++ map (λ (l : Linked). l.start) (linked_from code data_before left)) left_is)
-            ∙ known.starts_rest;
+        placed_rest =
+            ap (λ n. n ++ linked_from (code_start + code_size) (data_start + data_size) rest) made
+            ∙ append_assoc placed (one ∷ []) (linked_from (code_start + code_size) (data_start + data_size) rest)
+            ∙ ap (λ l. placed ++ l ∷ linked_from (code_start + code_size) (data_start + data_size) rest) one_is
+            ∙ ap (λ n. placed ++ next ∷ linked_from n (data_start + data_size) rest) code_is
+            ∙ ap (λ n. placed ++ next ∷ linked_from (code_end next) n rest) data_is
+            ∙ sym (ap (λ left. placed ++ linked_from code data_before left) left_is)
+            ∙ known.placed_rest;
+        valid_rest = λ later. known.valid_rest (subst (AllByRecursion IsObjectModule) (sym left_is) (valid, later));
       }
 
 -- at the end
-module _ (code data_before stack : ℕ) (starts : List ModuleStart) (modules : List ObjectModule) (i : ℕ) (known : SoFar code data_before stack starts (drop i modules) modules) (past : length modules ≤ i) where
+module _ (code data_before stack : ℕ) (placed : List Linked) (modules : List ObjectModule) (i : ℕ) (known : SoFar code data_before stack placed (drop i modules) modules) (past : length modules ≤ i) where
   none_left : drop i modules ≡ []
   none_left = at_end (λ (left : List ObjectModule). left) modules i past
 
-  pub all_started : map start_view starts ≡ starts_of modules
-  all_started =
-      sym (append-nil (map start_view starts))
-      ∙ sym (ap (λ left. map start_view starts ++ map (λ (l : Linked). l.start) (linked_from code data_before left)) none_left)
-      ∙ known.starts_rest
+  pub all_placed : placed ≡ linked_modules modules
+  all_placed =
+      sym (append-nil placed)
+      ∙ sym (ap (λ left. placed ++ linked_from code data_before left) none_left)
+      ∙ known.placed_rest
+
+  pub all_valid : All IsObjectModule modules
+  all_valid =
+      All-from_recursion IsObjectModule modules (known.valid_rest (subst (AllByRecursion IsObjectModule) (sym none_left) tt))
+
+  pub all_stacks : stack ≡ sum_by stack_of modules
+  all_stacks = sym (ap (stack_after stack) none_left) ∙ known.stack_rest
 
   pub all_fit : some_segment_is_too_long modules (linked_modules modules) ≡ false
   all_fit =

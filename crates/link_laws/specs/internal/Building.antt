@@ -1,20 +1,24 @@
 -- A segment of a merge, piece by piece.
-use Rattle.std.specs.Prelude.{ℕ, ◌+◌, ◌<◌, ◌≤◌, Bool, if◌then◌else◌, List, [], ◌∷◌, length, map, flat_map, filter_map}
+use Rattle.std.specs.Prelude.{◌≡◌, ℕ, ◌+◌, ◌<◌, ◌≤◌, Bool, if◌then◌else◌, List, [], ◌∷◌, length, map, flat_map, filter_map, Some}
 use Rattle.std.specs.List.{list_any, AllByRecursion}
+use Rattle.object_modules.specs.declared.object.ModuleParts.{ModuleParts}
 use Rattle.object_modules.specs.declared.segment.Alignment.{Alignment}
 use Rattle.object_modules.specs.declared.segment.Alignment.TheVariants.{Byte, Page}
 use Rattle.object_modules.specs.declared.segment.Fix.{Fix}
 use Rattle.object_modules.specs.declared.segment.Segment.{Segment}
+use Rattle.object_modules.specs.declared.segment.Segment.TheVariants.{Code, Data}
 use Rattle.object_modules.specs.Displacements.{Start, Linked, code_end, data_end, displacement_in, gain_in, target_kept}
-use Rattle.object_modules.specs.Module.{Public, ObjectModule, alignment_of, is_page, length_of}
+use Rattle.object_modules.specs.Module.{Public, IsObjectModule, alignment_of, is_page, length_of}
 use Rattle.object_modules.specs.Rules.{fix_end}
 use Rattle.object_modules.specs.Runs.{runs_of, fixes_in}
 use Rattle.object_modules.specs.Stored.{StoredSegment}
 use Rattle.object_modules.specs.Text.{Run}
+use Rattle.object_modules.specs.Views.{owned_public_view}
 use Rattle.object_modules.specs.internal.Joining.{with_runs, fix_kept, fixes_below, fixes_past, run_end, runs_fixed}
 
--- the pieces of a module end within segments
+-- a module is valid, and its pieces end within segments
 pub record Fits (one : Linked) : Type 0 where
+  pub valid : IsObjectModule one.object
   pub code : code_end one ≤ 65535
   pub data_bytes : data_end one ≤ 65535
 
@@ -58,9 +62,9 @@ abbrev pub end_in : Segment → Linked → ℕ
 end_in segment one = displacement_in one segment + length_of one.object segment
 
 -- where the last of pieces after an end ends
-abbrev pub end_joined : Segment → (end : ℕ) → List Linked → ℕ
-end_joined segment end [] = end
-end_joined segment end (one ∷ others) = end_joined segment (end_in segment one) others
+abbrev pub end_joined : (end_of : Linked → ℕ) → (end : ℕ) → List Linked → ℕ
+end_joined end_of end [] = end
+end_joined end_of end (one ∷ others) = end_joined end_of (end_of one) others
 
 abbrev pub begins_a_page : Segment → Linked → Bool
 begins_a_page segment one = is_page (alignment_of one.object segment)
@@ -71,8 +75,19 @@ alignment_joined segment linked = if list_any (begins_a_page segment) linked the
 -- a segment that is joined of pieces
 abbrev pub stored_joined : List Public → Segment → List Linked → StoredSegment
 stored_joined publics segment linked = record {
-  size = end_joined segment 0 linked;
+  size = end_joined (end_in segment) 0 linked;
   alignment = alignment_joined segment linked;
   runs = runs_joined publics segment [] linked;
   fixes = flat_map (piece_fixes publics segment) linked;
 }
+
+-- parts that are made of modules at their places, with these publics, length of the stack, and main module
+pub record AreJoined
+    (publics : List Public) (linked : List Linked) (stack : ℕ) (main : List ℕ × ℕ) (parts : ModuleParts) : Type 0 where
+  pub name : parts.name ≡ main.0
+  pub code : parts.code ≡ stored_joined publics Code linked
+  pub data_bytes : parts.data_bytes ≡ stored_joined publics Data linked
+  pub stack_length : parts.stack_length ≡ stack
+  pub publics : map owned_public_view parts.publics.items ≡ publics
+  pub externals : parts.externals.items ≡ []
+  pub start : parts.start ≡ Some main.1

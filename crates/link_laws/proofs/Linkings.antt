@@ -1,0 +1,71 @@
+-- What a linker answers, by what each of its steps gave.
+use Rattle.std.proofs.Common.{◌≡◌, ℕ, Bool, true, false, not, ◌==◌, List, [], ◌∷◌, All, length, map, slice_get, sum_by, Option, None, Some, option_map, Ok, Err, refl, ap, sym, ◌∙◌}
+use Rattle.std.specs.Option.{option_map_or}
+use Rattle.object_modules.specs.declared.object.ModuleParts.{ModuleParts}
+use Rattle.object_modules.specs.declared.public.OwnedPublic.{OwnedPublic}
+use Rattle.object_modules.specs.declared.segment.Segment.TheVariants.{Code, Data}
+use Rattle.object_modules.specs.Displacements.{Linked, linked_modules, all_publics}
+use Rattle.object_modules.specs.Merge.{LinkRefusal, main_modules, joined, public_names, unless_refused, link_refusal, merge_of}
+use Rattle.object_modules.specs.Module.{Public, ObjectModule, IsObjectModule}
+use Rattle.object_modules.specs.Views.{owned_public_view}
+use Rattle.object_files.proofs.Accepted.{public_name}
+use Rattle.object_merges.proofs.MergedParts.{AreMerged}
+use Rattle.object_merges.proofs.MergeValid.{names_from}
+use Rattle.link_laws.specs.internal.Building.{AreJoined, stored_joined}
+use Rattle.link_laws.specs.internal.Passes.{gathered, name_of}
+use Rattle.link_laws.proofs.NameLoops.{views_named}
+use Rattle.link_laws.proofs.Refusals.{all_gathered}
+use Rattle.link_laws.proofs.SegmentsMerged.{code_merged, data_merged}
+
+-- a refusal is what the merge is refused for
+pub is_refused :
+    (objects : List ObjectModule) (refusal : LinkRefusal) → link_refusal objects ≡ Some refusal
+    → merge_of objects ≡ Err refusal
+unfolding merge_of
+is_refused objects refusal h = ap (unless_refused (joined objects (linked_modules objects))) h
+
+-- names that were gathered are those of the publics of the merge
+pub names_same :
+    (objects : List ObjectModule) (names : List (List ℕ)) (publics : List OwnedPublic)
+    → gathered [] (public_names objects) ≡ Ok names
+    → map owned_public_view publics ≡ all_publics (linked_modules objects) → names ≡ map name_of publics
+names_same objects names publics known views =
+    (all_gathered (public_names objects) names known).all_is
+    ∙ sym (names_from 0 0 objects)
+    ∙ ap (map public_name) (sym views)
+    ∙ sym (views_named publics)
+
+-- where there is no first main module, there is not one
+no_first :
+    (mains : List (List ℕ × ℕ)) → None ≡ slice_get mains 0 → not (length mains == 1) ≡ true
+no_first [] h = refl
+no_first (main ∷ others) h = absurd (let bad : None ≡ Some main = h in cc)
+
+pub no_main :
+    (objects : List ObjectModule) → None ≡ slice_get (main_modules (linked_modules objects)) 0
+    → not (length (main_modules (linked_modules objects)) == 1) ≡ true
+no_main objects h = no_first (main_modules (linked_modules objects)) h
+
+-- parts that are joined are those of the merge
+pub joined_merged :
+    (objects : List ObjectModule) (publics : List Public) (linked : List Linked) (stack : ℕ) (main : List ℕ × ℕ)
+    (parts : ModuleParts)
+    → AreJoined publics linked stack main parts → linked ≡ linked_modules objects
+    → publics ≡ all_publics (linked_modules objects)
+    → stack ≡ sum_by (λ (object : ObjectModule). object.stack_length) objects
+    → Some main ≡ slice_get (main_modules (linked_modules objects)) 0 → All IsObjectModule objects
+    → AreMerged objects parts
+joined_merged objects publics linked stack main parts made these named deep first valid = record {
+  name =
+      made.name ∙ ap (λ (m : Option (List ℕ × ℕ)). option_map_or (λ (main : List ℕ × ℕ). main.0) m []) first;
+  code =
+      made.code ∙ ap (λ p. stored_joined p Code linked) named
+      ∙ ap (stored_joined (all_publics (linked_modules objects)) Code) these ∙ code_merged objects valid;
+  data_bytes =
+      made.data_bytes ∙ ap (λ p. stored_joined p Data linked) named
+      ∙ ap (stored_joined (all_publics (linked_modules objects)) Data) these ∙ data_merged objects valid;
+  stack_length = made.stack_length ∙ deep;
+  publics = made.publics ∙ named;
+  externals = made.externals;
+  start = made.start ∙ ap (λ (m : Option (List ℕ × ℕ)). option_map (λ (main : List ℕ × ℕ). main.1) m) first;
+}
