@@ -73,7 +73,3 @@ fault_among A error (Fault (Wrong held)) kinds (inl out) (same, no_help, no_want
 fault_among A error (Fault (Wrong held)) kinds (inr among) (same, no_help, no_want) =
     (λ e. no_help (sym (ap kind_of same) ∙ e), subst (λ (k : ErrorKind). IsAmong k kinds) (sym (ap kind_of same)) among)
 fault_among A error Memory kinds has is = tt
-
-pub some_texts : (xs : List (Bor Text)) → 0 < length (texts xs) → 0 < length xs
-some_texts [] some = some
-some_texts (x ∷ xs) some = omega arith

@@ -1,0 +1,2 @@
+pub use Rattle.files.specs.Files
+pub mod Reading

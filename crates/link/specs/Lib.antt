@@ -1,0 +1,2 @@
+pub use Rattle.object_modules.specs.Merge
+pub mod Merging

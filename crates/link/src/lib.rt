@@ -1,0 +1,6 @@
+//! Object modules merged into one.
+#![tactic(auto)]
+
+mod fault;
+
+pub use fault::LinkFault;

@@ -1,0 +1,1 @@
+pub use Rattle.object_modules.specs.Spelling
