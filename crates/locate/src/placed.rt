@@ -91,8 +91,8 @@ fn absolute_of(alloc: Global, object: &ObjectModule, plan: &Plan) -> Result<Abso
     Ok(absolute)
 }
 
-/// Places a module by a plan: the length of its stack is that of the plan. Nothing is placed where an external
-/// name is left or one of the other causes holds; the first in their order is the fault.
+/// Places a module by a plan: the length of its stack is that of the plan. Nothing is placed where an
+/// external name is left or one of the other causes holds; the first in their order is the fault.
 #[tactic(auto, using(crate::proofs::Placing::is_refused))]
 pub fn locate(
     alloc: Global,

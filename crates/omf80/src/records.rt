@@ -142,7 +142,8 @@ fn checksum(heading: &[u8], body: &[u8]) -> u8
     0_u8.wrapping_sub(total)
 }
 
-/// Writes a record with a type and a body of at most `BODY_LIMIT` bytes. After a failure the writer has a beginning of it.
+/// Writes a record with a type and a body of at most `BODY_LIMIT` bytes. After a failure the writer has a
+/// beginning of it.
 pub fn write_record<W: Write>(out: &mut W, kind: u8, body: &[u8]) -> Result<(), Failure<WriteFault>>
     requires { length body.now ≤ BODY_LIMIT }
     ensures ok { OnOk result (Appends (W.contents out.old) (W.contents out.new) (record_bytes kind body.now)) }
