@@ -100,7 +100,8 @@ pub fn locate(
     plan: &Plan,
 ) -> Result<Absolute, Failure<LocateFault>>
     ensures placed { IfOk result (λ absolute. IsPlaced (plan_view plan.now) object.now absolute) }
-    ensures refused { IfFault result (λ fault. image_of (plan_view plan.now) object.now ≡ Err (refusal_of fault)) }
+    ensures refused { IfFault result (λ fault.
+        image_of (plan_view plan.now) object.now ≡ Err (refusal_of fault)) }
 {
     match refusal(object, plan) {
         Some(fault) => Err(Failure::Fault(fault)),
