@@ -15,7 +15,7 @@ use crate::plan::Plan;
 use crate::putting::add_segment;
 use crate::refusals::refusal;
 use failure::Failure;
-use mem80::Piece;
+use mem80::{MEMORY_SIZE, Piece};
 use object_modules::{ObjectModule, OwnedPublic, Segment};
 use std::alloc::{AllocError, Global};
 
@@ -28,7 +28,7 @@ fn add_runs_of(
     segment: Segment,
     plan: &Plan,
 ) -> Result<(), AllocError>
-    requires { base_of (plan_view plan.now) segment + length (places_of object.now segment) ≤ 65536 }
+    requires { base_of (plan_view plan.now) segment + length (places_of object.now segment) ≤ MEMORY_SIZE }
     ensures { OnOk result (pieces.new.items
         ≡ with_pieces pieces.old.items (segment_pieces (plan_view plan.now) object.now segment)) }
 {
