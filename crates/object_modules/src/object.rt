@@ -16,7 +16,7 @@ use symbols::Name;
 
 /// What an object module is made of.
 pub struct ModuleParts {
-    /// Its own name, which may also be one of a public or an external name.
+    /// Its own name; a public or an external name may be the same.
     pub name: Name,
     /// The code segment.
     pub code: SegmentBytes,

@@ -109,14 +109,14 @@ impl SegmentBytes {
         self.alignment
     }
 
-    /// The bytes that are set, as it was made.
+    /// The runs of bytes that are set, as they were handed in.
     pub fn runs(&self) -> &[Run]
         ensures { result.now ≡ self.now.runs }
     {
         self.runs.as_slice()
     }
 
-    /// The places that depend on where something lies, as it was made.
+    /// The places that depend on where something lies, as they were handed in.
     pub fn fixes(&self) -> &[Fix]
         ensures { result.now ≡ self.now.fixes }
     {
