@@ -1,2 +1,3 @@
 pub use Rattle.object_modules.specs.Walking
-pub mod Views
+pub use Rattle.object_entries.specs.Views
+pub mod internal

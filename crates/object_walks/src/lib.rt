@@ -1,10 +1,11 @@
-//! Object files whose parts are handed out one after another.
+//! Walks over object files: the parts of a valid file, handed out one after another.
 #![tactic(auto)]
 
-mod content;
-mod judge;
+mod cursor;
+mod cursor_fixes;
+mod front;
 mod walks;
 
-pub use content::Content;
-pub use judge::walk;
+pub use front::walk;
+pub use object_entries::Content;
 pub use walks::Walk;

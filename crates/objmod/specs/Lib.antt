@@ -2,6 +2,5 @@ pub use Rattle.object_modules.specs.Module
 pub use Rattle.object_modules.specs.Spelling
 pub use Rattle.object_modules.specs.Text
 pub mod Numbers
-pub use Rattle.object_walks.specs.Views
 pub mod Streams
 pub mod internal

@@ -1,18 +1,19 @@
-//! The walk over a file, judged whole before it.
+//! A whole file is judged.
 
-ghost use Rattle.std.specs.Prelude.{◌≡◌, IfOk};
+ghost use Rattle.std.specs.Prelude.{IfOk};
 ghost use Rattle.failure.specs.Failure.{IfFault};
 ghost use Rattle.object_modules.specs.Module.{ObjectModule as ObjectValue};
 ghost use Rattle.object_modules.specs.Spelling.{Spells, HasFirstFault};
-ghost use Rattle.object_modules.specs.Walking.{WalksOver};
+ghost use Rattle.object_judgement.specs.Judging.{IsJudged};
 
-use crate::walks::Walk;
+use crate::header::Header;
 use failure::Failure;
 use object_modules::Fault;
 use std::alloc::Global;
 
-pub fn walk<'a>(alloc: Global, bytes: &'a [u8]) -> Result<Walk<'a>, Failure<Fault>>
-    ensures walk { IfOk result (λ walk. WalksOver bytes.now walk) }
+/// Judges a whole file. It takes memory for the names of the file, and gives it back.
+pub fn judge<'a>(alloc: Global, bytes: &'a [u8]) -> Result<Header<'a>, Failure<Fault>>
+    ensures judged { IfOk result (λ header. IsJudged bytes.now header) }
     ensures fault { IfFault result (λ fault. HasFirstFault bytes.now fault) }
     ensures none { IfFault result (λ _. (object : ObjectValue) → ¬ Spells bytes.now object) }
 {

@@ -1,4 +1,4 @@
-//! Contents of a file, as a walk hands them out.
+//! Contents of a file, as they stand in it.
 
 use object_modules::Segment;
 
