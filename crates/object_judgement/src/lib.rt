@@ -2,7 +2,7 @@
 #![tactic(auto)]
 
 mod header;
-mod judge;
+mod whole;
 
 pub use header::Header;
-pub use judge::judge;
+pub use whole::judge;
