@@ -1,6 +1,6 @@
 -- Entries that are put together one after another make the records of the groups that they are cut into.
 use Rattle.std.proofs.Common.{◌≡◌, ℕ, zero, suc, ◌+◌, ◌-◌, ◌<◌, ◌≤◌, Bool, true, false, cond, nat_lt, List, [], ◌∷◌, ◌++◌, length, map, flat_map, filter_map, filter, Option, Some, None, option_map, refl, ap, sym, subst, ◌∙◌, arith}
-use Rattle.std.specs.List.{onto_first}
+use Rattle.std.specs.List.{onto_first, cons_option}
 use Rattle.std.proofs.lemmas.Bool.{cond_both, cond-true, cond-false}
 use Rattle.std.proofs.lemmas.List.{append_assoc, append-nil, length-append}
 use Rattle.omf80.specs.declared.kind.RecordKind.{RecordKind}
@@ -8,7 +8,6 @@ use Rattle.omf80.specs.declared.kind.TheConstants.{BODY_LIMIT}
 use Rattle.omf80.specs.Records.{Record, bytes_of}
 use Rattle.object_modules.specs.Before.{is_empty}
 use Rattle.object_modules.specs.Text.{groups_after, groups_of, packed}
-use Rattle.core.specs.List.{cons_option}
 use Rattle.object_records.specs.Groups.{Group, empty_group, room_of, group_bytes, flushed, with_bytes, with_entry, last_record, records_of}
 
 module _ {A : Type 0} (kind : RecordKind) (front : List ℕ) (spell : A → List ℕ) (long : (x : A) → 0 < length (spell x)) where
@@ -69,7 +68,7 @@ module _ {A : Type 0} (kind : RecordKind) (front : List ℕ) (spell : A → List
       ap (λ b. group_bytes (with b) ++ flat_map record_for (onto_first x (group ∷ others))) (append-nil begun)
 
   -- the room that is left for entries
-  room : (begun : List ℕ) → ℕ
+  abbrev room : (begun : List ℕ) → ℕ
   room begun = room_of (with begun)
 
   abbrev limit : ℕ
@@ -159,3 +158,8 @@ pub flat_map_of_map :
     {A B C : Type 0} (f : B → List C) (g : A → B) (xs : List A) → flat_map f (map g xs) ≡ flat_map (λ x. f (g x)) xs
 flat_map_of_map f g [] = refl
 flat_map_of_map f g (x ∷ xs) = ap (λ r. f (g x) ++ r) (flat_map_of_map f g xs)
+
+pub map_of_map :
+    {A B C : Type 0} (f : B → C) (g : A → B) (xs : List A) → map f (map g xs) ≡ map (λ x. f (g x)) xs
+map_of_map f g [] = refl
+map_of_map f g (x ∷ xs) = ap (λ r. f (g x) ∷ r) (map_of_map f g xs)

@@ -54,3 +54,34 @@ on_ok_then (Err e) P Q p f = tt
 pub on_err_then : {T E : Type 0} (r : Result T E) (P Q : Type 0) → OnErr r P → (P → Q) → OnErr r Q
 on_err_then (Ok x) P Q p f = tt
 on_err_then (Err e) P Q p f = f p
+
+-- Two writes one after another, and three.
+pub first_begun : (a b : Option (List ℕ)) (part rest : List ℕ) → AppendsBeginning a b part → AppendsBeginning a b (part ++ rest)
+first_begun a b part rest (sent, begins, appended) =
+    (sent, (begins.0 ++ rest, ap (λ l. l ++ rest) begins.1 ∙ append_assoc sent begins.0 rest), appended)
+
+module _ (a b c : Option (List ℕ)) where
+  pub second_begun :
+      (part next rest : List ℕ) → Appends a b part → AppendsBeginning b c next
+      → AppendsBeginning a c (part ++ (next ++ rest))
+  second_begun part next rest = beginning_after a b c part next (part ++ (next ++ rest)) rest refl
+
+  pub last_of_two_begun :
+      (part next : List ℕ) → Appends a b part → AppendsBeginning b c next → AppendsBeginning a c (part ++ next)
+  last_of_two_begun part next =
+      beginning_after a b c part next (part ++ next) [] (ap (λ r. part ++ r) (sym (append-nil next)))
+
+module _ (a b c d : Option (List ℕ)) where
+  pub last_of_three_begun :
+      (part next third : List ℕ) → Appends a b part → Appends b c next → AppendsBeginning c d third
+      → AppendsBeginning a d (part ++ (next ++ third))
+  last_of_three_begun part next third one two =
+      beginning_after a c d (part ++ next) third (part ++ (next ++ third)) []
+      (sym (append_assoc part next third) ∙ ap (λ r. (part ++ next) ++ r) (sym (append-nil third)))
+      (Appends-trans a b c part next one two)
+
+  pub three :
+      (part next third : List ℕ) → Appends a b part → Appends b c next → Appends c d third
+      → Appends a d (part ++ (next ++ third))
+  three part next third one two last_one =
+      Appends-trans a b d part (next ++ third) one (Appends-trans b c d next third two last_one)

@@ -16,12 +16,12 @@ listed_entry entry =
       alignment = alignment_number entry.alignment;
     })
 
+abbrev pub bytes_of_entry : Option SegmentEntry → List ℕ
+bytes_of_entry None = []
+bytes_of_entry (Some entry) = segment_entry_bytes entry
+
 abbrev pub listed_bytes : CodeEntry → List ℕ
-listed_bytes entry = bytes_if (listed_entry entry)
-  where
-    bytes_if : Option SegmentEntry → List ℕ
-    bytes_if None = []
-    bytes_if (Some listed) = segment_entry_bytes listed
+listed_bytes entry = bytes_of_entry (listed_entry entry)
 
 -- the record of a module's name and of its segments that have bytes
 abbrev pub header_text : (name : List ℕ) → List CodeEntry → List ℕ

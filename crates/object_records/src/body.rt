@@ -1,9 +1,15 @@
 //! Bodies of records while they are filled.
 
-ghost use Rattle.std.specs.Prelude.{◌≡◌, ◌+◌, ◌-◌, ◌≤◌, [], ◌++◌, length, take};
+ghost use Rattle.std.specs.Prelude.{◌≡◌, ◌+◌, ◌≤◌, [], ◌++◌, length, take, OnOk, OnErr};
+ghost use Rattle.std.specs.Io.KnownBytes.{Appends};
+ghost use Rattle.omf80.specs.Records.{bytes_of};
+ghost use Rattle.writing.specs.Writing.{AppendsBeginning};
 
-use omf80::BODY_LIMIT;
+use failure::Failure;
+use omf80::{BODY_LIMIT, RecordKind, write_record};
+use std::io::Write;
 use std::marker::Model;
+use writing::WriteFault;
 
 /// A body of a record while it is filled. Contracts see the bytes that it has.
 #[derive(Drop)]
@@ -65,4 +71,19 @@ impl Body {
     {
         self.count = count;
     }
+}
+
+/// Writes a record of a kind with a body of at most 1027 bytes.
+pub fn write_body<W: Write>(
+    kind: RecordKind,
+    body: &[u8],
+    out: &mut W,
+) -> Result<(), Failure<WriteFault>>
+    requires { length body.now ≤ 1027 }
+    ensures ok { OnOk result (Appends (W.contents out.old) (W.contents out.new)
+        (bytes_of (record { kind = kind; body = body.now }))) }
+    ensures err { OnErr result (AppendsBeginning (W.contents out.old) (W.contents out.new)
+        (bytes_of (record { kind = kind; body = body.now }))) }
+{
+    write_record(out, kind.code(), body)
 }

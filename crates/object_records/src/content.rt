@@ -6,14 +6,14 @@ ghost use Rattle.object_modules.specs.Parts.{part_bytes};
 ghost use Rattle.writing.specs.Writing.{AppendsBeginning};
 ghost use Rattle.object_records.specs.Contents.{content_text};
 ghost use Rattle.object_records.specs.Groups.{flushed_by, records_of, with_item};
-ghost use Rattle.object_records.specs.internal.Fixes.{content_part, fix_entry, fixes_to, group_for, kind_text, name_entry, other_text, others_text, place_entry, fixes_text};
+ghost use Rattle.object_records.specs.internal.Fixes.{content_part, fix_entry, fixes_to, group_for, kind_text, lists_segment, name_entry, other_text, others_text, place_entry, fixes_text};
 
-use crate::body::Body;
+use crate::body::{Body, write_body};
 use crate::group::Group;
 use crate::numbers::{number_of_kind, number_of_segment, word};
 use failure::Failure;
 use object_modules::{Fix, FixKind, Segment, Target};
-use omf80::{RecordKind, write_record};
+use omf80::RecordKind;
 use std::io::Write;
 use writing::WriteFault;
 
@@ -59,6 +59,18 @@ fn add_to_name<W: Write>(
     }
 }
 
+// Whether the fixes to a segment are among those listed.
+fn lists_segment(referred: Referred, target: Segment) -> bool
+    ensures { result ≡ lists_segment referred target }
+{
+    match referred {
+        Referred::Names => false,
+        Referred::Own(segment) | Referred::Other(segment) => {
+            number_of_segment(target) == number_of_segment(segment)
+        }
+    }
+}
+
 // Adds a place that refers to a segment, if it is the one whose places are listed.
 fn add_to_segment<W: Write>(
     group: &mut Group,
@@ -73,15 +85,10 @@ fn add_to_segment<W: Write>(
         (flushed_by group.old (place_entry referred target offset))) }
     ensures group { OnOk result (group.new ≡ with_item group.old (place_entry referred target offset)) }
 {
-    match referred {
-        Referred::Names => Ok(()),
-        Referred::Own(segment) | Referred::Other(segment) => {
-            if number_of_segment(target) == number_of_segment(segment) {
-                group.add_offset(offset, out)
-            } else {
-                Ok(())
-            }
-        }
+    if lists_segment(referred, target) {
+        group.add_offset(offset, out)
+    } else {
+        Ok(())
     }
 }
 
@@ -215,7 +222,7 @@ fn write_bytes_at<W: Write>(
     let [low, high] = word(offset);
     body.put(&[number_of_segment(segment), low, high]);
     body.put(bytes);
-    write_record(out, RecordKind::Content.code(), body.as_slice())
+    write_body(RecordKind::Content, body.as_slice(), out)
 }
 
 /// Writes the record of at most 1024 bytes that are set from an offset on, and those of their fixes, which stand

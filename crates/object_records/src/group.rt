@@ -1,17 +1,18 @@
 //! Entries of records, put together as far as whole entries fit.
 
-ghost use Rattle.std.specs.Prelude.{◌≡◌, ◌+◌, ◌≤◌, [], ◌∷◌, ◌++◌, length, take, OnOk, OnErr};
+ghost use Rattle.std.specs.Prelude.{◌≡◌, ◌+◌, ◌≤◌, not, [], ◌∷◌, ◌++◌, length, take, OnOk, OnErr};
 ghost use Rattle.std.specs.Io.KnownBytes.{Appends};
 ghost use Rattle.omf80.specs.Records.{word_bytes};
+ghost use Rattle.object_modules.specs.Before.{is_empty};
 ghost use Rattle.object_modules.specs.Parts.{segment_number, fix_kind_number, listed_name_bytes, definition_bytes, reference_bytes};
 ghost use Rattle.writing.specs.Writing.{AppendsBeginning};
 ghost use Rattle.object_records.specs.Groups.{empty_group, group_bytes, flushed, with_room, with_bytes, with_entry, last_record};
 
-use crate::body::Body;
+use crate::body::{Body, write_body};
 use crate::numbers::{number_of_kind, number_of_segment, word};
 use failure::Failure;
 use object_modules::{FixKind, Segment};
-use omf80::{BODY_LIMIT, RecordKind, write_record};
+use omf80::{BODY_LIMIT, RecordKind};
 use std::io::Write;
 use std::marker::Model;
 use writing::WriteFault;
@@ -107,7 +108,7 @@ impl Group {
         ensures err { OnErr result
             (AppendsBeginning (W.contents out.old) (W.contents out.new) (group_bytes self.now)) }
     {
-        write_record(out, self.kind.code(), self.body.as_slice())
+        write_body(self.kind, self.body.as_slice(), out)
     }
 
     // How many bytes its body has.
@@ -234,13 +235,21 @@ impl Group {
         self.add(&word(offset), &[], &[], out)
     }
 
+    // Whether it has an entry.
+    #[tactic(auto, using(crate::proofs::Bodies::has_begun))]
+    fn has_entries(&self) -> bool
+        ensures { result ≡ not (is_empty self.now.begun) }
+    {
+        self.front < self.body.len()
+    }
+
     /// Writes the record that is begun, if it has an entry.
     pub fn finish<W: Write>(&self, out: &mut W) -> Result<(), Failure<WriteFault>>
         ensures ok { OnOk result (Appends (W.contents out.old) (W.contents out.new) (last_record self.now)) }
         ensures err { OnErr result
             (AppendsBeginning (W.contents out.old) (W.contents out.new) (last_record self.now)) }
     {
-        if self.front < self.body.len() {
+        if self.has_entries() {
             self.write(out)
         } else {
             Ok(())

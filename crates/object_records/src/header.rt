@@ -5,11 +5,11 @@ ghost use Rattle.std.specs.Io.KnownBytes.{Appends};
 ghost use Rattle.writing.specs.Writing.{AppendsBeginning};
 ghost use Rattle.object_records.specs.Contents.{end_text, header_text, listed_bytes, module_end_text};
 
-use crate::body::Body;
+use crate::body::{Body, write_body};
 use crate::numbers::{number_of_alignment, number_of_segment, word};
 use failure::Failure;
 use object_modules::{Alignment, Segment};
-use omf80::{RecordKind, write_record};
+use omf80::RecordKind;
 use std::io::Write;
 use writing::WriteFault;
 
@@ -64,7 +64,7 @@ pub fn write_header<W: Write>(
     body.put(name);
     body.put(&[0, 0]);
     put_entries(&mut body, entries);
-    write_record(out, RecordKind::Header.code(), body.as_slice())
+    write_body(RecordKind::Header, body.as_slice(), out)
 }
 
 // Writes the record of the end of a module.
@@ -76,9 +76,9 @@ fn write_module_end<W: Write>(start: Option<u16>, out: &mut W) -> Result<(), Fai
     match start {
         Some(offset) => {
             let [low, high] = word(offset);
-            write_record(out, RecordKind::ModuleEnd.code(), &[1, 1, low, high])
+            write_body(RecordKind::ModuleEnd, &[1, 1, low, high], out)
         }
-        None => write_record(out, RecordKind::ModuleEnd.code(), &[0, 0, 0, 0]),
+        None => write_body(RecordKind::ModuleEnd, &[0, 0, 0, 0], out),
     }
 }
 
@@ -89,5 +89,5 @@ pub fn write_end<W: Write>(out: &mut W, start: Option<u16>) -> Result<(), Failur
     ensures err { OnErr result (AppendsBeginning (W.contents out.old) (W.contents out.new) (end_text start)) }
 {
     write_module_end(start, out)?;
-    write_record(out, RecordKind::EndOfFile.code(), &[])
+    write_body(RecordKind::EndOfFile, &[], out)
 }

@@ -2,12 +2,13 @@
 
 ghost use Rattle.std.specs.Prelude.{◌≡◌, map, flat_map, OnOk, OnErr};
 ghost use Rattle.std.specs.Io.KnownBytes.{Appends};
+ghost use Rattle.object_modules.specs.Before.{same_segment};
 ghost use Rattle.object_modules.specs.Parts.{part_bytes};
 ghost use Rattle.object_modules.specs.Text.{external_parts, public_parts};
 ghost use Rattle.object_modules.specs.Views.{owned_public_view};
 ghost use Rattle.writing.specs.Writing.{AppendsBeginning};
 ghost use Rattle.object_records.specs.Groups.{flushed_by, records_of, with_item};
-ghost use Rattle.object_records.specs.internal.Named.{name_entry, public_entry};
+ghost use Rattle.object_records.specs.internal.Named.{name_entry, owned_entry};
 
 use crate::group::Group;
 use crate::numbers::number_of_segment;
@@ -28,6 +29,13 @@ fn add_name<W: Write>(group: &mut Group, name: &Name, out: &mut W) -> Result<(),
     group.add_name(name.as_slice(), out)
 }
 
+// Whether a public name is in a segment.
+fn is_in(public: &OwnedPublic, segment: Segment) -> bool
+    ensures { result ≡ same_segment public.now.segment segment }
+{
+    number_of_segment(public.segment) == number_of_segment(segment)
+}
+
 // Adds a public name, if it is one of a segment.
 #[tactic(auto, using(crate::proofs::Entries::name_short))]
 fn add_public<W: Write>(
@@ -37,13 +45,13 @@ fn add_public<W: Write>(
     out: &mut W,
 ) -> Result<(), Failure<WriteFault>>
     ensures ok { OnOk result (Appends (W.contents out.old) (W.contents out.new)
-        (flushed_by group.old (public_entry segment (owned_public_view public.now)))) }
+        (flushed_by group.old (owned_entry segment public.now))) }
     ensures err { OnErr result (AppendsBeginning (W.contents out.old) (W.contents out.new)
-        (flushed_by group.old (public_entry segment (owned_public_view public.now)))) }
+        (flushed_by group.old (owned_entry segment public.now))) }
     ensures group { OnOk result
-        (group.new ≡ with_item group.old (public_entry segment (owned_public_view public.now))) }
+        (group.new ≡ with_item group.old (owned_entry segment public.now)) }
 {
-    if number_of_segment(public.segment) == number_of_segment(segment) {
+    if is_in(public, segment) {
         group.add_definition(public.offset, public.name.as_slice(), out)
     } else {
         Ok(())
@@ -75,9 +83,9 @@ fn write_definitions<W: Write>(
     out: &mut W,
 ) -> Result<(), Failure<WriteFault>>
     ensures ok { OnOk result (Appends (W.contents out.old) (W.contents out.new)
-        (records_of group.old (map (public_entry segment) (map owned_public_view publics.now)))) }
+        (records_of group.old (map (owned_entry segment) publics.now))) }
     ensures err { OnErr result (AppendsBeginning (W.contents out.old) (W.contents out.new)
-        (records_of group.old (map (public_entry segment) (map owned_public_view publics.now)))) }
+        (records_of group.old (map (owned_entry segment) publics.now))) }
 {
     for public in publics {
         add_public(group, segment, public, out)?;

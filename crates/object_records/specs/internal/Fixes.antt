@@ -1,5 +1,5 @@
 -- The entries of fixes, and the records of those of a content.
-use Rattle.std.specs.Prelude.{ℕ, if◌then◌else◌, List, [], ◌∷◌, ◌++◌, map, Option, Some, None}
+use Rattle.std.specs.Prelude.{ℕ, Bool, false, if◌then◌else◌, List, [], ◌∷◌, ◌++◌, map, Option, Some, None}
 use Rattle.omf80.specs.declared.kind.RecordKind.TheVariants as kinds
 use Rattle.omf80.specs.Records.{word_bytes}
 use Rattle.object_modules.specs.declared.segment.Fix.{Fix}
@@ -22,16 +22,20 @@ group_for (Own own) kind = empty_group kinds.Relocation (fix_kind_number kind �
 group_for (Other target) kind =
     empty_group kinds.IntersegmentReferences (segment_number target ∷ fix_kind_number kind ∷ [])
 
--- the entry of a place that refers to an external name, and of one that refers to a segment
+-- the entry of a place that refers to an external name
 abbrev pub name_entry : Referred → (external offset : ℕ) → Option (List ℕ)
 name_entry Names external offset = Some (reference_bytes (record { external = external; offset = offset }))
 name_entry (Own own) external offset = None
 name_entry (Other other) external offset = None
 
+-- the fixes to a segment are among those listed
+abbrev pub lists_segment : Referred → Segment → Bool
+lists_segment Names target = false
+lists_segment (Own own) target = same_segment target own
+lists_segment (Other other) target = same_segment target other
+
 abbrev pub place_entry : Referred → Segment → (offset : ℕ) → Option (List ℕ)
-place_entry Names target offset = None
-place_entry (Own own) target offset = if same_segment target own then Some (word_bytes offset) else None
-place_entry (Other other) target offset = if same_segment target other then Some (word_bytes offset) else None
+place_entry referred target offset = if lists_segment referred target then Some (word_bytes offset) else None
 
 abbrev pub target_entry : Referred → Target → (offset : ℕ) → Option (List ℕ)
 target_entry referred (InSegment segment) offset = place_entry referred segment offset
