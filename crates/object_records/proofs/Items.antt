@@ -6,18 +6,18 @@ use Rattle.writing.specs.Writing.{AppendsBeginning}
 use Rattle.object_records.specs.Groups.{Group, flushed_by, last_record, records_of, with_item}
 use Rattle.object_records.proofs.Sequences.{HasWritten, more, begun}
 
-module _ {X : Type 0} (entry : X → Option (List ℕ)) (group : Group) (items : List X) (index : ℕ) (item : X) where
+module _ {X : Type 0} (entry : X → Option (List ℕ)) (group : Group) (items : List X) (index : ℕ) (item d : X) where
   left_here :
-      index < length items → item ≡ get_or items index item
+      index < length items → item ≡ get_or items index d
       → records_of group (map entry (drop index items))
       ≡ flushed_by group (entry item) ++ records_of (with_item group (entry item)) (map entry (drop (index + 1) items))
   left_here within is =
       ap (λ xs. records_of group (map entry xs))
-      (drop_more items index item within ∙ ap (λ x. x ∷ drop (index + 1) items) (sym is))
+      (drop_more items index d within ∙ ap (λ x. x ∷ drop (index + 1) items) (sym is))
 
   pub item_written :
       (a b c : Option (List ℕ)) (next : Group) (all : List ℕ) → index < length items
-      → item ≡ get_or items index item
+      → item ≡ get_or items index d
       → HasWritten a b (records_of group (map entry (drop index items))) all
       → Appends b c (flushed_by group (entry item)) → next ≡ with_item group (entry item)
       → HasWritten a c (records_of next (map entry (drop (index + 1) items))) all
@@ -27,7 +27,7 @@ module _ {X : Type 0} (entry : X → Option (List ℕ)) (group : Group) (items :
       (records_of (with_item group (entry item)) (map entry (drop (index + 1) items))) all h (left_here within is) written)
 
   pub item_begun :
-      (a b c : Option (List ℕ)) (all : List ℕ) → index < length items → item ≡ get_or items index item
+      (a b c : Option (List ℕ)) (all : List ℕ) → index < length items → item ≡ get_or items index d
       → HasWritten a b (records_of group (map entry (drop index items))) all
       → AppendsBeginning b c (flushed_by group (entry item)) → AppendsBeginning a c all
   item_begun a b c all within is h written =

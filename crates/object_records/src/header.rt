@@ -2,6 +2,7 @@
 
 ghost use Rattle.std.specs.Prelude.{◌≡◌, ◌+◌, ◌*◌, ◌≤◌, ◌++◌, length, flat_map, OnOk, OnErr};
 ghost use Rattle.std.specs.Io.KnownBytes.{Appends};
+ghost use Rattle.omf80.specs.Records.{bytes_of};
 ghost use Rattle.writing.specs.Writing.{AppendsBeginning};
 ghost use Rattle.object_records.specs.Contents.{end_text, header_text, listed_bytes, module_end_text};
 
@@ -45,9 +46,23 @@ fn put_entries(body: &mut Body, entries: &[SegmentEntry])
     }
 }
 
+// The body of a header.
+#[tactic(auto, using(crate::proofs::Entries::header_is))]
+fn header_body(name: &[u8], entries: &[SegmentEntry]) -> Body
+    requires name { length name.now ≤ 31 }
+    requires entries { length entries.now ≤ 3 }
+    ensures { bytes_of (record { kind = RecordKind.Header; body = result }) ≡ header_text name.now entries.now }
+{
+    let mut body = Body::new();
+    body.put(&[name.len() as u8]);
+    body.put(name);
+    body.put(&[0, 0]);
+    put_entries(&mut body, entries);
+    body
+}
+
 /// Writes the record of a module's name, and of its segments that have bytes, in order. After a failure the
 /// writer has a beginning of it.
-#[tactic(auto, using(crate::proofs::Entries::header_is))]
 pub fn write_header<W: Write>(
     out: &mut W,
     name: &[u8],
@@ -59,11 +74,7 @@ pub fn write_header<W: Write>(
     ensures err { OnErr result
         (AppendsBeginning (W.contents out.old) (W.contents out.new) (header_text name.now entries.now)) }
 {
-    let mut body = Body::new();
-    body.put(&[name.len() as u8]);
-    body.put(name);
-    body.put(&[0, 0]);
-    put_entries(&mut body, entries);
+    let body = header_body(name, entries);
     write_body(RecordKind::Header, body.as_slice(), out)
 }
 

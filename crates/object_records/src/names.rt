@@ -107,7 +107,7 @@ pub fn write_external_names<W: Write>(out: &mut W, names: &[Name]) -> Result<(),
 
 /// Writes the records of those public names that are in a segment, in their order. After a failure the writer
 /// has a beginning of them.
-#[tactic(auto, using(crate::proofs::Entries::publics_are))]
+#[tactic(auto, using(crate::proofs::Entries::owned_are))]
 pub fn write_publics<W: Write>(
     out: &mut W,
     segment: Segment,

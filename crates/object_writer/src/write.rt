@@ -1,17 +1,18 @@
 //! The one text of an object module.
 
-ghost use Rattle.std.specs.Prelude.{◌≡◌, ◌∷◌, ◌++◌, [], map, flat_map, OnOk, OnErr};
+ghost use Rattle.std.specs.Prelude.{◌≡◌, map, flat_map, OnOk, OnErr};
 ghost use Rattle.std.specs.Io.KnownBytes.{Appends};
 ghost use Rattle.object_modules.specs.Module.{IsObjectModule, alignment_of, length_of};
 ghost use Rattle.object_modules.specs.Parts.{part_bytes};
 ghost use Rattle.object_modules.specs.Text.{header_for, segment_parts, text_of};
+ghost use Rattle.object_modules.specs.Views.{owned_public_view};
 ghost use Rattle.writing.specs.Writing.{AppendsBeginning};
-ghost use Rattle.object_writer.specs.internal.Texts.{contents_text, names_text, publics_text};
+ghost use Rattle.object_writer.specs.internal.Texts.{names_text, publics_text, rest_text};
 
 use crate::cuts::fixes_before;
 use crate::run::write_run;
 use failure::Failure;
-use object_modules::{ObjectModule, Segment};
+use object_modules::{ObjectModule, OwnedPublic, Segment};
 use object_records::{SegmentEntry, write_end, write_external_names, write_header, write_publics};
 use std::io::Write;
 use writing::WriteFault;
@@ -47,12 +48,12 @@ fn write_front<W: Write>(object: &ObjectModule, out: &mut W) -> Result<(), Failu
 }
 
 // Writes the public names, by segments.
-fn write_all_publics<W: Write>(object: &ObjectModule, out: &mut W) -> Result<(), Failure<WriteFault>>
-    ensures ok { OnOk result (Appends (W.contents out.old) (W.contents out.new) (publics_text object.now)) }
-    ensures err { OnErr result
-        (AppendsBeginning (W.contents out.old) (W.contents out.new) (publics_text object.now)) }
+fn write_all_publics<W: Write>(publics: &[OwnedPublic], out: &mut W) -> Result<(), Failure<WriteFault>>
+    ensures ok { OnOk result (Appends (W.contents out.old) (W.contents out.new)
+        (publics_text (map owned_public_view publics.now))) }
+    ensures err { OnErr result (AppendsBeginning (W.contents out.old) (W.contents out.new)
+        (publics_text (map owned_public_view publics.now))) }
 {
-    let publics = object.publics();
     write_publics(out, Segment::Absolute, publics)?;
     write_publics(out, Segment::Code, publics)?;
     write_publics(out, Segment::Data, publics)
@@ -65,7 +66,7 @@ fn write_names<W: Write>(object: &ObjectModule, out: &mut W) -> Result<(), Failu
         (AppendsBeginning (W.contents out.old) (W.contents out.new) (names_text object.now)) }
 {
     write_external_names(out, object.externals())?;
-    write_all_publics(object, out)
+    write_all_publics(object.publics(), out)
 }
 
 // Writes the contents of a segment.
@@ -81,24 +82,27 @@ fn write_segment<W: Write>(
         (flat_map part_bytes (segment_parts object.now segment))) }
 {
     let mut rest = object.fixes(segment);
-    for run in object.runs(segment) {
+    let runs = object.runs(segment);
+    for run in runs {
+        let offset = run.offset();
         let bytes = run.bytes();
-        let count = fixes_before(rest, run.offset() as usize + bytes.len());
-        write_run(out, segment, run.offset(), bytes, &rest[..count])?;
+        let count = fixes_before(rest, offset as usize + bytes.len());
+        write_run(out, segment, offset, bytes, &rest[..count])?;
         rest = &rest[count..];
     }
     Ok(())
 }
 
-// Writes the contents.
-fn write_contents<W: Write>(object: &ObjectModule, out: &mut W) -> Result<(), Failure<WriteFault>>
+// Writes the contents and the end.
+fn write_rest<W: Write>(object: &ObjectModule, out: &mut W) -> Result<(), Failure<WriteFault>>
     requires { IsObjectModule object.now }
-    ensures ok { OnOk result (Appends (W.contents out.old) (W.contents out.new) (contents_text object.now)) }
+    ensures ok { OnOk result (Appends (W.contents out.old) (W.contents out.new) (rest_text object.now)) }
     ensures err { OnErr result
-        (AppendsBeginning (W.contents out.old) (W.contents out.new) (contents_text object.now)) }
+        (AppendsBeginning (W.contents out.old) (W.contents out.new) (rest_text object.now)) }
 {
     write_segment(object, Segment::Code, out)?;
-    write_segment(object, Segment::Data, out)
+    write_segment(object, Segment::Data, out)?;
+    write_end(out, object.start())
 }
 
 /// Writes the one text of a module: header, external names, public names by segments, contents with their fixes,
@@ -110,6 +114,5 @@ pub fn write<W: Write>(object: &ObjectModule, out: &mut W) -> Result<(), Failure
 {
     write_front(object, out)?;
     write_names(object, out)?;
-    write_contents(object, out)?;
-    write_end(out, object.start())
+    write_rest(object, out)
 }

@@ -1,4 +1,4 @@
-use Rattle.std.proofs.Common.{arith}
+use Rattle.std.proofs.Common.{refl, arith}
 use Rattle.object_records.specs.internal.Fixes.{fix_entry}
 use Rattle.writing.proofs.WritingLemmas.{on_err}
 use Rattle.object_records.proofs.Sequences.{none_yet, last, last_begun, on_ok_then, on_err_then}
@@ -10,14 +10,14 @@ loop-fix-init g c = none_yet _ _
 
 pub loop-fix-preserved : goal.loop-fix-preserved
 loop-fix-preserved g c =
-    item_written (fix_entry c.args.referred c.args.kind) c.loop-fix.group c.args.fixes.now c.loop-fix.fix-index c.fix-item.result _ _ _ _ _
-    (omega arith) c.fix-item.is c.loop-fix.invariant c.in_ok-add_fix.ensures.ok c.in_ok-add_fix.ensures.group
+    item_written (fix_entry c.args.referred c.args.kind) c.loop-fix.group c.args.fixes.now c.loop-fix.fix-index _ _ _ _ _ _ _
+    (omega arith) refl c.loop-fix.invariant c.in_ok-add_fix.ensures.ok c.in_ok-add_fix.ensures.group
 
 pub returns-in_err-add_fix-clause-err : goal.returns-in_err-add_fix-clause-err
 returns-in_err-add_fix-clause-err g c =
     on_err c.from_residual.result _
-    (item_begun (fix_entry c.args.referred c.args.kind) c.loop-fix.group c.args.fixes.now c.loop-fix.fix-index c.fix-item.result _ _ _ _
-    (omega arith) c.fix-item.is c.loop-fix.invariant c.in_err-add_fix.ensures.err)
+    (item_begun (fix_entry c.args.referred c.args.kind) c.loop-fix.group c.args.fixes.now c.loop-fix.fix-index _ _ _ _ _ _
+    (omega arith) refl c.loop-fix.invariant c.in_err-add_fix.ensures.err)
 
 pub returns-clause-ok : goal.returns-clause-ok
 returns-clause-ok g c =

@@ -1,0 +1,8 @@
+use Rattle.std.proofs.Common.{drop}
+use Rattle.object_writer.proofs.RunsLeft.{SegmentLeft}
+use Rattle.object_writer.proofs.write.write_segment.Given as goal
+
+abbrev pub invariant-loop-run : goal.invariant-loop-run
+invariant-loop-run g l =
+    SegmentLeft l.object l.segment (drop l.run-index l.runs) l.rest (g.W.Write.contents l.initial.out)
+    (g.W.Write.contents l.out)
