@@ -1,6 +1,6 @@
 -- What is left of a run and of a segment while their contents are written.
-use Rattle.std.proofs.Common.{◌≡◌, ℕ, zero, suc, ◌+◌, ◌-◌, ◌<◌, ◌≤◌, List, [], ◌∷◌, ◌++◌, length, map, flat_map, take, drop, Option, refl, ap, sym, subst, ◌∙◌, arith}
-use Rattle.std.proofs.lemmas.List.{length-map, length-take, take-map, drop-map, take_at, drop_at}
+use Rattle.std.proofs.Common.{◌≡◌, ℕ, zero, suc, ◌+◌, ◌-◌, ◌<◌, ◌≤◌, List, [], ◌∷◌, ◌++◌, length, map, flat_map, take, drop, get_or, Option, refl, ap, sym, subst, ◌∙◌, arith}
+use Rattle.std.proofs.lemmas.List.{length-map, length-take, take-map, drop-map, take_at, drop_at, drop_more, drop_all}
 use Rattle.std.proofs.lemmas.Grind.{flat_map-append}
 use Rattle.std.specs.Io.KnownBytes.{Appends}
 use Rattle.writing.specs.Writing.{AppendsBeginning}
@@ -238,3 +238,61 @@ pub segment_ended :
     → SegmentLeft object segment [] rest a b → Appends a b (flat_map part_bytes (segment_parts object segment))
 segment_ended object segment rest a b h =
     whole a b [] (flat_map part_bytes (segment_parts object segment)) h.written refl
+
+-- The next run of a segment, as the code has it.
+module _ (object : ObjectModule) (segment : Segment) (runs : List (Run ℕ)) (index offset count : ℕ) (run d : Run ℕ)
+         (bytes : List ℕ) (rest : List Fix) (within : index < length runs) (is : run ≡ get_or runs index d)
+         (offset_is : offset ≡ run.offset) (bytes_are : bytes ≡ run.items)
+         (count_is : count ≡ count_before rest (offset + length bytes)) (a b : Option (List ℕ))
+         (h : SegmentLeft object segment (drop index runs) rest a b) where
+  abbrev others : List (Run ℕ)
+  others = drop (index + 1) runs
+
+  here : SegmentLeft object segment (run ∷ others) rest a b
+  here =
+      subst (λ rs. SegmentLeft object segment rs rest a b)
+      (drop_more runs index d within ∙ ap (λ r. r ∷ others) (sym is)) h
+
+  its_count : count ≡ count_before rest (run.offset + length run.items)
+  its_count =
+      count_is ∙ ap (λ o. count_before rest (o + length bytes)) offset_is
+      ∙ ap (λ bs. count_before rest (run.offset + length bs)) bytes_are
+
+  its_text : run_text segment offset bytes (take count rest) ≡ run_text segment run.offset run.items (take count rest)
+  its_text =
+      ap (λ o. run_text segment o bytes (take count rest)) offset_is
+      ∙ ap (λ bs. run_text segment run.offset bs (take count rest)) bytes_are
+
+  pub next_fixes : AreFixesOf offset bytes (take count rest)
+  next_fixes =
+      subst (λ o. AreFixesOf o bytes (take count rest)) (sym offset_is)
+      (subst (λ bs. AreFixesOf run.offset bs (take count rest)) (sym bytes_are)
+      (fixes_of_first object segment run others rest count its_count a b here))
+
+  pub next_within : length (places_of object segment) ≤ 65535 → offset + length bytes ≤ 65535
+  next_within few =
+      let ends : run.offset + length run.items ≤ length (places_of object segment) =
+      first_within object segment run others rest count its_count a b here in
+      let long : length bytes ≡ length run.items = ap length bytes_are in
+      omega (arith, ends, few, long, offset_is)
+
+  pub next_more :
+      (c : Option (List ℕ)) → Appends b c (run_text segment offset bytes (take count rest))
+      → SegmentLeft object segment others (drop count rest) a c
+  next_more c written =
+      segment_more object segment run others rest count its_count a b here c (subst (Appends b c) its_text written)
+
+  pub next_begun :
+      (c : Option (List ℕ)) → AppendsBeginning b c (run_text segment offset bytes (take count rest))
+      → AppendsBeginning a c (flat_map part_bytes (segment_parts object segment))
+  next_begun c written =
+      segment_begun object segment run others rest count its_count a b here c
+      (subst (AppendsBeginning b c) its_text written)
+
+pub all_runs :
+    (object : ObjectModule) (segment : Segment) (runs : List (Run ℕ)) (index : ℕ) (rest : List Fix)
+    → (a b : Option (List ℕ)) → length runs ≤ index → SegmentLeft object segment (drop index runs) rest a b
+    → Appends a b (flat_map part_bytes (segment_parts object segment))
+all_runs object segment runs index rest a b past h =
+    segment_ended object segment rest a b
+    (subst (λ rs. SegmentLeft object segment rs rest a b) (drop_all index runs past) h)

@@ -1,6 +1,6 @@
 //! Where runs are cut into contents.
 
-ghost use Rattle.std.specs.Prelude.{◌≡◌, ◌≤◌, length};
+ghost use Rattle.std.specs.Prelude.{◌≡◌, ◌<◌, ◌≤◌, length};
 ghost use Rattle.object_modules.specs.Module.{is_both};
 ghost use Rattle.object_writer.specs.internal.Cuts.{count_before, cut_by, word_at};
 
@@ -43,7 +43,10 @@ fn begins_word(fixes: &[Fix], place: usize) -> bool
 /// How many bytes the next content takes of those that are left of a run, from a place on.
 pub fn size_of_cut(left: usize, place: usize, fixes: &[Fix]) -> usize
     requires { place ≤ 65535 }
-    ensures { result ≡ cut_by fixes.now place left }
+    ensures size { result ≡ cut_by fixes.now place left }
+    ensures within { result ≤ left }
+    ensures limit { result ≤ 1024 }
+    ensures some { 0 < left → 0 < result }
 {
     if left < CONTENT_LIMIT {
         left
