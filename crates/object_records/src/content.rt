@@ -184,7 +184,11 @@ fn write_other<W: Write>(
 }
 
 // Writes the records of the fixes to other segments than that of the content, by their numbers.
-fn write_others<W: Write>(own: Segment, fixes: &[Fix], out: &mut W) -> Result<(), Failure<WriteFault>>
+fn write_others<W: Write>(
+    own: Segment,
+    fixes: &[Fix],
+    out: &mut W,
+) -> Result<(), Failure<WriteFault>>
     ensures ok { OnOk result (Appends (W.contents out.old) (W.contents out.new) (others_text own fixes.now)) }
     ensures err { OnErr result
         (AppendsBeginning (W.contents out.old) (W.contents out.new) (others_text own fixes.now)) }
@@ -195,7 +199,11 @@ fn write_others<W: Write>(own: Segment, fixes: &[Fix], out: &mut W) -> Result<()
 }
 
 // Writes the records of the fixes of a content.
-fn write_fixes<W: Write>(own: Segment, fixes: &[Fix], out: &mut W) -> Result<(), Failure<WriteFault>>
+fn write_fixes<W: Write>(
+    own: Segment,
+    fixes: &[Fix],
+    out: &mut W,
+) -> Result<(), Failure<WriteFault>>
     ensures ok { OnOk result (Appends (W.contents out.old) (W.contents out.new) (fixes_text own fixes.now)) }
     ensures err { OnErr result
         (AppendsBeginning (W.contents out.old) (W.contents out.new) (fixes_text own fixes.now)) }

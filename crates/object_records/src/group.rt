@@ -177,7 +177,11 @@ impl Group {
     }
 
     /// Adds an external name of at most 31 characters.
-    pub fn add_name<W: Write>(&mut self, name: &[u8], out: &mut W) -> Result<(), Failure<WriteFault>>
+    pub fn add_name<W: Write>(
+        &mut self,
+        name: &[u8],
+        out: &mut W,
+    ) -> Result<(), Failure<WriteFault>>
         requires { length name.now ≤ 31 }
         ensures ok { OnOk result (Appends (W.contents out.old) (W.contents out.new)
             (flushed self.old (length (listed_name_bytes name.now)))) }
@@ -225,7 +229,11 @@ impl Group {
     }
 
     /// Adds the offset of a place.
-    pub fn add_offset<W: Write>(&mut self, offset: u16, out: &mut W) -> Result<(), Failure<WriteFault>>
+    pub fn add_offset<W: Write>(
+        &mut self,
+        offset: u16,
+        out: &mut W,
+    ) -> Result<(), Failure<WriteFault>>
         ensures ok { OnOk result (Appends (W.contents out.old) (W.contents out.new)
             (flushed self.old (length (word_bytes offset)))) }
         ensures err { OnErr result (AppendsBeginning (W.contents out.old) (W.contents out.new)

@@ -19,7 +19,11 @@ use writing::WriteFault;
 
 // Adds a name.
 #[tactic(auto, using(crate::proofs::Entries::name_short))]
-fn add_name<W: Write>(group: &mut Group, name: &Name, out: &mut W) -> Result<(), Failure<WriteFault>>
+fn add_name<W: Write>(
+    group: &mut Group,
+    name: &Name,
+    out: &mut W,
+) -> Result<(), Failure<WriteFault>>
     ensures ok { OnOk result
         (Appends (W.contents out.old) (W.contents out.new) (flushed_by group.old (name_entry name.now))) }
     ensures err { OnErr result
@@ -95,7 +99,10 @@ fn write_definitions<W: Write>(
 
 /// Writes the records of external names, in their order. After a failure the writer has a beginning of them.
 #[tactic(auto, using(crate::proofs::Entries::names_are))]
-pub fn write_external_names<W: Write>(out: &mut W, names: &[Name]) -> Result<(), Failure<WriteFault>>
+pub fn write_external_names<W: Write>(
+    out: &mut W,
+    names: &[Name],
+) -> Result<(), Failure<WriteFault>>
     ensures ok { OnOk result
         (Appends (W.contents out.old) (W.contents out.new) (flat_map part_bytes (external_parts names.now))) }
     ensures err { OnErr result (AppendsBeginning (W.contents out.old) (W.contents out.new)

@@ -38,7 +38,7 @@ run_start segment place bytes fixes old are = record {
 }
 
 module _ (segment : Segment) (place size count : ℕ) (left : List ℕ) (rest : List Fix) (some : 0 < length left)
-         (size_is : size ≡ cut_by rest place (length left)) (count_is : count ≡ count_before rest (place + size)) where
+    (size_is : size ≡ cut_by rest place (length left)) (count_is : count ≡ count_before rest (place + size)) where
   -- what is known of the bytes
   record Cut (items : List SetByte) : Type 0 where
     long : length items ≡ length left
@@ -159,7 +159,7 @@ runs_more segment run others =
     (flat_map (content_parts segment) (flat_map contents_of_run others))
 
 module _ (object : ObjectModule) (segment : Segment) (run : Run ℕ) (others : List (Run ℕ)) (rest : List Fix) (count : ℕ)
-         (count_is : count ≡ count_before rest (run.offset + length run.items)) where
+    (count_is : count ≡ count_before rest (run.offset + length run.items)) where
   abbrev items : List SetByte
   items = fixed_bytes (fixes_in object segment) run.offset run.items
 
@@ -241,10 +241,10 @@ segment_ended object segment rest a b h =
 
 -- The next run of a segment, as the code has it.
 module _ (object : ObjectModule) (segment : Segment) (runs : List (Run ℕ)) (index offset count : ℕ) (run d : Run ℕ)
-         (bytes : List ℕ) (rest : List Fix) (within : index < length runs) (is : run ≡ get_or runs index d)
-         (offset_is : offset ≡ run.offset) (bytes_are : bytes ≡ run.items)
-         (count_is : count ≡ count_before rest (offset + length bytes)) (a b : Option (List ℕ))
-         (h : SegmentLeft object segment (drop index runs) rest a b) where
+    (bytes : List ℕ) (rest : List Fix) (within : index < length runs) (is : run ≡ get_or runs index d)
+    (offset_is : offset ≡ run.offset) (bytes_are : bytes ≡ run.items)
+    (count_is : count ≡ count_before rest (offset + length bytes)) (a b : Option (List ℕ))
+    (h : SegmentLeft object segment (drop index runs) rest a b) where
   abbrev others : List (Run ℕ)
   others = drop (index + 1) runs
 

@@ -3,6 +3,6 @@
 
 mod cuts;
 mod run;
-mod write;
+mod text;
 
-pub use write::write;
+pub use text::write;

@@ -1,6 +1,6 @@
 use Rattle.std.proofs.Common.{drop}
 use Rattle.object_writer.proofs.RunsLeft.{SegmentLeft}
-use Rattle.object_writer.proofs.write.write_segment.Given as goal
+use Rattle.object_writer.proofs.text.write_segment.Given as goal
 
 abbrev pub invariant-loop-run : goal.invariant-loop-run
 invariant-loop-run g l =

@@ -7,7 +7,7 @@ use Rattle.object_modules.specs.Parts.{part_bytes}
 use Rattle.object_modules.specs.Text.{external_parts}
 use Rattle.object_records.proofs.Sequences.{first_begun, last_of_two_begun, on_ok_then, on_err_then}
 use Rattle.object_writer.specs.internal.Texts.{publics_text}
-use Rattle.object_writer.proofs.write.write_names.Goals as goal
+use Rattle.object_writer.proofs.text.write_names.Goals as goal
 
 pub returns-in_err-write_external_names-clause-err : goal.returns-in_err-write_external_names-clause-err
 returns-in_err-write_external_names-clause-err g c =

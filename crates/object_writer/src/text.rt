@@ -48,7 +48,10 @@ fn write_front<W: Write>(object: &ObjectModule, out: &mut W) -> Result<(), Failu
 }
 
 // Writes the public names, by segments.
-fn write_all_publics<W: Write>(publics: &[OwnedPublic], out: &mut W) -> Result<(), Failure<WriteFault>>
+fn write_all_publics<W: Write>(
+    publics: &[OwnedPublic],
+    out: &mut W,
+) -> Result<(), Failure<WriteFault>>
     ensures ok { OnOk result (Appends (W.contents out.old) (W.contents out.new)
         (publics_text (map owned_public_view publics.now))) }
     ensures err { OnErr result (AppendsBeginning (W.contents out.old) (W.contents out.new)

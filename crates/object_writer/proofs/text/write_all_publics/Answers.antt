@@ -1,6 +1,6 @@
 use Rattle.writing.proofs.WritingLemmas.{on_err}
 use Rattle.object_records.proofs.Sequences.{first_begun, second_begun, last_of_three_begun, three, on_ok_then, on_err_then}
-use Rattle.object_writer.proofs.write.write_all_publics.Goals as goal
+use Rattle.object_writer.proofs.text.write_all_publics.Goals as goal
 
 pub returns-in_err-write_publics-clause-err : goal.returns-in_err-write_publics-clause-err
 returns-in_err-write_publics-clause-err g c =

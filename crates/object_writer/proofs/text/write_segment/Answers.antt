@@ -2,7 +2,7 @@ use Rattle.std.proofs.Common.{arith}
 use Rattle.writing.proofs.WritingLemmas.{on_err}
 use Rattle.object_writer.proofs.RunsLeft.{segment_start, next_fixes, next_within, next_more, next_begun, all_runs}
 use Rattle.object_writer.proofs.Texts.{places_few}
-use Rattle.object_writer.proofs.write.write_segment.Goals as goal
+use Rattle.object_writer.proofs.text.write_segment.Goals as goal
 
 pub loop-run-init : goal.loop-run-init
 loop-run-init g c =

@@ -4,7 +4,7 @@ use Rattle.writing.specs.Writing.{AppendsBeginning}
 use Rattle.writing.proofs.WritingLemmas.{on_err}
 use Rattle.object_records.proofs.Sequences.{first_begun, second_begun, last_of_three_begun, three, on_ok_then, on_err_then}
 use Rattle.object_writer.proofs.Texts.{text_is}
-use Rattle.object_writer.proofs.write.write.Goals as goal
+use Rattle.object_writer.proofs.text.write.Goals as goal
 
 pub returns-in_err-write_front-clause-err : goal.returns-in_err-write_front-clause-err
 returns-in_err-write_front-clause-err g c =
