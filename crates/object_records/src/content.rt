@@ -172,7 +172,8 @@ fn write_other<W: Write>(
     fixes: &[Fix],
     out: &mut W,
 ) -> Result<(), Failure<WriteFault>>
-    ensures ok { OnOk result (Appends (W.contents out.old) (W.contents out.new) (other_text own fixes.now target)) }
+    ensures ok { OnOk result (Appends (W.contents out.old) (W.contents out.new)
+        (other_text own fixes.now target)) }
     ensures err { OnErr result
         (AppendsBeginning (W.contents out.old) (W.contents out.new) (other_text own fixes.now target)) }
 {

@@ -51,7 +51,8 @@ fn put_entries(body: &mut Body, entries: &[SegmentEntry])
 fn header_body(name: &[u8], entries: &[SegmentEntry]) -> Body
     requires name { length name.now ≤ 31 }
     requires entries { length entries.now ≤ 3 }
-    ensures { bytes_of (record { kind = RecordKind.Header; body = result }) ≡ header_text name.now entries.now }
+    ensures { bytes_of (record { kind = RecordKind.Header; body = result })
+        ≡ header_text name.now entries.now }
 {
     let mut body = Body::new();
     body.put(&[name.len() as u8]);
@@ -70,7 +71,8 @@ pub fn write_header<W: Write>(
 ) -> Result<(), Failure<WriteFault>>
     requires name { length name.now ≤ 31 }
     requires entries { length entries.now ≤ 3 }
-    ensures ok { OnOk result (Appends (W.contents out.old) (W.contents out.new) (header_text name.now entries.now)) }
+    ensures ok { OnOk result (Appends (W.contents out.old) (W.contents out.new)
+        (header_text name.now entries.now)) }
     ensures err { OnErr result
         (AppendsBeginning (W.contents out.old) (W.contents out.new) (header_text name.now entries.now)) }
 {

@@ -34,7 +34,8 @@ fn entry_of(object: &ObjectModule, segment: Segment) -> SegmentEntry
 
 // Writes the header.
 fn write_front<W: Write>(object: &ObjectModule, out: &mut W) -> Result<(), Failure<WriteFault>>
-    ensures ok { OnOk result (Appends (W.contents out.old) (W.contents out.new) (part_bytes (header_for object.now))) }
+    ensures ok { OnOk result (Appends (W.contents out.old) (W.contents out.new)
+        (part_bytes (header_for object.now))) }
     ensures err { OnErr result
         (AppendsBeginning (W.contents out.old) (W.contents out.new) (part_bytes (header_for object.now))) }
     ensures object { IsObjectModule object.now }
@@ -113,7 +114,8 @@ fn write_rest<W: Write>(object: &ObjectModule, out: &mut W) -> Result<(), Failur
 /// `docs/object-format.md`.
 pub fn write<W: Write>(object: &ObjectModule, out: &mut W) -> Result<(), Failure<WriteFault>>
     ensures ok { OnOk result (Appends (W.contents out.old) (W.contents out.new) (text_of object.now)) }
-    ensures err { OnErr result (AppendsBeginning (W.contents out.old) (W.contents out.new) (text_of object.now)) }
+    ensures err { OnErr result (AppendsBeginning (W.contents out.old) (W.contents out.new)
+        (text_of object.now)) }
 {
     write_front(object, out)?;
     write_names(object, out)?;
