@@ -13,7 +13,7 @@ use Rattle.object_writer.specs.internal.Cuts.{count_before, word_at, cut_by, row
 use Rattle.object_writer.proofs.Fixes.{none_before, fixes_split, counted, word_is}
 
 -- how many bytes go into a group with this room
-abbrev fill : (room : ℕ) → List SetByte → ℕ
+abbrev pub fill : (room : ℕ) → List SetByte → ℕ
 fill room [] = 0
 fill room (here ∷ others) = cond (nat_lt room (bytes_wanted here)) 0 (suc (fill (room - 1) others))
 
@@ -118,7 +118,7 @@ cut_bounds fixes place left some =
     (λ _. (omega arith, omega (arith, enough), omega arith)) (λ _. (omega arith, omega (arith, enough), omega arith)))
 
 -- the first content of bytes in a row, and the others
-abbrev one_cut : (place : ℕ) → List SetByte → Run SetByte
+abbrev pub one_cut : (place : ℕ) → List SetByte → Run SetByte
 one_cut place items = record { offset = place; items = items }
 
 pub row_more :

@@ -1,6 +1,7 @@
 -- Fixes of bytes in a row, found by counting those before a place.
-use Rattle.std.proofs.Common.{◌≡◌, ℕ, zero, suc, ◌+◌, ◌<◌, ◌≤◌, Bool, true, false, cond, ◌&&◌, ◌==◌, nat_lt, List, [], ◌∷◌, ◌++◌, length, map, flat_map, find, take, drop, slice_get, Option, Some, None, option_map, refl, ap, sym, subst, ◌∙◌, arith}
+use Rattle.std.proofs.Common.{◌≡◌, ℕ, zero, suc, ◌+◌, ◌<◌, ◌≤◌, Bool, true, false, cond, ◌&&◌, ◌==◌, nat_lt, List, [], ◌∷◌, ◌++◌, length, map, flat_map, find, take, drop, get_or, slice_get, Option, Some, None, option_map, refl, ap, sym, subst, ◌∙◌, arith}
 use Rattle.std.specs.Option.{option_map_or}
+use Rattle.std.proofs.lemmas.List.{drop_more, drop_all}
 use Rattle.std.proofs.lemmas.Bool.{cond-true, cond-false, lt-ltb, le-ltb, ne_eqb, eq-eqb, and_right}
 use Rattle.object_modules.specs.declared.segment.Fix.{Fix}
 use Rattle.object_modules.specs.Module.{Fixup, SetByte, is_both, begins_word}
@@ -24,6 +25,28 @@ one_before :
     → count_before (fix ∷ others) place ≡ suc (count_before others place)
 one_before fix others place h =
     cond-true (nat_lt fix.offset place) (suc (count_before others place)) 0 (lt-ltb fix.offset place h)
+
+-- the count from an index on
+pub count_more :
+    (fixes : List Fix) (index : ℕ) (fix d : Fix) (place : ℕ) → index < length fixes → fix ≡ get_or fixes index d
+    → fix.offset < place
+    → count_before (drop index fixes) place ≡ suc (count_before (drop (index + 1) fixes) place)
+count_more fixes index fix d place within is less =
+    ap (λ fs. count_before fs place)
+    (drop_more fixes index d within ∙ ap (λ f. f ∷ drop (index + 1) fixes) (sym is))
+    ∙ one_before fix (drop (index + 1) fixes) place less
+
+pub count_stops :
+    (fixes : List Fix) (index : ℕ) (fix d : Fix) (place : ℕ) → index < length fixes → fix ≡ get_or fixes index d
+    → place ≤ fix.offset → count_before (drop index fixes) place ≡ 0
+count_stops fixes index fix d place within is more =
+    ap (λ fs. count_before fs place)
+    (drop_more fixes index d within ∙ ap (λ f. f ∷ drop (index + 1) fixes) (sym is))
+    ∙ not_before fix (drop (index + 1) fixes) place more
+
+pub count_ends :
+    (fixes : List Fix) (index place : ℕ) → length fixes ≤ index → count_before (drop index fixes) place ≡ 0
+count_ends fixes index place past = ap (λ fs. count_before fs place) (drop_all index fixes past)
 
 -- no fix is before the bytes
 pub none_before :

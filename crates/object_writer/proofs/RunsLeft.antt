@@ -17,7 +17,7 @@ use Rattle.object_writer.specs.internal.Cuts.{AreFixesOf, count_before, cut_by, 
 use Rattle.object_writer.proofs.Cutting.{cut_bounds, cut_is, one_cut, row_ended, row_more}
 use Rattle.object_writer.proofs.Fixes.{are_fixes_of, counted, fixes_split, none_before, none_in_runs, values_again}
 
-abbrev value_of : SetByte → ℕ
+abbrev pub value_of : SetByte → ℕ
 value_of here = here.value
 
 -- of all that is to be written, the contents of these bytes with these fixes are left
@@ -117,10 +117,10 @@ run_ended segment place left rest a b all none h =
     (ap (row_text segment place) (no_items h.items (omega (arith, long, none))) ∙ row_ended segment place)
 
 -- Of a segment.
-abbrev runs_text : Segment → List (Run SetByte) → List ℕ
+abbrev pub runs_text : Segment → List (Run SetByte) → List ℕ
 runs_text segment runs = flat_map part_bytes (flat_map (content_parts segment) (flat_map contents_of_run runs))
 
-abbrev fixed_by : ObjectModule → Segment → List (Run ℕ) → List (Run SetByte)
+abbrev pub fixed_by : ObjectModule → Segment → List (Run ℕ) → List (Run SetByte)
 fixed_by object segment runs = map (fixed_run (fixes_in object segment)) runs
 
 pub record SegmentLeft (object : ObjectModule) (segment : Segment) (runs : List (Run ℕ)) (rest : List Fix) (old new : Option (List ℕ)) : Type 0 where

@@ -33,6 +33,7 @@ fn entry_of(object: &ObjectModule, segment: Segment) -> SegmentEntry
 }
 
 // Writes the header.
+#[tactic(auto, using(object_records::proofs::Entries::name_short, crate::proofs::Texts::header_is))]
 fn write_front<W: Write>(object: &ObjectModule, out: &mut W) -> Result<(), Failure<WriteFault>>
     ensures ok { OnOk result (Appends (W.contents out.old) (W.contents out.new)
         (part_bytes (header_for object.now))) }

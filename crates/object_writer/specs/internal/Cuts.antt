@@ -11,7 +11,7 @@ use Rattle.object_modules.specs.Runs.{fixed_bytes}
 -- how many of fixes, from the front on, begin before a place
 abbrev pub count_before : List Fix → (place : ℕ) → ℕ
 count_before [] place = 0
-count_before (fix ∷ others) place = if nat_lt fix.offset place then count_before others place + 1 else 0
+count_before (fix ∷ others) place = if nat_lt fix.offset place then suc (count_before others place) else 0
 
 -- a word that is fixed begins at a place, by fixes that ascend
 abbrev pub word_at : List Fix → (place : ℕ) → Bool
