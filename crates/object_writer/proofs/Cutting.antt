@@ -81,7 +81,9 @@ fill_many zero (here ∷ others) h = go (begins_word (Some here))
     go false = ap suc (none others)
 fill_many (suc room) (here ∷ others) h =
     let few : bytes_wanted here ≤ 2 = wanted_few here in
+    let one_less : suc (suc room) - 1 ≡ suc room = omega arith in
     fits (suc (suc room)) here others (omega (arith, few))
+    ∙ ap (λ n. suc (fill n others)) one_less
     ∙ ap suc (fill_many room others (omega (arith, h)))
     ∙ one_more (begins_word (slice_get others room))
   where

@@ -13,20 +13,20 @@ loop-left-init g c = record {
 pub loop-left-preserved : goal.loop-left-preserved
 loop-left-preserved g c = record {
   run =
-      run_more c.args.segment c.loop-left.place c.size_of_cut-size.result c.fixes_before-count.result c.loop-left.left
-      c.loop-left.rest (omega arith) c.size_of_cut-size.ensures.size c.fixes_before-count.ensures.count _ _ _ _
+      run_more c.args.segment c.loop-left.place c.size_of_cut-size.result c.fixes_before-count.result c.loop-left.left.now
+      c.loop-left.rest.now (omega arith) c.size_of_cut-size.ensures.size c.fixes_before-count.ensures.count _ _ _ _
       c.loop-left.invariant.run c.in_ok-write_content.ensures.ok;
-  ends = omega (arith, length-drop c.size_of_cut-size.result c.loop-left.left);
+  ends = omega (arith, length-drop c.size_of_cut-size.result c.loop-left.left.now);
 }
 
 pub returns-in_err-write_content-clause-err : goal.returns-in_err-write_content-clause-err
 returns-in_err-write_content-clause-err g c =
     on_err c.from_residual.result _
-    (run_begun c.args.segment c.loop-left.place c.size_of_cut-size.result c.fixes_before-count.result c.loop-left.left
-    c.loop-left.rest (omega arith) c.size_of_cut-size.ensures.size c.fixes_before-count.ensures.count _ _ _ _
+    (run_begun c.args.segment c.loop-left.place c.size_of_cut-size.result c.fixes_before-count.result c.loop-left.left.now
+    c.loop-left.rest.now (omega arith) c.size_of_cut-size.ensures.size c.fixes_before-count.ensures.count _ _ _ _
     c.loop-left.invariant.run c.in_err-write_content.ensures.err)
 
 pub returns-clause-ok : goal.returns-clause-ok
 returns-clause-ok g c =
-    run_ended c.args.segment c.loop-left.place c.loop-left.left c.loop-left.rest _ _ _ (omega arith)
+    run_ended c.args.segment c.loop-left.place c.loop-left.left.now c.loop-left.rest.now _ _ _ (omega arith)
     c.loop-left.invariant.run
