@@ -1,6 +1,6 @@
 -- What is left of a run and of a segment while their contents are written.
 use Rattle.std.proofs.Common.{◌≡◌, ℕ, zero, suc, ◌+◌, ◌-◌, ◌<◌, ◌≤◌, List, [], ◌∷◌, ◌++◌, length, map, flat_map, take, drop, get_or, Option, refl, ap, sym, subst, ◌∙◌, arith}
-use Rattle.std.proofs.lemmas.List.{length-map, length-take, take-map, drop-map, take_at, drop_at, drop_more, drop_all}
+use Rattle.std.proofs.lemmas.List.{length-map, length-take, length-drop, drop-drop, take-map, drop-map, take_at, drop_at, drop_more, drop_all}
 use Rattle.std.proofs.lemmas.Grind.{flat_map-append}
 use Rattle.std.specs.Io.KnownBytes.{Appends}
 use Rattle.writing.specs.Writing.{AppendsBeginning}
@@ -240,53 +240,68 @@ segment_ended object segment rest a b h =
     whole a b [] (flat_map part_bytes (segment_parts object segment)) h.written refl
 
 -- The next run of a segment, as the code has it.
-module _ (object : ObjectModule) (segment : Segment) (runs : List (Run ℕ)) (index offset count : ℕ) (run d : Run ℕ)
-    (bytes : List ℕ) (rest : List Fix) (within : index < length runs) (is : run ≡ get_or runs index d)
-    (offset_is : offset ≡ run.offset) (bytes_are : bytes ≡ run.items)
-    (count_is : count ≡ count_before rest (offset + length bytes)) (a b : Option (List ℕ))
-    (h : SegmentLeft object segment (drop index runs) rest a b) where
-  abbrev others : List (Run ℕ)
-  others = drop (index + 1) runs
+part_of : (n m : ℕ) → n + m - n ≡ m
+part_of n m = omega arith
 
-  here : SegmentLeft object segment (run ∷ others) rest a b
+module _ (object : ObjectModule) (segment : Segment) (runs : List (Run ℕ)) (index offset first count : ℕ) (run d : Run ℕ)
+    (bytes : List ℕ) (fixes : List Fix) (within : index < length runs) (is : run ≡ get_or runs index d)
+    (offset_is : offset ≡ run.offset) (bytes_are : bytes ≡ run.items)
+    (count_is : count ≡ count_before (drop first fixes) (offset + length bytes)) (a b : Option (List ℕ))
+    (h : SegmentLeft object segment (drop index runs) (drop first fixes) a b) where
+  abbrev later : List (Run ℕ)
+  later = drop (index + 1) runs
+
+  abbrev rest : List Fix
+  rest = drop first fixes
+
+  abbrev cited : List Fix
+  cited = take (first + count - first) rest
+
+  here : SegmentLeft object segment (run ∷ later) rest a b
   here =
       subst (λ rs. SegmentLeft object segment rs rest a b)
-      (drop_more runs index d within ∙ ap (λ r. r ∷ others) (sym is)) h
+      (drop_more runs index d within ∙ ap (λ r. r ∷ later) (sym is)) h
 
   its_count : count ≡ count_before rest (run.offset + length run.items)
   its_count =
       count_is ∙ ap (λ o. count_before rest (o + length bytes)) offset_is
       ∙ ap (λ bs. count_before rest (run.offset + length bs)) bytes_are
 
-  its_text : run_text segment offset bytes (take count rest) ≡ run_text segment run.offset run.items (take count rest)
-  its_text =
-      ap (λ o. run_text segment o bytes (take count rest)) offset_is
-      ∙ ap (λ bs. run_text segment run.offset bs (take count rest)) bytes_are
+  cited_are : cited ≡ take count rest
+  cited_are = ap (λ n. take n rest) (part_of first count)
 
-  pub next_fixes : AreFixesOf offset bytes (take count rest)
+  its_text : run_text segment offset bytes cited ≡ run_text segment run.offset run.items (take count rest)
+  its_text =
+      ap (λ o. run_text segment o bytes cited) offset_is
+      ∙ ap (λ bs. run_text segment run.offset bs cited) bytes_are
+      ∙ ap (run_text segment run.offset run.items) cited_are
+
+  pub next_fixes : AreFixesOf offset bytes cited
   next_fixes =
-      subst (λ o. AreFixesOf o bytes (take count rest)) (sym offset_is)
-      (subst (λ bs. AreFixesOf run.offset bs (take count rest)) (sym bytes_are)
-      (fixes_of_first object segment run others rest count its_count a b here))
+      subst (λ o. AreFixesOf o bytes cited) (sym offset_is)
+      (subst (λ bs. AreFixesOf run.offset bs cited) (sym bytes_are)
+      (subst (AreFixesOf run.offset run.items) (sym cited_are)
+      (fixes_of_first object segment run later rest count its_count a b here)))
 
   pub next_within : length (places_of object segment) ≤ 65535 → offset + length bytes ≤ 65535
   next_within few =
       let ends : run.offset + length run.items ≤ length (places_of object segment) =
-      first_within object segment run others rest count its_count a b here in
+      first_within object segment run later rest count its_count a b here in
       let long : length bytes ≡ length run.items = ap length bytes_are in
       omega (arith, ends, few, long, offset_is)
 
   pub next_more :
-      (c : Option (List ℕ)) → Appends b c (run_text segment offset bytes (take count rest))
-      → SegmentLeft object segment others (drop count rest) a c
+      (c : Option (List ℕ)) → Appends b c (run_text segment offset bytes cited)
+      → SegmentLeft object segment later (drop (first + count) fixes) a c
   next_more c written =
-      segment_more object segment run others rest count its_count a b here c (subst (Appends b c) its_text written)
+      subst (λ fs. SegmentLeft object segment later fs a c) (drop-drop count first fixes)
+      (segment_more object segment run later rest count its_count a b here c (subst (Appends b c) its_text written))
 
   pub next_begun :
-      (c : Option (List ℕ)) → AppendsBeginning b c (run_text segment offset bytes (take count rest))
+      (c : Option (List ℕ)) → AppendsBeginning b c (run_text segment offset bytes cited)
       → AppendsBeginning a c (flat_map part_bytes (segment_parts object segment))
   next_begun c written =
-      segment_begun object segment run others rest count its_count a b here c
+      segment_begun object segment run later rest count its_count a b here c
       (subst (AppendsBeginning b c) its_text written)
 
 pub all_runs :
@@ -296,3 +311,58 @@ pub all_runs :
 all_runs object segment runs index rest a b past h =
     segment_ended object segment rest a b
     (subst (λ rs. SegmentLeft object segment rs rest a b) (drop_all index runs past) h)
+
+-- The next content of a run, as the code has it.
+module _ (segment : Segment) (offset at first size count place : ℕ) (bytes : List ℕ) (fixes : List Fix)
+    (within : at < length bytes) (place_is : place ≡ offset + at)
+    (size_is : size ≡ cut_by (drop first fixes) place (length bytes - at))
+    (count_is : count ≡ count_before (drop first fixes) (place + size)) (a b : Option (List ℕ)) (all : List ℕ)
+    (h : RunLeft segment (offset + at) (drop at bytes) (drop first fixes) a b all) where
+  abbrev cited : List Fix
+  cited = take (first + count - first) (drop first fixes)
+
+  abbrev shown : List ℕ
+  shown = take (at + size - at) (drop at bytes)
+
+  at_place : RunLeft segment place (drop at bytes) (drop first fixes) a b all
+  at_place = subst (λ p. RunLeft segment p (drop at bytes) (drop first fixes) a b all) (sym place_is) h
+
+  long : length bytes - at ≡ length (drop at bytes)
+  long = sym (length-drop at bytes)
+
+  some : 0 < length (drop at bytes)
+  some = omega (arith, long, within)
+
+  its_size : size ≡ cut_by (drop first fixes) place (length (drop at bytes))
+  its_size = size_is ∙ ap (cut_by (drop first fixes) place) long
+
+  parts_are :
+      content_text segment place shown cited
+      ≡ content_text segment place (take size (drop at bytes)) (take count (drop first fixes))
+  parts_are =
+      ap (λ n. content_text segment place (take n (drop at bytes)) cited) (part_of at size)
+      ∙ ap (λ n. content_text segment place (take size (drop at bytes)) (take n (drop first fixes)))
+      (part_of first count)
+
+  pub next_cut :
+      (c : Option (List ℕ)) → Appends b c (content_text segment place shown cited)
+      → RunLeft segment (offset + (at + size)) (drop (at + size) bytes) (drop (first + count) fixes) a c all
+  next_cut c written =
+      let there : place + size ≡ offset + (at + size) = omega (arith, place_is) in
+      subst (λ p. RunLeft segment p (drop (at + size) bytes) (drop (first + count) fixes) a c all) there
+      (subst (λ bs. RunLeft segment (place + size) bs (drop (first + count) fixes) a c all) (drop-drop size at bytes)
+      (subst (λ fs. RunLeft segment (place + size) (drop size (drop at bytes)) fs a c all) (drop-drop count first fixes)
+      (run_more segment place size count (drop at bytes) (drop first fixes) some its_size count_is a b c all at_place
+      (subst (Appends b c) parts_are written))))
+
+  pub next_cut_begun :
+      (c : Option (List ℕ)) → AppendsBeginning b c (content_text segment place shown cited) → AppendsBeginning a c all
+  next_cut_begun c written =
+      run_begun segment place size count (drop at bytes) (drop first fixes) some its_size count_is a b c all at_place
+      (subst (AppendsBeginning b c) parts_are written)
+
+pub all_cuts :
+    (segment : Segment) (place at : ℕ) (bytes : List ℕ) (rest : List Fix) (a b : Option (List ℕ)) (all : List ℕ)
+    → length bytes ≤ at → RunLeft segment place (drop at bytes) rest a b all → Appends a b all
+all_cuts segment place at bytes rest a b all past h =
+    run_ended segment place (drop at bytes) rest a b all (omega (arith, length-drop at bytes, past)) h

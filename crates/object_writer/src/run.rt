@@ -27,16 +27,23 @@ pub fn write_run<W: Write>(
     ensures err { OnErr result
         (AppendsBeginning (W.contents out.old) (W.contents out.new) (run_text segment offset bytes.now fixes.now)) }
 {
-    let mut left = bytes;
-    let mut rest = fixes;
-    let mut place = offset as usize;
-    while !left.is_empty() {
-        let size = size_of_cut(left.len(), place, rest);
-        let count = fixes_before(rest, place + size);
-        write_content(out, segment, place as u16, &left[..size], &rest[..count])?;
-        left = &left[size..];
-        rest = &rest[count..];
-        place += size;
+    let mut at = 0;
+    let mut first = 0;
+    while at < bytes.len() {
+        let place = offset as usize + at;
+        let size = size_of_cut(bytes.len() - at, place, &fixes[first..]);
+        let count = fixes_before(&fixes[first..], place + size);
+        let end = at + size;
+        let last = first + count;
+        write_content(
+            out,
+            segment,
+            place as u16,
+            &bytes[at..end],
+            &fixes[first..last],
+        )?;
+        at = end;
+        first = last;
     }
     Ok(())
 }

@@ -86,14 +86,16 @@ fn write_segment<W: Write>(
     ensures err { OnErr result (AppendsBeginning (W.contents out.old) (W.contents out.new)
         (flat_map part_bytes (segment_parts object.now segment))) }
 {
-    let mut rest = object.fixes(segment);
+    let fixes = object.fixes(segment);
     let runs = object.runs(segment);
+    let mut first = 0;
     for run in runs {
         let offset = run.offset();
         let bytes = run.bytes();
-        let count = fixes_before(rest, offset as usize + bytes.len());
-        write_run(out, segment, offset, bytes, &rest[..count])?;
-        rest = &rest[count..];
+        let count = fixes_before(&fixes[first..], offset as usize + bytes.len());
+        let last = first + count;
+        write_run(out, segment, offset, bytes, &fixes[first..last])?;
+        first = last;
     }
     Ok(())
 }
