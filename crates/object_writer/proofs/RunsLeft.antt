@@ -1,6 +1,6 @@
 -- What is left of a run and of a segment while their contents are written.
 use Rattle.std.proofs.Common.{◌≡◌, ℕ, zero, suc, ◌+◌, ◌-◌, ◌<◌, ◌≤◌, List, [], ◌∷◌, ◌++◌, length, map, flat_map, take, drop, get_or, Option, refl, ap, sym, subst, ◌∙◌, arith}
-use Rattle.std.proofs.lemmas.List.{length-map, length-take, length-drop, drop-drop, take-map, drop-map, take_at, drop_at, drop_more, drop_all}
+use Rattle.std.proofs.lemmas.List.{length-map, length-take, length-drop, drop-drop, take-map, take_rest, drop-map, take_at, drop_at, drop_more, drop_all}
 use Rattle.std.proofs.lemmas.Grind.{flat_map-append}
 use Rattle.std.specs.Io.KnownBytes.{Appends}
 use Rattle.writing.specs.Writing.{AppendsBeginning}
@@ -240,13 +240,16 @@ segment_ended object segment rest a b h =
     whole a b [] (flat_map part_bytes (segment_parts object segment)) h.written refl
 
 -- The next run of a segment, as the code has it.
+abbrev all_from : List Fix → ℕ → List Fix
+all_from fixes first = take (length fixes - first) (drop first fixes)
+
 part_of : (n m : ℕ) → n + m - n ≡ m
 part_of n m = omega arith
 
 module _ (object : ObjectModule) (segment : Segment) (runs : List (Run ℕ)) (index offset first count : ℕ) (run d : Run ℕ)
     (bytes : List ℕ) (fixes : List Fix) (within : index < length runs) (is : run ≡ get_or runs index d)
     (offset_is : offset ≡ run.offset) (bytes_are : bytes ≡ run.items)
-    (count_is : count ≡ count_before (drop first fixes) (offset + length bytes)) (a b : Option (List ℕ))
+    (count_is : count ≡ count_before (all_from fixes first) (offset + length bytes)) (a b : Option (List ℕ))
     (h : SegmentLeft object segment (drop index runs) (drop first fixes) a b) where
   abbrev later : List (Run ℕ)
   later = drop (index + 1) runs
@@ -264,7 +267,8 @@ module _ (object : ObjectModule) (segment : Segment) (runs : List (Run ℕ)) (in
 
   its_count : count ≡ count_before rest (run.offset + length run.items)
   its_count =
-      count_is ∙ ap (λ o. count_before rest (o + length bytes)) offset_is
+      count_is ∙ ap (λ fs. count_before fs (offset + length bytes)) (take_rest fixes first)
+      ∙ ap (λ o. count_before rest (o + length bytes)) offset_is
       ∙ ap (λ bs. count_before rest (run.offset + length bs)) bytes_are
 
   cited_are : cited ≡ take count rest
@@ -315,11 +319,11 @@ all_runs object segment runs index rest a b past h =
 -- The next content of a run, as the code has it.
 module _ (segment : Segment) (offset at first size count place : ℕ) (bytes : List ℕ) (fixes : List Fix)
     (within : at < length bytes) (place_is : place ≡ offset + at)
-    (size_is : size ≡ cut_by (drop first fixes) place (length bytes - at))
-    (count_is : count ≡ count_before (drop first fixes) (place + size)) (a b : Option (List ℕ)) (all : List ℕ)
+    (size_is : size ≡ cut_by (all_from fixes first) place (length bytes - at))
+    (count_is : count ≡ count_before (all_from fixes first) (place + size)) (a b : Option (List ℕ)) (all : List ℕ)
     (h : RunLeft segment (offset + at) (drop at bytes) (drop first fixes) a b all) where
-  abbrev cited : List Fix
-  cited = take (first + count - first) (drop first fixes)
+  abbrev cited_fixes : List Fix
+  cited_fixes = take (first + count - first) (drop first fixes)
 
   abbrev shown : List ℕ
   shown = take (at + size - at) (drop at bytes)
@@ -334,31 +338,36 @@ module _ (segment : Segment) (offset at first size count place : ℕ) (bytes : L
   some = omega (arith, long, within)
 
   its_size : size ≡ cut_by (drop first fixes) place (length (drop at bytes))
-  its_size = size_is ∙ ap (cut_by (drop first fixes) place) long
+  its_size =
+      size_is ∙ ap (λ fs. cut_by fs place (length bytes - at)) (take_rest fixes first)
+      ∙ ap (cut_by (drop first fixes) place) long
+
+  the_count : count ≡ count_before (drop first fixes) (place + size)
+  the_count = count_is ∙ ap (λ fs. count_before fs (place + size)) (take_rest fixes first)
 
   parts_are :
-      content_text segment place shown cited
+      content_text segment place shown cited_fixes
       ≡ content_text segment place (take size (drop at bytes)) (take count (drop first fixes))
   parts_are =
-      ap (λ n. content_text segment place (take n (drop at bytes)) cited) (part_of at size)
+      ap (λ n. content_text segment place (take n (drop at bytes)) cited_fixes) (part_of at size)
       ∙ ap (λ n. content_text segment place (take size (drop at bytes)) (take n (drop first fixes)))
       (part_of first count)
 
   pub next_cut :
-      (c : Option (List ℕ)) → Appends b c (content_text segment place shown cited)
+      (c : Option (List ℕ)) → Appends b c (content_text segment place shown cited_fixes)
       → RunLeft segment (offset + (at + size)) (drop (at + size) bytes) (drop (first + count) fixes) a c all
   next_cut c written =
       let there : place + size ≡ offset + (at + size) = omega (arith, place_is) in
       subst (λ p. RunLeft segment p (drop (at + size) bytes) (drop (first + count) fixes) a c all) there
       (subst (λ bs. RunLeft segment (place + size) bs (drop (first + count) fixes) a c all) (drop-drop size at bytes)
       (subst (λ fs. RunLeft segment (place + size) (drop size (drop at bytes)) fs a c all) (drop-drop count first fixes)
-      (run_more segment place size count (drop at bytes) (drop first fixes) some its_size count_is a b c all at_place
+      (run_more segment place size count (drop at bytes) (drop first fixes) some its_size the_count a b c all at_place
       (subst (Appends b c) parts_are written))))
 
   pub next_cut_begun :
-      (c : Option (List ℕ)) → AppendsBeginning b c (content_text segment place shown cited) → AppendsBeginning a c all
+      (c : Option (List ℕ)) → AppendsBeginning b c (content_text segment place shown cited_fixes) → AppendsBeginning a c all
   next_cut_begun c written =
-      run_begun segment place size count (drop at bytes) (drop first fixes) some its_size count_is a b c all at_place
+      run_begun segment place size count (drop at bytes) (drop first fixes) some its_size the_count a b c all at_place
       (subst (AppendsBeginning b c) parts_are written)
 
 pub all_cuts :
