@@ -1,5 +1,5 @@
 -- What the types of the code are.
-use Rattle.std.specs.Prelude.{ℕ, List, ◌×◌}
+use Rattle.std.specs.Prelude.{ℕ, List}
 use Rattle.object_modules.specs.Displacements.{Start}
 use Rattle.link.specs.declared.mains.MainModule.{MainModule}
 use Rattle.link.specs.declared.placed.ModuleStart.{ModuleStart}

@@ -1,6 +1,7 @@
 //! A module of a merge, and where its pieces begin there.
 
-ghost use Rattle.std.specs.Prelude.{◌≡◌, ◌+◌, ◌≤◌, length};
+ghost use Rattle.std.specs.Prelude.{◌≡◌, ◌+◌, ◌≤◌, IsTrue, length};
+ghost use Rattle.symbols.specs.Names.{is_name};
 ghost use Rattle.object_modules.specs.Displacements.{displacement_in};
 ghost use Rattle.object_modules.specs.Module.{IsObjectModule, length_of};
 ghost use Rattle.link.specs.Views.{start_view};
@@ -40,16 +41,16 @@ impl<'a> Model for Placed<'a> {
 
 impl<'a> Placed<'a> {
     /// A module with pieces that begin at a place and end within their segments.
-    pub(crate) fn new(module: &'a ObjectModule, start: ModuleStart) -> Placed<'a>
-        requires code { start.code + length module.now.code.places ≤ 65535 }
-        requires data_bytes { start.data_start + length module.now.data_places.places ≤ 65535 }
-        ensures object { result.object ≡ module.now }
+    pub(crate) fn new(object: &'a ObjectModule, start: ModuleStart) -> Placed<'a>
+        requires code { start.code + length object.now.code.places ≤ 65535 }
+        requires data_bytes { start.data_start + length object.now.data_places.places ≤ 65535 }
+        ensures object { result.object ≡ object.now }
         ensures start { result.start ≡ start_view start }
-        ensures valid { IsObjectModule module.now }
+        ensures valid { IsObjectModule object.now }
     {
         Placed {
-            module,
-            name: module.name(),
+            module: object,
+            name: object.name(),
             start,
         }
     }
@@ -63,7 +64,8 @@ impl<'a> Placed<'a> {
 
     /// The name of the module.
     pub(crate) fn name(&self) -> &'a [u8]
-        ensures { result.now ≡ self.now.object.name }
+        ensures same { result.now ≡ self.now.object.name }
+        ensures valid { IsTrue (is_name result.now) }
     {
         self.name
     }

@@ -63,7 +63,7 @@ impl Publics {
 
     /// The publics by themselves, in their order.
     pub(crate) fn into_publics(self) -> Vec<OwnedPublic>
-        ensures { map owned_public_view result.items ≡ self.now }
+        ensures { map owned_public_view result.items ≡ self }
     {
         let Publics { names: _, publics } = self;
         publics

@@ -7,3 +7,5 @@ pub mod SegmentLaws
 pub mod FixesWithin
 pub mod SegmentsMerged
 pub mod Linkings
+pub mod MainNames
+pub mod Pushed

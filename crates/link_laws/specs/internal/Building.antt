@@ -83,11 +83,11 @@ stored_joined publics segment linked = record {
 
 -- parts that are made of modules at their places, with these publics, length of the stack, and main module
 pub record AreJoined
-    (publics : List Public) (linked : List Linked) (stack : ℕ) (main : List ℕ × ℕ) (parts : ModuleParts) : Type 0 where
+    (named : List Public) (linked : List Linked) (stack : ℕ) (main : List ℕ × ℕ) (parts : ModuleParts) : Type 0 where
   pub name : parts.name ≡ main.0
-  pub code : parts.code ≡ stored_joined publics Code linked
-  pub data_bytes : parts.data_bytes ≡ stored_joined publics Data linked
+  pub code : parts.code ≡ stored_joined named Code linked
+  pub data_bytes : parts.data_bytes ≡ stored_joined named Data linked
   pub stack_length : parts.stack_length ≡ stack
-  pub publics : map owned_public_view parts.publics.items ≡ publics
+  pub publics : map owned_public_view parts.publics.items ≡ named
   pub externals : parts.externals.items ≡ []
   pub start : parts.start ≡ Some main.1

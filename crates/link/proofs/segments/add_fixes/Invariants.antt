@@ -9,11 +9,11 @@ use Rattle.link.proofs.segments.add_fixes.Given as goal
 abbrev pub invariant-loop-fix : goal.invariant-loop-fix
 invariant-loop-fix l = record {
   below :
-      AllByRecursion (λ (fix : Fix). fix.offset < length_of l.placed.object l.segment) (drop l.fix-index l.fix-items);
+      AllByRecursion (λ (fix : Fix). fix.offset < length_of l.placed.object l.fn.segment) (drop l.fix-index l.fix-items);
   added :
       l.fixes.items
-      ++ filter_map (fix_kept (displacement_in l.placed l.segment) (target_kept l.publics l.placed))
+      ++ filter_map (fix_kept (displacement_in l.placed l.fn.segment) (target_kept l.publics l.placed))
       (drop l.fix-index l.fix-items)
       ≡ l.initial.fixes.items
-      ++ filter_map (fix_kept (displacement_in l.placed l.segment) (target_kept l.publics l.placed)) l.fix-items;
+      ++ filter_map (fix_kept (displacement_in l.placed l.fn.segment) (target_kept l.publics l.placed)) l.fix-items;
 }

@@ -7,10 +7,10 @@ use Rattle.link.proofs.segments.add_runs.Given as goal
 
 abbrev pub invariant-loop-run : goal.invariant-loop-run
 invariant-loop-run l = record {
-  theirs : HaveTheirFixes (length_of l.placed.object l.segment) l.left (drop l.run-index l.run-items);
+  theirs : HaveTheirFixes (length_of l.placed.object l.fn.segment) l.left (drop l.run-index l.run-items);
   added :
       with_runs l.runs.items
-      (runs_fixed (displacement_in l.placed l.segment) (gain_in l.publics l.placed) l.left (drop l.run-index l.run-items))
+      (runs_fixed (displacement_in l.placed l.fn.segment) (gain_in l.publics l.placed) l.left (drop l.run-index l.run-items))
       ≡ with_runs l.initial.runs.items
-      (runs_fixed (displacement_in l.placed l.segment) (gain_in l.publics l.placed) l.initial.left l.run-items);
+      (runs_fixed (displacement_in l.placed l.fn.segment) (gain_in l.publics l.placed) l.initial.left l.run-items);
 }
