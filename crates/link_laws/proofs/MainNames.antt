@@ -1,5 +1,5 @@
 -- The names and the starts of main modules.
-use Rattle.std.proofs.Common.{◌≡◌, ◌↔◌, ℕ, ◌+◌, ◌%◌, ◌≤◌, Bool, true, false, cond, not, ◌&&◌, ◌||◌, ◌==◌, nat_lt, nat_le, ◌-◌, List, [], ◌∷◌, length, map, Option, None, Some, option_map, IsTrue, IsSome, refl, ap, sym, subst, ◌∙◌, arith}
+use Rattle.std.proofs.Common.{◌≡◌, ◌↔◌, ℕ, ◌+◌, ◌%◌, ◌≤◌, Bool, true, false, cond, not, ◌&&◌, ◌||◌, ◌==◌, nat_lt, nat_le, ◌-◌, List, [], ◌∷◌, length, map, Option, None, Some, option_map, IsTrue, refl, ap, sym, subst, ◌∙◌, arith}
 use Rattle.std.specs.Char.{is_ascii_uppercase, is_ascii_digit, to_ascii_uppercase}
 use Rattle.std.specs.List.{filter, list_all}
 use Rattle.std.proofs.lemmas.Bool.{and_parts, or_left, and_from, ne_eqb, leb-true, lt-ltb}
@@ -69,5 +69,6 @@ main_is one text name start by begins same valid named at =
 
 -- each module has a name
 pub no_name :
-    {A X : Type 0} (text : List ℕ) → IsTrue (is_name text) → (IsSome {X} None ↔ IsTrue (is_name (name_of text))) → A
-no_name text valid h = absurd (h.1 (subst (λ n. IsTrue (is_name n)) (sym (name_is text valid)) valid))
+    {A : Type 0} (text : List ℕ) → IsTrue (is_name text) → ((false ≡ true) ↔ IsTrue (is_name (name_of text))) → A
+no_name text valid h =
+    absurd (let bad : false ≡ true = h.1 (subst (λ n. IsTrue (is_name n)) (sym (name_is text valid)) valid) in cc)
