@@ -35,7 +35,6 @@ pub(crate) fn has_one_main(modules: &[ObjectModule]) -> bool
 }
 
 // A module as a main module, if it is one.
-#[tactic(auto, using(link_laws::proofs::MainNames::main_is, link_laws::proofs::MainNames::no_name))]
 fn main_in(placed: &Placed) -> Option<MainModule>
     ensures { option_map main_view result ≡ main_of placed.now }
 {

@@ -17,7 +17,6 @@ use std::alloc::Global;
 use std::marker::Model;
 
 /// Names, each of them once, with numbers from 0 in the order in which they came.
-#[derive(Drop)]
 pub(crate) struct NameTable {
     names: IndexSet<Name>,
 }
@@ -121,4 +120,11 @@ pub(crate) fn unresolved_in(table: &NameTable, modules: &[ObjectModule]) -> Opti
         }
     }
     None
+}
+
+// Written out, so that what it holds is let go here.
+impl Drop for NameTable {
+    fn drop(self) {
+        let NameTable { names: _ } = self;
+    }
 }

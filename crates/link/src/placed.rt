@@ -57,7 +57,8 @@ impl<'a> Placed<'a> {
 
     /// The module.
     pub(crate) fn module(&self) -> &'a ObjectModule
-        ensures { result.now ≡ self.now.object }
+        ensures same { result.now ≡ self.now.object }
+        ensures valid { IsObjectModule self.now.object }
     {
         self.module
     }

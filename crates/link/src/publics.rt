@@ -31,6 +31,13 @@ impl Model for Publics {
     ghost invariant = { λ table. table.names ≡ map name_of table.publics.items };
 }
 
+// The public of a number, counted from 0.
+fn public_at(publics: &[OwnedPublic], number: usize) -> Option<OwnedPublic>
+    ensures { result ≡ slice_get publics.now number }
+{
+    publics.get(number).copied()
+}
+
 impl Publics {
     /// Publics with these names, in the same order.
     pub(crate) fn new(names: NameTable, publics: Vec<OwnedPublic>) -> Publics
@@ -46,7 +53,7 @@ impl Publics {
         ensures { option_map owned_public_view result ≡ public_named self.now name }
     {
         match self.names.number_of(name) {
-            Some(number) => self.publics.get(number).copied(),
+            Some(number) => public_at(self.publics.as_slice(), number),
             None => None,
         }
     }

@@ -1,7 +1,10 @@
 -- What a linker answers, by what each of its steps gave.
-use Rattle.std.proofs.Common.{◌≡◌, ℕ, Bool, true, false, not, ◌==◌, List, [], ◌∷◌, All, length, map, slice_get, sum_by, Option, None, Some, option_map, Ok, Err, refl, ap, sym, ◌∙◌}
+use Rattle.std.proofs.Common.{◌≡◌, ℕ, Bool, true, false, not, ◌==◌, List, [], ◌∷◌, All, length, map, slice_get, sum_by, Option, None, Some, option_map, Result, Ok, Err, refl, ap, sym, subst, ◌∙◌}
 use Rattle.std.specs.List.{list_any}
 use Rattle.std.specs.Option.{option_map_or}
+use Rattle.failure.specs.Failure.{IfFault}
+use Rattle.failure.specs.declared.Failure.{Failure}
+use Rattle.failure.specs.declared.Failure.TheVariants.{Fault, Memory}
 use Rattle.object_modules.specs.declared.object.ModuleParts.{ModuleParts}
 use Rattle.object_modules.specs.declared.public.OwnedPublic.{OwnedPublic}
 use Rattle.object_modules.specs.declared.segment.Segment.TheVariants.{Code, Data}
@@ -93,19 +96,17 @@ module _ (objects : List ObjectModule) (names : List (List ℕ)) (known : gather
 
     module _ (fits : some_segment_is_too_long objects (linked_modules objects) ≡ false) where
       pub by_mains :
-          (one : Bool) → one ≡ (length (main_modules (linked_modules objects)) == 1) → one ≡ false
-          → merge_of objects ≡ Err NotOneMain
-      by_mains one is none =
-          is_refused objects NotOneMain (refused_mains objects names known resolved fits (ap not (sym is ∙ none)))
+          (length (main_modules (linked_modules objects)) == 1) ≡ false → merge_of objects ≡ Err NotOneMain
+      by_mains none = is_refused objects NotOneMain (refused_mains objects names known resolved fits (ap not none))
 
       pub by_no_main :
           None ≡ slice_get (main_modules (linked_modules objects)) 0 → merge_of objects ≡ Err NotOneMain
       by_no_main none =
           is_refused objects NotOneMain (refused_mains objects names known resolved fits (no_main objects none))
 
-      module _ (one : Bool) (is_one : one ≡ (length (main_modules (linked_modules objects)) == 1)) (main : one ≡ true) where
+      module _ (main : (length (main_modules (linked_modules objects)) == 1) ≡ true) where
         single : not (length (main_modules (linked_modules objects)) == 1) ≡ false
-        single = ap not (sym is_one ∙ main)
+        single = ap not main
 
         module _ (publics : List Public) (linked : List Linked) (high : Bool) (these : linked ≡ linked_modules objects) (named : publics ≡ all_publics (linked_modules objects)) (is_high : high ≡ list_any (some_high_byte_moves publics) linked) where
           same_high :
@@ -131,3 +132,17 @@ pub made_merged :
     (objects : List ObjectModule) (parts : ModuleParts) (object : ObjectModule) → link_refusal objects ≡ None
     → AreMerged objects parts → object ≡ module_of_parts parts → merge_of objects ≡ Ok object
 made_merged objects parts object free made is = parts_merged objects parts free made ∙ ap Ok (sym is)
+
+-- a fault that a call hands on
+pub handed_on :
+    {A B F : Type 0} (result : Result A (Failure F)) (given : Result B (Failure F)) (failure : Failure F)
+    (P R Q : F → Type 0)
+    → result ≡ Err failure → given ≡ Err failure → ((fault : F) → P fault → R fault → Q fault)
+    → IfFault given P → IfFault given R → IfFault result Q
+handed_on {A} {B} {F} result given failure P R Q is was more h k =
+    subst (λ r. IfFault r Q) (sym is)
+    (go failure (subst (λ g. IfFault g P) was h) (subst (λ g. IfFault g R) was k))
+  where
+    go : (f : Failure F) → IfFault {A = B} (Err f) P → IfFault {A = B} (Err f) R → IfFault {A = A} (Err f) Q
+    go (Fault fault) p r = more fault p r
+    go Memory p r = tt

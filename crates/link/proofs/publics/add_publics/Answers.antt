@@ -8,9 +8,9 @@ pub loop-public-preserved : goal.loop-public-preserved
 loop-public-preserved c =
     ap (λ items. map owned_public_view items
     ++ map (public_moved c.args.placed.now)
-    (map owned_public_view (drop (c.loop-public.public-index + 1) c.publics.result.now))) c.in_ok-push.ensures.items
+    (map owned_public_view (drop (c.loop-public.public-index + 1) c.publics-public-items.result.now))) c.in_ok-push.ensures.items
     ∙ view_added owned_public_view owned_public_view (public_moved c.args.placed.now) c.loop-public.publics.items _
-    c.publics.result.now c.loop-public.public-index c.public-item.result (omega arith) c.public-item.is
+    c.publics-public-items.result.now c.loop-public.public-index c.public-item.result (omega arith) c.public-item.is
     (ap (λ b.
     record {
       segment = c.public-item.result.segment;
