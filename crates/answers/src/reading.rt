@@ -8,8 +8,8 @@ use failure::Failure;
 use files::{FileFault, Files};
 use std::alloc::Global;
 
-#[tactic(auto, using(crate::proofs::FilesRead::stays, crate::proofs::FilesRead::stays_on, crate::proofs::FilesRead::was_there, crate::proofs::FilesRead::read_step, crate::proofs::FilesRead::all_read))]
 /// Reads files, in the order given. A fault comes with the name of its file.
+#[tactic(auto, using(crate::proofs::FilesRead::stays, crate::proofs::FilesRead::stays_on, crate::proofs::FilesRead::was_there, crate::proofs::FilesRead::read_step, crate::proofs::FilesRead::all_read))]
 pub fn read_files<'a, F: Files>(
     alloc: Global,
     names: &[&'a str],
