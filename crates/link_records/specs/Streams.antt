@@ -1,5 +1,5 @@
 -- Merges of files, as they are written.
-use Rattle.std.specs.Prelude.{◌≡◌, ◌×◌, ¬◌, ℕ, List, ◌∷◌, ◌++◌, length, Option, Ok, Err}
+use Rattle.std.specs.Prelude.{◌≡◌, ℕ, List, ◌∷◌, ◌++◌, length, Option, Ok, Err}
 use Rattle.std.specs.List.{AllZip}
 use Rattle.writing.specs.Writing.{AppendsBeginning}
 use Rattle.std.specs.Io.KnownBytes.{Appends, Keeps}

@@ -1,18 +1,22 @@
 -- Files that are written, and those that stay.
-use Rattle.std.proofs.Common.{◌≡◌, ℕ, zero, suc, ◌+◌, ◌<◌, ◌≤◌, Bool, true, false, List, [], ◌∷◌, ◌++◌, Option, None, Some, length, take, drop, refl, sym, ap, subst, ◌∙◌, arith}
-use Rattle.std.specs.Prelude.{◌==◌, unwrap_or, if◌then◌else◌}
+use Rattle.std.proofs.Common.{◌≡◌, ℕ, ◌+◌, ◌<◌, ◌≤◌, Bool, true, false, List, [], ◌∷◌, ◌++◌, Option, None, Some, length, take, drop, refl, sym, ap, subst, ◌∙◌, arith}
+use Rattle.std.specs.Prelude.{unwrap_or, if◌then◌else◌}
 use Rattle.std.specs.Str.{bytes_eq}
+use Rattle.std.specs.Bool.{Decides}
+use Rattle.std.proofs.lemmas.Grind.{common_steps}
+use Rattle.std.proofs.lemmas.Slice.Eq.{bytes_eq-Decides}
 use Rattle.std.proofs.Math.Seq.{take-add, take-length}
 use Rattle.files.specs.Files.{BeginsFile, ChangesFiles, Directory, GrowsFile, KeepsFiles, with_file}
-use Rattle.object_commands.specs.Linking.{KeepsOthers}
+use Rattle.object_modules.specs.Text.{text_of}
+use Rattle.link_records.specs.Streams.{Merges, WritesMerge}
+use Rattle.answers.specs.Reading.{HasFiles}
+use Rattle.object_commands.specs.Linking.{KeepsOthers, LinksFiles, MergesTo}
 
-same_number : (n : ℕ) → (n == n) ≡ true
-same_number zero = refl
-same_number (suc n) = same_number n
+decided : (t : Bool) (P : Type 0) → Decides t P → P → t ≡ true
+decided t P h p = grind (arith, common_steps)
 
 eq_itself : (xs : List ℕ) → bytes_eq xs xs ≡ true
-eq_itself [] = refl
-eq_itself (x ∷ xs) = rw (same_number x) (eq_itself xs)
+eq_itself xs = decided (bytes_eq xs xs) (xs ≡ xs) (bytes_eq-Decides xs xs) refl
 
 -- a file that was begun is empty
 pub begun : (old new : Option Directory) (name bytes : List ℕ) → BeginsFile old new name → ChangesFiles old new (with_file name (take 0 bytes))
@@ -83,3 +87,18 @@ kept_then_written (Some old) (Some now) (Some new) name bytes before after = λ 
 -- what was sent in part leaves the others, also where a later call fails
 pub others_kept_on : (old now new : Option Directory) (name bytes : List ℕ) → ChangesFiles old now (with_file name bytes) → KeepsFiles now new → KeepsOthers old new name
 others_kept_on old now new name bytes before after = others_then_kept old now new name (written_others old now name bytes before) after
+
+-- what a writer has that was empty is the text of the merge
+pub merges_to : (slices texts : List (List ℕ)) (bytes : List ℕ) → slices ≡ texts → WritesMerge slices (Some []) (Some bytes) → MergesTo texts bytes
+merges_to slices texts bytes same w = record { object = w.object; merges = subst (λ (l : List (List ℕ)). Merges l w.object) same w.merges; text = w.written }
+
+-- files that were read and then merged
+pub links : (old now new : Option Directory) (names texts : List (List ℕ)) (out bytes : List ℕ) → KeepsFiles old now → HasFiles old names texts → MergesTo texts bytes
+    → ChangesFiles now new (with_file out bytes) → LinksFiles old new names out
+links old now new names texts out bytes kept read m written = record {
+  texts = texts;
+  read = read;
+  object = m.object;
+  merges = m.merges;
+  written = kept_then_written old now new out (text_of m.object) kept (subst (λ (l : List ℕ). ChangesFiles now new (with_file out l)) m.text written);
+}

@@ -9,13 +9,13 @@ use failure::Failure;
 use files::Files;
 use link::LinkFault;
 use link_records::{StreamFault, link_records};
-use std::alloc::Global;
+use std::alloc::{AllocError, Global};
 use std::io::Write;
 
 /// Merges object files, and writes the merge to the file `out`. That file is begun once all others were read and their
 /// modules merged; after a write that failed it may have a beginning of the merge, which is no object file. Memory holds
 /// the files and the merge.
-#[tactic(auto, using(crate::proofs::FilesWritten::kept_others, crate::proofs::FilesWritten::kept_then_others, crate::proofs::FilesWritten::kept_then_written, crate::proofs::FilesWritten::written_others))]
+#[tactic(auto, using(crate::proofs::FilesWritten::kept_others, crate::proofs::FilesWritten::kept_then_others, crate::proofs::FilesWritten::links, crate::proofs::FilesWritten::written_others))]
 pub fn link_files<F: Files, E: Write>(
     alloc: Global,
     objects: &[&str],
@@ -44,14 +44,23 @@ pub fn link_files<F: Files, E: Write>(
     }
 }
 
-// The text of the merge of the modules that files spell. Only memory can fail its writing.
-fn merge(alloc: Global, texts: &[Vec<u8>]) -> Result<Vec<u8>, Failure<StreamFault>>
-    ensures { IfOk result (λ bytes. MergesTo (map (λ text. text.items) texts.now) bytes.items) }
+// The bytes of texts.
+fn slices_of(alloc: Global, texts: &[Vec<u8>]) -> Result<Vec<&[u8]>, AllocError>
+    ensures { IfOk result (λ slices. map (λ slice. slice.now) slices.items ≡ map (λ text. text.items) texts.now) }
 {
     let mut slices = Vec::new(alloc);
     for text in texts {
         slices.push(text.as_slice())?;
     }
+    Ok(slices)
+}
+
+// The text of the merge of the modules that files spell. Only memory can fail its writing.
+#[tactic(auto, using(crate::proofs::FilesWritten::merges_to))]
+fn merge(alloc: Global, texts: &[Vec<u8>]) -> Result<Vec<u8>, Failure<StreamFault>>
+    ensures { IfOk result (λ bytes. MergesTo (map (λ text. text.items) texts.now) bytes.items) }
+{
+    let slices = slices_of(alloc, texts)?;
     let mut merged: Vec<u8> = Vec::new(alloc);
     match link_records(alloc, slices.as_slice(), &mut merged) {
         Ok(()) => Ok(merged),

@@ -8,7 +8,7 @@ use failure::Failure;
 use files::{FileFault, Files};
 
 /// Writes a file from its beginning. After a failure it may have a beginning of the bytes, and the others are as before.
-#[tactic(auto, using(crate::proofs::FilesWritten::begun, crate::proofs::FilesWritten::grown, crate::proofs::FilesWritten::kept_others, crate::proofs::FilesWritten::others_kept_on, crate::proofs::FilesWritten::written_whole))]
+#[tactic(auto, using(crate::proofs::FilesWritten::begun, crate::proofs::FilesWritten::kept_others, crate::proofs::FilesWritten::others_kept_on, crate::proofs::FilesWritten::written_whole))]
 pub(crate) fn write_file<F: Files>(
     name: &str,
     bytes: &[u8],

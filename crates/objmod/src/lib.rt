@@ -1,7 +1,7 @@
 //! Object modules read from files of Intel's relocatable object module format for the 8080.
 #![tactic(auto)]
 
-ghost use Rattle.std.specs.Prelude.{IfOk, ¬◌};
+ghost use Rattle.std.specs.Prelude.{IfOk};
 ghost use Rattle.failure.specs.Failure.{IfFault};
 ghost use Rattle.object_modules.specs.Module.{ObjectModule as ObjectValue};
 ghost use Rattle.object_modules.specs.Spelling.{HasFirstFault, Spells};
