@@ -37,7 +37,7 @@ read_step f files whole made v name d (n ∷ more) one is there before =
     let count : length (n ∷ more) - 1 ≡ length more = omega arith in
     let all : take (length (n ∷ more) - 1) more ≡ more = ap (λ (k : ℕ). take k more) count ∙ take-length more in
     λ tail h. subst (HasFiles files whole) (sym (one_more f made v tail))
-        (before (f v ∷ tail) (subst (λ (x : List ℕ). HasFile files x (f v)) is there, subst (λ (l : List (Bor (List ℕ))). HasFiles files (map (λ n. n.now) l) tail) all h))
+    (before (f v ∷ tail) (subst (λ (x : List ℕ). HasFile files x (f v)) is there, subst (λ (l : List (Bor (List ℕ))). HasFiles files (map (λ n. n.now) l) tail) all h))
 
 append_none : (made : List (List ℕ)) → made ++ [] ≡ made
 append_none [] = refl

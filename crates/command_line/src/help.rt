@@ -177,7 +177,7 @@ Exit status:
 A refused object prints `number file 0` to standard error, a refused place `number - 0`, and a
 refused value or a second file `U4 - 0`.
 
-Example: an object with the code CD 04 00 76 3E 08 D3 04 C9, whose bytes 04 00 are an address in
+Example: an object with the code cd 04 00 76 3e 08 d3 04 c9, whose bytes 04 00 are an address in
 the code, prints
   :09010000CD0401763E08D304C9C8
   :00000001FF";

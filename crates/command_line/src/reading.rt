@@ -118,7 +118,8 @@ fn program<'a>(
 
 // The order to link, from the matches of its arguments.
 fn link<'a>(alloc: Global, matches: &ArgMatches<'a>) -> Result<Order<'a>, AllocError>
-    ensures { IfOk result (λ order. wanted_in order ≡ wants_link (link_of (rows_of (found_of matches.now)))) }
+    ensures { IfOk result (λ order.
+        wanted_in order ≡ wants_link (link_of (rows_of (found_of matches.now)))) }
 {
     let objects = files(alloc, matches)?;
     Ok(Order::Link(LinkOrder {

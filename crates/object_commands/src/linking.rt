@@ -46,7 +46,8 @@ pub fn link_files<F: Files, E: Write>(
 
 // The bytes of texts.
 fn slices_of(alloc: Global, texts: &[Vec<u8>]) -> Result<Vec<&[u8]>, AllocError>
-    ensures { IfOk result (λ slices. map (λ slice. slice.now) slices.items ≡ map (λ text. text.items) texts.now) }
+    ensures { IfOk result (λ slices.
+        map (λ slice. slice.now) slices.items ≡ map (λ text. text.items) texts.now) }
 {
     let mut slices = Vec::new(alloc);
     for text in texts {

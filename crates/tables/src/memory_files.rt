@@ -14,6 +14,7 @@ const CLOSED: &str = "closed.obj";
 
 // A file of this name takes a byte at a time, and no more than this many.
 const BROKEN: &str = "broken.obj";
+
 const BROKEN_LENGTH: usize = 3;
 
 /// A file: its name and its bytes.
@@ -175,7 +176,10 @@ impl Files for MemoryFiles<'_> {
         if count == 0 {
             return Err(Failure::Fault(self.fail()));
         }
-        match self.written[number].bytes.extend_from_slice(&bytes[..count]) {
+        match self.written[number]
+            .bytes
+            .extend_from_slice(&bytes[..count])
+        {
             Ok(()) => Ok(count),
             Err(_) => Err(Failure::Memory),
         }

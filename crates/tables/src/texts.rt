@@ -21,7 +21,9 @@ pub fn add_often(text: &mut String, line: &str, end: &str) -> Result<()> {
 
 // The value of a hexadecimal digit.
 fn digit(letter: u8) -> Result<u8> {
-    let value = char::from(letter).to_digit(16).context("no hexadecimal digit")?;
+    let value = char::from(letter)
+        .to_digit(16)
+        .context("no hexadecimal digit")?;
     Ok(value as u8)
 }
 
