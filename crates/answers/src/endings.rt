@@ -1,25 +1,42 @@
 //! How commands end, and what they print where they are refused.
 
 ghost use Rattle.std.specs.Prelude.{◌≡◌};
+ghost use Rattle.answers.specs.Endings.{status_of};
 
 use std::io;
 use std::io::Write;
 
-/// How a command ended, by its exit status.
+/// How a command ended.
 #[derive(Clone, Copy, PartialEq, Eq)]
 pub enum Ending {
     /// All was done, the program ended, or help was printed.
-    Done = 0,
+    Done,
     /// What was given was refused, memory ran out, or a file could not be read or written.
-    Refused = 1,
+    Refused,
     /// The command line is wrong, or a value in it.
-    WrongLine = 2,
+    WrongLine,
     /// The limit was met.
-    Limit = 3,
+    Limit,
     /// The machine came to a code that is none of the 8080's, or a port failed.
-    Stopped = 4,
+    Stopped,
     /// The program went outside the language.
-    Outside = 5,
+    Outside,
+}
+
+impl Ending {
+    /// The exit status, 0 to 5.
+    pub fn status(self) -> u8
+        ensures { result ≡ status_of self }
+    {
+        match self {
+            Ending::Done => 0,
+            Ending::Refused => 1,
+            Ending::WrongLine => 2,
+            Ending::Limit => 3,
+            Ending::Stopped => 4,
+            Ending::Outside => 5,
+        }
+    }
 }
 
 /// Standard output could not be written.

@@ -1,6 +1,6 @@
 //! Carrying out a command line.
 
-ghost use Rattle.std.specs.Prelude.{◌≡◌, ◌≤◌, [], OnErr, OnOk};
+ghost use Rattle.std.specs.Prelude.{◌≡◌, ◌≤◌, []};
 ghost use Rattle.clap.specs.Walk.{texts};
 ghost use Rattle.clap.specs.Words.{fault_of};
 ghost use Rattle.files.specs.Files.{KeepsFiles};
@@ -26,7 +26,7 @@ use tool::Source;
 /// Carries out the words of a command line, the first of which is the program's name, and answers the exit status. What
 /// it prints goes to `out`, and faults go to `err`; a failure of `err` changes no status. It changes no file but that of
 /// `link --out`, which has the merge of the objects where the status is 0.
-#[tactic(auto, using(crate::proofs::OrdersKept::by_words, crate::proofs::OrdersKept::kept_by_words, crate::proofs::OrdersKept::linked_by_words, crate::proofs::OrdersKept::not_refused, crate::proofs::OrdersKept::done_is))]
+#[tactic(auto, using(crate::proofs::OrdersKept::status_bound, crate::proofs::OrdersKept::done_is))]
 pub fn run_command<F: Files, O: Write, E: Write>(
     alloc: Global,
     words: &[&str],
@@ -39,12 +39,28 @@ pub fn run_command<F: Files, O: Write, E: Write>(
     ensures linked { fault_of plm_app (texts words.now) ≡ [] → result ≡ 0 →
         LinksByWords (wanted_by (texts words.now)) (F.files files.old) (F.files files.new) }
 {
-    let ending = match command(alloc, words) {
+    let ending = end_words(alloc, words, files, out, err);
+    ending.status()
+}
+
+// Carries out the words of a command line.
+#[tactic(auto, using(crate::proofs::OrdersKept::by_words, crate::proofs::OrdersKept::kept_by_words, crate::proofs::OrdersKept::linked_by_words, crate::proofs::OrdersKept::faulty_links))]
+fn end_words<F: Files, O: Write, E: Write>(
+    alloc: Global,
+    words: &[&str],
+    files: &mut F,
+    out: &mut O,
+    err: &mut E,
+) -> Ending
+    ensures kept { ChangesByWords (wanted_by (texts words.now)) (F.files files.old) (F.files files.new) }
+    ensures linked { fault_of plm_app (texts words.now) ≡ [] → result ≡ Ending.Done →
+        LinksByWords (wanted_by (texts words.now)) (F.files files.old) (F.files files.new) }
+{
+    match command(alloc, words) {
         Ok(order) => carry_out(alloc, &order, files, out, err),
         Err(Failure::Fault(fault)) => end_line(&fault, out, err),
         Err(Failure::Memory) => refuse_memory(err),
-    };
-    ending as u8
+    }
 }
 
 // Prints why the command line gives no order, or the help that it asks for.
