@@ -78,7 +78,7 @@ fn end_line<O: Write, E: Write>(fault: &LineFault, out: &mut O, err: &mut E) -> 
 }
 
 // Carries out an order.
-#[tactic(auto, using(crate::proofs::OrdersKept::kept_as_wanted, crate::proofs::OrdersKept::link_as_wanted))]
+#[tactic(auto, using(crate::proofs::OrdersKept::kept_as_wanted))]
 fn carry_out<F: Files, O: Write, E: Write>(
     alloc: Global,
     order: &Order,

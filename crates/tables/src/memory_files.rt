@@ -99,9 +99,23 @@ impl<'a> MemoryFiles<'a> {
         FileFault
     }
 
+    // The number of a file that was written, or how many there are.
+    fn number_of(&self, name: &str) -> usize {
+        for (number, file) in self.written.iter().enumerate() {
+            if file.name.as_str() == name {
+                return number;
+            }
+        }
+        self.written.len()
+    }
+
     // The bytes of a file.
     fn bytes_of(&self, name: &str) -> Option<&[u8]> {
-        for file in self.written.iter().chain(self.files) {
+        let number = self.number_of(name);
+        if number < self.written.len() {
+            return Some(self.written[number].bytes.as_slice());
+        }
+        for file in self.files {
             if file.name.as_str() == name {
                 return Some(file.bytes.as_slice());
             }
@@ -109,21 +123,16 @@ impl<'a> MemoryFiles<'a> {
         None
     }
 
-    // The number of a file that was written.
-    fn number_of(&self, name: &str) -> Option<usize> {
-        self.written
-            .iter()
-            .position(|file| file.name.as_str() == name)
-    }
-
     // Makes a file empty.
     fn clear(&mut self, name: &str) -> anyhow::Result<()>
         ensures { self.new.failed ≡ self.old.failed }
     {
         let file = File::new(self.alloc, name)?;
-        match self.number_of(name) {
-            Some(number) => self.written[number] = file,
-            None => self.written.push(file)?,
+        let number = self.number_of(name);
+        if number < self.written.len() {
+            self.written[number] = file;
+        } else {
+            self.written.push(file)?;
         }
         Ok(())
     }
@@ -169,9 +178,10 @@ impl Files for MemoryFiles<'_> {
         if bytes.is_empty() {
             return Ok(0);
         }
-        let Some(number) = self.number_of(name) else {
+        let number = self.number_of(name);
+        if number >= self.written.len() {
             return Err(Failure::Fault(self.fail()));
-        };
+        }
         let count = count_of(&self.written[number], bytes);
         if count == 0 {
             return Err(Failure::Fault(self.fail()));
