@@ -4,13 +4,13 @@ use Rattle.std.specs.Prelude.{fold}
 use Rattle.std.specs.List.{AllByRecursion}
 use Rattle.clap.proofs.OnLiterals.{clap_on_literals}
 use Rattle.clap.specs.Words.{Kinds, Row, Text}
-use Rattle.clap.specs.Walk.{Held, Walk, idle, option, has_row, nothing_held, reading_by, rows_after, settled, walk, walk_from, walked, with_default}
+use Rattle.clap.specs.Walk.{Held, Walk, idle, option, has_row, nothing_held, reading_by, settled, walk, walk_from, walked}
 use Rattle.clap.specs.Simple.{filled}
-use Rattle.clap.specs.Faults.{check_fault, defaults_fault, level_fault, settle_fault, turn_fault, walk_fault}
+use Rattle.clap.specs.Faults.{settle_fault, turn_fault, walk_fault}
 use Rattle.clap.specs.Kinds.{or_else}
 use Rattle.clap.specs.declared.parser.matches.ValueSource.TheVariants.{CommandLine}
 use Rattle.command_line.specs.Command.{Code, DataBase, Input, IsBare, Limit, OfPlan, PlanOption, Stack, StackSize, ValueOption, map_rule, option_name, option_words, plan_option_name}
-use Rattle.command_line.proofs.Files.{all_done, bare_fault, bare_word, done_of, files_fault, files_filled, files_row, files_rows, files_walk, last_of, level_of, rows_more, rows_of_level, state}
+use Rattle.command_line.proofs.Files.{all_done, bare_fault, bare_word, done_of, files_fault, files_filled, files_row, files_rows, files_walk, last_of, rows_more, state}
 use Rattle.command_line.proofs.Verbs.{Form, Objects, Placed, Sources, leaf, rules}
 
 then_walk : (form : Form) (w v : Walk) (word : Text) (rest : List Text) → walked (rules form) [] w word ≡ v

@@ -6,7 +6,7 @@ use Rattle.clap.specs.Walk.{nothing_held, rows_after, with_default}
 use Rattle.clap.specs.Faults.{check_fault, defaults_fault, level_fault}
 use Rattle.command_line.specs.declared.orders.Action.{Action}
 use Rattle.command_line.specs.declared.orders.PlaceAction.{PlaceAction}
-use Rattle.command_line.specs.Command.{Code, DataBase, Input, Limit, LinkWanted, OfPlan, PlaceWanted, PlanOption, Stack, StackSize, ValueOption, Wanted, option_words, plan_option_name, option_name, usual, usual_place, usual_plan, wants_link, wants_place, wants_program, with_plan_text, with_text}
+use Rattle.command_line.specs.Command.{Code, DataBase, Input, Limit, OfPlan, PlanOption, Stack, StackSize, ValueOption, Wanted, option_words, plan_option_name, option_name, usual, usual_place, usual_plan, wants_link, wants_place, wants_program, with_plan_text, with_text}
 use Rattle.command_line.proofs.Files.{files_row, level_of, rows_of_level}
 use Rattle.command_line.proofs.Begins.{Ends, map_row, of_place, of_program, option_row, out}
 use Rattle.command_line.proofs.Verbs.{Objects, Placed, Sources, Verb, form_of, leaf, link, name_of, place, program, rules, wanted_of}

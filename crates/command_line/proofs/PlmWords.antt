@@ -1,10 +1,10 @@
 -- The words of a whole command line: without a fault they give an order.
 use Rattle.std.proofs.Common.{◌≡◌, ℕ, List, [], ◌∷◌, Option, Some, None, Bool, true, false, refl, sym, subst, codes, drop, is_some, ap, ◌∙◌, ◌++◌, append_assoc, ◌<◌, length}
-use Rattle.std.specs.Prelude.{unwrap_or, find, fold, option_and_then, option_map, if◌then◌else◌, not, ◌&&◌, ◌||◌}
+use Rattle.std.specs.Prelude.{find, fold, option_and_then, option_map, if◌then◌else◌, not, ◌&&◌, ◌||◌}
 use Rattle.std.specs.List.{AllByRecursion}
 use Rattle.std.specs.Option.{option_map_or}
 use Rattle.std.specs.Str.{bytes_eq}
-use Rattle.clap.specs.Words.{App, Kinds, Row, Rule, Shape, Text, all_of, fault_of, is_simple}
+use Rattle.clap.specs.Words.{App, Kinds, Row, Rule, Shape, Text, fault_of, is_simple}
 use Rattle.clap.specs.Walk.{Names, rows_after, settled, Waiting, option, positional, waits, done, refused, next, subcommand, plain_word, bundle, long_met, subcommand_or_other, subcommand_met, to_positional, arg_by_index, walked_from, walk, walk_from, nothing_held, answers_to, Held, Walk, Step, Outcome, plain, idle, value, trailing, walked, after_step, word_met, after_flag, short_or_plain, long_or_other, arg_by_long, finished}
 use Rattle.clap.specs.Lexer.{long_of, short_of}
 use Rattle.clap.proofs.OnLiterals.{clap_on_literals}

@@ -1,5 +1,5 @@
 -- Object files that are read and placed.
-use Rattle.std.proofs.Common.{◌≡◌, ℕ, List, Option}
+use Rattle.std.proofs.Common.{ℕ, List, Option}
 use Rattle.files.specs.Files.{Directory, HasFile}
 use Rattle.hex80.specs.Texts.{WritesText}
 use Rattle.locate.specs.Locating.{Absolute, IsPlaced, plan_view}

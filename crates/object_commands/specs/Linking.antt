@@ -1,5 +1,5 @@
 -- What linking makes of files.
-use Rattle.std.specs.Prelude.{◌≡◌, ℕ, Bool, false, List, Option, None, Some}
+use Rattle.std.specs.Prelude.{◌≡◌, ℕ, false, List, Option, None, Some}
 use Rattle.std.specs.Str.{bytes_eq}
 use Rattle.files.specs.Files.{ChangesFiles, Directory, with_file}
 use Rattle.object_modules.specs.Module.{ObjectModule}
