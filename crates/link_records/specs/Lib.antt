@@ -1,0 +1,3 @@
+pub use Rattle.link.specs.Merging
+pub use Rattle.writing.specs.Writing
+pub mod Streams
