@@ -3,7 +3,7 @@
 
 mod extents;
 mod header;
-mod judge;
+mod judging;
 mod marks;
 mod names;
 mod order;
@@ -11,4 +11,4 @@ mod references;
 mod state;
 
 pub use header::Header;
-pub use judge::judge;
+pub use judging::judge;
