@@ -140,10 +140,10 @@ covers_at : (o n w : ℕ) → o ≤ n → n < o + w → (nat_le o n && nat_lt n 
 covers_at o n w a b = and_from (nat_le o n) (nat_lt n (o + w)) (le-leb o n a) (lt-ltb n (o + w) b)
 
 covers_not : (o n w : ℕ) → (o ≤ n → n < o + w → ⊥) → (nat_le o n && nat_lt n (o + w)) ≡ false
-covers_not o n w no = go (nat_le o n && nat_lt n (o + w)) refl
+covers_not o n w outside = go (nat_le o n && nat_lt n (o + w)) refl
   where
     go : (b : Bool) → (nat_le o n && nat_lt n (o + w)) ≡ b → (nat_le o n && nat_lt n (o + w)) ≡ false
-    go true e = let i = inside_is o n w e in absurd (no i.0 i.1)
+    go true e = let i = inside_is o n w e in absurd (outside i.0 i.1)
     go false e = e
 
 -- a fix of at most two bytes has no other bytes than its first and its last
@@ -238,15 +238,19 @@ pub placed_by :
     (content : Content) (fixes others : List Fix) (marks : List Bool) → AreMarked marks content others
     → Placed content fixes others (marks_after content fixes marks)
 placed_by content [] others marks m = (refl, m)
-placed_by content (fix ∷ rest) others marks m = go (is_within content fix) refl
+placed_by content (fix ∷ rest) others marks m =
+    go (λ e. placed_by content rest (fix ∷ others) (with_marks marks content fix) (marked_more marks content fix others m e))
+    (is_within content fix) refl
   where
-    go : (within : Bool) → is_within content fix ≡ within
+    go : (is_within content fix ≡ true
+        → Placed content rest (fix ∷ others) (marks_after content rest (with_marks marks content fix)))
+        → (within : Bool) → is_within content fix ≡ within
         → Placed content (fix ∷ rest) others
         (cond (within && not (is_marked marks content fix)) (marks_after content rest (with_marks marks content fix)) None)
-    go false e = ap (λ b. (b && not (list_any (share_a_byte fix) others)) && are_placed content rest (fix ∷ others)) e
-    go true e =
-        placed_case content fix rest others (marks_after content rest (with_marks marks content fix)) e
-        (placed_by content rest (fix ∷ others) (with_marks marks content fix) (marked_more marks content fix others m e))
+    go later false e =
+        ap (λ b. (b && not (list_any (share_a_byte fix) others)) && are_placed content rest (fix ∷ others)) e
+    go later true e =
+        placed_case content fix rest others (marks_after content rest (with_marks marks content fix)) e (later e)
         (is_marked marks content fix) (shares_is marks content fix others m e)
 
 -- fixes that are read one after another

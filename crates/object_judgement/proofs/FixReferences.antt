@@ -13,7 +13,7 @@ use Rattle.object_entries.specs.Fixes.{external_fix, segment_fix, fix_in_front, 
 use Rattle.object_judgement.specs.internal.References.{is_known, are_entries, entries_fit}
 
 -- the first entry is judged, and then all others
-FitsFirst : (external_count : ℕ) (target : Option Segment) (kind : FixKind) (entries : List ℕ) (fix : Fix) (after : List ℕ) → Type 0
+abbrev FitsFirst : (external_count : ℕ) (target : Option Segment) (kind : FixKind) (entries : List ℕ) (fix : Fix) (after : List ℕ) → Type 0
 FitsFirst external_count target kind entries fix after =
     entries_fit external_count target kind entries
     ≡ (is_known external_count fix.target && entries_fit external_count target kind after)

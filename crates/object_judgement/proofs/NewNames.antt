@@ -44,7 +44,7 @@ regrouped true false true d = refl
 regrouped true false false d = refl
 regrouped false b c d = refl
 
-none_either_way : {A : Type 0} (b : Bool) → cond b None None ≡ (None : Option A)
+none_either_way : {A : Type 0} (b : Bool) → ◌≡◌ {A = Option A} (cond b None None) None
 none_either_way true = refl
 none_either_way false = refl
 

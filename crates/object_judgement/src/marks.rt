@@ -107,7 +107,7 @@ impl<'a> MarkedContent<'a> {
     #[tactic(auto, using(crate::proofs::FixMarks::unmarked_is))]
     pub(crate) fn new(content: Content<'a>) -> MarkedContent<'a>
         requires { length content.bytes.now ≤ 1024 }
-        ensures { result ≡ unmarked (content_view content) }
+        ensures { result ≡ unmarked (content_view content.entry) }
     {
         let marks = [false; 1024];
         MarkedContent { content, marks }

@@ -159,7 +159,7 @@ impl<'a> State<'a> {
     // A content is the latest one.
     fn set_content(&mut self, content: Content<'a>)
         requires { length content.bytes.now ≤ 1024 }
-        ensures { state_view self.new ≡ with_content (state_view self.old) (content_view content) }
+        ensures { state_view self.new ≡ with_content (state_view self.old) (content_view content.entry) }
     {
         let end = content.offset as usize + content.bytes.len();
         match content.segment {
