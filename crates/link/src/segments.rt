@@ -123,10 +123,5 @@ pub(crate) fn merged_segment(
     let runs = merged_runs(alloc, segment, publics, placed)?;
     let fixes = merged_fixes(alloc, segment, publics, placed)?;
     let end = merged_end(segment, placed);
-    Ok(SegmentBytes::new(
-        end,
-        merged_alignment(segment, placed),
-        runs,
-        fixes,
-    ))
+    Ok(SegmentBytes::new(end, merged_alignment(segment, placed), runs, fixes))
 }

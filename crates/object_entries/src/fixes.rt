@@ -61,7 +61,10 @@ fn intersegment_of(body: &[u8]) -> Option<(Option<Segment>, FixKind, &[u8])>
 
 /// The target that is a segment, the kind and the entries of a fix record whose content is in this segment. With
 /// no such target each entry names an external name.
-pub fn fix_entries_of<'a>(own: Segment, read: &Record<'a>) -> Option<(Option<Segment>, FixKind, &'a [u8])>
+pub fn fix_entries_of<'a>(
+    own: Segment,
+    read: &Record<'a>,
+) -> Option<(Option<Segment>, FixKind, &'a [u8])>
     ensures { option_map (λ head. (head.0, head.1, head.2.now)) result
         ≡ fix_where own read.now.kind read.now.body.now }
 {

@@ -7,4 +7,6 @@ mod fronts;
 
 pub use content::Content;
 pub use fixes::{fix_entries_of, fix_in_front};
-pub use fronts::{content_of, definition_in_front, listed_name_in_front, name_in_front, segment_of, word};
+pub use fronts::{
+    content_of, definition_in_front, listed_name_in_front, name_in_front, segment_of, word,
+};
