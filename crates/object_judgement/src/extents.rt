@@ -6,9 +6,8 @@ ghost use Rattle.object_modules.specs.Rules.{is_served};
 ghost use Rattle.object_modules.specs.Spelling.{alignment_with};
 ghost use Rattle.object_judgement.specs.internal.Headers.{entry_at, nothing_said, extents_with, extents_in};
 
-use object_modules::{Alignment, Fault, Segment};
-
 use object_entries::{segment_of, word};
+use object_modules::{Alignment, Fault, Segment};
 
 /// What a header says of the segments: lengths, 0 to 65535, and where they may begin.
 #[derive(Clone, Copy, Debug)]

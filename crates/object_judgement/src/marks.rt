@@ -70,13 +70,7 @@ fn place_fix(marks: &mut [bool], content: &Content, fix: &Fix) -> bool
 
 // Marks the bytes of fixes, one after another. Tells whether each lies within the content and shares no byte with
 // another.
-#[tactic(auto, using(
-    crate::proofs::FixMarks::marks_more,
-    crate::proofs::FixMarks::marks_none,
-    crate::proofs::FixMarks::marks_end,
-    object_entries::proofs::FixEntries::entries_then,
-    object_entries::proofs::FixEntries::fewer_then,
-))]
+#[tactic(auto, using(crate::proofs::FixMarks::marks_more, crate::proofs::FixMarks::marks_none, crate::proofs::FixMarks::marks_end, object_entries::proofs::FixEntries::entries_then, object_entries::proofs::FixEntries::fewer_then,))]
 fn place_fixes(
     marks: &mut [bool],
     content: &Content,

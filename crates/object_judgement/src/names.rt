@@ -111,14 +111,7 @@ fn entry_name<'a>(list: NameList, entries: &'a [u8]) -> Option<(&'a [u8], &'a [u
 }
 
 /// The names of the entries of a record. Tells whether each is a name that was not known before, and makes them known.
-#[tactic(auto, using(
-    crate::proofs::NewNames::taken_more,
-    crate::proofs::NewNames::taken_wrong,
-    crate::proofs::NewNames::taken_again,
-    crate::proofs::NewNames::taken_none,
-    crate::proofs::NewNames::taken_end,
-    crate::proofs::NewNames::name_shorter,
-))]
+#[tactic(auto, using(crate::proofs::NewNames::taken_more, crate::proofs::NewNames::taken_wrong, crate::proofs::NewNames::taken_again, crate::proofs::NewNames::taken_none, crate::proofs::NewNames::taken_end, crate::proofs::NewNames::name_shorter,))]
 pub(crate) fn take_names<'a>(
     names: &mut NameSet<'a>,
     list: NameList,

@@ -29,9 +29,7 @@ fn is_fix_record(kind: RecordKind) -> bool
 {
     matches!(
         kind,
-        RecordKind::ExternalReferences
-            | RecordKind::Relocation
-            | RecordKind::IntersegmentReferences
+        RecordKind::ExternalReferences | RecordKind::Relocation | RecordKind::IntersegmentReferences
     )
 }
 

@@ -18,12 +18,7 @@ fn is_known(target: Target, external_count: usize) -> bool
 }
 
 /// Whether bytes are entries of a fix record, each with an external name that there is if it has one.
-#[tactic(auto, using(
-    crate::proofs::FixReferences::fit_more,
-    crate::proofs::FixReferences::fit_other,
-    crate::proofs::FixReferences::fit_end,
-    object_entries::proofs::FixEntries::fewer_then,
-))]
+#[tactic(auto, using(crate::proofs::FixReferences::fit_more, crate::proofs::FixReferences::fit_other, crate::proofs::FixReferences::fit_end, object_entries::proofs::FixEntries::fewer_then,))]
 pub(crate) fn entries_fit(
     target: Option<Segment>,
     kind: FixKind,
