@@ -1,5 +1,5 @@
 -- Names that are judged one after another.
-use Rattle.std.proofs.Common.{◌≡◌, ℕ, ◌<◌, Bool, true, false, not, ◌&&◌, ◌||◌, cond, List, [], ◌∷◌, ◌++◌, length, Option, Some, None, option_map, option_and_then, refl, ap, sym, ◌∙◌, arith}
+use Rattle.std.proofs.Common.{◌≡◌, ℕ, ◌<◌, Bool, true, false, not, ◌&&◌, ◌||◌, cond, List, [], ◌∷◌, ◌++◌, length, Option, Some, None, option_map, option_and_then, Bor, map, refl, ap, sym, ◌∙◌, arith}
 use Rattle.std.specs.List.{list_all, list_any}
 use Rattle.std.specs.Str.{bytes_eq}
 use Rattle.std.proofs.lemmas.List.{append_assoc, append-nil}
@@ -14,6 +14,14 @@ use Rattle.object_files.proofs.AnyCount.{Shortens, all_unfolds, listed_name_shor
 use Rattle.object_judgement.specs.declared.names.NameList.{NameList}
 use Rattle.object_judgement.specs.declared.names.NameList.TheVariants.{Externals, Publics}
 use Rattle.object_judgement.specs.internal.NamesJudged.{definition_name_in_front, entry_name, names_in, names_taken}
+
+-- a set of borrowed names has a name where the names have it
+pub among_borrowed :
+    (name : List ℕ) (keys : List (Bor (List ℕ)))
+    → list_any (λ (key : Bor (List ℕ)). bytes_eq name key.now) keys
+    ≡ is_among name (map (λ (key : Bor (List ℕ)). key.now) keys)
+among_borrowed name [] = refl
+among_borrowed name (key ∷ keys) = ap (λ b. bytes_eq name key.now || b) (among_borrowed name keys)
 
 -- names are new by which names are known, and not by their order
 pub are_new_alike :
