@@ -13,7 +13,6 @@ use Rattle.object_modules.specs.declared.segment.Segment.{Segment}
 use Rattle.object_modules.specs.declared.segment.Segment.TheVariants.{Code, Data}
 use Rattle.object_modules.specs.Before.{rank_of, entries_of, externals_of, content_of, latest_content, filled_to, fixes_of, leading_fixes}
 use Rattle.object_modules.specs.Parts.{SegmentEntry, Content, Part, kind_of_part}
-use Rattle.object_modules.specs.Reading.{part_in}
 use Rattle.object_modules.specs.Rules.{is_body, is_served, ascend_from, fits_segment, is_within, are_apart, fit_content, part_fault}
 use Rattle.object_modules.specs.Spelling.{first_in, name_of_header, start_of_end, name_in, start_in}
 use Rattle.object_judgement.specs.declared.extents.Extents.{Extents}
@@ -57,19 +56,18 @@ pub record Knows (before : List Part) (state : State) : Type 0 where
   pub start : start_in (reverse before) ≡ state.start
   pub no_start : is_early 3 before ≡ true → filter_map start_of_end (reverse before) ≡ []
 
--- a part that was accepted as the state is now
-pub record Accepted (before : List Part) (kind : RecordKind) (body : List ℕ) (state : State) : Type 0 where
+-- a part that was read and accepted, and is known now
+pub record Accepted (before : List Part) (kind : RecordKind) (found : Option Part) (state : State) : Type 0 where
   pub part : Part
   pub of_kind : kind_of_part part ≡ kind
-  pub read : part_in kind body ≡ Some part
+  pub read : found ≡ Some part
   pub no_fault : part_fault before part ≡ None
   pub knows : Knows (part ∷ before) state
 
--- what is true of the record with this body, as it was judged
-abbrev pub Verdict : (before : List Part) → RecordKind → (body : List ℕ) → Result State Fault → Type 0
-Verdict before kind body (Ok state) = Accepted before kind body state
-Verdict before kind body (Err fault) =
-    option_map_or (part_fault before) (part_in kind body) (Some WrongBody) ≡ Some fault
+-- what is true of a record that was read, as it was judged
+abbrev pub Verdict : (before : List Part) → RecordKind → (found : Option Part) → Result State Fault → Type 0
+Verdict before kind found (Ok state) = Accepted before kind found state
+Verdict before kind found (Err fault) = option_map_or (part_fault before) found (Some WrongBody) ≡ Some fault
 
 -- the last of the records in their order
 last_first : (part : Part) (before : List Part) → reverse (part ∷ before) ≡ reverse before ++ part ∷ []

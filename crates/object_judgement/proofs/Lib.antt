@@ -5,3 +5,6 @@ pub mod HeaderLaws
 pub mod Accepting
 pub mod JudgeSteps
 pub mod Knowing
+pub mod KnownAfter
+pub mod HeaderVerdict
+pub mod EndVerdict
