@@ -1,13 +1,18 @@
-use Rattle.std.proofs.Common.{rules, ◌≡◌, ◌≤◌, ◌&&◌, [], true, Some, not, length, is_some, ℕ, ◌+◌, ◌-◌, ◌*◌, ◌<◌, ◌/◌, ◌%◌, Bool, false, nat_eq, nat_lt, List, ◌∷◌, ◌++◌, slice_index_or, slice_set, bit_and, bit_or, Fits, w8, w32, w64, Bor, MutBor}
-use Rattle.object_modules.specs.declared.segment.Segment.TheVariants.{Absolute}
-use Rattle.object_modules.specs.Module.{width_of}
-use Rattle.object_modules.specs.Rules.{is_within}
-use Rattle.object_entries.specs.Entries.{content_at}
-use Rattle.object_entries.specs.Fixes.{AreFixEntries, fixes_in}
+use Rattle.std.proofs.Common.{◌∙◌, sym}
 use Rattle.object_entries.specs.Views.{content_view}
-use Rattle.object_judgement.specs.internal.Marks.{is_marked, with_marks, marks_after, unmarked, marked_after}
+use Rattle.object_entries.proofs.FixEntries.{entries_then}
+use Rattle.object_judgement.proofs.FixMarks.{marks_more}
 use Rattle.object_judgement.proofs.marks.place_fixes.Goals as goal
 
--- src/marks.rt:90:5
 pub loop-fix-preserved : goal.loop-fix-preserved
-loop-fix-preserved c = ?
+loop-fix-preserved c = record {
+  left =
+      sym (marks_more (content_view c.args.content.now) c.args.target c.args.kind c.loop-fix.entries.now c.in-Some.after.now
+      c.in-Some.fix c.loop-fix.marks c.place_fix.new.marks c.loop-fix.invariant.entries (sym c.in-Some.ensures)
+      (sym c.place_fix.ensures.fits ∙ c.if-not-place_fix.false) (c.place_fix.ensures.marks c.if-not-place_fix.false))
+      ∙ c.loop-fix.invariant.left;
+  entries =
+      entries_then c.args.target c.args.kind c.loop-fix.entries.now c.in-Some.fix c.in-Some.after.now
+      c.loop-fix.invariant.entries (sym c.in-Some.ensures);
+  long = c.place_fix.ensures.long ∙ c.loop-fix.invariant.long;
+}
