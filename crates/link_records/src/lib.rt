@@ -29,13 +29,20 @@ pub enum StreamFault {
 }
 
 // The module that a file spells, which is the one of this number.
-fn read_file(alloc: Global, number: usize, file: &[u8]) -> Result<ObjectModule, Failure<StreamFault>>
+fn read_file(
+    alloc: Global,
+    number: usize,
+    file: &[u8],
+) -> Result<ObjectModule, Failure<StreamFault>>
     ensures spelled { IfOk result (λ object. Spells file.now object) }
     ensures fault { IfFault result (λ fault. IsFaultyAt number file.now fault) }
 {
     match read(alloc, file) {
         Ok(object) => Ok(object),
-        Err(Failure::Fault(fault)) => Err(Failure::Fault(StreamFault::Object { file: number, fault })),
+        Err(Failure::Fault(fault)) => Err(Failure::Fault(StreamFault::Object {
+            file: number,
+            fault,
+        })),
         Err(Failure::Memory) => Err(Failure::Memory),
     }
 }
