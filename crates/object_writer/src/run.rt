@@ -22,8 +22,8 @@ pub fn write_run<W: Write>(
 ) -> Result<(), Failure<WriteFault>>
     requires within { offset + length bytes.now ≤ 65535 }
     requires fixes { AreFixesOf offset bytes.now fixes.now }
-    ensures ok { OnOk result (Appends (W.contents out.old) (W.contents out.new)
-        (run_text segment offset bytes.now fixes.now)) }
+    ensures ok { OnOk result
+        (Appends (W.contents out.old) (W.contents out.new) (run_text segment offset bytes.now fixes.now)) }
     ensures err { OnErr result (AppendsBeginning (W.contents out.old) (W.contents out.new)
         (run_text segment offset bytes.now fixes.now)) }
 {
