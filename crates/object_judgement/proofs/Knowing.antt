@@ -125,7 +125,7 @@ fault_by body served placed fixed =
     ((not body, WrongBody) ∷ (not served, WrongAlignment) ∷ (not placed, ContentMisplaced) ∷ (not fixed, FixMisplaced) ∷ [])
 
 -- no fixes fit any content
-nothing_to_fit :
+pub nothing_to_fit :
     (before : List Part) (part : Part) (latest : Option Content) → ((own : Segment) → fixes_of own part ≡ [])
     → fit_content before part latest ≡ true
 nothing_to_fit before part None none = refl
@@ -134,12 +134,12 @@ nothing_to_fit before part (Some content) none =
     list_all (is_within content) fixes
     && are_apart fixes (leading_fixes content.segment before)) (none content.segment)
 
--- the fault of a part that has neither entries nor fixes and is no content
-pub plain_fault :
+-- the fault of a part that has no entries and is no content
+pub fault_where :
     (before : List Part) (part : Part) → entries_of part ≡ [] → content_of part ≡ None
-    → ((own : Segment) → fixes_of own part ≡ [])
-    → part_fault before part ≡ fault_by (is_body before part) true true true
-plain_fault before part no_entries no_content no_fixes =
+    → part_fault before part
+    ≡ fault_by (is_body before part) true true (fit_content before part (latest_content before))
+fault_where before part no_entries no_content =
     ap (λ (entries : List SegmentEntry).
     first_that_holds
     ((not (is_body before part), WrongBody) ∷ (not (list_all is_served entries), WrongAlignment)
@@ -150,5 +150,13 @@ plain_fault before part no_entries no_content no_fixes =
     ((not (is_body before part), WrongBody) ∷ (false, WrongAlignment)
     ∷ (option_map_or (λ c. not (fits_segment before c)) content false, ContentMisplaced)
     ∷ (not (fit_content before part (latest_content before)), FixMisplaced) ∷ [])) no_content
+
+-- and of one that has no fixes either
+pub plain_fault :
+    (before : List Part) (part : Part) → entries_of part ≡ [] → content_of part ≡ None
+    → ((own : Segment) → fixes_of own part ≡ [])
+    → part_fault before part ≡ fault_by (is_body before part) true true true
+plain_fault before part no_entries no_content no_fixes =
+    fault_where before part no_entries no_content
     ∙ ap (λ fixed. fault_by (is_body before part) true true fixed)
     (nothing_to_fit before part (latest_content before) no_fixes)

@@ -8,3 +8,6 @@ pub mod Knowing
 pub mod KnownAfter
 pub mod HeaderVerdict
 pub mod EndVerdict
+pub mod NamesVerdict
+pub mod ContentVerdict
+pub mod FixesVerdict
