@@ -7,7 +7,8 @@ ghost use Rattle.object_modules.specs.Rules.{is_within};
 ghost use Rattle.object_entries.specs.Entries.{content_at};
 ghost use Rattle.object_entries.specs.Fixes.{AreFixEntries, fixes_in};
 ghost use Rattle.object_entries.specs.Views.{content_view};
-ghost use Rattle.object_judgement.specs.internal.Marks.{is_marked, with_marks, marks_after, no_marks, unmarked, marked_after};
+ghost use Rattle.object_judgement.specs.internal.Marks.{is_marked, with_marks, marks_after, no_marks};
+ghost use Rattle.object_judgement.specs.internal.Marks.{unmarked, marked_after};
 
 use object_entries::{Content, fix_in_front};
 use object_modules::{Fix, FixKind, Segment};
@@ -78,7 +79,7 @@ fn place_fix(marks: &mut [bool], content: &Content, fix: &Fix) -> bool
 
 // Marks the bytes of fixes, one after another. Tells whether each lies within the content and shares no byte with
 // another.
-#[tactic(auto, using(crate::proofs::FixMarks::marks_more, crate::proofs::FixMarks::marks_none, crate::proofs::FixMarks::marks_end, object_entries::proofs::FixEntries::entries_then, object_entries::proofs::FixEntries::fewer_then,))]
+#[tactic(auto, using(crate::proofs::FixMarks::marks_none, crate::proofs::FixMarks::marks_end, object_entries::proofs::FixEntries::fewer_then,))]
 fn place_fixes(
     marks: &mut [bool],
     content: &Content,
@@ -91,7 +92,8 @@ fn place_fixes(
     ensures fits { result ≡ is_some
         (marks_after (content_view content.now) (fixes_in target kind entries.now) marks.old) }
     ensures marks { result ≡ true
-        → marks_after (content_view content.now) (fixes_in target kind entries.now) marks.old ≡ Some marks.new }
+        → marks_after (content_view content.now) (fixes_in target kind entries.now) marks.old
+        ≡ Some marks.new }
     ensures long { length marks.new ≡ length marks.old }
 {
     let mut entries = entries;
