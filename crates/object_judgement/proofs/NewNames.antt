@@ -62,7 +62,8 @@ in_turn true b x = refl
 in_turn false b x = refl
 
 -- the names that are known once a name and those that are read after it are, where the name fits
-abbrev taken_after : (fits : Bool) (known : List (List ℕ)) (name : List ℕ) → Option (List (List ℕ)) → Option (List (List ℕ))
+abbrev taken_after :
+    (fits : Bool) (known : List (List ℕ)) (name : List ℕ) → Option (List (List ℕ)) → Option (List (List ℕ))
 taken_after fits known name read = cond fits (names_taken (known ++ name ∷ []) read) None
 
 taken_first :

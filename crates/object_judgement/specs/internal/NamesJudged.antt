@@ -25,4 +25,5 @@ names_in list bytes = all_in (entry_name list) bytes
 -- the names that are known once those that were read are, where each is a name and new
 abbrev pub names_taken : (known : List (List ℕ)) → Option (List (List ℕ)) → Option (List (List ℕ))
 names_taken known None = None
-names_taken known (Some names) = if list_all is_name names && are_new names known then Some (known ++ names) else None
+names_taken known (Some names) =
+    if list_all is_name names && are_new names known then Some (known ++ names) else None
