@@ -75,7 +75,9 @@ fn merge(alloc: Global, files: &[&[u8]]) -> Result<Merged, Failure<StreamFault>>
     }
 }
 
-/// Writes the text of the merge of the modules that files spell.
+/// Writes the text of the merge of the modules that files spell, in their order. The first file that is no object file,
+/// and why there is no merge, is answered before the first byte is written, and so is out of memory: memory holds the
+/// modules and their merge. After that each failure is one of the writer, which then has a beginning of the text.
 pub fn link_records<W: Write>(
     alloc: Global,
     files: &[&[u8]],
