@@ -18,7 +18,7 @@ use Rattle.object_judgement.specs.declared.extents.Extents.{Extents}
 use Rattle.object_judgement.specs.internal.Headers.{nothing_said, extents_with, extents_after}
 use Rattle.object_judgement.specs.internal.Marks.{AreMarked, no_marks, unmarked}
 use Rattle.object_judgement.specs.internal.States.{State, extent_of, end_of, with_content, fits, content_taken}
-use Rattle.object_judgement.proofs.HeaderLaws.{said_of}
+use Rattle.object_judgement.proofs.ExtentsSaid.{code_length_said, data_length_said}
 use Rattle.object_judgement.proofs.Knowing.{Knows, SaysHeader, HasContent, Accepted, Verdict, fault_by, is_early, header_stays, start_stays, filtered_as_before, nothing_to_fit}
 use Rattle.object_judgement.proofs.KnownAfter.{never, follows_early}
 
@@ -38,36 +38,6 @@ unmarked_at_first content short =
     }
 
 -- the length that the header states of a segment
-code_stays :
-    (other : Segment) (entry : SegmentEntry) (extents : Extents) → same_segment other Code ≡ false
-    → (extents_with other entry extents).code_length ≡ extents.code_length
-code_stays Absolute entry extents e = refl
-code_stays Code entry extents e = never (sym e)
-code_stays Data entry extents e = refl
-code_stays Stack entry extents e = refl
-
-data_stays :
-    (other : Segment) (entry : SegmentEntry) (extents : Extents) → same_segment other Data ≡ false
-    → (extents_with other entry extents).data_length ≡ extents.data_length
-data_stays Absolute entry extents e = refl
-data_stays Code entry extents e = refl
-data_stays Data entry extents e = never (sym e)
-data_stays Stack entry extents e = refl
-
-pub code_length_said :
-    (entries : List SegmentEntry) → ascend_from 0 entries ≡ true
-    → (extents_after entries nothing_said).code_length ≡ length_in entries Code
-code_length_said entries ascending =
-    said_of (λ (extents : Extents). extents.code_length) (λ (entry : SegmentEntry). entry.length) Code
-    (λ entry extents. refl) code_stays entries 0 nothing_said ascending
-
-pub data_length_said :
-    (entries : List SegmentEntry) → ascend_from 0 entries ≡ true
-    → (extents_after entries nothing_said).data_length ≡ length_in entries Data
-data_length_said entries ascending =
-    said_of (λ (extents : Extents). extents.data_length) (λ (entry : SegmentEntry). entry.length) Data
-    (λ entry extents. refl) data_stays entries 0 nothing_said ascending
-
 code_stated :
     (before : List Part) (name : List ℕ) (extents : Extents) → SaysHeader before name extents
     → extents.code_length ≡ stated_length_of Code before

@@ -21,6 +21,7 @@ use Rattle.object_judgement.specs.internal.References.{is_known, are_entries, en
 use Rattle.object_judgement.specs.internal.States.{State, with_fixes, fixes_placed, fixes_taken}
 use Rattle.object_judgement.proofs.Accepting.{KnowsNames, FixesJudged, fixes_judged}
 use Rattle.object_judgement.proofs.Knowing.{Knows, HasContent, Accepted, Verdict, fault_by, is_early, fault_where}
+use Rattle.object_judgement.proofs.NamesVerdict.{some_items}
 use Rattle.object_judgement.proofs.KnownAfter.{never, Plain, follows_early, follows_content, known_after}
 
 -- the state has a content that fixes may belong to
@@ -117,25 +118,19 @@ and_true true = refl
 and_true false = refl
 
 -- some bytes are some references, or some words
-some_first :
-    {A : Type 0} (first : A) (others : Option (List A)) (items : List A)
-    → option_map (λ (later : List A). first ∷ later) others ≡ Some items → is_empty items ≡ false
-some_first first None items e = absurd (let bad : None ≡ Some items = e in cc)
-some_first first (Some later) items e = sym (ap (λ o. option_map_or is_empty o false) e)
-
 some_references : (entries : List ℕ) (items : List Reference) → references_in entries ≡ Some items → is_empty items ≡ is_empty entries
 some_references [] items e = sym (ap (λ o. option_map_or is_empty o true) e)
 some_references (a ∷ []) items e = absurd (let bad : None ≡ Some items = e in cc)
 some_references (a ∷ b ∷ []) items e = absurd (let bad : None ≡ Some items = e in cc)
 some_references (a ∷ b ∷ c ∷ []) items e = absurd (let bad : None ≡ Some items = e in cc)
 some_references (low ∷ high ∷ offset_low ∷ offset_high ∷ rest) items e =
-    some_first (record { external = low + 256 * high; offset = offset_low + 256 * offset_high }) (references_in rest)
+    some_items (record { external = low + 256 * high; offset = offset_low + 256 * offset_high }) (references_in rest)
     items e
 
 some_words : (entries : List ℕ) (items : List ℕ) → words_in entries ≡ Some items → is_empty items ≡ is_empty entries
 some_words [] items e = sym (ap (λ o. option_map_or is_empty o true) e)
 some_words (a ∷ []) items e = absurd (let bad : None ≡ Some items = e in cc)
-some_words (low ∷ high ∷ rest) items e = some_first (low + 256 * high) (words_in rest) items e
+some_words (low ∷ high ∷ rest) items e = some_items (low + 256 * high) (words_in rest) items e
 
 -- external names that there are
 references_known :

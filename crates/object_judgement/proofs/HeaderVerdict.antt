@@ -15,7 +15,7 @@ use Rattle.object_judgement.specs.declared.extents.Extents.{Extents}
 use Rattle.object_judgement.specs.internal.Headers.{nothing_said, extents_after, extents_in}
 use Rattle.object_judgement.specs.internal.States.{State, with_header, header_named, header_taken}
 use Rattle.object_judgement.proofs.HeaderLaws.{verdict_on, extents_are}
-use Rattle.object_judgement.proofs.Knowing.{Knows, Verdict, fault_by}
+use Rattle.object_judgement.proofs.Knowing.{Knows, Verdict, wrong_either_way, fault_by}
 use Rattle.object_judgement.proofs.KnownAfter.{never}
 
 -- what is known after the header
@@ -75,15 +75,11 @@ entries_judged state name translator version entries k true true true a b c = re
   knows = header_known state name translator version entries k b;
 }
 
-wrong_either_way : (b : Bool) → Verdict [] kinds.Header None (cond b (Err WrongBody) (Err WrongBody))
-wrong_either_way true = refl
-wrong_either_way false = refl
-
 read_judged :
     (state : State) (name : List ℕ) (translator version : ℕ) (read : Option (List SegmentEntry)) → Knows [] state
     → Verdict [] kinds.Header (option_map (HeaderPart name translator version) read)
     (cond (is_name name) (with_header state name (verdict_on 0 nothing_said true read)) (Err WrongBody))
-read_judged state name translator version None k = wrong_either_way (is_name name)
+read_judged state name translator version None k = wrong_either_way [] kinds.Header (is_name name)
 read_judged state name translator version (Some entries) k =
     entries_judged state name translator version entries k (is_name name) (ascend_from 0 entries)
     (list_all is_served entries) refl refl refl

@@ -69,6 +69,12 @@ abbrev pub Verdict : (before : List Part) → RecordKind → (found : Option Par
 Verdict before kind found (Ok state) = Accepted before kind found state
 Verdict before kind found (Err fault) = option_map_or (part_fault before) found (Some WrongBody) ≡ Some fault
 
+-- a body that can't be read is wrong either way
+pub wrong_either_way :
+    (before : List Part) (kind : RecordKind) (b : Bool) → Verdict before kind None (cond b (Err WrongBody) (Err WrongBody))
+wrong_either_way before kind true = refl
+wrong_either_way before kind false = refl
+
 -- the last of the records in their order
 last_first : (part : Part) (before : List Part) → reverse (part ∷ before) ≡ reverse before ++ part ∷ []
 last_first part before = reverse-append (part ∷ []) before

@@ -17,11 +17,11 @@ use Rattle.object_modules.specs.Rules.{are_names, part_fault}
 use Rattle.object_judgement.specs.internal.NamesJudged.{definition_name_in_front, names_taken}
 use Rattle.object_judgement.specs.internal.States.{State, with_externals, with_publics, externals_taken, publics_taken}
 use Rattle.object_judgement.proofs.Accepting.{names_judged, names_known_after}
-use Rattle.object_judgement.proofs.Knowing.{Knows, Accepted, Verdict, fault_by, is_early, plain_fault}
+use Rattle.object_judgement.proofs.Knowing.{Knows, Accepted, Verdict, wrong_either_way, fault_by, is_early, plain_fault}
 use Rattle.object_judgement.proofs.KnownAfter.{never, follows_early, early_below, known_after}
 
 -- some bytes are some items
-some_items :
+pub some_items :
     {A : Type 0} (first : A) (others : Option (List A)) (items : List A)
     → option_map (λ (later : List A). first ∷ later) others ≡ Some items → is_empty items ≡ false
 some_items first None items e = absurd (let bad : None ≡ Some items = e in cc)
@@ -35,15 +35,11 @@ some_read :
 some_read count front None items e = absurd (let bad : None ≡ Some items = e in cc)
 some_read count front (Some (first, rest)) items e = some_items first (at_most count front rest) items e
 
-pub empty_alike :
+empty_alike :
     {A : Type 0} (front : List ℕ → Front A) (bytes : List ℕ) (items : List A)
     → all_in front bytes ≡ Some items → is_empty items ≡ is_empty bytes
 empty_alike front [] items e = sym (ap (λ o. option_map_or is_empty o true) e)
 empty_alike front (byte ∷ others) items e = some_read (length others) front (front (byte ∷ others)) items e
-
-wrong_either_way : (before : List Part) (kind : RecordKind) (b : Bool) → Verdict before kind None (cond b (Err WrongBody) (Err WrongBody))
-wrong_either_way before kind true = refl
-wrong_either_way before kind false = refl
 
 -- names of other modules
 externals_fault :
