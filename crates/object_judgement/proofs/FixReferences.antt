@@ -13,7 +13,9 @@ use Rattle.object_entries.specs.Fixes.{external_fix, segment_fix, fix_in_front, 
 use Rattle.object_judgement.specs.internal.References.{is_known, are_entries, entries_fit}
 
 -- the first entry is judged, and then all others
-abbrev FitsFirst : (external_count : ℕ) (target : Option Segment) (kind : FixKind) (entries : List ℕ) (fix : Fix) (after : List ℕ) → Type 0
+abbrev FitsFirst :
+    (external_count : ℕ) (target : Option Segment) (kind : FixKind) (entries : List ℕ) (fix : Fix)
+    (after : List ℕ) → Type 0
 FitsFirst external_count target kind entries fix after =
     entries_fit external_count target kind entries
     ≡ (is_known external_count fix.target && entries_fit external_count target kind after)
@@ -48,7 +50,8 @@ word_fits external_count target kind first None = refl
 word_fits external_count target kind first (Some others) = refl
 
 as_found :
-    (external_count : ℕ) (target : Option Segment) (kind : FixKind) (entries : List ℕ) (fix found : Fix) (after rest : List ℕ)
+    (external_count : ℕ) (target : Option Segment) (kind : FixKind) (entries : List ℕ) (fix found : Fix)
+    (after rest : List ℕ)
     → FitsFirst external_count target kind entries found rest
     → ◌≡◌ {A = Option (Fix × List ℕ)} (Some (found, rest)) (Some (fix, after))
     → FitsFirst external_count target kind entries fix after
@@ -58,8 +61,10 @@ as_found external_count target kind entries fix found after rest f e =
     (subst (FitsFirst external_count target kind entries found) p.1 f)
 
 fits_first :
-    (external_count : ℕ) (target : Option Segment) (kind : FixKind) (entries : List ℕ) (fix : Fix) (after : List ℕ)
-    → fix_in_front target kind entries ≡ Some (fix, after) → FitsFirst external_count target kind entries fix after
+    (external_count : ℕ) (target : Option Segment) (kind : FixKind) (entries : List ℕ) (fix : Fix)
+    (after : List ℕ)
+    → fix_in_front target kind entries ≡ Some (fix, after)
+    → FitsFirst external_count target kind entries fix after
 fits_first external_count None kind [] fix after e = absurd (none-some (fix, after) e)
 fits_first external_count None kind (a ∷ []) fix after e = absurd (none-some (fix, after) e)
 fits_first external_count None kind (a ∷ b ∷ []) fix after e = absurd (none-some (fix, after) e)
@@ -77,7 +82,8 @@ fits_first external_count (Some target) kind (low ∷ high ∷ rest) fix after e
     (word_fits external_count target kind (low + 256 * high) (words_in rest)) e
 
 pub fit_more :
-    (external_count : ℕ) (target : Option Segment) (kind : FixKind) (entries : List ℕ) (fix : Fix) (after : List ℕ)
+    (external_count : ℕ) (target : Option Segment) (kind : FixKind) (entries : List ℕ) (fix : Fix)
+    (after : List ℕ)
     → fix_in_front target kind entries ≡ Some (fix, after) → is_known external_count fix.target ≡ true
     → entries_fit external_count target kind after ≡ entries_fit external_count target kind entries
 fit_more external_count target kind entries fix after e known =
@@ -85,7 +91,8 @@ fit_more external_count target kind entries fix after e known =
     ∙ ap (λ b. b && entries_fit external_count target kind after) known)
 
 pub fit_other :
-    (external_count : ℕ) (target : Option Segment) (kind : FixKind) (entries : List ℕ) (fix : Fix) (after : List ℕ)
+    (external_count : ℕ) (target : Option Segment) (kind : FixKind) (entries : List ℕ) (fix : Fix)
+    (after : List ℕ)
     → fix_in_front target kind entries ≡ Some (fix, after) → is_known external_count fix.target ≡ false
     → entries_fit external_count target kind entries ≡ false
 fit_other external_count target kind entries fix after e unknown =
@@ -94,7 +101,8 @@ fit_other external_count target kind entries fix after e unknown =
 
 pub fit_end :
     (external_count : ℕ) (target : Option Segment) (kind : FixKind) (entries : List ℕ)
-    → fix_in_front target kind entries ≡ None → entries_fit external_count target kind entries ≡ is_empty entries
+    → fix_in_front target kind entries ≡ None
+    → entries_fit external_count target kind entries ≡ is_empty entries
 fit_end external_count None kind [] e = refl
 fit_end external_count None kind (a ∷ []) e = refl
 fit_end external_count None kind (a ∷ b ∷ []) e = refl

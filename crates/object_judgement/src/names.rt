@@ -16,7 +16,7 @@ use std::alloc::Global;
 use std::marker::Model;
 
 /// Whose names a record lists.
-#[derive(Clone, Copy, Debug)]
+#[derive(Clone, Copy)]
 pub(crate) enum NameList {
     /// Those of other modules.
     Externals,
@@ -89,7 +89,8 @@ impl<'a> NameSet<'a> {
     /// One more name. Tells whether it is a new one.
     pub(crate) fn insert(&mut self, name: &'a [u8]) -> Result<bool, Failure<Fault>>
         ensures new { IfOk result (λ is_new. is_new ≡ not (is_among name.now self.old)) }
-        ensures names { IfOk result (λ is_new. self.new ≡ (if is_new then self.old ++ name.now ∷ [] else self.old)) }
+        ensures names { IfOk result (λ is_new. self.new
+            ≡ (if is_new then self.old ++ name.now ∷ [] else self.old)) }
         ensures err { IfFault result (λ _. ⊥) }
     {
         let is_new = self.keys.insert(name)?;
@@ -110,7 +111,8 @@ fn entry_name<'a>(list: NameList, entries: &'a [u8]) -> Option<(&'a [u8], &'a [u
     }
 }
 
-/// The names of the entries of a record. Tells whether each is a name that was not known before, and makes them known.
+/// The names of the entries of a record. Tells whether each is a name that was not known before, and makes
+/// them known.
 #[tactic(auto, using(crate::proofs::NewNames::taken_more, crate::proofs::NewNames::taken_wrong, crate::proofs::NewNames::taken_again, crate::proofs::NewNames::taken_none, crate::proofs::NewNames::taken_end, crate::proofs::NewNames::name_shorter,))]
 pub(crate) fn take_names<'a>(
     names: &mut NameSet<'a>,
