@@ -1,5 +1,5 @@
 -- The runs of a module with their fixes: each fix lies within the run that it begins in.
-use Rattle.std.proofs.Common.{◌≡◌, ℕ, suc, ◌+◌, ◌<◌, ◌≤◌, Bool, true, false, not, ◌&&◌, ◌||◌, nat_lt, nat_le, List, [], ◌∷◌, ◌++◌, length, map, flat_map, Option, None, Some, IsTrue, refl, ap, sym, subst, ◌∙◌, arith}
+use Rattle.std.proofs.Common.{◌≡◌, ℕ, suc, ◌+◌, ◌<◌, ◌≤◌, true, false, not, ◌&&◌, ◌||◌, nat_lt, nat_le, List, [], ◌∷◌, ◌++◌, length, map, flat_map, Option, None, Some, IsTrue, refl, ap, sym, subst, ◌∙◌, arith}
 use Rattle.std.specs.List.{AllByRecursion}
 use Rattle.std.proofs.lemmas.Bool.{and_parts, leb-true, ltb-true}
 use Rattle.std.proofs.lemmas.List.{length-map}
@@ -15,7 +15,7 @@ use Rattle.object_modules.specs.Rules.{fix_end}
 use Rattle.object_modules.specs.Runs.{bytes_of_run, fixes_of_run, fixes_in, runs_of}
 use Rattle.object_modules.specs.Stored.{are_longest}
 use Rattle.object_modules.specs.Text.{Run, runs_from, fixes_from}
-use Rattle.object_modules.specs.internal.Joining.{before_fixes, fixes_below, fixes_past, place_fixes, run_end}
+use Rattle.object_modules.specs.internal.Joining.{before_fixes, place_fixes, run_end}
 use Rattle.object_merges.proofs.FixesOfPlaces.{fixes_step, runs_fixes}
 use Rattle.object_merges.proofs.MergeValid.{places_are}
 use Rattle.object_merges.proofs.PiecesByRuns.{Apart, AllBelow, AllPast, below_first, past_others, runs_apart}

@@ -1,16 +1,12 @@
 -- A segment of a merge is what its pieces make one after another: its runs, its fixes and its length.
-use Rattle.std.proofs.Common.{◌≡◌, ℕ, ◌+◌, ◌-◌, ◌≤◌, true, List, [], ◌∷◌, ◌++◌, length, map, flat_map, filter_map, replicate, Option, None, refl, ap, sym, subst, ◌∙◌, arith}
-use Rattle.std.specs.List.{AllByRecursion}
+use Rattle.std.proofs.Common.{◌≡◌, ℕ, ◌+◌, ◌-◌, ◌≤◌, true, List, [], ◌∷◌, ◌++◌, length, map, flat_map, filter_map, replicate, Option, None, ap, sym, subst, ◌∙◌, arith}
 use Rattle.std.proofs.lemmas.List.{append_assoc, append-nil, length-append, length-replicate}
-use Rattle.object_modules.specs.declared.segment.Fix.{Fix}
 use Rattle.object_modules.specs.declared.segment.Segment.{Segment}
-use Rattle.object_modules.specs.declared.segment.Target.{Target}
 use Rattle.object_modules.specs.Displacements.{Linked, displacement_in, gain_in, target_kept}
 use Rattle.object_modules.specs.Merge.{joined_after, places_moved}
 use Rattle.object_modules.specs.Module.{SetByte, Public, places_of, words_are_whole}
-use Rattle.object_modules.specs.Moving.{moved}
 use Rattle.object_modules.specs.Runs.{bytes_of_run, fixes_in, runs_of}
-use Rattle.object_modules.specs.Text.{Run, runs_from}
+use Rattle.object_modules.specs.Text.{runs_from}
 use Rattle.object_modules.specs.internal.Joining.{with_runs, place_fixes, fix_kept}
 use Rattle.object_merges.proofs.FixesOfPlaces.{runs_fixes}
 use Rattle.object_merges.proofs.MovedValid.{moved_length}

@@ -1,14 +1,12 @@
 -- The segments of a merge are those that are joined of pieces.
-use Rattle.std.proofs.Common.{◌≡◌, ℕ, ◌+◌, ◌≤◌, Bool, true, cond, ◌||◌, List, [], ◌∷◌, ◌++◌, All, length, map, refl, ap, sym, ◌∙◌, arith}
+use Rattle.std.proofs.Common.{◌≡◌, ℕ, ◌≤◌, Bool, cond, ◌||◌, List, [], ◌∷◌, All, map, refl, ap, sym, arith}
 use Rattle.std.specs.List.{list_any, AllByRecursion}
 use Rattle.std.proofs.lemmas.List.Elements.{recursion_from_All}
 use Rattle.object_modules.specs.declared.segment.Alignment.{Alignment}
 use Rattle.object_modules.specs.declared.segment.Alignment.TheVariants.{Byte, Page}
 use Rattle.object_modules.specs.declared.segment.Segment.TheVariants.{Code, Data}
 use Rattle.object_modules.specs.Displacements.{Linked, start_after, code_end, data_end, linked_after, linked_from, linked_modules, all_publics}
-use Rattle.object_modules.specs.Merge.{joined_alignment}
 use Rattle.object_modules.specs.Module.{Places, ObjectModule, IsObjectModule, is_page}
-use Rattle.object_modules.specs.Stored.{StoredSegment}
 use Rattle.object_merges.proofs.MergedParts.{merged_code, merged_data}
 use Rattle.object_merges.proofs.PlacesKept.{stored_of}
 use Rattle.link_laws.specs.internal.Building.{alignment_joined, begins_a_page, stored_joined}

@@ -59,8 +59,8 @@ fn intersegment_of(body: &[u8]) -> Option<(Option<Segment>, FixKind, &[u8])>
     Some((Some(segment), kind, entries))
 }
 
-/// The target that is a segment, the kind and the entries of a fix record whose content is in this segment. With
-/// no such target each entry names an external name.
+/// The target that is a segment, the kind and the entries of a fix record whose content is in this segment.
+/// With no such target each entry names an external name.
 pub fn fix_entries_of<'a>(
     own: Segment,
     read: &Record<'a>,
@@ -111,7 +111,8 @@ fn reference_in_front(kind: FixKind, entries: &[u8]) -> Option<(Fix, &[u8])>
 
 // The same, where the target is a segment.
 fn place_in_front(kind: FixKind, segment: Segment, entries: &[u8]) -> Option<(Fix, &[u8])>
-    ensures { option_map (λ first. (first.0, first.1.now)) result ≡ fix_in_front (Some segment) kind entries.now }
+    ensures { option_map (λ first. (first.0, first.1.now)) result
+        ≡ fix_in_front (Some segment) kind entries.now }
 {
     let [low, high, rest @ ..] = entries else {
         return None;

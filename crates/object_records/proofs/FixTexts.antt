@@ -1,5 +1,5 @@
 -- The records of fixes, entry by entry.
-use Rattle.std.proofs.Common.{◌≡◌, ℕ, ◌-◌, ◌==◌, Bool, true, false, cond, not, List, [], ◌∷◌, ◌++◌, length, map, flat_map, filter, filter_map, Option, Some, None, option_map, refl, ap, sym, ◌∙◌, arith}
+use Rattle.std.proofs.Common.{◌≡◌, ℕ, ◌-◌, ◌==◌, Bool, true, false, cond, not, List, [], ◌∷◌, ◌++◌, map, flat_map, filter, filter_map, Option, Some, None, option_map, refl, ap, sym, ◌∙◌, arith}
 use Rattle.std.proofs.lemmas.List.{append_assoc, append-nil}
 use Rattle.std.proofs.lemmas.Grind.{flat_map-append}
 use Rattle.omf80.specs.declared.kind.RecordKind.TheVariants as kinds
@@ -14,10 +14,9 @@ use Rattle.object_modules.specs.declared.segment.Target.{Target}
 use Rattle.object_modules.specs.declared.segment.Target.TheVariants.{InSegment, External}
 use Rattle.object_modules.specs.Parts.{Reference, Part, ExternalReferencesPart, RelocationPart, IntersegmentPart, segment_number, fix_kind_number, reference_bytes, part_bytes}
 use Rattle.object_modules.specs.Before.{same_segment}
-use Rattle.object_modules.specs.Text.{packed, fix_kinds, has_kind, reference_for, offset_for, external_fix_parts, relocation_parts, intersegment_parts, other_segments, fix_parts}
+use Rattle.object_modules.specs.Text.{packed, fix_kinds, reference_for, offset_for, external_fix_parts, relocation_parts, intersegment_parts, other_segments, fix_parts}
 use Rattle.object_records.specs.Contents.{content_text}
-use Rattle.object_records.specs.Groups.{empty_group, records_of}
-use Rattle.object_records.specs.declared.content.Referred.{Referred}
+use Rattle.object_records.specs.Groups.{records_of}
 use Rattle.object_records.specs.declared.content.Referred.TheVariants.{Names, Own, Other}
 use Rattle.object_records.specs.internal.Fixes.{group_for, fix_entry, kind_text, fixes_to, other_text, others_text, fixes_text, content_part}
 use Rattle.object_records.proofs.Grouping.{grouped, mapped, flat_map_of_map}

@@ -2,7 +2,7 @@
 use Rattle.std.specs.Prelude.{ℕ, ◌==◌, if◌then◌else◌, List, [], ◌∷◌, flat_map, filter_map, Option, Some, None}
 use Rattle.object_modules.specs.declared.segment.Fix.{Fix}
 use Rattle.object_modules.specs.declared.segment.Segment.{Segment}
-use Rattle.object_modules.specs.Parts.{SegmentEntry, Part, HeaderPart, ContentPart, ModuleEndPart, EndOfFilePart, segment_entry_bytes, part_bytes}
+use Rattle.object_modules.specs.Parts.{SegmentEntry, HeaderPart, ContentPart, ModuleEndPart, EndOfFilePart, segment_entry_bytes, part_bytes}
 use Rattle.object_modules.specs.Text.{alignment_number, fix_parts}
 use Rattle.object_records.specs.declared.header.SegmentEntry.{SegmentEntry as CodeEntry}
 

@@ -2,7 +2,7 @@
 use Rattle.std.specs.Prelude.{ℕ, ◌-◌, nat_lt, if◌then◌else◌, List, [], ◌∷◌, ◌++◌, length, Option, Some, None}
 use Rattle.omf80.specs.declared.kind.RecordKind.{RecordKind}
 use Rattle.omf80.specs.declared.kind.TheConstants.{BODY_LIMIT}
-use Rattle.omf80.specs.Records.{Record, bytes_of}
+use Rattle.omf80.specs.Records.{bytes_of}
 use Rattle.object_modules.specs.Before.{is_empty}
 
 -- a record that is begun: its kind, the bytes before its entries, and the bytes of the entries that it has

@@ -20,12 +20,13 @@ pub struct Body {
 
 impl Model for Body {
     ghost use Rattle.std.specs.Prelude.{ℕ, List, ◌≤◌, take};
+    ghost use Rattle.omf80.specs.declared.kind.TheConstants.{BODY_LIMIT};
 
     ghost Value = { List ℕ };
 
     ghost view = { λ body. take body.count body.bytes };
 
-    ghost invariant = { λ body. body.count ≤ 1027 };
+    ghost invariant = { λ body. body.count ≤ BODY_LIMIT };
 }
 
 impl Body {
@@ -40,7 +41,7 @@ impl Body {
     /// Its bytes.
     pub fn as_slice(&self) -> &[u8]
         ensures bytes { result.now ≡ self.now }
-        ensures limit { length self.now ≤ 1027 }
+        ensures limit { length self.now ≤ BODY_LIMIT }
     {
         &self.bytes[..self.count]
     }
@@ -48,7 +49,7 @@ impl Body {
     /// How many bytes it has.
     pub fn len(&self) -> usize
         ensures count { result ≡ length self.now }
-        ensures limit { result ≤ 1027 }
+        ensures limit { result ≤ BODY_LIMIT }
     {
         self.count
     }
@@ -56,7 +57,7 @@ impl Body {
     /// Adds bytes after its last one.
     #[tactic(auto, using(crate::proofs::Bodies::more_put))]
     pub fn put(&mut self, bytes: &[u8])
-        requires { length self.old + length bytes.now ≤ 1027 }
+        requires { length self.old + length bytes.now ≤ BODY_LIMIT }
         ensures { self.new ≡ self.old ++ bytes.now }
     {
         let end = self.count + bytes.len();
@@ -73,13 +74,13 @@ impl Body {
     }
 }
 
-/// Writes a record of a kind with a body of at most 1027 bytes.
+/// Writes a record of a kind with a body of at most `BODY_LIMIT` bytes.
 pub fn write_body<W: Write>(
     kind: RecordKind,
     body: &[u8],
     out: &mut W,
 ) -> Result<(), Failure<WriteFault>>
-    requires { length body.now ≤ 1027 }
+    requires { length body.now ≤ BODY_LIMIT }
     ensures ok { OnOk result (Appends (W.contents out.old) (W.contents out.new)
         (bytes_of (record { kind = kind; body = body.now }))) }
     ensures err { OnErr result (AppendsBeginning (W.contents out.old) (W.contents out.new)

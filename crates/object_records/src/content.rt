@@ -100,8 +100,8 @@ fn add_fix<W: Write>(
     fix: &Fix,
     out: &mut W,
 ) -> Result<(), Failure<WriteFault>>
-    ensures ok { OnOk result
-        (Appends (W.contents out.old) (W.contents out.new) (flushed_by group.old (fix_entry referred kind fix.now))) }
+    ensures ok { OnOk result (Appends (W.contents out.old) (W.contents out.new)
+        (flushed_by group.old (fix_entry referred kind fix.now))) }
     ensures err { OnErr result (AppendsBeginning (W.contents out.old) (W.contents out.new)
         (flushed_by group.old (fix_entry referred kind fix.now))) }
     ensures group { OnOk result (group.new ≡ with_item group.old (fix_entry referred kind fix.now)) }
@@ -234,8 +234,8 @@ fn write_bytes_at<W: Write>(
     write_body(RecordKind::Content, body.as_slice(), out)
 }
 
-/// Writes the record of at most 1024 bytes that are set from an offset on, and those of their fixes, which stand
-/// by their offsets. After a failure the writer has a beginning of them.
+/// Writes the record of at most 1024 bytes that are set from an offset on, and those of their fixes, which
+/// stand by their offsets. After a failure the writer has a beginning of them.
 pub fn write_content<W: Write>(
     out: &mut W,
     segment: Segment,

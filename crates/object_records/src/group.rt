@@ -29,6 +29,7 @@ pub struct Group {
 
 impl Model for Group {
     ghost use Rattle.std.specs.Prelude.{◌≤◌, length, take, drop};
+    ghost use Rattle.omf80.specs.declared.kind.TheConstants.{BODY_LIMIT};
     ghost use Rattle.object_records.specs.Groups.{Group as GroupValue};
 
     ghost Value = { GroupValue };
@@ -42,7 +43,7 @@ impl Model for Group {
     ghost invariant = { λ group. record {
       small : group.front ≤ 2;
       within : group.front ≤ length group.body;
-      limit : length group.body ≤ 1027;
+      limit : length group.body ≤ BODY_LIMIT;
     } };
 }
 
@@ -115,7 +116,7 @@ impl Group {
     #[tactic(auto, using(crate::proofs::Bodies::front_rules))]
     fn len(&self) -> usize
         ensures count { result ≡ length self.now.front + length self.now.begun }
-        ensures limit { result ≤ 1027 }
+        ensures limit { result ≤ BODY_LIMIT }
         ensures front { length self.now.front ≤ 2 }
     {
         self.body.len()
@@ -132,7 +133,7 @@ impl Group {
     // Adds bytes after its last entry.
     #[tactic(auto, using(crate::proofs::Bodies::front_rules))]
     fn put(&mut self, bytes: &[u8])
-        requires { length self.old.front + length self.old.begun + length bytes.now ≤ 1027 }
+        requires { length self.old.front + length self.old.begun + length bytes.now ≤ BODY_LIMIT }
         ensures { self.new ≡ with_bytes self.old bytes.now }
     {
         self.body.put(bytes);
@@ -145,7 +146,7 @@ impl Group {
         ensures err { OnErr result
             (AppendsBeginning (W.contents out.old) (W.contents out.new) (flushed self.old size)) }
         ensures group { OnOk result (self.new ≡ with_room self.old size) }
-        ensures room { OnOk result (length self.new.front + length self.new.begun + size ≤ 1027) }
+        ensures room { OnOk result (length self.new.front + length self.new.begun + size ≤ BODY_LIMIT) }
     {
         if BODY_LIMIT - self.len() < size {
             self.write(out)?;

@@ -10,7 +10,7 @@ use crate::body::{Body, write_body};
 use crate::numbers::{number_of_alignment, number_of_segment, word};
 use failure::Failure;
 use object_modules::{Alignment, Segment};
-use omf80::RecordKind;
+use omf80::{BODY_LIMIT, RecordKind};
 use std::io::Write;
 use writing::WriteFault;
 
@@ -25,7 +25,7 @@ pub struct SegmentEntry {
 
 // Adds the entry of a segment, if it has bytes.
 fn put_entry(body: &mut Body, entry: &SegmentEntry)
-    requires { length body.old + 4 ≤ 1027 }
+    requires { length body.old + 4 ≤ BODY_LIMIT }
     ensures bytes { body.new ≡ body.old ++ listed_bytes entry.now }
     ensures longer { length body.new ≤ length body.old + 4 }
 {
@@ -38,7 +38,7 @@ fn put_entry(body: &mut Body, entry: &SegmentEntry)
 
 // Adds the entries of segments that have bytes.
 fn put_entries(body: &mut Body, entries: &[SegmentEntry])
-    requires { length body.old + 4 * length entries.now ≤ 1027 }
+    requires { length body.old + 4 * length entries.now ≤ BODY_LIMIT }
     ensures { body.new ≡ body.old ++ flat_map listed_bytes entries.now }
 {
     for entry in entries {

@@ -1,5 +1,5 @@
-//! Records of object files, written one after another: entries put together as far as they fit, and contents with
-//! their fixes.
+//! Records of object files, written one after another: entries put together as far as they fit, and contents
+//! with their fixes.
 #![tactic(auto)]
 
 mod body;

@@ -24,10 +24,10 @@ fn add_name<W: Write>(
     name: &Name,
     out: &mut W,
 ) -> Result<(), Failure<WriteFault>>
-    ensures ok { OnOk result
-        (Appends (W.contents out.old) (W.contents out.new) (flushed_by group.old (name_entry name.now))) }
-    ensures err { OnErr result
-        (AppendsBeginning (W.contents out.old) (W.contents out.new) (flushed_by group.old (name_entry name.now))) }
+    ensures ok { OnOk result (Appends (W.contents out.old) (W.contents out.new)
+        (flushed_by group.old (name_entry name.now))) }
+    ensures err { OnErr result (AppendsBeginning (W.contents out.old) (W.contents out.new)
+        (flushed_by group.old (name_entry name.now))) }
     ensures group { OnOk result (group.new ≡ with_item group.old (name_entry name.now)) }
 {
     group.add_name(name.as_slice(), out)

@@ -53,7 +53,8 @@ fn names_of<'a>(read: &Record<'a>) -> &'a [u8]
 fn names_after<'a>(rest: &'a [u8]) -> Option<Cursor<'a>>
     requires { AreParts rest.now }
     ensures none { IfNone result (rest.now ≡ []) }
-    ensures left { IfSome result (λ next. externals_left [] rest.now ≡ externals_left next.entries.now next.rest.now) }
+    ensures left { IfSome result (λ next. externals_left [] rest.now
+        ≡ externals_left next.entries.now next.rest.now) }
     ensures entries { IfSome result (λ next. AreEntries listed_name_bytes next.entries.now) }
     ensures parts { IfSome result (λ next. AreParts next.rest.now) }
     ensures shorter { IfSome result (λ next. length next.rest.now < length rest.now) }

@@ -11,8 +11,8 @@ use crate::cursor::next_record;
 use object_entries::fix_entries_of;
 use object_modules::{FixKind, Segment};
 
-/// Fixes of a content that were not handed out: entries of a fix record, and the bytes after the record. With no
-/// target that is a segment, each entry has the number of an external name.
+/// Fixes of a content that were not handed out: entries of a fix record, and the bytes after the record. With
+/// no target that is a segment, each entry has the number of an external name.
 #[derive(Clone, Copy)]
 pub(crate) struct FixCursor<'a> {
     pub(crate) own: Segment,

@@ -14,8 +14,8 @@ use object_judgement::Header;
 use object_modules::{Alignment, Fix, FixKind, PublicName, Segment};
 use std::marker::Model;
 
-/// A walk over a file that was judged: what the file tells at any time, and its parts from its front, in the order
-/// of the file. It borrows the file and takes no memory.
+/// A walk over a file that was judged: what the file tells at any time, and its parts from its front, in the
+/// order of the file. It borrows the file and takes no memory.
 #[derive(Drop)]
 pub struct Walk<'a> {
     name: &'a [u8],

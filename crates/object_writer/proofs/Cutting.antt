@@ -1,16 +1,16 @@
 -- Bytes in a row, cut into contents one after another.
-use Rattle.std.proofs.Common.{◌≡◌, ℕ, zero, suc, ◌+◌, ◌-◌, ◌<◌, ◌≤◌, Bool, true, false, cond, nat_lt, List, [], ◌∷◌, ◌++◌, length, map, flat_map, take, drop, slice_get, Option, Some, None, refl, ap, sym, subst, ◌∙◌, arith}
+use Rattle.std.proofs.Common.{◌≡◌, ℕ, zero, suc, ◌+◌, ◌-◌, ◌<◌, ◌≤◌, Bool, true, false, cond, nat_lt, List, [], ◌∷◌, ◌++◌, length, flat_map, take, drop, slice_get, Some, refl, ap, sym, ◌∙◌, arith}
 use Rattle.std.specs.List.{onto_first}
 use Rattle.std.proofs.lemmas.Bool.{cond-true, cond-false, cond_both, lt-ltb, le-ltb, ltb-true, ltb-false}
-use Rattle.std.proofs.lemmas.List.{length-take, length-drop, take_all, drop_all}
+use Rattle.std.proofs.lemmas.List.{length-take}
 use Rattle.std.proofs.lemmas.Grind.{flat_map-append}
 use Rattle.object_modules.specs.declared.segment.Fix.{Fix}
 use Rattle.object_modules.specs.declared.segment.Segment.{Segment}
-use Rattle.object_modules.specs.Module.{Fixup, SetByte, begins_word}
+use Rattle.object_modules.specs.Module.{SetByte, begins_word}
 use Rattle.object_modules.specs.Parts.{part_bytes}
 use Rattle.object_modules.specs.Text.{Run, content_limit, groups_after, groups_of, bytes_wanted, placed_from, fixes_from, content_parts}
-use Rattle.object_writer.specs.internal.Cuts.{count_before, word_at, cut_by, row_text}
-use Rattle.object_writer.proofs.Fixes.{none_before, fixes_split, counted, word_is}
+use Rattle.object_writer.specs.internal.Cuts.{word_at, cut_by, row_text}
+use Rattle.object_writer.proofs.Fixes.{word_is}
 
 -- how many bytes go into a group with this room
 abbrev pub fill : (room : ℕ) → List SetByte → ℕ

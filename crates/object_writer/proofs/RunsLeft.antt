@@ -1,5 +1,5 @@
 -- What is left of a run and of a segment while their contents are written.
-use Rattle.std.proofs.Common.{◌≡◌, ℕ, zero, suc, ◌+◌, ◌-◌, ◌<◌, ◌≤◌, List, [], ◌∷◌, ◌++◌, length, map, flat_map, take, drop, get_or, Option, refl, ap, sym, subst, ◌∙◌, arith}
+use Rattle.std.proofs.Common.{◌≡◌, ℕ, ◌+◌, ◌-◌, ◌<◌, ◌≤◌, List, [], ◌∷◌, ◌++◌, length, map, flat_map, take, drop, get_or, Option, refl, ap, sym, subst, ◌∙◌, arith}
 use Rattle.std.proofs.lemmas.List.{length-map, length-take, length-drop, drop-drop, take-map, take_rest, drop-map, take_at, drop_at, drop_more, drop_all}
 use Rattle.std.proofs.lemmas.Grind.{flat_map-append}
 use Rattle.std.specs.Io.KnownBytes.{Appends}
@@ -9,12 +9,12 @@ use Rattle.object_modules.specs.declared.segment.Segment.{Segment}
 use Rattle.object_modules.specs.Module.{SetByte, ObjectModule, places_of}
 use Rattle.object_modules.specs.Parts.{part_bytes}
 use Rattle.object_modules.specs.Runs.{fixed_bytes, fixed_run, fixes_in, fixes_of_run}
-use Rattle.object_modules.specs.Text.{Run, bytes_wanted, content_limit, content_parts, contents_of_run, fixes_from, groups_of, placed_from, runs_from, segment_parts}
+use Rattle.object_modules.specs.Text.{Run, content_parts, contents_of_run, fixes_from, runs_from, segment_parts}
 use Rattle.object_texts.proofs.Runs.{InOrder, order_earlier, order_ends, runs_in_order}
 use Rattle.object_records.specs.Contents.{content_text}
 use Rattle.object_records.proofs.Sequences.{HasWritten, none_yet, more, begun, whole}
 use Rattle.object_writer.specs.internal.Cuts.{AreFixesOf, count_before, cut_by, row_text, run_text}
-use Rattle.object_writer.proofs.Cutting.{cut_bounds, cut_is, one_cut, row_ended, row_more}
+use Rattle.object_writer.proofs.Cutting.{cut_bounds, cut_is, row_ended, row_more}
 use Rattle.object_writer.proofs.Fixes.{are_fixes_of, counted, fixes_split, none_before, none_in_runs, values_again}
 
 abbrev pub value_of : SetByte → ℕ

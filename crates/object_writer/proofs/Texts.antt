@@ -1,5 +1,5 @@
 -- The text of a module, part by part.
-use Rattle.std.proofs.Common.{◌≡◌, ℕ, ◌+◌, ◌≤◌, ◌&&◌, ◌||◌, Bool, true, not, nat_lt, nat_le, List, [], ◌∷◌, ◌++◌, length, map, flat_map, ap, ◌∙◌, arith}
+use Rattle.std.proofs.Common.{◌≡◌, ℕ, ◌≤◌, ◌&&◌, ◌||◌, Bool, true, not, nat_lt, nat_le, List, [], ◌∷◌, ◌++◌, length, flat_map, ap, ◌∙◌, arith}
 use Rattle.std.specs.List.{list_all}
 use Rattle.std.specs.Option.{option_map_or}
 use Rattle.std.proofs.lemmas.Bool.{and_parts, leb-true}
@@ -13,7 +13,7 @@ use Rattle.object_modules.specs.Parts.{Part, ModuleEndPart, EndOfFilePart, part_
 use Rattle.object_modules.specs.Text.{header_for, external_parts, public_parts, segment_parts, written_parts, text_of}
 use Rattle.object_records.specs.declared.header.SegmentEntry.{SegmentEntry as CodeEntry}
 use Rattle.object_records.specs.Contents.{header_text, end_text}
-use Rattle.object_writer.specs.internal.Texts.{publics_text, names_text, rest_text}
+use Rattle.object_writer.specs.internal.Texts.{names_text, rest_text}
 
 -- the bytes of lists one after another
 two_parts :

@@ -24,8 +24,8 @@ pub fn write_run<W: Write>(
     requires fixes { AreFixesOf offset bytes.now fixes.now }
     ensures ok { OnOk result
         (Appends (W.contents out.old) (W.contents out.new) (run_text segment offset bytes.now fixes.now)) }
-    ensures err { OnErr result
-        (AppendsBeginning (W.contents out.old) (W.contents out.new) (run_text segment offset bytes.now fixes.now)) }
+    ensures err { OnErr result (AppendsBeginning (W.contents out.old) (W.contents out.new)
+        (run_text segment offset bytes.now fixes.now)) }
 {
     let mut at = 0;
     let mut first = 0;

@@ -112,8 +112,8 @@ fn write_rest<W: Write>(object: &ObjectModule, out: &mut W) -> Result<(), Failur
     write_end(out, object.start())
 }
 
-/// Writes the one text of a module: header, external names, public names by segments, contents with their fixes,
-/// and the end. Takes no memory. After a failure the writer has a beginning of it. The format is
+/// Writes the one text of a module: header, external names, public names by segments, contents with their
+/// fixes, and the end. Takes no memory. After a failure the writer has a beginning of it. The format is
 /// `docs/object-format.md`.
 pub fn write<W: Write>(object: &ObjectModule, out: &mut W) -> Result<(), Failure<WriteFault>>
     ensures ok { OnOk result (Appends (W.contents out.old) (W.contents out.new) (text_of object.now)) }

@@ -1,4 +1,4 @@
-//! Object modules read from files of Intel's relocatable object module format for the 8080.
+//! Object modules read from files of Intel's relocatable object module format for the 8080, and written as such.
 #![tactic(auto)]
 
 mod parts;
@@ -10,4 +10,5 @@ pub use object_modules::{
     SEGMENT_LIMIT, Segment, SegmentBytes, Target,
 };
 pub use object_walks::{Content, Walk, walk};
+pub use object_writer::write;
 pub use reading::{ReadFault, read, read_from};

@@ -1,11 +1,11 @@
 -- Runs, cut into contents by the fixes that they have.
-use Rattle.std.specs.Prelude.{◌≡◌, ℕ, zero, suc, ◌+◌, ◌-◌, ◌==◌, Bool, false, ◌&&◌, nat_lt, if◌then◌else◌, List, [], ◌∷◌, slice_get, flat_map}
+use Rattle.std.specs.Prelude.{◌≡◌, ℕ, suc, ◌+◌, ◌-◌, ◌==◌, Bool, false, ◌&&◌, nat_lt, if◌then◌else◌, List, [], ◌∷◌, slice_get, flat_map}
 use Rattle.std.specs.Option.{option_map_or}
 use Rattle.object_modules.specs.declared.segment.Fix.{Fix}
 use Rattle.object_modules.specs.declared.segment.Segment.{Segment}
 use Rattle.object_modules.specs.Module.{SetByte, is_both}
 use Rattle.object_modules.specs.Parts.{part_bytes}
-use Rattle.object_modules.specs.Text.{Run, content_limit, bytes_wanted, groups_of, placed_from, fixes_from, content_parts}
+use Rattle.object_modules.specs.Text.{content_limit, bytes_wanted, groups_of, placed_from, fixes_from, content_parts}
 use Rattle.object_modules.specs.Runs.{fixed_bytes}
 
 -- how many of fixes, from the front on, begin before a place

@@ -1,4 +1,4 @@
-use Rattle.std.proofs.Common.{List, length, Some, None, ap, sym, subst, ◌∙◌}
+use Rattle.std.proofs.Common.{length, Some, None, ap, sym, subst, ◌∙◌}
 use Rattle.std.proofs.lemmas.Bool.{cond-true}
 use Rattle.writing.specs.Writing.{AppendsBeginning}
 use Rattle.object_modules.specs.Before.{same_segment}

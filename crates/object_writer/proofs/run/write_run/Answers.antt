@@ -1,4 +1,4 @@
-use Rattle.std.proofs.Common.{◌+◌, ◌-◌, length, ap, refl, arith, subst}
+use Rattle.std.proofs.Common.{◌+◌, refl, arith, subst}
 use Rattle.std.proofs.lemmas.List.{length-drop}
 use Rattle.writing.proofs.WritingLemmas.{on_err}
 use Rattle.object_writer.proofs.RunsLeft.{RunLeft, run_start, next_cut, next_cut_begun, all_cuts}

@@ -1,4 +1,4 @@
-use Rattle.std.proofs.Common.{ap, sym, subst, flat_map}
+use Rattle.std.proofs.Common.{ap, subst, flat_map}
 use Rattle.std.specs.Io.KnownBytes.{Appends}
 use Rattle.std.proofs.KnownBytes.{Appends-trans}
 use Rattle.writing.specs.Writing.{AppendsBeginning}
