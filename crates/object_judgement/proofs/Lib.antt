@@ -1,0 +1,7 @@
+pub mod NewNames
+pub mod FixMarks
+pub mod FixReferences
+pub mod HeaderLaws
+pub mod Accepting
+pub mod JudgeSteps
+pub mod Knowing

@@ -1,8 +1,14 @@
 //! Judges object files whole: what a valid one tells of itself, or its first fault.
 #![tactic(auto)]
 
+mod extents;
 mod header;
-mod whole;
+mod judging;
+mod marks;
+mod names;
+mod order;
+mod references;
+mod state;
 
 pub use header::Header;
-pub use whole::judge;
+pub use judging::judge;
