@@ -1,5 +1,5 @@
 -- Marks of fixes: a fix shares a byte with others where one of its bytes is marked.
-use Rattle.std.proofs.Common.{◌≡◌, ℕ, suc, ◌+◌, ◌-◌, ◌<◌, ◌≤◌, Bool, true, false, not, ◌&&◌, ◌||◌, ◌==◌, nat_lt, nat_le, List, [], ◌∷◌, length, get_or, set, replicate, Option, Some, None, cond, refl, ap, sym, subst, ◌∙◌, arith}
+use Rattle.std.proofs.Common.{◌≡◌, ℕ, ◌+◌, ◌-◌, ◌<◌, ◌≤◌, Bool, true, false, not, ◌&&◌, ◌||◌, ◌==◌, nat_lt, nat_le, List, [], ◌∷◌, length, get_or, set, Option, Some, None, cond, refl, ap, sym, ◌∙◌, arith}
 use Rattle.std.specs.List.{list_all, list_any}
 use Rattle.std.proofs.lemmas.Bool.{and_parts, and_from, eqb-true, eqb-false, leb-true, le-leb, lt-ltb, ltb-true}
 use Rattle.std.proofs.lemmas.Bool.Decides.{nat_tests}
@@ -14,7 +14,7 @@ use Rattle.object_modules.specs.Before.{content_end}
 use Rattle.object_modules.specs.Rules.{fix_end, is_within, share_a_byte, are_apart}
 use Rattle.object_entries.specs.Fixes.{AreFixEntries, fixes_in, fix_in_front}
 use Rattle.object_entries.proofs.FixEntries.{next_fix_is, no_fix}
-use Rattle.object_judgement.specs.internal.Marks.{covers, AreMarked, first_mark, last_mark, with_marks, are_placed, is_marked, marks_after, onto, Marked, no_marks, unmarked}
+use Rattle.object_judgement.specs.internal.Marks.{covers, AreMarked, first_mark, last_mark, with_marks, are_placed, is_marked, marks_after, onto}
 
 -- the order of tests within a conjunction, and an alternative on each item
 regrouped : (a b c d : Bool) → ((a && not b) && (c && d)) ≡ ((a && c) && (not b && d))
@@ -295,8 +295,3 @@ pub marks_end :
 marks_end content target kind entries marks are none =
     ap (λ l. marks_after content (fixes_in target kind l) marks) (no_fix target kind entries are none)
     ∙ ap (λ fixes. marks_after content fixes marks) (nothing_in target kind)
-
--- no byte is marked
-pub unmarked_is : (content : Content) → ◌≡◌ {A = Marked} (record { content = content; marks = replicate 1024 false }) (unmarked content)
-unfolding no_marks
-unmarked_is content = refl

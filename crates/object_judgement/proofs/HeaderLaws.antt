@@ -1,8 +1,9 @@
 -- What the entries of a header say of the segments, and which fault they have.
-use Rattle.std.proofs.Common.{◌≡◌, ℕ, ◌+◌, ◌*◌, ◌<◌, ◌≤◌, ◌==◌, Bool, true, false, ◌&&◌, nat_lt, cond, List, [], ◌∷◌, Option, Some, None, option_map, option_and_then, Result, Ok, Err, refl, ap, sym, ◌∙◌, arith}
+use Rattle.std.proofs.Common.{◌≡◌, ℕ, ◌+◌, ◌*◌, ◌<◌, ◌≤◌, ◌==◌, Bool, true, false, ◌&&◌, nat_lt, cond, List, [], ◌∷◌, Option, Some, None, option_map, option_and_then, Result, Ok, Err, refl, ap, sym, ◌∙◌, arith, length, get_or, take, drop, ◌-◌}
 use Rattle.std.specs.List.{list_all}
 use Rattle.std.specs.Option.{option_map_or}
-use Rattle.std.proofs.lemmas.Bool.{and_parts, eqb-true, ne_eqb, ltb-true}
+use Rattle.std.proofs.lemmas.Bool.{and_parts, eqb-true, ne_eqb, ltb-true, lt-ltb}
+use Rattle.std.proofs.Math.Seq.{take-length}
 use Rattle.std.proofs.lemmas.Option.{same_Some}
 use Rattle.object_modules.specs.declared.fault.Fault.{Fault}
 use Rattle.object_modules.specs.declared.fault.Fault.TheVariants.{WrongBody, WrongAlignment}
@@ -150,3 +151,20 @@ said_of {A} field value segment own others_stay (entry ∷ others) number extent
         ∙ ap (λ s. field (extents_with s entry extents)) is ∙ own entry extents
     go rest later false e =
         later ∙ ap (option_map_or value (entry_in others segment)) (others_stay entry.segment entry extents e)
+
+-- a step over an entry whose number is greater
+pub entry_step :
+    (number next word : ℕ) (extents after : Extents) (served still : Bool) (segment : Segment) (rest : List ℕ)
+    → 4 ≤ length rest → Some segment ≡ segment_of (get_or rest 0 0) → next ≡ segment_number segment → number < next
+    → word ≡ get_or rest 1 0 + 256 * get_or rest 2 0
+    → still ≡ (served && is_served (entry_at segment word (get_or rest 3 0)))
+    → after ≡ extents_with segment (entry_at segment word (get_or rest 3 0)) extents
+    → extents_in next after still (take (length rest - 4) (drop 4 rest)) ≡ extents_in number extents served rest
+entry_step number next word extents after served still segment [] four e n above w s a = absurd (omega arith)
+entry_step number next word extents after served still segment (x ∷ []) four e n above w s a = absurd (omega arith)
+entry_step number next word extents after served still segment (x ∷ y ∷ []) four e n above w s a = absurd (omega arith)
+entry_step number next word extents after served still segment (x ∷ y ∷ z ∷ []) four e n above w s a = absurd (omega arith)
+entry_step number next word extents after served still segment (first ∷ low ∷ high ∷ alignment ∷ more) four e n above w s a =
+    let count : length (first ∷ low ∷ high ∷ alignment ∷ more) - 4 ≡ length more = omega arith in
+    let greater : nat_lt number (segment_number segment) ≡ true = lt-ltb number (segment_number segment) (omega arith) in
+    rw (count, take-length more, a, s, w, n) (rw (← e) (rw greater refl))

@@ -93,8 +93,8 @@ fn extents_with(segment: Segment, length: u16, alignment: u8, extents: Extents) 
     }
 }
 
-/// What entries say, or their fault: a number that is no segment's or doesn't ascend, or bytes that are no whole entry, and
-/// then an alignment that is not served.
+/// What entries say, or their fault: a number that is no segment's or doesn't ascend, or bytes that are no whole entry,
+/// and then an alignment that is not served.
 pub(crate) fn extents_of(entries: &[u8]) -> Result<Extents, Fault>
     ensures { result ≡ extents_in 0 nothing_said true entries.now }
 {

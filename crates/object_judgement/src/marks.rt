@@ -7,7 +7,8 @@ ghost use Rattle.object_modules.specs.Rules.{is_within};
 ghost use Rattle.object_entries.specs.Entries.{content_at};
 ghost use Rattle.object_entries.specs.Fixes.{AreFixEntries, fixes_in};
 ghost use Rattle.object_entries.specs.Views.{content_view};
-ghost use Rattle.object_judgement.specs.internal.Marks.{is_marked, with_marks, marks_after, unmarked, marked_after};
+ghost use Rattle.object_judgement.specs.internal.Marks.{is_marked, with_marks, marks_after, no_marks};
+ghost use Rattle.object_judgement.specs.internal.Marks.{unmarked, marked_after};
 
 use object_entries::{Content, fix_in_front};
 use object_modules::{Fix, FixKind, Segment};
@@ -32,6 +33,13 @@ impl<'a> Model for MarkedContent<'a> {
     ghost invariant = { λ m. length m.content.bytes.now ≤ 1024 };
 }
 
+// A mark for each byte of the longest content, none of them set.
+fn no_marks() -> [bool; 1024]
+    ensures { result ≡ no_marks }
+{
+    [false; 1024]
+}
+
 // How many bytes a fix takes.
 fn width_of(kind: FixKind) -> usize
     ensures { result ≡ width_of kind }
@@ -43,13 +51,14 @@ fn width_of(kind: FixKind) -> usize
     }
 }
 
-// Marks the bytes of a fix. Tells whether it lies within the content and none of its bytes was marked; where not, nothing
-// changes.
+// Marks the bytes of a fix. Tells whether it lies within the content and none of its bytes was marked; where not,
+// nothing changes.
 fn place_fix(marks: &mut [bool], content: &Content, fix: &Fix) -> bool
     requires { length content.now.bytes.now ≤ length marks.old }
     ensures fits { result ≡ (is_within (content_view content.now) fix.now
         && not (is_marked marks.old (content_view content.now) fix.now)) }
-    ensures marks { result ≡ true → marks.new ≡ with_marks marks.old (content_view content.now) fix.now }
+    ensures marks { result ≡ true
+        → marks.new ≡ with_marks marks.old (content_view content.now) fix.now }
     ensures long { length marks.new ≡ length marks.old }
 {
     let width = width_of(fix.kind);
@@ -70,7 +79,7 @@ fn place_fix(marks: &mut [bool], content: &Content, fix: &Fix) -> bool
 
 // Marks the bytes of fixes, one after another. Tells whether each lies within the content and shares no byte with
 // another.
-#[tactic(auto, using(crate::proofs::FixMarks::marks_more, crate::proofs::FixMarks::marks_none, crate::proofs::FixMarks::marks_end, object_entries::proofs::FixEntries::entries_then, object_entries::proofs::FixEntries::fewer_then,))]
+#[tactic(auto, using(crate::proofs::FixMarks::marks_none, crate::proofs::FixMarks::marks_end, object_entries::proofs::FixEntries::fewer_then,))]
 fn place_fixes(
     marks: &mut [bool],
     content: &Content,
@@ -83,7 +92,8 @@ fn place_fixes(
     ensures fits { result ≡ is_some
         (marks_after (content_view content.now) (fixes_in target kind entries.now) marks.old) }
     ensures marks { result ≡ true
-        → marks_after (content_view content.now) (fixes_in target kind entries.now) marks.old ≡ Some marks.new }
+        → marks_after (content_view content.now) (fixes_in target kind entries.now) marks.old
+        ≡ Some marks.new }
     ensures long { length marks.new ≡ length marks.old }
 {
     let mut entries = entries;
@@ -98,13 +108,14 @@ fn place_fixes(
 
 impl<'a> MarkedContent<'a> {
     /// A content of at most 1024 bytes, of which none is marked.
-    #[tactic(auto, using(crate::proofs::FixMarks::unmarked_is))]
     pub(crate) fn new(content: Content<'a>) -> MarkedContent<'a>
         requires { length content.bytes.now ≤ 1024 }
         ensures { result ≡ unmarked (content_view content.entry) }
     {
-        let marks = [false; 1024];
-        MarkedContent { content, marks }
+        MarkedContent {
+            content,
+            marks: no_marks(),
+        }
     }
 
     /// No content: one without bytes.
