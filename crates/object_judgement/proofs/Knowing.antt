@@ -13,7 +13,6 @@ use Rattle.object_modules.specs.declared.segment.Segment.{Segment}
 use Rattle.object_modules.specs.declared.segment.Segment.TheVariants.{Code, Data}
 use Rattle.object_modules.specs.Before.{rank_of, entries_of, externals_of, content_of, latest_content, filled_to, fixes_of, leading_fixes}
 use Rattle.object_modules.specs.Parts.{SegmentEntry, Content, Part, kind_of_part}
-use Rattle.object_modules.specs.Reading.{part_in}
 use Rattle.object_modules.specs.Rules.{is_body, is_served, ascend_from, fits_segment, is_within, are_apart, fit_content, part_fault}
 use Rattle.object_modules.specs.Spelling.{first_in, name_of_header, start_of_end, name_in, start_in}
 use Rattle.object_judgement.specs.declared.extents.Extents.{Extents}
@@ -57,19 +56,24 @@ pub record Knows (before : List Part) (state : State) : Type 0 where
   pub start : start_in (reverse before) ≡ state.start
   pub no_start : is_early 3 before ≡ true → filter_map start_of_end (reverse before) ≡ []
 
--- a part that was accepted as the state is now
-pub record Accepted (before : List Part) (kind : RecordKind) (body : List ℕ) (state : State) : Type 0 where
+-- a part that was read and accepted, and is known now
+pub record Accepted (before : List Part) (kind : RecordKind) (found : Option Part) (state : State) : Type 0 where
   pub part : Part
   pub of_kind : kind_of_part part ≡ kind
-  pub read : part_in kind body ≡ Some part
+  pub read : found ≡ Some part
   pub no_fault : part_fault before part ≡ None
   pub knows : Knows (part ∷ before) state
 
--- what is true of the record with this body, as it was judged
-abbrev pub Verdict : (before : List Part) → RecordKind → (body : List ℕ) → Result State Fault → Type 0
-Verdict before kind body (Ok state) = Accepted before kind body state
-Verdict before kind body (Err fault) =
-    option_map_or (part_fault before) (part_in kind body) (Some WrongBody) ≡ Some fault
+-- what is true of a record that was read, as it was judged
+abbrev pub Verdict : (before : List Part) → RecordKind → (found : Option Part) → Result State Fault → Type 0
+Verdict before kind found (Ok state) = Accepted before kind found state
+Verdict before kind found (Err fault) = option_map_or (part_fault before) found (Some WrongBody) ≡ Some fault
+
+-- a body that can't be read is wrong either way
+pub wrong_either_way :
+    (before : List Part) (kind : RecordKind) (b : Bool) → Verdict before kind None (cond b (Err WrongBody) (Err WrongBody))
+wrong_either_way before kind true = refl
+wrong_either_way before kind false = refl
 
 -- the last of the records in their order
 last_first : (part : Part) (before : List Part) → reverse (part ∷ before) ≡ reverse before ++ part ∷ []
@@ -127,7 +131,7 @@ fault_by body served placed fixed =
     ((not body, WrongBody) ∷ (not served, WrongAlignment) ∷ (not placed, ContentMisplaced) ∷ (not fixed, FixMisplaced) ∷ [])
 
 -- no fixes fit any content
-nothing_to_fit :
+pub nothing_to_fit :
     (before : List Part) (part : Part) (latest : Option Content) → ((own : Segment) → fixes_of own part ≡ [])
     → fit_content before part latest ≡ true
 nothing_to_fit before part None none = refl
@@ -136,12 +140,12 @@ nothing_to_fit before part (Some content) none =
     list_all (is_within content) fixes
     && are_apart fixes (leading_fixes content.segment before)) (none content.segment)
 
--- the fault of a part that has neither entries nor fixes and is no content
-pub plain_fault :
+-- the fault of a part that has no entries and is no content
+pub fault_where :
     (before : List Part) (part : Part) → entries_of part ≡ [] → content_of part ≡ None
-    → ((own : Segment) → fixes_of own part ≡ [])
-    → part_fault before part ≡ fault_by (is_body before part) true true true
-plain_fault before part no_entries no_content no_fixes =
+    → part_fault before part
+    ≡ fault_by (is_body before part) true true (fit_content before part (latest_content before))
+fault_where before part no_entries no_content =
     ap (λ (entries : List SegmentEntry).
     first_that_holds
     ((not (is_body before part), WrongBody) ∷ (not (list_all is_served entries), WrongAlignment)
@@ -152,5 +156,13 @@ plain_fault before part no_entries no_content no_fixes =
     ((not (is_body before part), WrongBody) ∷ (false, WrongAlignment)
     ∷ (option_map_or (λ c. not (fits_segment before c)) content false, ContentMisplaced)
     ∷ (not (fit_content before part (latest_content before)), FixMisplaced) ∷ [])) no_content
+
+-- and of one that has no fixes either
+pub plain_fault :
+    (before : List Part) (part : Part) → entries_of part ≡ [] → content_of part ≡ None
+    → ((own : Segment) → fixes_of own part ≡ [])
+    → part_fault before part ≡ fault_by (is_body before part) true true true
+plain_fault before part no_entries no_content no_fixes =
+    fault_where before part no_entries no_content
     ∙ ap (λ fixed. fault_by (is_body before part) true true fixed)
     (nothing_to_fit before part (latest_content before) no_fixes)

@@ -5,3 +5,12 @@ pub mod HeaderLaws
 pub mod Accepting
 pub mod JudgeSteps
 pub mod Knowing
+pub mod KnownAfter
+pub mod ExtentsSaid
+pub mod HeaderVerdict
+pub mod EndVerdict
+pub mod NamesVerdict
+pub mod ContentVerdict
+pub mod FixesVerdict
+pub mod RecordVerdict
+pub mod WholeFile
