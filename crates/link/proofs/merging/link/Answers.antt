@@ -1,4 +1,4 @@
-use Rattle.std.proofs.Common.{◌≡◌, [], Ok, Err, ap, sym, ◌∙◌, rules}
+use Rattle.std.proofs.Common.{◌≡◌, [], Err, sym, ◌∙◌, rules}
 use Rattle.object_modules.specs.Merge.{merge_of, public_names}
 use Rattle.link.specs.Merging.{refusal_of}
 use Rattle.link.specs.declared.fault.LinkFault.{LinkFault}
