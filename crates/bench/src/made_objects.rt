@@ -6,10 +6,12 @@ use std::alloc::{AllocError, Global};
 
 // How many modules there are at most, and how many public names each has, and as many external names.
 const MODULES: usize = 64;
+
 const NAMES: usize = 1000;
 
 // How many bytes a content has at most, and how many bytes of so many are fixed in modules without names.
 const CONTENT_LIMIT: usize = 1024;
+
 const FIXED: usize = 938;
 
 // What the modules of a kind have.
@@ -110,18 +112,25 @@ impl Draft {
         self.end_record(kind)
     }
 
+    // Puts a content that has bytes from one offset to another, with its fixes.
+    fn put_content(&mut self, named: bool, segment: u8, at: usize, end: usize) -> Result<()> {
+        let [low, high] = word(at);
+        let count = end.saturating_sub(at).min(CONTENT_LIMIT);
+        self.body.extend_from_slice(&[segment, low, high])?;
+        self.body.resize(3 + count, 0x3E)?;
+        self.end_record(RecordKind::Content)?;
+        let fixed = at.saturating_add(FIXED);
+        self.put_fixes(named, segment, at, if named { end } else { end.min(fixed) })
+    }
+
     // Puts the contents of a segment with their fixes.
     fn put_segment(&mut self, named: bool, segment: u8, size: usize) -> Result<()> {
-        let mut at = 0;
-        while at < size {
-            let count = CONTENT_LIMIT.min(size - at);
-            let [low, high] = word(at);
-            self.body.extend_from_slice(&[segment, low, high])?;
-            self.body.resize(3 + count, 0x3E)?;
-            self.end_record(RecordKind::Content)?;
-            let fixed = if named { count } else { count.min(FIXED) };
-            self.put_fixes(named, segment, at, at + fixed)?;
-            at += count;
+        for number in 0..size / CONTENT_LIMIT + 1 {
+            let at = number * CONTENT_LIMIT;
+            let end = at.saturating_add(CONTENT_LIMIT).min(size);
+            if at < end {
+                self.put_content(named, segment, at, end)?;
+            }
         }
         Ok(())
     }
