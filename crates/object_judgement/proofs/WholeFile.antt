@@ -3,8 +3,8 @@ use Rattle.std.proofs.Common.{◌≡◌, ℕ, suc, ◌<◌, ◌≤◌, ◌==◌,
 use Rattle.std.proofs.lemmas.Bool.{eqb-true}
 use Rattle.std.proofs.lemmas.List.{length-drop}
 use Rattle.failure.specs.Failure.{IfFault}
-use Rattle.failure.specs.declared.failure.Failure.{Failure}
-use Rattle.failure.specs.declared.failure.Failure.TheVariants as failures
+use Rattle.failure.specs.declared.Failure.{Failure}
+use Rattle.failure.specs.declared.Failure.TheVariants as failures
 use Rattle.omf80.specs.declared.fault.Fault.{Fault as RecordFault}
 use Rattle.omf80.specs.declared.fault.Fault.TheVariants.{Truncated}
 use Rattle.omf80.specs.declared.kind.RecordKind.{RecordKind}
@@ -208,10 +208,10 @@ judged_whole bytes rest left state header all passed over same none tells =
 
 -- what is true of a failure's fault is true of the result that hands it on
 pub handed_on :
-    {A B : Type 0} (result : Result A (Failure Fault)) (failure : Failure Fault) (P Q : Fault → Type 0)
-    → result ≡ Err failure → IfFault {A = B} (Err failure) P → ((fault : Fault) → P fault → Q fault) → IfFault result Q
-handed_on {A} {B} result failure P Q is given each = subst (λ r. IfFault r Q) (sym is) (go failure given)
+    {A : Type 0} (result : Result A (Failure Fault)) (failure : Failure Fault) (P Q : Fault → Type 0)
+    → result ≡ Err failure → IfFault {A = Unit {0}} (Err failure) P → ((fault : Fault) → P fault → Q fault) → IfFault result Q
+handed_on {A} result failure P Q is given each = subst (λ r. IfFault r Q) (sym is) (go failure given)
   where
-    go : (failed : Failure Fault) → IfFault {A = B} (Err failed) P → IfFault {A = A} (Err failed) Q
+    go : (failed : Failure Fault) → IfFault {A = Unit {0}} (Err failed) P → IfFault {A = A} (Err failed) Q
     go (failures.Fault fault) p = each fault p
     go failures.Memory p = tt
