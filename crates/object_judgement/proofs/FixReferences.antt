@@ -9,8 +9,8 @@ use Rattle.object_modules.specs.declared.segment.Segment.TheVariants.{Absolute}
 use Rattle.object_modules.specs.Before.{fixes_of, is_empty}
 use Rattle.object_modules.specs.Parts.{Reference, ExternalReferencesPart, RelocationPart}
 use Rattle.object_modules.specs.Reading.{references_in, words_in}
-use Rattle.object_entries.specs.Fixes.{external_fix, segment_fix, fix_in_front, fixes_in}
-use Rattle.object_judgement.specs.internal.References.{is_known, are_entries, entries_fit}
+use Rattle.object_entries.specs.Fixes.{external_fix, segment_fix, fix_in_front}
+use Rattle.object_judgement.specs.internal.References.{is_known, entries_fit}
 
 -- the first entry is judged, and then all others
 abbrev FitsFirst :

@@ -1,12 +1,10 @@
 -- Names of other modules and public names are judged as the rules say.
-use Rattle.std.proofs.Common.{◌≡◌, ℕ, zero, suc, ◌+◌, Bool, true, false, not, ◌&&◌, cond, List, [], ◌∷◌, ◌++◌, length, flat_map, Option, Some, None, option_map, option_and_then, Result, Ok, Err, refl, ap, sym, subst, ◌∙◌, arith}
+use Rattle.std.proofs.Common.{◌≡◌, ℕ, zero, suc, Bool, true, false, not, ◌&&◌, cond, List, [], ◌∷◌, ◌++◌, length, flat_map, Option, Some, None, option_map, option_and_then, Err, refl, ap, sym, subst, ◌∙◌, arith}
 use Rattle.std.specs.List.{list_all}
 use Rattle.std.specs.Option.{option_map_or}
 use Rattle.std.proofs.lemmas.List.{length-append}
-use Rattle.omf80.specs.declared.kind.RecordKind.{RecordKind}
 use Rattle.omf80.specs.declared.kind.RecordKind.TheVariants as kinds
 use Rattle.symbols.specs.Names.{is_name}
-use Rattle.object_modules.specs.declared.fault.Fault.{Fault}
 use Rattle.object_modules.specs.declared.fault.Fault.TheVariants.{WrongBody}
 use Rattle.object_modules.specs.declared.segment.Segment.{Segment}
 use Rattle.object_modules.specs.Before.{is_empty, may_follow, externals_of, definition_names}
