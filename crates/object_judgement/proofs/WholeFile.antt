@@ -1,10 +1,14 @@
 -- A file is judged whole, record by record.
-use Rattle.std.proofs.Common.{◌≡◌, ℕ, suc, ◌<◌, ◌≤◌, true, false, List, [], ◌∷◌, length, drop, reverse, slice_index, Option, Some, None, Result, Ok, Err, refl, ap, sym, subst, ◌∙◌, arith}
+use Rattle.std.proofs.Common.{◌≡◌, ℕ, suc, ◌<◌, ◌≤◌, ◌==◌, true, false, List, [], ◌∷◌, length, drop, reverse, slice_index, Option, Some, None, Result, Ok, Err, refl, ap, sym, subst, ◌∙◌, arith}
+use Rattle.std.proofs.lemmas.Bool.{eqb-true}
 use Rattle.std.proofs.lemmas.List.{length-drop}
+use Rattle.failure.specs.Failure.{IfFault}
+use Rattle.failure.specs.declared.Failure.{Failure}
+use Rattle.failure.specs.declared.Failure.TheVariants as failures
 use Rattle.omf80.specs.declared.fault.Fault.{Fault as RecordFault}
 use Rattle.omf80.specs.declared.fault.Fault.TheVariants.{Truncated}
 use Rattle.omf80.specs.declared.kind.RecordKind.{RecordKind}
-use Rattle.omf80.specs.Records.{kind_of_type, record_end, record_fault, first_body}
+use Rattle.omf80.specs.Records.{Record, BeginsWith, kind_of_type, record_end, record_fault, first_body}
 use Rattle.omf80.proofs.Conditions.{IsBytes}
 use Rattle.object_modules.specs.declared.fault.Fault.{Fault}
 use Rattle.object_modules.specs.declared.fault.Fault.TheVariants.{OutOfOrder}
@@ -25,6 +29,7 @@ use Rattle.object_judgement.specs.internal.Order.{is_over}
 use Rattle.object_judgement.specs.internal.States.{State, beginning, record_taken, Tells}
 use Rattle.object_judgement.proofs.JudgeSteps.{no_record, broken_rule, goes_on, at_the_end, past_the_end}
 use Rattle.object_judgement.proofs.Knowing.{SaysHeader}
+use Rattle.object_judgement.proofs.KnownAfter.{never}
 use Rattle.object_judgement.proofs.ExtentsSaid.{code_length_said, code_alignment_said, data_length_said, data_alignment_said, stack_length_said}
 use Rattle.object_judgement.proofs.RecordVerdict.{StateAfter, at_beginning, ended_alike, Passed, Outcome, record_verdict}
 
@@ -34,9 +39,15 @@ pub record HasPassed (bytes rest : List ℕ) (state : State) : Type 0 where
   pub after : StateAfter before state
   pub judged : parts_of bytes ≡ judged_after (suc (length rest)) before rest
 
-pub nothing_passed : (bytes : List ℕ) → HasPassed bytes bytes beginning
+nothing_passed : (bytes : List ℕ) → HasPassed bytes bytes beginning
 unfolding parts_of
 nothing_passed bytes = record { before = []; after = at_beginning; judged = refl }
+
+pub begun :
+    (bytes rest : List ℕ) (state : State) → rest ≡ bytes → state ≡ beginning → HasPassed bytes rest state
+begun bytes rest state all first =
+    subst (λ left. HasPassed bytes left state) (sym all)
+    (subst (HasPassed bytes bytes) (sym first) (nothing_passed bytes))
 
 not_ended :
     (bytes rest : List ℕ) (state : State) (passed : HasPassed bytes rest state) → is_over state.latest ≡ false
@@ -56,6 +67,23 @@ pub record InFront (rest : List ℕ) (kind : RecordKind) (body after : List ℕ)
   pub body_is : body ≡ first_body rest
   pub after_is : after ≡ drop (record_end rest) rest
   pub short : length body ≤ 1027
+
+-- it has bytes
+pub fewer_left :
+    (rest after : List ℕ) → record_fault rest ≡ None → after ≡ drop (record_end rest) rest → length after < length rest
+fewer_left rest after sound e = subst (λ left. length left < length rest) (sym e) (shorter rest sound)
+
+pub in_front :
+    (rest after : List ℕ) (read : Record) → BeginsWith rest read after → record_fault rest ≡ None
+    → kind_of_type (slice_index rest 0) ≡ Some read.kind → read.body ≡ first_body rest
+    → after ≡ drop (record_end rest) rest → InFront rest read.kind read.body after
+in_front rest after read begins sound of_type body_is after_is = record {
+  sound = sound;
+  of_type = of_type;
+  body_is = body_is;
+  after_is = after_is;
+  short = begins.limit;
+}
 
 pub record_passed :
     (bytes rest : List ℕ) (state new : State) (kind : RecordKind) (body after : List ℕ) → HasPassed bytes rest state
@@ -100,11 +128,13 @@ record_refused bytes rest state kind body after fault all passed over front refu
     front.of_type (ap (fault_of_record passed.before kind) (sym front.body_is) ∙ broken))
 
 pub no_record_left :
-    (bytes rest : List ℕ) (state : State) (fault : RecordFault) → IsBytes bytes → HasPassed bytes rest state
-    → is_over state.latest ≡ false → record_fault rest ≡ Some fault → IsFaulty bytes (fault_from_record fault)
-no_record_left bytes rest state fault all passed over found =
-    faulty bytes (fault_from_record fault) all
-    (passed.judged ∙ no_record (length rest) passed.before rest fault (not_ended bytes rest state passed over) found)
+    (bytes rest : List ℕ) (state : State) (own : RecordFault) (fault : Fault) → IsBytes bytes
+    → HasPassed bytes rest state → is_over state.latest ≡ false → record_fault rest ≡ Some own
+    → fault ≡ fault_from_record own → IsFaulty bytes fault
+no_record_left bytes rest state own fault all passed over found is =
+    subst (IsFaulty bytes) (sym is)
+    (faulty bytes (fault_from_record own) all
+    (passed.judged ∙ no_record (length rest) passed.before rest own (not_ended bytes rest state passed over) found))
 
 -- the file has ended
 has_ended :
@@ -112,15 +142,31 @@ has_ended :
     → is_ended passed.before ≡ true
 has_ended bytes rest state passed e = sym (ended_alike passed.before state passed.after) ∙ e
 
-pub too_much :
+some_left : (rest : List ℕ) → (length rest == 0) ≡ false → rest ≡ [] → ⊥
+some_left [] h e = never (sym h)
+some_left (byte ∷ others) h e = absurd (let bad : byte ∷ others ≡ [] = e in cc)
+
+none_left : (rest : List ℕ) → (length rest == 0) ≡ true → rest ≡ []
+none_left [] h = refl
+none_left (byte ∷ others) h =
+    let same : length (byte ∷ others) ≡ 0 = eqb-true (length (byte ∷ others)) 0 h in
+    absurd (omega (arith, same))
+
+past_end :
     (bytes rest : List ℕ) (state : State) → IsBytes bytes → HasPassed bytes rest state → is_over state.latest ≡ true
     → (rest ≡ [] → ⊥) → IsFaulty bytes OutOfOrder
-too_much bytes [] state all passed over more = absurd (more refl)
-too_much bytes (byte ∷ others) state all passed over more =
+past_end bytes [] state all passed over more = absurd (more refl)
+past_end bytes (byte ∷ others) state all passed over more =
     faulty bytes OutOfOrder all
     (passed.judged
     ∙ past_the_end (length (byte ∷ others)) passed.before byte others
     (has_ended bytes (byte ∷ others) state passed over))
+
+pub too_much :
+    (bytes rest left : List ℕ) (state : State) → IsBytes bytes → HasPassed bytes rest state
+    → is_over state.latest ≡ true → left ≡ rest → (length left == 0) ≡ false → IsFaulty bytes OutOfOrder
+too_much bytes rest left state all passed over same some =
+    past_end bytes rest state all passed over (λ e. some_left left some (same ∙ e))
 
 header_told :
     (bytes : List ℕ) (before : List Part) (state : State) (header : Header) → IsFileOf bytes (reverse before)
@@ -149,12 +195,23 @@ header_told bytes before state header file h start tells = record {
 }
 
 pub judged_whole :
-    (bytes rest : List ℕ) (state : State) (header : Header) → IsBytes bytes → HasPassed bytes rest state
-    → is_over state.latest ≡ true → rest ≡ [] → Tells header state → IsJudged bytes header
-judged_whole bytes rest state header all passed over none tells =
+    (bytes rest left : List ℕ) (state : State) (header : Header) → IsBytes bytes → HasPassed bytes rest state
+    → is_over state.latest ≡ true → left ≡ rest → (length left == 0) ≡ true → Tells header state
+    → IsJudged bytes header
+judged_whole bytes rest left state header all passed over same none tells =
     let before : List Part = passed.before in
     let judged : parts_of bytes ≡ Ok (reverse before) =
-    passed.judged ∙ ap (λ left. judged_after (suc (length left)) before left) none
+    passed.judged ∙ ap (λ r. judged_after (suc (length r)) before r) (sym same ∙ none_left left none)
     ∙ at_the_end 0 before (has_ended bytes rest state passed over) in
     header_told bytes before state header (subst (JudgesFile bytes) judged (parts_law bytes all))
     ((passed.after).knows).header ((passed.after).knows).start tells
+
+-- what is true of a failure's fault is true of the result that hands it on
+pub handed_on :
+    {A : Type 0} (result : Result A (Failure Fault)) (failure : Failure Fault) (P Q : Fault → Type 0)
+    → result ≡ Err failure → IfFault {A = Unit {0}} (Err failure) P → ((fault : Fault) → P fault → Q fault) → IfFault result Q
+handed_on {A} result failure P Q is given each = subst (λ r. IfFault r Q) (sym is) (go failure given)
+  where
+    go : (failed : Failure Fault) → IfFault {A = Unit {0}} (Err failed) P → IfFault {A = A} (Err failed) Q
+    go (failures.Fault fault) p = each fault p
+    go failures.Memory p = tt
