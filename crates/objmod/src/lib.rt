@@ -1,4 +1,4 @@
-//! Object modules read from files of Intel's relocatable object module format for the 8080, and written as such.
+//! Object modules read from files of Intel's relocatable object module format for the 8080, and written.
 #![tactic(auto)]
 
 mod parts;
