@@ -116,7 +116,8 @@ impl<'a> State<'a> {
     fn take_externals(&mut self, body: &'a [u8]) -> Result<(), Failure<Fault>>
         ensures ok { OnOk result
             (externals_taken (state_view self.old) body.now ≡ Ok (state_view self.new)) }
-        ensures fault { IfFault result (λ fault. externals_taken (state_view self.old) body.now ≡ Err fault) }
+        ensures fault { IfFault result (λ fault.
+            externals_taken (state_view self.old) body.now ≡ Err fault) }
     {
         if body.is_empty() {
             return Err(Failure::Fault(Fault::WrongBody));
