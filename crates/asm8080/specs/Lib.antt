@@ -1,0 +1,4 @@
+pub mod Standing
+pub mod Runs
+pub mod Items
+pub mod Assembled
