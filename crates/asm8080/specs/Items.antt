@@ -73,11 +73,14 @@ KnowsLabels labels (Address reference) = IsKnown labels reference
 KnowsLabels labels (Mark label) = label < labels
 KnowsLabels labels item = Unit {0}
 
+-- none of the labels that an item binds is bound by items
+abbrev pub BindsNew : Item → List Item → Type 0
+BindsNew item items = (label : ℕ) → marks label item ≡ true → is_bound label items ≡ false
+
 -- no label is bound twice
 abbrev pub BoundOnce : List Item → Type 0
 BoundOnce [] = Unit {0}
-BoundOnce (Mark label ∷ others) = IsTrue (not (is_bound label others)) × BoundOnce others
-BoundOnce (item ∷ others) = BoundOnce others
+BoundOnce (item ∷ others) = BindsNew item others × BoundOnce others
 
 -- what can be assembled, but for labels that are not bound yet
 pub record IsAssembly (assembly : Assembly) : Type 0 where

@@ -1,6 +1,6 @@
 //! Code with labels.
 
-ghost use Rattle.std.specs.Prelude.{◌≡◌, ◌+◌, ◌<◌, not, IsTrue, [], ◌∷◌, ◌++◌, OnErr, OnOk, IfOk, Ok, Err};
+ghost use Rattle.std.specs.Prelude.{◌≡◌, ◌+◌, ◌<◌, false, [], ◌∷◌, ◌++◌, OnErr, OnOk, IfOk, Ok, Err};
 ghost use Rattle.failure.specs.Failure.{IfFault};
 ghost use Rattle.asm8080.specs.declared.item.Item.TheVariants.{Plain, WithWord, Byte, Address, Mark};
 ghost use Rattle.asm8080.specs.declared.item.Reference.TheVariants.{AtLabel, AtTarget};
@@ -61,6 +61,7 @@ impl Code {
     }
 
     /// Adds an instruction.
+    #[tactic(auto, using(crate::proofs::ItemLemmas::assembly_more))]
     pub fn emit(&mut self, instruction: Instr) -> Result<(), AllocError>
         ensures ok { OnOk result (self.new
             ≡ record self.old { items = self.old.items ++ Plain instruction ∷ [] }) }
@@ -128,7 +129,7 @@ impl Code {
     /// Gives a label of this code its place here. No label is bound twice.
     pub fn bind(&mut self, label: Label) -> Result<(), AllocError>
         requires known { label < self.old.labels }
-        requires once { IsTrue (not (is_bound label self.old.items)) }
+        requires once { is_bound label self.old.items ≡ false }
         ensures ok { OnOk result (self.new
             ≡ record self.old { items = self.old.items ++ Mark label ∷ [] }) }
         ensures err { OnErr result (self.new ≡ self.old) }
