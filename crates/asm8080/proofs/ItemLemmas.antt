@@ -1,9 +1,9 @@
 -- What one item more at the end does.
-use Rattle.std.proofs.Common.{◌≡◌, ℕ, Bool, true, false, ◌||◌, List, [], ◌∷◌, ◌++◌, refl, sym, ap, ◌∙◌, absurd, cc}
+use Rattle.std.proofs.Common.{◌≡◌, ℕ, Bool, true, false, ◌||◌, List, [], ◌∷◌, ◌++◌, refl, sym, subst, ◌∙◌}
 use Rattle.std.specs.Prelude.{All}
-use Rattle.std.proofs.lemmas.List.Elements.{All-append}
+use Rattle.std.proofs.lemmas.List.Elements.{All-push}
 use Rattle.asm8080.specs.declared.item.Item.{Item}
-use Rattle.asm8080.specs.Items.{Assembly, BindsNew, BoundOnce, IsAssembly, KnowsLabels, is_bound, marks}
+use Rattle.asm8080.specs.Items.{BindsNew, BoundOnce, IsAssembly, KnowsLabels, is_bound, marks}
 
 neither : (here more : Bool) → here ≡ false → more ≡ false → (here || more) ≡ false
 neither false false h m = refl
@@ -52,12 +52,27 @@ once_more (first ∷ others) item once new =
 
 -- an assembly with one item more
 pub assembly_more :
-    (items : List Item) (labels : ℕ) (item : Item)
+    (items after : List Item) (labels : ℕ) (item : Item)
     → IsAssembly (record { items = items; labels = labels })
     → KnowsLabels labels item
     → BindsNew item items
-    → IsAssembly (record { items = items ++ item ∷ []; labels = labels })
-assembly_more items labels item is knows new = record {
-  known = All-append (KnowsLabels labels) items (item ∷ []) is.known (λ x. search);
-  once = once_more items item is.once new;
-}
+    → after ≡ items ++ item ∷ []
+    → IsAssembly (record { items = after; labels = labels })
+assembly_more items after labels item is knows new same =
+    subst (λ (list : List Item). IsAssembly (record { items = list; labels = labels })) (sym same)
+    (record {
+      known = All-push (KnowsLabels labels) items item is.known knows;
+      once = once_more items item is.once new;
+    })
+
+-- with an item more that binds no label
+pub other_more :
+    (items after : List Item) (labels : ℕ) (item : Item)
+    → IsAssembly (record { items = items; labels = labels })
+    → KnowsLabels labels item
+    → ((label : ℕ) → marks label item ≡ false)
+    → after ≡ items ++ item ∷ []
+    → IsAssembly (record { items = after; labels = labels })
+other_more items after labels item is knows no same =
+    assembly_more items after labels item is knows
+    (λ label m. let bad : true ≡ false = sym m ∙ no label in cc) same

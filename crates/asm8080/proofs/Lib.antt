@@ -1,1 +1,2 @@
 pub mod ItemLemmas
+pub mod Worked

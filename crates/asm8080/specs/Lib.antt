@@ -2,3 +2,4 @@ pub mod Standing
 pub mod Runs
 pub mod Items
 pub mod Assembled
+pub mod internal

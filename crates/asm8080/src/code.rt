@@ -61,7 +61,7 @@ impl Code {
     }
 
     /// Adds an instruction.
-    #[tactic(auto, using(crate::proofs::ItemLemmas::assembly_more))]
+    #[tactic(auto, using(crate::proofs::ItemLemmas::other_more))]
     pub fn emit(&mut self, instruction: Instr) -> Result<(), AllocError>
         ensures ok { OnOk result (self.new
             ≡ record self.old { items = self.old.items ++ Plain instruction ∷ [] }) }
