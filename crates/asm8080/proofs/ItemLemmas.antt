@@ -1,8 +1,10 @@
 -- What one item more at the end does.
-use Rattle.std.proofs.Common.{◌≡◌, ℕ, Bool, true, false, ◌||◌, List, [], ◌∷◌, ◌++◌, refl, sym, subst, ◌∙◌}
+use Rattle.std.proofs.Common.{◌≡◌, ℕ, ◌<◌, Bool, true, false, ◌||◌, List, [], ◌∷◌, ◌++◌, refl, sym, subst, ◌∙◌}
 use Rattle.std.specs.Prelude.{All}
 use Rattle.std.proofs.lemmas.List.Elements.{All-push}
+use Rattle.std.proofs.lemmas.Bool.{eqb-true}
 use Rattle.asm8080.specs.declared.item.Item.{Item}
+use Rattle.asm8080.specs.declared.item.Item.TheVariants.{Mark}
 use Rattle.asm8080.specs.Items.{BindsNew, BoundOnce, IsAssembly, KnowsLabels, is_bound, marks}
 
 neither : (here more : Bool) → here ≡ false → more ≡ false → (here || more) ≡ false
@@ -73,6 +75,18 @@ pub other_more :
     → ((label : ℕ) → marks label item ≡ false)
     → after ≡ items ++ item ∷ []
     → IsAssembly (record { items = after; labels = labels })
-other_more items after labels item is knows no same =
+other_more items after labels item is knows unmarked same =
     assembly_more items after labels item is knows
-    (λ label m. let bad : true ≡ false = sym m ∙ no label in cc) same
+    (λ label m. let bad : true ≡ false = sym m ∙ unmarked label in cc) same
+
+-- with a label more that is bound
+pub mark_more :
+    (items after : List Item) (labels label : ℕ)
+    → IsAssembly (record { items = items; labels = labels })
+    → label < labels
+    → is_bound label items ≡ false
+    → after ≡ items ++ Mark label ∷ []
+    → IsAssembly (record { items = after; labels = labels })
+mark_more items after labels label is known unbound same =
+    assembly_more items after labels (Mark label) is known
+    (λ other m. subst (λ n. is_bound n items ≡ false) (sym (eqb-true other label m)) unbound) same

@@ -1,2 +1,3 @@
 pub mod ItemLemmas
+pub mod RunLaws
 pub mod Worked

@@ -9,16 +9,16 @@ counts = record {
   stands =
       (
         (refl, refl, refl, tt),
-        (refl, refl, tt),
-        refl,
-        (refl, refl, refl, tt),
-        (refl, tt),
-        (refl, refl, refl, tt),
-        (refl, tt),
-        refl,
-        (refl, tt),
-        (refl, tt),
-        refl,
+        ((refl, refl, tt),
+        (refl,
+        ((refl, refl, refl, tt),
+        ((refl, tt),
+        ((refl, refl, refl, tt),
+        ((refl, tt),
+        (refl,
+        ((refl, tt),
+        ((refl, tt),
+        refl))))))))),
       );
   halted = refl;
   counted = refl;

@@ -1,5 +1,6 @@
 -- Runs of the machine from one state to another, whose steps are counted.
-use Rattle.std.specs.Prelude.{◌≡◌, ℕ, ◌+◌, ◌≤◌, List, [], ◌∷◌}
+use Rattle.std.specs.Prelude.{◌≡◌, ℕ, ◌+◌, ◌<◌, ◌≤◌, List, [], ◌∷◌}
+use Rattle.mem80.specs.declared.memory.TheConstants.{MEMORY_SIZE}
 use Rattle.isa8080.specs.declared.instr.Instr.{Instr}
 use Rattle.isa8080.specs.declared.registers.Status.TheVariants.{Running}
 use Rattle.isa8080.specs.State.{State}
@@ -30,5 +31,6 @@ abbrev pub Meets : (script : List (List ℕ)) → List Instr → State → Type 
 Meets script [] s = Unit {0}
 Meets script (instruction ∷ others) s =
     (s.status ≡ Running)
+    × (s.registers.pc < MEMORY_SIZE)
     × InstructionStands s.memory s.registers.pc instruction
     × Meets script others (act script instruction (advance (size_of_instruction instruction) s))

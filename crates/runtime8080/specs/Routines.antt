@@ -127,6 +127,7 @@ pub record HasReturned (routine : Routine) (level : ℕ) (before after : State) 
   pub events : after.events ≡ before.events
   pub registers : HoldsBytes after.registers
   pub computes : Computes routine before.registers after.registers
+  pub memory_is : IsMemory after.memory
   pub memory :
       Keeps (λ address. IsIn address (below level SPARE_BYTES)) (memory_after routine before) after.memory
 
