@@ -8,12 +8,12 @@ unfolding step_of state_after
 counts = record {
   stands =
       (
-        (refl, refl, refl, tt),
-        ((refl, refl, tt),
+        (refl, (refl, (refl, tt))),
+        ((refl, (refl, tt)),
         (refl,
-        ((refl, refl, refl, tt),
+        ((refl, (refl, (refl, tt))),
         ((refl, tt),
-        ((refl, refl, refl, tt),
+        ((refl, (refl, (refl, tt))),
         ((refl, tt),
         (refl,
         ((refl, tt),

@@ -62,7 +62,6 @@ impl Code {
     }
 
     /// Adds an instruction.
-    #[tactic(auto, using(crate::proofs::ItemLemmas::other_more))]
     pub fn emit(&mut self, instruction: Instr) -> Result<(), AllocError>
         ensures ok { OnOk result (self.new
             ≡ record self.old { items = self.old.items ++ Plain instruction ∷ [] }) }
@@ -73,7 +72,6 @@ impl Code {
     }
 
     /// Adds an instruction whose word counts from a target.
-    #[tactic(auto, using(crate::proofs::ItemLemmas::other_more))]
     pub fn emit_fixed(
         &mut self,
         form: WordForm,
@@ -90,7 +88,6 @@ impl Code {
     }
 
     /// Adds a byte of data.
-    #[tactic(auto, using(crate::proofs::ItemLemmas::other_more))]
     pub fn emit_byte(&mut self, value: u8) -> Result<(), AllocError>
         ensures ok { OnOk result (self.new
             ≡ record self.old { items = self.old.items ++ Byte value ∷ [] }) }
@@ -101,7 +98,6 @@ impl Code {
     }
 
     /// Adds a word of data that counts from a target.
-    #[tactic(auto, using(crate::proofs::ItemLemmas::other_more))]
     pub fn emit_address(&mut self, target: Target, offset: u16) -> Result<(), AllocError>
         ensures ok { OnOk result (self.new ≡ record self.old {
           items = self.old.items ++ Address (AtTarget target offset) ∷ [];
@@ -131,7 +127,6 @@ impl Code {
     }
 
     /// Gives a label of this code its place here. No label is bound twice.
-    #[tactic(auto, using(crate::proofs::ItemLemmas::mark_more))]
     pub fn bind(&mut self, label: Label) -> Result<(), AllocError>
         requires known { label < self.old.labels }
         requires once { is_bound label self.old.items ≡ false }
@@ -144,7 +139,6 @@ impl Code {
     }
 
     /// Adds an instruction whose word is the place of a label of this code: a jump, a call or any other.
-    #[tactic(auto, using(crate::proofs::ItemLemmas::other_more))]
     pub fn jump(&mut self, form: WordForm, label: Label) -> Result<(), AllocError>
         requires known { label < self.old.labels }
         ensures ok { OnOk result (self.new ≡ record self.old {
