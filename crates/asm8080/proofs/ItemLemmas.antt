@@ -5,7 +5,7 @@ use Rattle.std.proofs.lemmas.List.Elements.{All-push}
 use Rattle.std.proofs.lemmas.Bool.{eqb-true}
 use Rattle.asm8080.specs.declared.item.Item.{Item}
 use Rattle.asm8080.specs.declared.item.Item.TheVariants.{Mark}
-use Rattle.asm8080.specs.Items.{BindsNew, BoundOnce, IsAssembly, KnowsLabels, is_bound, marks}
+use Rattle.asm8080.specs.Items.{Assembly, BindsNew, BoundOnce, IsAssembly, KnowsLabels, is_bound, marks}
 
 neither : (here more : Bool) → here ≡ false → more ≡ false → (here || more) ≡ false
 neither false false h m = refl
@@ -90,3 +90,18 @@ pub mark_more :
 mark_more items after labels label is known unbound same =
     assembly_more items after labels (Mark label) is known
     (λ other m. subst (λ n. is_bound n items ≡ false) (sym (eqb-true other label m)) unbound) same
+
+-- what is said of a view is so of the fields that it is of
+pub of_fields :
+    (now inside : Assembly) (P : Assembly → Type 0)
+    → now ≡ inside
+    → P now
+    → P inside
+of_fields now inside P same h = subst P same h
+
+pub of_fields_back :
+    (now inside : Assembly) (P : Assembly → Type 0)
+    → inside ≡ now
+    → P now
+    → P inside
+of_fields_back now inside P same h = subst P (sym same) h

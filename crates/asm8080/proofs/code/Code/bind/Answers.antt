@@ -1,6 +1,11 @@
-use Rattle.std.proofs.Common.{refl}
-use Rattle.asm8080.proofs.ItemLemmas.{mark_more}
+use Rattle.std.proofs.Common.{◌≡◌, ◌<◌, false}
+use Rattle.asm8080.specs.Items.{is_bound}
+use Rattle.asm8080.proofs.ItemLemmas.{mark_more, of_fields_back}
 use Rattle.asm8080.proofs.code.Code.bind.Goals as goal
 
 pub invariant_of-self-2 : goal.invariant_of-self-2
-invariant_of-self-2 c = mark_more _ _ _ _ c.self.invariant c.requires.known c.requires.once c.in_ok-push.ensures.items
+invariant_of-self-2 c =
+    mark_more _ _ _ _ c.self.invariant
+    (of_fields_back _ _ (λ a. c.args.label < a.labels) c.self.view_is c.requires.known)
+    (of_fields_back _ _ (λ a. is_bound c.args.label a.items ≡ false) c.self.view_is c.requires.once)
+    c.in_ok-push.ensures.items
