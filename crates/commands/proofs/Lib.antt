@@ -1,1 +1,1 @@
-pub mod OrdersKept
+pub mod KeptFiles

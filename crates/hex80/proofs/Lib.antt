@@ -9,6 +9,5 @@ pub mod Written
 pub mod Ordered
 pub mod SumLemmas
 pub mod ReadLemmas
-pub mod Writable
 pub mod TableLemmas
 pub mod WriteLemmas

@@ -1,6 +1,6 @@
 //! Segments of object modules, and the places in them that depend on where something lies.
 
-/// The greatest number of bytes of a segment, whose length stands in two bytes (Module Header Record).
+/// The greatest number of bytes of a segment.
 pub const SEGMENT_LIMIT: u32 = 65_535;
 
 /// What an offset is counted from.
@@ -41,7 +41,7 @@ pub enum FixKind {
 pub enum Target {
     /// A segment of the module.
     InSegment(Segment),
-    /// The external name of this number, from 0.
+    /// The external name of this number.
     External(u16),
 }
 
@@ -50,6 +50,6 @@ pub enum Target {
 pub struct Fix {
     pub kind: FixKind,
     pub target: Target,
-    /// The place of its first byte, from the start of the segment that it lies in, 0 to 65535.
+    /// The place, from the start of the segment that it lies in.
     pub offset: u16,
 }

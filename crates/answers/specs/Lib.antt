@@ -1,3 +1,0 @@
-pub use Rattle.files.specs.Files
-pub mod Endings
-pub mod Reading

@@ -1,3 +1,0 @@
-pub use Rattle.object_modules.specs.Merge
-pub mod Merging
-pub mod Views

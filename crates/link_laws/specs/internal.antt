@@ -1,3 +1,0 @@
--- What the loops of linking go by.
-pub mod Passes
-pub mod Building

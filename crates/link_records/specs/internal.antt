@@ -1,2 +1,0 @@
--- What proofs of merging files speak of.
-pub mod Causes

@@ -1,2 +1,0 @@
-pub mod FilesWritten
-pub mod FilesPlaced

@@ -1,3 +1,0 @@
--- What proofs of reading speak of.
-pub mod Keeping
-pub mod Told
