@@ -1,0 +1,3 @@
+pub mod BytesInParts
+pub mod FixesByPlace
+pub mod RunsByContents
