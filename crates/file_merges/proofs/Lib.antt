@@ -1,3 +1,6 @@
 pub mod BytesInParts
 pub mod FixesByPlace
 pub mod RunsByContents
+pub mod ModuleTold
+pub mod PieceGrown
+pub mod AllGrown

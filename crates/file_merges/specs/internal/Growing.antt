@@ -11,9 +11,12 @@ use Rattle.object_modules.specs.declared.segment.Target.TheVariants.{InSegment, 
 use Rattle.object_modules.specs.Before.{is_empty}
 use Rattle.object_modules.specs.Displacements.{Start, Linked, public_named, start_of, target_of_public}
 use Rattle.object_modules.specs.Module.{Public}
+use Rattle.object_modules.specs.Runs.{fixes_in}
 use Rattle.object_modules.specs.Spelling.{FixedContent}
 use Rattle.object_modules.specs.Text.{Run}
-use Rattle.object_modules.specs.internal.Joining.{run_at, with_run, fix_kept, run_fixed}
+use Rattle.object_modules.specs.internal.Joining.{run_at, with_run, with_runs, fix_kept, run_fixed}
+use Rattle.object_merges.proofs.HighBytes.{high_byte_moves}
+use Rattle.link_laws.specs.internal.Building.{piece_runs, piece_fixes}
 use Rattle.objmod.specs.internal.Keeping.{fixes_by_place, is_in}
 
 -- where the pieces of a module begin, and the publics that its external names stand for
@@ -81,3 +84,16 @@ grown_in resolved segment grown [] = grown
 grown_in resolved segment grown (fixed ∷ others) =
     grown_in resolved segment (if is_in segment fixed then with_content resolved segment grown fixed else grown)
     others
+
+-- a segment after a piece of a module, and after those of several
+abbrev pub grown_by : List Public → Segment → Grown → Linked → Grown
+grown_by publics segment grown one = record {
+  runs = with_runs grown.runs (piece_runs publics segment one);
+  fixes = grown.fixes ++ piece_fixes publics segment one;
+  moves = grown.moves || list_any (high_byte_moves publics one) (fixes_in one.object segment);
+}
+
+abbrev pub all_grown : List Public → Segment → Grown → List Linked → Grown
+all_grown publics segment grown [] = grown
+all_grown publics segment grown (one ∷ others) =
+    all_grown publics segment (grown_by publics segment grown one) others
