@@ -4,3 +4,6 @@ pub mod RunsByContents
 pub mod ModuleTold
 pub mod PieceGrown
 pub mod AllGrown
+pub mod ContentsFitAt
+pub mod NameWalks
+pub mod PublicWalks

@@ -1,6 +1,7 @@
 -- The module that a walk over a file tells: its lengths, and the runs and fixes of its segments, by the contents.
-use Rattle.std.proofs.Common.{◌≡◌, ℕ, true, List, length, map, filter, flat_map, refl, ap, ◌∙◌}
+use Rattle.std.proofs.Common.{◌≡◌, ℕ, true, List, length, map, filter, flat_map, refl, ap, sym, ◌∙◌}
 use Rattle.std.specs.List.{range_with_len}
+use Rattle.std.proofs.lemmas.List.FromFn.{length-map-range_with_len}
 use Rattle.object_modules.specs.declared.segment.Alignment.{Alignment}
 use Rattle.object_modules.specs.declared.segment.Fix.{Fix}
 use Rattle.object_modules.specs.declared.segment.Segment.{Segment}
@@ -15,6 +16,12 @@ use Rattle.object_modules.proofs.StoredRuns.{stored_bytes, stored_fixes}
 use Rattle.objmod.specs.internal.Keeping.{ContentsFit, SegmentFits, fixes_by_place, is_in, runs_kept}
 use Rattle.objmod.proofs.Kept.{kept_places}
 use Rattle.objmod.proofs.KeptStored.{kept_stored}
+
+sized :
+    (contents : List FixedContent) (segment : Segment) (size : ℕ)
+    → size ≡ length (map (set_in contents segment) (range_with_len 0 size))
+sized contents segment size =
+    sym (length-map-range_with_len (set_in contents segment) 0 size)
 
 -- A segment that contents of a file set.
 segment_runs :
@@ -53,3 +60,35 @@ module _ (walking : Walking) (fits : ContentsFit walking) where
   pub data_fixes : fixes_in (module_by walking) Data ≡ flat_map fixes_by_place (filter (is_in Data) walking.contents)
   unfolding fixes_in module_by
   data_fixes = segment_fixes walking.data_length walking.data_alignment Data walking.contents refl fits.data_bytes
+
+-- What a walk tells is what the module has.
+pub name_told : (walking : Walking) → walking.name ≡ (module_by walking).name
+unfolding module_by
+name_told walking = refl
+
+pub start_told : (walking : Walking) → walking.start ≡ (module_by walking).start
+unfolding module_by
+start_told walking = refl
+
+pub externals_told : (walking : Walking) → walking.externals ≡ (module_by walking).externals
+unfolding module_by
+externals_told walking = refl
+
+pub publics_told : (walking : Walking) → walking.publics ≡ (module_by walking).publics
+unfolding module_by
+publics_told walking = refl
+
+pub length_told : (walking : Walking) (segment : Segment) → length_by walking segment ≡ length_of (module_by walking) segment
+unfolding module_by
+length_told walking Absolute = refl
+length_told walking Code = sized walking.contents Code walking.code_length
+length_told walking Data = sized walking.contents Data walking.data_length
+length_told walking Stack = refl
+
+pub alignment_told :
+    (walking : Walking) (segment : Segment) → alignment_by walking segment ≡ alignment_of (module_by walking) segment
+unfolding module_by
+alignment_told walking Absolute = refl
+alignment_told walking Code = refl
+alignment_told walking Data = refl
+alignment_told walking Stack = refl

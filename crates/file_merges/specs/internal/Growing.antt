@@ -1,6 +1,6 @@
 -- A segment of a merge, content by content.
-use Rattle.std.specs.Prelude.{ℕ, ◌%◌, ◌==◌, Bool, false, not, ◌||◌, if◌then◌else◌, List, [], ◌∷◌, ◌++◌, length, map, filter_map, slice_get, Option, Some}
-use Rattle.std.specs.List.{list_any}
+use Rattle.std.specs.Prelude.{◌≡◌, ℕ, ◌+◌, ◌%◌, ◌≤◌, ◌==◌, Bool, true, false, not, ◌||◌, if◌then◌else◌, List, [], ◌∷◌, ◌++◌, length, map, filter_map, slice_get, Option, Some}
+use Rattle.std.specs.List.{list_all, list_any}
 use Rattle.std.specs.Option.{option_map_or, option_and_then, option_flatten}
 use Rattle.object_modules.specs.declared.segment.Fix.{Fix}
 use Rattle.object_modules.specs.declared.segment.FixKind.{FixKind}
@@ -8,9 +8,10 @@ use Rattle.object_modules.specs.declared.segment.FixKind.TheVariants.{Low, High,
 use Rattle.object_modules.specs.declared.segment.Segment.{Segment}
 use Rattle.object_modules.specs.declared.segment.Target.{Target}
 use Rattle.object_modules.specs.declared.segment.Target.TheVariants.{InSegment, External}
-use Rattle.object_modules.specs.Before.{is_empty}
+use Rattle.object_modules.specs.Before.{content_end, is_empty}
 use Rattle.object_modules.specs.Displacements.{Start, Linked, public_named, start_of, target_of_public}
 use Rattle.object_modules.specs.Module.{Public}
+use Rattle.object_modules.specs.Rules.{is_within}
 use Rattle.object_modules.specs.Runs.{fixes_in}
 use Rattle.object_modules.specs.Spelling.{FixedContent}
 use Rattle.object_modules.specs.Text.{Run}
@@ -18,6 +19,9 @@ use Rattle.object_modules.specs.internal.Joining.{run_at, with_run, with_runs, f
 use Rattle.object_merges.proofs.HighBytes.{high_byte_moves}
 use Rattle.link_laws.specs.internal.Building.{piece_runs, piece_fixes}
 use Rattle.objmod.specs.internal.Keeping.{fixes_by_place, is_in}
+
+abbrev pub public_name : Public → List ℕ
+public_name public = public.name
 
 -- where the pieces of a module begin, and the publics that its external names stand for
 pub record Resolved : Type 0 where
@@ -97,3 +101,13 @@ abbrev pub all_grown : List Public → Segment → Grown → List Linked → Gro
 all_grown publics segment grown [] = grown
 all_grown publics segment grown (one ∷ others) =
     all_grown publics segment (grown_by publics segment grown one) others
+
+-- a content ends within its segment at its place, and its fixes are within it
+pub record FitsAt (resolved : Resolved) (segment : Segment) (fixed : FixedContent) : Type 0 where
+  pub room : start_of resolved.start segment + content_end fixed.content ≤ 65535
+  pub within : list_all (is_within fixed.content) fixed.fixes ≡ true
+
+abbrev pub AllFitAt : Resolved → Segment → List FixedContent → Type 0
+AllFitAt resolved segment [] = Unit {0}
+AllFitAt resolved segment (fixed ∷ others) =
+    (is_in segment fixed ≡ true → FitsAt resolved segment fixed) × AllFitAt resolved segment others
