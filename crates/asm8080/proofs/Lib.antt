@@ -1,0 +1,3 @@
+pub mod ItemLemmas
+pub mod RunLaws
+pub mod Worked

@@ -1,0 +1,5 @@
+pub mod Standing
+pub mod Runs
+pub mod Items
+pub mod Assembled
+pub mod internal
