@@ -1,18 +1,25 @@
 -- What assembling gives.
-use Rattle.std.specs.Prelude.{◌≡◌, ℕ, ◌+◌, ◌≤◌, Bool, true, false, not, nat_lt, if◌then◌else◌, IsTrue, List, [], ◌∷◌, length, map, filter_map, Option, Some, None, Result, Ok, Err, unwrap_or}
+use Rattle.std.specs.Prelude.{◌≡◌, ℕ, ◌+◌, ◌≤◌, Bool, true, nat_lt, nat_le, IsTrue, List, [], ◌∷◌, length, map, filter_map, Option, Some, None, Result, Ok, Err, unwrap_or}
 use Rattle.std.specs.List.{list_all}
 use Rattle.mem80.specs.declared.memory.TheConstants.{MEMORY_SIZE}
 use Rattle.object_modules.specs.declared.segment.Fix.{Fix}
+use Rattle.object_modules.specs.declared.segment.FixKind.TheVariants.{Both}
 use Rattle.object_modules.specs.declared.segment.Target.{Target}
 use Rattle.object_modules.specs.declared.segment.Segment.TheVariants.{Code}
 use Rattle.object_modules.specs.declared.segment.Target.TheVariants.{InSegment}
 use Rattle.object_modules.specs.declared.segment.TheConstants.{SEGMENT_LIMIT}
 use Rattle.object_modules.specs.Module.{SetByte, words_are_whole}
 use Rattle.object_modules.specs.Moving.{moved}
+use Rattle.object_modules.specs.Rules.{fix_end}
 use Rattle.object_modules.specs.Runs.{fixed_bytes}
+use Rattle.object_modules.specs.Stored.{fixes_ascend}
 use Rattle.asm8080.specs.declared.fault.Fault.{Fault}
 use Rattle.asm8080.specs.declared.fault.Fault.TheVariants.{UnboundLabel, TooLong}
-use Rattle.asm8080.specs.Items.{Assembly, Layout, Stands, is_bound, offset_of, size_of_items}
+use Rattle.asm8080.specs.declared.item.Item.{Item}
+use Rattle.asm8080.specs.declared.item.Item.TheVariants.{Plain, WithWord, Byte, Address, Mark}
+use Rattle.asm8080.specs.declared.item.Reference.{Reference}
+use Rattle.asm8080.specs.declared.item.Reference.TheVariants.{AtLabel, AtTarget}
+use Rattle.asm8080.specs.Items.{Assembly, Layout, Stands, is_bound, offset_of, size_of, size_of_items}
 use Rattle.asm8080.specs.Standing.{BytesStand}
 
 -- the bytes of a code segment, and its fixes in the order of their offsets
@@ -34,6 +41,24 @@ resolved address_of code =
     value_at None = None
     value_at (Some here) = Some here.value
 
+-- what a reference counts from: a label from the start of the code
+abbrev pub target_of : Reference → Target
+target_of (AtLabel label) = InSegment Code
+target_of (AtTarget target offset) = target
+
+-- the fix of the word of a reference
+abbrev pub fix_at : (offset : ℕ) → Reference → Fix
+fix_at offset reference = record { kind = Both; target = target_of reference; offset = offset }
+
+-- the fixes of items from an offset on: each word that is a reference has one
+abbrev pub fixes_of_items : (offset : ℕ) → List Item → List Fix
+fixes_of_items offset [] = []
+fixes_of_items offset (WithWord form reference ∷ others) =
+    fix_at (offset + 1) reference ∷ fixes_of_items (offset + 3) others
+fixes_of_items offset (Address reference ∷ others) =
+    fix_at offset reference ∷ fixes_of_items (offset + 2) others
+fixes_of_items offset (item ∷ others) = fixes_of_items (offset + size_of item) others
+
 -- the labels of items that begin at an address
 abbrev pub layout_at : (address_of : Target → ℕ) → Assembly → Layout
 layout_at address_of assembly = record {
@@ -44,6 +69,9 @@ layout_at address_of assembly = record {
 -- a segment whose bytes, resolved anywhere in memory, are the code
 pub record Assembles (assembly : Assembly) (code : Assembled) : Type 0 where
   pub size : length code.bytes ≡ size_of_items assembly.items
+  pub fixes : code.fixes ≡ fixes_of_items 0 assembly.items
+  pub ascending : IsTrue (fixes_ascend code.fixes)
+  pub within : IsTrue (list_all (λ (fix : Fix). nat_le (fix_end fix) (length code.bytes)) code.fixes)
   pub whole : IsTrue (words_are_whole (places_of code))
   pub stands :
       (address_of : Target → ℕ) (memory : List ℕ)

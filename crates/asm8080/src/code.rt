@@ -51,7 +51,6 @@ impl Model for Code {
 
 impl Code {
     /// No code yet.
-    #[tactic(auto, using(crate::proofs::RunLaws::spends_on, crate::proofs::Worked::counts))]
     pub fn new(alloc: Global) -> Code
         ensures { result ≡ record { items = []; labels = 0 } }
     {
