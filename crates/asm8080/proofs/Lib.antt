@@ -3,5 +3,6 @@ pub mod RunLaws
 pub mod Words
 pub mod Fixing
 pub mod Moving
-pub mod Assembling
+pub mod Assemblies
+pub mod Places
 pub mod Worked

@@ -1,16 +1,18 @@
 //! Assembled code.
 
 ghost use Rattle.std.specs.Prelude.{◌≡◌};
+ghost use Rattle.asm8080.specs.internal.Assembling.{no_code};
 
 use object_modules::Fix;
+use std::alloc::Global;
 use std::marker::Model;
 
 /// The bytes of a code segment, 65535 at most, and its fixes in the order of their offsets. The words that are
 /// fixed to a segment are offsets in it.
 #[derive(Drop)]
 pub struct CodeBytes {
-    bytes: Vec<u8>,
-    fixes: Vec<Fix>,
+    pub(crate) bytes: Vec<u8>,
+    pub(crate) fixes: Vec<Fix>,
 }
 
 impl Model for CodeBytes {
@@ -22,6 +24,16 @@ impl Model for CodeBytes {
 }
 
 impl CodeBytes {
+    // No bytes.
+    pub(crate) fn empty(alloc: Global) -> CodeBytes
+        ensures { result ≡ no_code }
+    {
+        CodeBytes {
+            bytes: Vec::new(alloc),
+            fixes: Vec::new(alloc),
+        }
+    }
+
     /// The bytes, with nothing added to the words that are fixed.
     pub fn bytes(&self) -> &[u8]
         ensures { result.now ≡ self.now.bytes }

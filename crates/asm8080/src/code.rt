@@ -1,18 +1,19 @@
 //! Code with labels.
 
-ghost use Rattle.std.specs.Prelude.{◌≡◌, ◌+◌, ◌<◌, false, [], ◌∷◌, ◌++◌, OnErr, OnOk, IfOk, Ok, Err};
+ghost use Rattle.std.specs.Prelude.{◌≡◌, ◌+◌, ◌^◌, ◌<◌, false, [], ◌∷◌, ◌++◌, OnErr, OnOk, IfOk, Ok, Err};
 ghost use Rattle.failure.specs.Failure.{IfFault};
 ghost use Rattle.asm8080.specs.declared.item.Item.TheVariants.{Plain, WithWord, Byte, Address, Mark};
 ghost use Rattle.asm8080.specs.declared.item.Reference.TheVariants.{AtLabel, AtTarget};
 ghost use Rattle.asm8080.specs.Items.{is_bound};
 ghost use Rattle.asm8080.specs.Assembled.{IsFinished};
 
+use crate::assembling::{all_placed, assemble, code_size, label_places};
 use crate::bytes::CodeBytes;
 use crate::fault::Fault;
 use crate::item::{Item, Reference, WordForm};
 use failure::Failure;
 use isa8080::Instr;
-use object_modules::Target;
+use object_modules::{SEGMENT_LIMIT, Target};
 use std::alloc::{AllocError, Global};
 use std::marker::Model;
 
@@ -112,8 +113,16 @@ impl Code {
         ensures ok { IfOk result (λ label. label ≡ self.old.labels) }
         ensures more { OnOk result (self.new ≡ record self.old { labels = self.old.labels + 1 }) }
         ensures err { OnErr result (self.new ≡ self.old) }
+        ensures full { OnErr result (self.old.labels + 1 ≡ 2 ^ 64) }
     {
-        Err(AllocError)
+        let Some(labels) = self.labels.checked_add(1) else {
+            return Err(AllocError);
+        };
+        let label = Label {
+            number: self.labels,
+        };
+        self.labels = labels;
+        Ok(label)
     }
 
     /// Whether a label has its place.
@@ -151,10 +160,20 @@ impl Code {
 
     /// The code as bytes and fixes of a code segment. Only where each label is bound and the code has no more
     /// bytes than a segment.
-    pub fn finish(self, alloc: Global) -> Result<CodeBytes, Failure<Fault>>
+    pub fn finish(self) -> Result<CodeBytes, Failure<Fault>>
         ensures done { IfOk result (λ code. IsFinished self (Ok code)) }
         ensures fault { IfFault result (λ fault. IsFinished self (Err fault)) }
     {
-        Err(Failure::Memory)
+        let alloc = *self.items.allocator();
+        let items = self.items.as_slice();
+        let places = label_places(alloc, items, self.labels)?;
+        if !all_placed(places.as_slice()) {
+            return Err(Failure::Fault(Fault::UnboundLabel));
+        }
+        if code_size(items) > SEGMENT_LIMIT as usize {
+            return Err(Failure::Fault(Fault::TooLong));
+        }
+        let code = assemble(alloc, items, places.as_slice())?;
+        Ok(code)
     }
 }

@@ -1,6 +1,7 @@
 //! Code for the 8080 with labels, and the words in which its runs are spoken of.
 #![tactic(auto)]
 
+mod assembling;
 mod bytes;
 mod code;
 mod fault;
