@@ -1,7 +1,8 @@
 -- Tables of places, and what code is made by them.
-use Rattle.std.proofs.Common.{◌≡◌, ℕ, zero, suc, ◌+◌, ◌<◌, ◌≤◌, ◌==◌, Bool, true, false, cond, ◌&&◌, ◌||◌, nat_lt, List, [], ◌∷◌, ◌++◌, length, replicate, Option, Some, None, option_map, is_some, unwrap_or, slice_get, slice_set, Result, Ok, Err, refl, sym, subst, ap, ◌∙◌, fun_ext, arith}
+use Rattle.std.proofs.Common.{◌≡◌, ℕ, zero, suc, ◌+◌, ◌<◌, ◌≤◌, ◌==◌, Bool, true, false, cond, ◌&&◌, ◌||◌, nat_lt, List, [], ◌∷◌, ◌++◌, length, replicate, Option, Some, None, option_map, is_some, unwrap_or, slice_get, slice_set, Result, Ok, Err, refl, sym, subst, ap, ◌∙◌, arith}
 use Rattle.std.specs.Prelude.{All}
 use Rattle.std.specs.List.{list_all}
+use Rattle.std.proofs.Math.Path.{fun_ext}
 use Rattle.std.proofs.lemmas.Bool.{eq-eqb, eqb-true, ltb-true, lt-ltb}
 use Rattle.std.proofs.lemmas.List.{append_assoc, length-append, length-replicate}
 use Rattle.std.proofs.lemmas.List.Elements.{All-head, All-tail}
@@ -311,42 +312,69 @@ code_is assembly is =
         = λ place_of. with_items (layout_from place_of) no_code assembly.items in
     ap by (places_same assembly is) ∙ items_added (layout_from (offset_in assembly.items)) no_code assembly.items
 
--- what assembling answers
+-- What assembling answers, by the slices that it looks at.
+pub record Table (view : Assembly) (items : List Item) (places : List (Option ℕ)) : Type 0 where
+  pub is : IsAssembly view
+  pub same : items ≡ view.items
+  pub table : places ≡ places_of view.labels view.items
+
+pub table_of :
+    (view inside : Assembly) (slice : List Item) (made places : List (Option ℕ))
+    → inside ≡ view
+    → IsAssembly inside
+    → slice ≡ inside.items
+    → made ≡ places_of inside.labels slice
+    → places ≡ made
+    → Table view slice places
+table_of view inside slice made places shown is same table again =
+    subst (λ (assembly : Assembly). Table assembly slice places) shown
+    (record { is = is; same = same; table = again ∙ table ∙ ap (places_of inside.labels) same })
+
 pub finished :
-    (assembly : Assembly) (places : List (Option ℕ)) (code : Assembled)
-    → IsAssembly assembly
-    → places ≡ places_of assembly.labels assembly.items
-    → all_placed places ≡ true
-    → size_of_items assembly.items ≤ SEGMENT_LIMIT
-    → code ≡ with_items (layout_from (place_in places)) no_code assembly.items
-    → IsFinished assembly (Ok code)
-finished assembly places code is table placed small made =
-    let by : List (Option ℕ) → Assembled
-        = λ them. with_items (layout_from (place_in them)) no_code assembly.items in
-    let same : code ≡ code_of assembly.items = made ∙ ap by table ∙ code_is assembly is in
+    (view : Assembly) (slice : List Item) (places : List (Option ℕ)) (placed : Bool) (size : ℕ) (code : Assembled)
+    → Table view slice places
+    → placed ≡ all_placed places
+    → placed ≡ true
+    → size ≡ size_of_items slice
+    → size ≤ SEGMENT_LIMIT
+    → code ≡ with_items (layout_from (place_in places)) no_code slice
+    → IsFinished view (Ok code)
+finished view slice places placed size code t test holds sum small made =
+    let by : List (Option ℕ) → List Item → Assembled
+        = λ them items. with_items (layout_from (place_in them)) no_code items in
+    let same : code ≡ code_of view.items
+        = made ∙ ap (by places) t.same ∙ ap (λ them. by them view.items) t.table ∙ code_is view t.is in
+    let fits : size_of_items view.items ≤ SEGMENT_LIMIT
+        = subst (λ n. n ≤ SEGMENT_LIMIT) (sum ∙ ap size_of_items t.same) small in
     (
-      all_bound assembly is (ap (λ them. all_placed them) (sym table) ∙ placed),
-      small,
-      subst (Assembles assembly) (sym same) (assembles assembly is),
+      all_bound view t.is (ap (λ them. all_placed them) (sym t.table) ∙ sym test ∙ holds),
+      fits,
+      subst (Assembles view) (sym same) (assembles view t.is),
     )
 
 pub unbound :
-    (assembly : Assembly) (places : List (Option ℕ))
-    → IsAssembly assembly
-    → places ≡ places_of assembly.labels assembly.items
-    → all_placed places ≡ false
-    → IsFinished assembly (Err UnboundLabel)
-unbound assembly places is table placed bound =
+    (view : Assembly) (slice : List Item) (places : List (Option ℕ)) (placed : Bool)
+    → Table view slice places
+    → placed ≡ all_placed places
+    → placed ≡ false
+    → IsFinished view (Err UnboundLabel)
+unbound view slice places placed t test fails bound =
     let bad : true ≡ false
-        = sym (all_placed_if_bound assembly is bound) ∙ ap (λ them. all_placed them) (sym table) ∙ placed in
+        = sym (all_placed_if_bound view t.is bound) ∙ ap (λ them. all_placed them) (sym t.table) ∙ sym test ∙ fails in
     cc
 
 pub too_long :
-    (assembly : Assembly) (places : List (Option ℕ))
-    → IsAssembly assembly
-    → places ≡ places_of assembly.labels assembly.items
-    → all_placed places ≡ true
-    → SEGMENT_LIMIT < size_of_items assembly.items
-    → IsFinished assembly (Err TooLong)
-too_long assembly places is table placed long =
-    (all_bound assembly is (ap (λ them. all_placed them) (sym table) ∙ placed), omega (arith, long))
+    (view : Assembly) (slice : List Item) (places : List (Option ℕ)) (placed : Bool) (size : ℕ)
+    → Table view slice places
+    → placed ≡ all_placed places
+    → placed ≡ true
+    → size ≡ size_of_items slice
+    → SEGMENT_LIMIT < size
+    → IsFinished view (Err TooLong)
+too_long view slice places placed size t test holds sum long =
+    let over : SEGMENT_LIMIT < size_of_items view.items
+        = subst (λ n. SEGMENT_LIMIT < n) (sum ∙ ap size_of_items t.same) long in
+    (
+      all_bound view t.is (ap (λ them. all_placed them) (sym t.table) ∙ sym test ∙ holds),
+      omega (arith, over),
+    )

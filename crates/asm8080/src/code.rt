@@ -166,14 +166,15 @@ impl Code {
     {
         let alloc = *self.items.allocator();
         let items = self.items.as_slice();
-        let places = label_places(alloc, items, self.labels)?;
-        if !all_placed(places.as_slice()) {
+        let table = label_places(alloc, items, self.labels)?;
+        let places = table.as_slice();
+        if !all_placed(places) {
             return Err(Failure::Fault(Fault::UnboundLabel));
         }
         if code_size(items) > SEGMENT_LIMIT as usize {
             return Err(Failure::Fault(Fault::TooLong));
         }
-        let code = assemble(alloc, items, places.as_slice())?;
+        let code = assemble(alloc, items, places)?;
         Ok(code)
     }
 }
