@@ -12,3 +12,18 @@ pub enum Fault {
     #[error("code of more than 65535 bytes")]
     TooLong,
 }
+
+impl Fault {
+    ghost use Rattle.std.specs.Prelude.{◌≡◌};
+    ghost use Rattle.asm8080.specs.Numbers.{number_of};
+
+    /// The number by which the documentation knows the fault.
+    pub fn number(&self) -> &'static str
+        ensures { result.now ≡ number_of self.now }
+    {
+        match self {
+            Fault::UnboundLabel => "A1",
+            Fault::TooLong => "A2",
+        }
+    }
+}

@@ -4,7 +4,7 @@ use isa8080::{Condition, Instr, Pair};
 use object_modules::Target;
 
 /// An instruction that ends in a 16-bit value, without the value.
-#[derive(Clone, Copy, PartialEq, Eq)]
+#[derive(Clone, Copy)]
 pub enum WordForm {
     /// LXI.
     LoadPair(Pair),
@@ -27,7 +27,7 @@ pub enum WordForm {
 }
 
 /// A 16-bit value that depends on where something will lie.
-#[derive(Clone, Copy, PartialEq, Eq)]
+#[derive(Clone, Copy)]
 pub enum Reference {
     /// The place of a label, by its number.
     AtLabel(usize),
@@ -36,7 +36,7 @@ pub enum Reference {
 }
 
 /// An instruction, data between instructions, or the place of a label.
-#[derive(Clone, Copy, PartialEq, Eq)]
+#[derive(Clone, Copy)]
 pub enum Item {
     /// An instruction whose bytes are known.
     Plain(Instr),
