@@ -1,3 +1,4 @@
 pub mod Steps
+pub mod Straight
 pub mod Kept
 pub mod Calls
