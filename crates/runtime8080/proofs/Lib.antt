@@ -1,0 +1,3 @@
+pub mod Bodies
+pub mod Bits
+pub mod Rotations

@@ -1,0 +1,2 @@
+-- The rotations return.
+use Rattle.std.proofs.Common.{◌≡◌, ℕ}
