@@ -109,7 +109,7 @@ steps_of (i ∷ others) more = suc (steps_of others more)
 le_on : (a b c : ℕ) → a + b ≤ c → a ≤ c
 le_on a b c h = omega arith
 
-past_later : (instructions : List Instr) (place : ℕ) → place ≤ past place instructions
+pub past_later : (instructions : List Instr) (place : ℕ) → place ≤ past place instructions
 past_later [] place = omega arith
 past_later (i ∷ others) place =
     le_on place (size_of_instruction i) (past (place + size_of_instruction i) others)
@@ -144,3 +144,12 @@ straight script layout (i ∷ others) items place to r memory events k u touch s
     (sym (acts script i next r memory events (first_touches (touches_registers i) (touch_registers others) touch)))
     (straight script layout others items next to (does_to i r) memory events k u
     (others_touch (touches_registers i) (touch_registers others) touch) stands.1 small more))
+
+-- what stands after straight code
+pub stands_after :
+    (layout : Layout) (memory : List ℕ) (instructions : List Instr) (items : List Item) (place to : ℕ)
+    → Stands layout memory (plain instructions items) place to
+    → Stands layout memory items (past place instructions) to
+stands_after layout memory [] items place to h = h
+stands_after layout memory (i ∷ others) items place to h =
+    stands_after layout memory others items (place + size_of_instruction i) to h.1
