@@ -1,9 +1,8 @@
 -- Segments after the pieces of all modules: their runs, their fixes, and whether a high byte moves.
-use Rattle.std.proofs.Common.{◌≡◌, ℕ, Bool, true, false, ◌||◌, List, [], ◌∷◌, ◌++◌, flat_map, refl, ap, sym, ◌∙◌}
+use Rattle.std.proofs.Common.{◌≡◌, ℕ, ◌+◌, ◌<◌, Bool, true, false, ◌||◌, List, [], ◌∷◌, ◌++◌, length, drop, get_or, flat_map, refl, ap, sym, ◌∙◌}
 use Rattle.std.specs.List.{list_any}
 use Rattle.std.proofs.lemmas.List.{append_assoc, append-nil}
 use Rattle.object_modules.specs.declared.segment.Alignment.{Alignment}
-use Rattle.object_modules.specs.declared.segment.Fix.{Fix}
 use Rattle.object_modules.specs.declared.segment.Segment.{Segment}
 use Rattle.object_modules.specs.declared.segment.Segment.TheVariants.{Code, Data}
 use Rattle.object_modules.specs.Displacements.{Linked}
@@ -11,9 +10,9 @@ use Rattle.object_modules.specs.Merge.{some_high_byte_moves}
 use Rattle.object_modules.specs.Module.{Public}
 use Rattle.object_modules.specs.Runs.{fixes_in}
 use Rattle.object_modules.specs.Stored.{StoredSegment}
-use Rattle.object_modules.specs.Text.{Run}
 use Rattle.object_merges.proofs.HighBytes.{high_byte_moves, high_moves_by_fixes}
 use Rattle.link_laws.specs.internal.Building.{alignment_joined, end_in, end_joined, piece_fixes, runs_joined, stored_joined}
+use Rattle.link_laws.proofs.NameLoops.{at_item}
 use Rattle.file_merges.specs.internal.Growing.{Grown, all_grown, grown_by, nothing_grown}
 
 -- a high byte of a segment of a module moves
@@ -100,3 +99,13 @@ high_grown publics linked code data_bytes made also =
     ∙ ap (λ b. b || (all_grown publics Data nothing_grown linked).moves) (grown_moves publics Code nothing_grown linked)
     ∙ ap (λ b. list_any (moves_in publics Code) linked || b) (grown_moves publics Data nothing_grown linked)
     ∙ sym (some_moves publics linked)
+
+-- a piece more
+pub grown_step :
+    (publics : List Public) (segment : Segment) (grown new total : Grown) (linked : List Linked) (i : ℕ) (one : Linked)
+    → all_grown publics segment grown (drop i linked) ≡ total → i < length linked → one ≡ get_or linked i one
+    → new ≡ grown_by publics segment grown one → all_grown publics segment new (drop (i + 1) linked) ≡ total
+grown_step publics segment grown new total linked i one rest within is now =
+    ap (λ g. all_grown publics segment g (drop (i + 1) linked)) now
+    ∙ sym (at_item (all_grown publics segment grown) linked i one within is)
+    ∙ rest

@@ -1,6 +1,5 @@
 -- Bytes in two parts, of which each has fixes of its own: what becomes of the whole is what becomes of the parts.
 use Rattle.std.proofs.Common.{◌≡◌, ℕ, ◌+◌, ◌-◌, ◌<◌, ◌≤◌, List, [], ◌∷◌, ◌++◌, length, refl, ap, sym, subst, ◌∙◌, arith}
-use Rattle.std.specs.List.{AllByRecursion}
 use Rattle.std.proofs.Math.ListN.{get_or, set}
 use Rattle.std.proofs.lemmas.List.{length-set, set-append_left, get_or_append_left}
 use Rattle.object_modules.specs.declared.segment.Fix.{Fix}

@@ -1,13 +1,10 @@
 -- The contents of a file end within their segments at their places, and their fixes are within them.
-use Rattle.std.proofs.Common.{◌≡◌, ℕ, ◌+◌, ◌≤◌, Bool, true, false, cond, List, [], ◌∷◌, length, filter, refl, subst, arith}
-use Rattle.std.specs.List.{list_all}
+use Rattle.std.proofs.Common.{◌≡◌, ℕ, ◌+◌, ◌≤◌, Bool, true, false, cond, List, [], ◌∷◌, length, filter, subst, arith}
 use Rattle.object_modules.specs.declared.segment.Fix.{Fix}
 use Rattle.object_modules.specs.declared.segment.Segment.{Segment}
 use Rattle.object_modules.specs.declared.segment.Segment.TheVariants.{Code, Data}
 use Rattle.object_modules.specs.Before.{content_end, same_segment}
 use Rattle.object_modules.specs.Displacements.{start_of}
-use Rattle.object_modules.specs.Parts.{Content}
-use Rattle.object_modules.specs.Rules.{is_within}
 use Rattle.object_modules.specs.Spelling.{FixedContent}
 use Rattle.object_modules.specs.Walking.{Walking}
 use Rattle.link_laws.specs.internal.Building.{AreWithin}

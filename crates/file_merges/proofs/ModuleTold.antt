@@ -1,16 +1,15 @@
 -- The module that a walk over a file tells: its lengths, and the runs and fixes of its segments, by the contents.
-use Rattle.std.proofs.Common.{◌≡◌, ℕ, true, List, length, map, filter, flat_map, refl, ap, sym, ◌∙◌}
+use Rattle.std.proofs.Common.{◌≡◌, ℕ, ◌+◌, ◌≤◌, true, List, length, map, filter, flat_map, refl, ap, sym, ◌∙◌, arith}
 use Rattle.std.specs.List.{range_with_len}
 use Rattle.std.proofs.lemmas.List.FromFn.{length-map-range_with_len}
 use Rattle.object_modules.specs.declared.segment.Alignment.{Alignment}
-use Rattle.object_modules.specs.declared.segment.Fix.{Fix}
 use Rattle.object_modules.specs.declared.segment.Segment.{Segment}
 use Rattle.object_modules.specs.declared.segment.Segment.TheVariants.{Absolute, Code, Data, Stack}
 use Rattle.object_modules.specs.Before.{same_segment}
-use Rattle.object_modules.specs.Module.{Places, SetByte, alignment_of, length_of}
+use Rattle.object_modules.specs.Module.{ObjectModule, Places, alignment_of, length_of}
 use Rattle.object_modules.specs.Runs.{bytes_of_run, fixes_in, fixes_of_run, runs_of}
 use Rattle.object_modules.specs.Spelling.{FixedContent, set_in}
-use Rattle.object_modules.specs.Text.{Run, runs_from}
+use Rattle.object_modules.specs.Text.{runs_from}
 use Rattle.object_modules.specs.Walking.{Walking, alignment_by, length_by, module_by, places_by}
 use Rattle.object_modules.proofs.StoredRuns.{stored_bytes, stored_fixes}
 use Rattle.objmod.specs.internal.Keeping.{ContentsFit, SegmentFits, fixes_by_place, is_in, runs_kept}
@@ -92,3 +91,20 @@ alignment_told walking Absolute = refl
 alignment_told walking Code = refl
 alignment_told walking Data = refl
 alignment_told walking Stack = refl
+
+-- what ends within 65535 by the module does so by the walk
+pub code_room :
+    (walking : Walking) (object : ObjectModule) (start : ℕ) → object ≡ module_by walking
+    → start + length object.code.places ≤ 65535 → start + walking.code_length ≤ 65535
+code_room walking object start told room =
+    let same : walking.code_length ≡ length object.code.places =
+    length_told walking Code ∙ ap (λ o. length_of o Code) (sym told) in
+    omega (arith, same, room)
+
+pub data_room :
+    (walking : Walking) (object : ObjectModule) (start : ℕ) → object ≡ module_by walking
+    → start + length object.data_places.places ≤ 65535 → start + walking.data_length ≤ 65535
+data_room walking object start told room =
+    let same : walking.data_length ≡ length object.data_places.places =
+    length_told walking Data ∙ ap (λ o. length_of o Data) (sym told) in
+    omega (arith, same, room)

@@ -1,11 +1,14 @@
 -- Names that walks over files hand out one after another.
-use Rattle.std.proofs.Common.{◌≡◌, ℕ, ◌+◌, ◌<◌, Bool, true, false, cond, not, List, [], ◌∷◌, ◌++◌, length, map, drop, get_or, Option, None, Some, Result, Ok, Err, refl, ap, sym, ◌∙◌}
+use Rattle.std.proofs.Common.{◌≡◌, ℕ, ◌+◌, ◌<◌, Bool, true, false, cond, not, ◌||◌, nat_lt, Bor, List, [], ◌∷◌, ◌++◌, length, map, drop, get_or, Option, None, Some, Result, Ok, Err, refl, ap, sym, ◌∙◌}
+use Rattle.std.specs.List.{list_any, position, position_or_len}
+use Rattle.std.specs.Str.{bytes_eq}
+use Rattle.std.proofs.lemmas.List.{length-map}
 use Rattle.object_modules.specs.declared.public.OwnedPublic.{OwnedPublic}
 use Rattle.object_modules.specs.Merge.{LinkRefusal, DuplicatePublic, public_names}
 use Rattle.object_modules.specs.Module.{Public, ObjectModule, is_among}
 use Rattle.object_modules.specs.Views.{owned_public_view}
-use Rattle.link_laws.specs.internal.Passes.{externals_of, gathered, missing_in, name_of}
-use Rattle.link_laws.proofs.NameLoops.{module_added, module_repeats, unresolved_found, unresolved_passed}
+use Rattle.link_laws.specs.internal.Passes.{gathered, missing_in, name_of}
+use Rattle.link_laws.proofs.NameLoops.{module_added, module_repeats}
 use Rattle.file_merges.specs.internal.Growing.{public_name}
 
 -- a public more
@@ -79,3 +82,31 @@ module _ (known : List (List ℕ)) (total : Result (List (List ℕ)) LinkRefusal
   file_repeats refusal h =
       module_repeats known total files i rest file (map owned publics) refusal within is (owned_views publics ∙ told)
       (ap (gathered known) (owned_names publics) ∙ h)
+
+-- Names that stand elsewhere.
+-- a set of borrowed names has a name where the names have it
+pub among_borrowed :
+    (name : List ℕ) (keys : List (Bor (List ℕ)))
+    → list_any (λ (key : Bor (List ℕ)). bytes_eq name key.now) keys
+    ≡ is_among name (map (λ (key : Bor (List ℕ)). key.now) keys)
+among_borrowed name [] = refl
+among_borrowed name (key ∷ keys) = ap (λ b. bytes_eq name key.now || b) (among_borrowed name keys)
+
+-- and at the same place
+place_borrowed :
+    (name : List ℕ) (keys : List (Bor (List ℕ)))
+    → position_or_len (λ (key : Bor (List ℕ)). bytes_eq name key.now) keys
+    ≡ position_or_len (bytes_eq name) (map (λ (key : Bor (List ℕ)). key.now) keys)
+place_borrowed name [] = refl
+place_borrowed name (key ∷ keys) =
+    ap (λ n. cond (not (bytes_eq name key.now)) (1 + n) 0) (place_borrowed name keys)
+
+pub position_borrowed :
+    (name : List ℕ) (keys : List (Bor (List ℕ)))
+    → position (λ (key : Bor (List ℕ)). bytes_eq name key.now) keys
+    ≡ position (bytes_eq name) (map (λ (key : Bor (List ℕ)). key.now) keys)
+position_borrowed name keys =
+    let place : ℕ = position_or_len (bytes_eq name) (map (λ (key : Bor (List ℕ)). key.now) keys) in
+    ap (λ (p : ℕ). cond (nat_lt p (length keys)) (Some p) None) (place_borrowed name keys)
+    ∙ ap (λ (n : ℕ). cond (nat_lt place n) (Some place) None)
+    (sym (length-map keys (λ (key : Bor (List ℕ)). key.now)))

@@ -1,5 +1,5 @@
 -- A piece of a module, content by content, is the piece that is made of its runs and its fixes.
-use Rattle.std.proofs.Common.{◌≡◌, ℕ, ◌%◌, ◌==◌, Bool, true, false, cond, not, ◌||◌, List, [], ◌∷◌, ◌++◌, length, map, filter, filter_map, flat_map, slice_get, Option, Some, None, option_map, refl, ap, sym, ◌∙◌}
+use Rattle.std.proofs.Common.{◌≡◌, ℕ, ◌%◌, ◌==◌, Bool, true, false, cond, not, ◌||◌, List, [], ◌∷◌, ◌++◌, map, filter, filter_map, flat_map, slice_get, Option, Some, None, option_map, refl, ap, sym, ◌∙◌}
 use Rattle.std.specs.List.{list_any}
 use Rattle.std.specs.Option.{option_map_or, option_and_then, option_flatten}
 use Rattle.std.proofs.lemmas.List.{append_assoc, append-nil}
@@ -21,7 +21,7 @@ use Rattle.object_modules.specs.Text.{Run}
 use Rattle.object_modules.specs.Walking.{Walking, module_by}
 use Rattle.object_modules.specs.internal.Joining.{fix_kept, runs_fixed, with_runs}
 use Rattle.object_merges.proofs.HighBytes.{gains_part, high_byte_moves}
-use Rattle.object_merges.proofs.FixesOfPlaces.{high_of, target_if_high}
+use Rattle.object_merges.proofs.FixesOfPlaces.{target_if_high}
 use Rattle.link_laws.specs.internal.Building.{piece_fixes, piece_runs}
 use Rattle.objmod.specs.internal.Keeping.{AllFit, ContentsFit, Placed, fixes_by_place, is_in, runs_kept}
 use Rattle.file_merges.specs.internal.Growing.{Grown, Resolved, gain_by, grown_by, grown_in, kept_by, moves_by, part_moves, resolved_in, with_content}

@@ -1,7 +1,6 @@
 -- The runs of contents, after the fixes of all, are those of each content after its own fixes, pushed one after
 -- another.
-use Rattle.std.proofs.Common.{◌≡◌, ℕ, suc, ◌+◌, ◌<◌, ◌≤◌, Bool, true, false, cond, ◌==◌, nat_lt, List, [], ◌∷◌, ◌++◌, length, flat_map, refl, ap, sym, subst, ◌∙◌, arith}
-use Rattle.std.specs.List.{AllByRecursion}
+use Rattle.std.proofs.Common.{◌≡◌, ℕ, ◌+◌, ◌≤◌, Bool, true, false, cond, ◌==◌, nat_lt, List, [], ◌∷◌, ◌++◌, length, flat_map, refl, ap, sym, subst, ◌∙◌, arith}
 use Rattle.std.proofs.lemmas.Bool.{eqb-true, eq-eqb, lt-ltb}
 use Rattle.std.proofs.lemmas.List.{append_assoc, length-append}
 use Rattle.object_modules.specs.declared.segment.Fix.{Fix}
@@ -16,7 +15,7 @@ use Rattle.object_modules.specs.Text.{Run}
 use Rattle.object_modules.specs.internal.Joining.{bytes_after, fixes_below, fixes_past, run_at, run_end, run_fixed, runs_fixed, with_run, with_runs}
 use Rattle.object_merges.proofs.PiecesByRuns.{AllBelow, AllPast, below_first, past_others}
 use Rattle.link_laws.specs.internal.Building.{AreWithin}
-use Rattle.objmod.specs.internal.Keeping.{AllFit, Placed, before_kept, fixes_by_place, open_run, runs_kept}
+use Rattle.objmod.specs.internal.Keeping.{AllFit, Placed, fixes_by_place, open_run, runs_kept}
 use Rattle.file_merges.proofs.BytesInParts.{after_both_parts, after_length}
 use Rattle.file_merges.proofs.FixesByPlace.{later_past, own_within}
 

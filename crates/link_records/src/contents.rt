@@ -68,8 +68,9 @@ fn add_file<'a>(
     ensures data_bytes { OnOk result (data_bytes.new ≡ grown_by publics.now Data data_bytes.old placed.now) }
 {
     let resolved = Resolved::new(alloc, publics, placed)?;
-    let mut walk = placed.file().walk();
-    add_contents(alloc, code, data_bytes, fixes, &resolved, &mut walk)
+    let mut walk = placed.walk();
+    add_contents(alloc, code, data_bytes, fixes, &resolved, &mut walk)?;
+    Ok(())
 }
 
 /// The code and the data of a merge, made of the contents of files, file by file. One content at a time is

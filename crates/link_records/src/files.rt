@@ -38,7 +38,7 @@ impl<'a> ObjectFile<'a> {
     pub(crate) fn new(walk: Walk<'a>) -> ObjectFile<'a>
         requires valid { IsObjectModule (module_by walk) }
         requires fits { ContentsFit walk }
-        ensures { result ≡ module_by walk }
+        ensures { result ≡ module_by walk.entry }
     {
         ObjectFile { walk }
     }

@@ -1,6 +1,6 @@
 //! The merge of the modules that files spell.
 
-ghost use Rattle.std.specs.Prelude.{◌≡◌, ◌==◌, [], All, false, true, length, slice_get, sum_by, IfOk, Ok, Err, None, Some};
+ghost use Rattle.std.specs.Prelude.{◌≡◌, ◌==◌, ◌||◌, [], All, false, true, length, slice_get, sum_by, IfOk, Ok, Err, None, Some};
 ghost use Rattle.failure.specs.Failure.{IfFault};
 ghost use Rattle.object_modules.specs.declared.segment.Segment.TheVariants.{Code, Data};
 ghost use Rattle.object_modules.specs.Displacements.{linked_modules};
@@ -48,8 +48,14 @@ fn merged_alignment(segment: Segment, placed: &[PlacedFile<'_>]) -> Alignment
     Alignment::Byte
 }
 
+// Whether a high byte is fixed to what moves by no multiple of 256, in the code or in the data.
+fn high_byte_moves(code: &GrowingSegment, data_bytes: &GrowingSegment) -> bool
+    ensures { result ≡ (code.now.moves || data_bytes.now.moves) }
+{
+    code.moves() || data_bytes.moves()
+}
+
 // The parts of a merge whose segments are made.
-#[tactic(auto, using(file_merges::proofs::AllGrown::segment_grown))]
 fn parts_of(
     alloc: Global,
     pieces: &Pieces<'_>,
@@ -60,7 +66,7 @@ fn parts_of(
 ) -> ModuleParts
     requires code { code ≡ all_grown publics Code nothing_grown pieces.now.placed.items }
     requires data_bytes { data_bytes ≡ all_grown publics Data nothing_grown pieces.now.placed.items }
-    ensures { AreJoined publics pieces.now.placed.items pieces.now.stack_length (main_view main) result }
+    ensures { AreJoined publics.entry pieces.now.placed.items pieces.now.stack_length (main_view main) result }
 {
     let placed = pieces.placed.as_slice();
     let code_end = merged_end(Segment::Code, placed);
@@ -98,7 +104,7 @@ fn merge_placed<'a>(
     let placed = pieces.placed.as_slice();
     let publics = Publics::new(names, publics_of(alloc, placed)?);
     let (code, data_bytes) = segments_of(alloc, &publics, placed)?;
-    if code.moves() || data_bytes.moves() {
+    if high_byte_moves(&code, &data_bytes) {
         return Err(Failure::Fault(LinkFault::HighByteMoves));
     }
     let parts = parts_of(alloc, pieces, publics, main, code, data_bytes);

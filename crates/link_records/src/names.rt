@@ -91,6 +91,7 @@ impl<'a> NameTable<'a> {
 }
 
 /// The public names of files, file by file; the first that stood already is a fault.
+#[tactic(auto, using(file_merges::proofs::NameWalks::file_added, file_merges::proofs::NameWalks::file_repeats, link_laws::proofs::NameLoops::modules_ended))]
 pub(crate) fn public_names_of<'a>(
     alloc: Global,
     files: &[ObjectFile<'a>],
@@ -120,6 +121,7 @@ fn first_missing<'a>(table: &NameTable<'a>, walk: &mut Walk<'a>) -> Option<Name>
 }
 
 /// The first external name of files, file by file, that a table lacks.
+#[tactic(auto, using(link_laws::proofs::NameLoops::unresolved_found, link_laws::proofs::NameLoops::unresolved_passed, link_laws::proofs::NameLoops::unresolved_ended))]
 pub(crate) fn unresolved_in<'a>(table: &NameTable<'a>, files: &[ObjectFile<'a>]) -> Option<Name>
     ensures { result ≡ missing_in table.now (externals_of files.now) }
 {

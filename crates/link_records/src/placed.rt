@@ -3,10 +3,13 @@
 ghost use Rattle.std.specs.Prelude.{◌≡◌, ◌+◌, ◌≤◌, length};
 ghost use Rattle.object_modules.specs.Displacements.{displacement_in};
 ghost use Rattle.object_modules.specs.Module.{IsObjectModule, length_of};
+ghost use Rattle.object_modules.specs.Walking.{module_by};
+ghost use Rattle.objmod.specs.internal.Keeping.{ContentsFit};
 ghost use Rattle.link_records.specs.internal.Views.{start_view};
 
 use crate::files::ObjectFile;
 use object_modules::Segment;
+use objmod::Walk;
 use std::marker::Model;
 
 /// Where the pieces of a module begin in those of a merge.
@@ -73,6 +76,17 @@ impl<'a> PlacedFile<'a> {
         ensures valid { IsObjectModule self.now.object }
     {
         &self.file
+    }
+
+    /// A walk from the front of the file.
+    #[tactic(auto, using(file_merges::proofs::ModuleTold::code_room, file_merges::proofs::ModuleTold::data_room))]
+    pub(crate) fn walk(&self) -> Walk<'a>
+        ensures told { self.now.object ≡ module_by result }
+        ensures fits { ContentsFit result }
+        ensures code { (self.now.start).code + result.code_length ≤ 65535 }
+        ensures data_bytes { (self.now.start).data_start + result.data_length ≤ 65535 }
+    {
+        self.file.walk()
     }
 
     /// Where its pieces begin.

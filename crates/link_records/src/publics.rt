@@ -66,7 +66,7 @@ impl<'a> Publics<'a> {
 
     /// The publics by themselves, in their order.
     pub(crate) fn into_publics(self) -> Vec<OwnedPublic>
-        ensures { map owned_public_view result.items ≡ self }
+        ensures { map owned_public_view result.items ≡ self.entry }
     {
         let Publics { names: _, publics } = self;
         publics
