@@ -79,7 +79,6 @@ impl<'a> PlacedFile<'a> {
     }
 
     /// A walk from the front of the file.
-    #[tactic(auto, using(file_merges::proofs::ModuleTold::code_room, file_merges::proofs::ModuleTold::data_room))]
     pub(crate) fn walk(&self) -> Walk<'a>
         ensures told { self.now.object ≡ module_by result }
         ensures fits { ContentsFit result }
