@@ -1,25 +1,22 @@
 -- The code of items is what their assembly is to be: it stands wherever it is resolved.
-use Rattle.std.proofs.Common.{◌≡◌, ℕ, ◌+◌, ◌<◌, ◌≤◌, ◌==◌, Bool, true, false, cond, ◌&&◌, ◌||◌, nat_le, List, [], ◌∷◌, ◌++◌, length, map, Option, Some, None, option_map, unwrap_or, refl, sym, subst, ap, ◌∙◌, arith}
+use Rattle.std.proofs.Common.{◌≡◌, ℕ, ◌+◌, ◌≤◌, Bool, true, false, cond, ◌&&◌, ◌||◌, nat_le, List, [], ◌∷◌, ◌++◌, length, map, Option, Some, None, option_map, unwrap_or, refl, sym, subst, ap, ◌∙◌, arith}
 use Rattle.std.specs.List.{list_all}
 use Rattle.std.proofs.lemmas.Bool.{eq-eqb, le-leb}
 use Rattle.std.proofs.lemmas.List.{length-append}
 use Rattle.object_modules.specs.declared.segment.Fix.{Fix}
-use Rattle.object_modules.specs.declared.segment.Target.{Target}
 use Rattle.object_modules.specs.declared.segment.Target.TheVariants.{InSegment}
 use Rattle.object_modules.specs.declared.segment.Segment.TheVariants.{Code}
 use Rattle.object_modules.specs.Module.{SetByte, words_are_whole}
 use Rattle.object_modules.specs.Rules.{fix_end}
 use Rattle.object_modules.specs.Stored.{fixes_ascend}
-use Rattle.isa8080.specs.Code.{bytes_of}
 use Rattle.asm8080.specs.declared.item.Item.{Item}
 use Rattle.asm8080.specs.declared.item.Item.TheVariants.{Plain, WithWord, Byte, Address, Mark}
-use Rattle.asm8080.specs.declared.item.Reference.{Reference}
 use Rattle.asm8080.specs.Standing.{BytesStand}
 use Rattle.asm8080.specs.Items.{Assembly, BoundOnce, IsAssembly, Layout, Stands, bytes_of_item, is_bound, marks, offset_of, size_of, size_of_items}
-use Rattle.asm8080.specs.Assembled.{Assembles, fix_at, fixes_of_items, layout_at, resolved}
+use Rattle.asm8080.specs.Assembled.{Assembles, fix_at, fixes_of_items, layout_at}
 use Rattle.asm8080.specs.internal.Assembling.{bytes_of_items, code_of, layout_from, offset_in}
-use Rattle.asm8080.proofs.Words.{item_length, layout_moved}
-use Rattle.asm8080.proofs.Fixing.{fixed_items, set_of_items, whole_items}
+use Rattle.asm8080.proofs.Words.{item_length}
+use Rattle.asm8080.proofs.Fixing.{fixed_items, whole_items}
 use Rattle.asm8080.proofs.Moving.{resolved_items}
 
 -- the bytes are as many as the items take
@@ -83,10 +80,10 @@ labels_later place_of from item others once lie label offset h =
         let bad : true ≡ false = sym (has_place label offset others h) ∙ once.0 label e in cc
     by_mark false e =
         let place : Bool → Option ℕ → Option ℕ
-            = λ here later. cond here (Some 0) (option_map (λ n. size_of item + n) later) in
+        = λ here later. cond here (Some 0) (option_map (λ n. size_of item + n) later) in
         let there : place_of label ≡ from + (size_of item + offset)
-            = lie label (size_of item + offset)
-            (ap (λ here. place here (offset_of label others)) e ∙ ap (place false) h) in
+        = lie label (size_of item + offset)
+        (ap (λ here. place here (offset_of label others)) e ∙ ap (place false) h) in
         omega (arith, there)
 
 -- an item whose bytes stand, and what comes after it
@@ -94,12 +91,11 @@ item_stands :
     (layout : Layout) (memory : List ℕ) (from : ℕ) (item : Item) (rest : List ℕ)
     → BytesStand memory from (bytes_of_item layout item ++ rest)
     → BytesStand memory from (bytes_of_item layout item) × BytesStand memory (from + size_of item) rest
-item_stands layout memory from item rest h =
-    (
-      front_stands memory from (bytes_of_item layout item) rest h,
-      subst (λ n. BytesStand memory (from + n) rest) (item_length layout item)
+item_stands layout memory from item rest h = (
+  front_stands memory from (bytes_of_item layout item) rest h,
+  subst (λ n. BytesStand memory (from + n) rest) (item_length layout item)
       (rest_stands memory from (bytes_of_item layout item) rest h),
-    )
+)
 
 pub items_stand :
     (layout : Layout) (memory : List ℕ) (from to : ℕ) (items : List Item)
@@ -111,43 +107,38 @@ pub items_stand :
 items_stand layout memory from to [] once lie h end = let same : from ≡ to = omega (arith, end) in same
 items_stand layout memory from to (Mark label ∷ others) once lie h end =
     let here : layout.place_of label ≡ from + 0
-        = lie label 0
-        (ap (λ same. cond same (Some 0) (option_map (λ n. 0 + n) (offset_of label others))) (eq-eqb label label refl)) in
-    let same : from + 0 ≡ from = omega arith in
-    (
+    = lie label 0
+    (ap (λ same. cond same (Some 0) (option_map (λ n. 0 + n) (offset_of label others))) (eq-eqb label label refl)) in
+    let same : from + 0 ≡ from = omega arith in (
       here ∙ same,
       items_stand layout memory from to others once.1
-      (subst (λ n. LabelsLie layout.place_of n others) same
-      (labels_later layout.place_of from (Mark label) others once lie))
-      h (omega (arith, end)),
+          (subst (λ n. LabelsLie layout.place_of n others) same
+          (labels_later layout.place_of from (Mark label) others once lie))
+          h (omega (arith, end)),
     )
 items_stand layout memory from to (Plain instruction ∷ others) once lie h end =
-    let parts = item_stands layout memory from (Plain instruction) (bytes_of_items layout others) h in
-    (
+    let parts = item_stands layout memory from (Plain instruction) (bytes_of_items layout others) h in (
       parts.0,
       items_stand layout memory (from + size_of (Plain instruction)) to others once.1
-      (labels_later layout.place_of from (Plain instruction) others once lie) parts.1 (omega (arith, end)),
+          (labels_later layout.place_of from (Plain instruction) others once lie) parts.1 (omega (arith, end)),
     )
 items_stand layout memory from to (WithWord form reference ∷ others) once lie h end =
-    let parts = item_stands layout memory from (WithWord form reference) (bytes_of_items layout others) h in
-    (
+    let parts = item_stands layout memory from (WithWord form reference) (bytes_of_items layout others) h in (
       parts.0,
       items_stand layout memory (from + 3) to others once.1
-      (labels_later layout.place_of from (WithWord form reference) others once lie) parts.1 (omega (arith, end)),
+          (labels_later layout.place_of from (WithWord form reference) others once lie) parts.1 (omega (arith, end)),
     )
 items_stand layout memory from to (Byte value ∷ others) once lie h end =
-    let parts = item_stands layout memory from (Byte value) (bytes_of_items layout others) h in
-    (
+    let parts = item_stands layout memory from (Byte value) (bytes_of_items layout others) h in (
       parts.0,
       items_stand layout memory (from + 1) to others once.1
-      (labels_later layout.place_of from (Byte value) others once lie) parts.1 (omega (arith, end)),
+          (labels_later layout.place_of from (Byte value) others once lie) parts.1 (omega (arith, end)),
     )
 items_stand layout memory from to (Address reference ∷ others) once lie h end =
-    let parts = item_stands layout memory from (Address reference) (bytes_of_items layout others) h in
-    (
+    let parts = item_stands layout memory from (Address reference) (bytes_of_items layout others) h in (
       parts.0,
       items_stand layout memory (from + 2) to others once.1
-      (labels_later layout.place_of from (Address reference) others once lie) parts.1 (omega (arith, end)),
+          (labels_later layout.place_of from (Address reference) others once lie) parts.1 (omega (arith, end)),
     )
 
 -- labels of items from a base on

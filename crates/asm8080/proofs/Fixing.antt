@@ -1,5 +1,5 @@
 -- The bytes of items with their fixes.
-use Rattle.std.proofs.Common.{◌≡◌, ℕ, ◌+◌, ◌<◌, ◌≤◌, ◌==◌, Bool, true, false, cond, List, [], ◌∷◌, ◌++◌, length, map, Option, Some, None, option_map, refl, sym, ap, ◌∙◌, arith}
+use Rattle.std.proofs.Common.{◌≡◌, ℕ, ◌+◌, ◌<◌, ◌==◌, Bool, true, false, cond, List, [], ◌∷◌, ◌++◌, length, map, Option, Some, None, option_map, refl, sym, ap, ◌∙◌, arith}
 use Rattle.std.specs.List.{find}
 use Rattle.std.proofs.lemmas.Bool.{eq-eqb, ne_eqb}
 use Rattle.object_modules.specs.declared.segment.Fix.{Fix}
@@ -53,7 +53,7 @@ not_here :
     → fixup_at (fix ∷ fixes) x ≡ fixup_at fixes x
 not_here fix fixes x h =
     let by : Bool → Option Fixup
-        = λ test. option_map fixup_of (cond test (Some fix) (find (λ (other : Fix). other.offset == x) fixes)) in
+    = λ test. option_map fixup_of (cond test (Some fix) (find (λ (other : Fix). other.offset == x) fixes)) in
     ap by h
 
 here :
@@ -62,7 +62,7 @@ here :
     → fixup_at (fix ∷ fixes) x ≡ Some (record { kind = fix.kind; target = fix.target })
 here fix fixes x h =
     let by : Bool → Option Fixup
-        = λ test. option_map fixup_of (cond test (Some fix) (find (λ (other : Fix). other.offset == x) fixes)) in
+    = λ test. option_map fixup_of (cond test (Some fix) (find (λ (other : Fix). other.offset == x) fixes)) in
     ap by h
 
 -- the fixes of items are at or after the place of the first

@@ -1,6 +1,5 @@
 -- What one item more at the end does.
 use Rattle.std.proofs.Common.{◌≡◌, ℕ, ◌<◌, Bool, true, false, ◌||◌, List, [], ◌∷◌, ◌++◌, refl, sym, subst, ◌∙◌}
-use Rattle.std.specs.Prelude.{All}
 use Rattle.std.proofs.lemmas.List.Elements.{All-push}
 use Rattle.std.proofs.lemmas.Bool.{eqb-true}
 use Rattle.asm8080.specs.declared.item.Item.{Item}
@@ -43,14 +42,13 @@ pub once_more :
     → BindsNew item items
     → BoundOnce (items ++ item ∷ [])
 once_more [] item once new = ((λ label m. refl), tt)
-once_more (first ∷ others) item once new =
-    (
-      (λ label m.
+once_more (first ∷ others) item once new = (
+  (λ label m.
       bound_more label others item (once.0 label m)
       (other_false (marks label first) (marks label item) (is_bound label others) m (new label))),
-      once_more others item once.1
+  once_more others item once.1
       (λ label m. right_false (marks label first) (is_bound label others) (new label m)),
-    )
+)
 
 -- an assembly with one item more
 pub assembly_more :

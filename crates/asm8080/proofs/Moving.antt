@@ -1,5 +1,5 @@
 -- The bytes of items where targets have addresses.
-use Rattle.std.proofs.Common.{◌≡◌, ℕ, ◌+◌, ◌%◌, List, [], ◌∷◌, ◌++◌, length, map, filter_map, Option, Some, None, refl, sym, ap, ◌∙◌}
+use Rattle.std.proofs.Common.{◌≡◌, ℕ, ◌+◌, ◌%◌, List, [], ◌∷◌, ◌++◌, map, filter_map, Option, Some, None, refl, sym, ap, ◌∙◌}
 use Rattle.object_modules.specs.declared.segment.Target.{Target}
 use Rattle.object_modules.specs.Module.{SetByte}
 use Rattle.object_modules.specs.Moving.{moved_after, second_byte_moved, value_after}
@@ -8,7 +8,7 @@ use Rattle.isa8080.specs.Code.{bytes_of}
 use Rattle.asm8080.specs.declared.item.Reference.{Reference}
 use Rattle.asm8080.specs.declared.item.Item.{Item}
 use Rattle.asm8080.specs.declared.item.Item.TheVariants.{Plain, WithWord, Byte, Address, Mark}
-use Rattle.asm8080.specs.Items.{Layout, word_of}
+use Rattle.asm8080.specs.Items.{word_of}
 use Rattle.asm8080.specs.Assembled.{resolved, target_of}
 use Rattle.asm8080.specs.internal.Assembling.{bytes_of_items, code_of, layout_from, offset_in}
 use Rattle.asm8080.proofs.Words.{form_bytes, high_moved, layout_moved, low_moved, opcode}

@@ -1,7 +1,6 @@
 -- Tables of places, and what code is made by them.
-use Rattle.std.proofs.Common.{◌≡◌, ℕ, zero, suc, ◌+◌, ◌<◌, ◌≤◌, ◌==◌, Bool, true, false, cond, ◌&&◌, ◌||◌, nat_lt, List, [], ◌∷◌, ◌++◌, length, replicate, Option, Some, None, option_map, is_some, unwrap_or, slice_get, slice_set, Result, Ok, Err, refl, sym, subst, ap, ◌∙◌, arith}
+use Rattle.std.proofs.Common.{◌≡◌, ℕ, zero, suc, ◌+◌, ◌<◌, ◌≤◌, ◌==◌, Bool, true, false, cond, ◌||◌, List, [], ◌∷◌, ◌++◌, length, replicate, Option, Some, None, option_map, is_some, unwrap_or, slice_set, Ok, Err, refl, sym, subst, ap, ◌∙◌, arith}
 use Rattle.std.specs.Prelude.{All}
-use Rattle.std.specs.List.{list_all}
 use Rattle.std.proofs.Math.Path.{fun_ext}
 use Rattle.std.proofs.lemmas.Bool.{eq-eqb, eqb-true, ltb-true, lt-ltb}
 use Rattle.std.proofs.lemmas.List.{append_assoc, length-append, length-replicate}
@@ -13,7 +12,7 @@ use Rattle.asm8080.specs.declared.item.Item.{Item}
 use Rattle.asm8080.specs.declared.item.Item.TheVariants.{Plain, WithWord, Byte, Address, Mark}
 use Rattle.asm8080.specs.Items.{Assembly, BoundOnce, IsAssembly, KnowsLabels, Layout, bytes_of_item, is_bound, marks, offset_of, size_of, size_of_items}
 use Rattle.asm8080.specs.Assembled.{AllBound, Assembled, Assembles, IsFinished, fixes_of_items}
-use Rattle.asm8080.specs.internal.Assembling.{all_placed, bytes_of_items, code_of, fixes_of_item, layout_from, no_code, offset_in, place_in, place_or_start, places_after, places_of, with_item, with_items, with_mark}
+use Rattle.asm8080.specs.internal.Assembling.{all_placed, bytes_of_items, code_of, fixes_of_item, layout_from, no_code, offset_in, place_in, places_after, places_of, with_item, with_items, with_mark}
 use Rattle.asm8080.proofs.Words.{item_length}
 use Rattle.asm8080.proofs.Assemblies.{assembles}
 
@@ -146,26 +145,26 @@ place_after labels offset label (Mark other ∷ others) places size known once =
         (place_at places label)
     by_test true e =
         let within : other < length places
-            = omega (arith, size, All-head (KnowsLabels labels) (Mark other) others known) in
+        = omega (arith, size, All-head (KnowsLabels labels) (Mark other) others known) in
         let here : place_at (slice_set places other (Some offset)) label ≡ Some offset
-            = subst (λ n. place_at (slice_set places other (Some offset)) n ≡ Some offset)
-            (sym (eqb-true label other e)) (set_here places other offset within) in
+        = subst (λ n. place_at (slice_set places other (Some offset)) n ≡ Some offset)
+        (sym (eqb-true label other e)) (set_here places other offset within) in
         let start : offset ≡ offset + 0 = omega arith in
         let some : ℕ → Option ℕ = λ n. Some n in
         let shown : Bool → Option ℕ
-            = λ same. or_place (option_map (λ n. offset + n)
-            (cond same (Some 0) (option_map (λ n. 0 + n) (offset_of label others)))) (place_at places label) in
+        = λ same. or_place (option_map (λ n. offset + n)
+        (cond same (Some 0) (option_map (λ n. 0 + n) (offset_of label others)))) (place_at places label) in
         ap (λ (later : Option ℕ).
         or_place (option_map (λ n. offset + 0 + n) later) (place_at (slice_set places other (Some offset)) label))
         (not_bound label others (once.0 label e))
         ∙ here ∙ ap some start ∙ ap shown (sym e)
     by_test false e =
         let apart : label ≡ other → ⊥
-            = λ same. absurd (let bad : true ≡ false
-            = sym (eq-eqb label other same) ∙ e in cc) in
+        = λ same. absurd (let bad : true ≡ false
+        = sym (eq-eqb label other same) ∙ e in cc) in
         let shown : Bool → Option ℕ
-            = λ same. or_place (option_map (λ n. offset + n)
-            (cond same (Some 0) (option_map (λ n. 0 + n) (offset_of label others)))) (place_at places label) in
+        = λ same. or_place (option_map (λ n. offset + n)
+        (cond same (Some 0) (option_map (λ n. 0 + n) (offset_of label others)))) (place_at places label) in
         ap (λ (before : Option ℕ). or_place (option_map (λ n. offset + 0 + n) (offset_of label others)) before)
         (set_there places other label offset apart)
         ∙ later_place offset 0 (offset_of label others) (place_at places label)
@@ -281,7 +280,7 @@ items_added layout code [] =
 items_added layout code (item ∷ others) =
     let here : List ℕ = bytes_of_item layout item in
     let end : length (code.bytes ++ here) ≡ length code.bytes + size_of item
-        = length-append code.bytes here ∙ ap (λ n. length code.bytes + n) (item_length layout item) in
+    = length-append code.bytes here ∙ ap (λ n. length code.bytes + n) (item_length layout item) in
     items_added layout (with_item layout code item) others
     ∙ same_code
     ((code.bytes ++ here) ++ bytes_of_items layout others) (code.bytes ++ (here ++ bytes_of_items layout others))
@@ -309,7 +308,7 @@ pub code_is :
     ≡ code_of assembly.items
 code_is assembly is =
     let by : ((label : ℕ) → ℕ) → Assembled
-        = λ place_of. with_items (layout_from place_of) no_code assembly.items in
+    = λ place_of. with_items (layout_from place_of) no_code assembly.items in
     ap by (places_same assembly is) ∙ items_added (layout_from (offset_in assembly.items)) no_code assembly.items
 
 -- What assembling answers, by the slices that it looks at.
@@ -341,12 +340,11 @@ pub finished :
     → IsFinished view (Ok code)
 finished view slice places placed size code t test holds sum small made =
     let by : List (Option ℕ) → List Item → Assembled
-        = λ them items. with_items (layout_from (place_in them)) no_code items in
+    = λ them items. with_items (layout_from (place_in them)) no_code items in
     let same : code ≡ code_of view.items
-        = made ∙ ap (by places) t.same ∙ ap (λ them. by them view.items) t.table ∙ code_is view t.is in
+    = made ∙ ap (by places) t.same ∙ ap (λ them. by them view.items) t.table ∙ code_is view t.is in
     let fits : size_of_items view.items ≤ SEGMENT_LIMIT
-        = subst (λ n. n ≤ SEGMENT_LIMIT) (sum ∙ ap size_of_items t.same) small in
-    (
+    = subst (λ n. n ≤ SEGMENT_LIMIT) (sum ∙ ap size_of_items t.same) small in (
       all_bound view t.is (ap (λ them. all_placed them) (sym t.table) ∙ sym test ∙ holds),
       fits,
       subst (Assembles view) (sym same) (assembles view t.is),
@@ -360,7 +358,7 @@ pub unbound :
     → IsFinished view (Err UnboundLabel)
 unbound view slice places placed t test fails bound =
     let bad : true ≡ false
-        = sym (all_placed_if_bound view t.is bound) ∙ ap (λ them. all_placed them) (sym t.table) ∙ sym test ∙ fails in
+    = sym (all_placed_if_bound view t.is bound) ∙ ap (λ them. all_placed them) (sym t.table) ∙ sym test ∙ fails in
     cc
 
 pub too_long :
@@ -373,8 +371,7 @@ pub too_long :
     → IsFinished view (Err TooLong)
 too_long view slice places placed size t test holds sum long =
     let over : SEGMENT_LIMIT < size_of_items view.items
-        = subst (λ n. SEGMENT_LIMIT < n) (sum ∙ ap size_of_items t.same) long in
-    (
+    = subst (λ n. SEGMENT_LIMIT < n) (sum ∙ ap size_of_items t.same) long in (
       all_bound view t.is (ap (λ them. all_placed them) (sym t.table) ∙ sym test ∙ holds),
       omega (arith, over),
     )

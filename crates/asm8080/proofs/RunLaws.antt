@@ -1,5 +1,5 @@
 -- Runs after runs.
-use Rattle.std.proofs.Common.{◌≡◌, ℕ, ◌+◌, ◌≤◌, List, refl, sym, ap, ◌∙◌, arith}
+use Rattle.std.proofs.Common.{ℕ, ◌+◌, ◌≤◌, List, sym, ap, ◌∙◌, arith}
 use Rattle.isa8080.specs.State.{State}
 use Rattle.isa8080.specs.Step.{state_after}
 use Rattle.isa8080.proofs.Endings.{state_after_sum}

@@ -1,5 +1,5 @@
 -- The words of items: their bytes, and what these become where targets have addresses.
-use Rattle.std.proofs.Common.{◌≡◌, ℕ, ◌+◌, ◌*◌, ◌/◌, ◌%◌, List, [], ◌∷◌, length, slice_index, refl, sym, ap, ◌∙◌, arith}
+use Rattle.std.proofs.Common.{◌≡◌, ℕ, ◌+◌, ◌*◌, ◌/◌, ◌%◌, [], ◌∷◌, length, slice_index, refl, ap, ◌∙◌, arith}
 use Rattle.object_modules.specs.declared.segment.Target.{Target}
 use Rattle.object_modules.specs.declared.segment.Target.TheVariants.{InSegment}
 use Rattle.object_modules.specs.declared.segment.Segment.TheVariants.{Code}

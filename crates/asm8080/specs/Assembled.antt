@@ -1,5 +1,5 @@
 -- What assembling gives.
-use Rattle.std.specs.Prelude.{◌≡◌, ℕ, ◌+◌, ◌≤◌, Bool, true, nat_lt, nat_le, IsTrue, List, [], ◌∷◌, length, map, filter_map, Option, Some, None, Result, Ok, Err, unwrap_or}
+use Rattle.std.specs.Prelude.{◌≡◌, ℕ, ◌+◌, ◌≤◌, true, nat_lt, nat_le, IsTrue, List, [], ◌∷◌, length, map, filter_map, Option, Some, None, Result, Ok, Err, unwrap_or}
 use Rattle.std.specs.List.{list_all}
 use Rattle.mem80.specs.declared.memory.TheConstants.{MEMORY_SIZE}
 use Rattle.object_modules.specs.declared.segment.Fix.{Fix}
@@ -16,7 +16,7 @@ use Rattle.object_modules.specs.Stored.{fixes_ascend}
 use Rattle.asm8080.specs.declared.fault.Fault.{Fault}
 use Rattle.asm8080.specs.declared.fault.Fault.TheVariants.{UnboundLabel, TooLong}
 use Rattle.asm8080.specs.declared.item.Item.{Item}
-use Rattle.asm8080.specs.declared.item.Item.TheVariants.{Plain, WithWord, Byte, Address, Mark}
+use Rattle.asm8080.specs.declared.item.Item.TheVariants.{WithWord, Address}
 use Rattle.asm8080.specs.declared.item.Reference.{Reference}
 use Rattle.asm8080.specs.declared.item.Reference.TheVariants.{AtLabel, AtTarget}
 use Rattle.asm8080.specs.Items.{Assembly, Layout, Stands, is_bound, offset_of, size_of, size_of_items}

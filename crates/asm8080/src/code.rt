@@ -83,7 +83,8 @@ impl Code {
         }) }
         ensures err { OnErr result (self.new ≡ self.old) }
     {
-        self.items.push(Item::WithWord(form, Reference::AtTarget(target, offset)))?;
+        self.items
+            .push(Item::WithWord(form, Reference::AtTarget(target, offset)))?;
         Ok(())
     }
 
@@ -104,7 +105,8 @@ impl Code {
         }) }
         ensures err { OnErr result (self.new ≡ self.old) }
     {
-        self.items.push(Item::Address(Reference::AtTarget(target, offset)))?;
+        self.items
+            .push(Item::Address(Reference::AtTarget(target, offset)))?;
         Ok(())
     }
 
@@ -129,9 +131,7 @@ impl Code {
     pub fn is_bound(&self, label: Label) -> bool
         ensures { result ≡ is_bound label self.now.items }
     {
-        self.items
-            .iter()
-            .any(|item| matches!(item, Item::Mark(number) if *number == label.number))
+        self.items.iter().any(|item| matches!(item, Item::Mark(number) if *number == label.number))
     }
 
     /// Gives a label of this code its place here. No label is bound twice.
@@ -154,7 +154,8 @@ impl Code {
         }) }
         ensures err { OnErr result (self.new ≡ self.old) }
     {
-        self.items.push(Item::WithWord(form, Reference::AtLabel(label.number)))?;
+        self.items
+            .push(Item::WithWord(form, Reference::AtLabel(label.number)))?;
         Ok(())
     }
 

@@ -4,7 +4,7 @@ use Rattle.std.specs.List.{list_all}
 use Rattle.object_modules.specs.declared.segment.Fix.{Fix}
 use Rattle.asm8080.specs.declared.item.Item.{Item}
 use Rattle.asm8080.specs.declared.item.Item.TheVariants.{Plain, WithWord, Byte, Address, Mark}
-use Rattle.asm8080.specs.Items.{Assembly, Layout, bytes_of_item, offset_of, size_of}
+use Rattle.asm8080.specs.Items.{Layout, bytes_of_item, offset_of, size_of}
 use Rattle.asm8080.specs.Assembled.{Assembled, fix_at, fixes_of_items}
 
 -- labels at these places, and each target at 0

@@ -1,5 +1,5 @@
 -- A worked program with a loop, a call and a return. The memory has as many bytes as it needs.
-use Rattle.std.specs.Prelude.{◌≡◌, ℕ, List, [], ◌∷◌, ◌++◌, replicate}
+use Rattle.std.specs.Prelude.{◌≡◌, ℕ, List, [], ◌∷◌, replicate}
 use Rattle.object_modules.specs.declared.segment.Target.{Target}
 use Rattle.object_modules.specs.declared.segment.Target.TheVariants.{InSegment}
 use Rattle.object_modules.specs.declared.segment.Segment.TheVariants.{Stack}

@@ -1,4 +1,3 @@
-use Rattle.std.proofs.Common.{arith}
 use Rattle.asm8080.proofs.Places.{finished, table_of, too_long, unbound}
 use Rattle.asm8080.proofs.code.Code.finish.Goals as goal
 
