@@ -1,206 +1,92 @@
--- The rotations: a loop that turns a byte once and counts E down.
-use Rattle.std.proofs.Common.{◌≡◌, ℕ, zero, suc, ◌+◌, ◌-◌, ◌*◌, ◌%◌, ◌<◌, ◌≤◌, ◌==◌, Bool, true, false, not, List, [], ◌∷◌, refl, sym, ap, ◌∙◌, arith}
+-- The rotations: a byte is turned once for each that the lowest three bits of E count.
+use Rattle.std.proofs.Common.{◌≡◌, ℕ, zero, suc, ◌+◌, ◌-◌, ◌*◌, ◌%◌, ◌<◌, ◌≤◌, ◌==◌, Bool, true, List, [], ◌∷◌, refl, sym, ap, ◌∙◌, arith}
+use Rattle.std.specs.Prelude.{bit_and}
 use Rattle.std.proofs.lemmas.Bool.{eq-eqb}
 use Rattle.mem80.specs.declared.memory.TheConstants.{MEMORY_SIZE}
 use Rattle.ports.specs.declared.event.Event.{Event}
 use Rattle.isa8080.specs.declared.instr.Register.TheVariants.{D, E, A}
 use Rattle.isa8080.specs.declared.instr.Operand.TheVariants.{Of}
-use Rattle.isa8080.specs.declared.instr.Condition.TheVariants.{NotZero, Zero}
+use Rattle.isa8080.specs.declared.instr.Condition.TheVariants.{Zero}
 use Rattle.isa8080.specs.declared.instr.Operation.TheVariants.{And}
 use Rattle.isa8080.specs.declared.instr.Instr.{Instr}
-use Rattle.isa8080.specs.declared.instr.Instr.TheVariants.{Dcr, Rlc, Mov, AccumulateImmediate, ReturnIf, Ret}
-use Rattle.isa8080.specs.State.{Registers, wrap}
-use Rattle.asm8080.specs.declared.item.WordForm.TheVariants.{JumpWhere}
-use Rattle.asm8080.specs.declared.item.Reference.TheVariants.{AtLabel}
+use Rattle.isa8080.specs.declared.instr.Instr.TheVariants.{Rlc, Rrc, Mov, AccumulateImmediate, ReturnIf, Ret}
+use Rattle.isa8080.specs.State.{Registers}
 use Rattle.asm8080.specs.declared.item.Item.{Item}
-use Rattle.asm8080.specs.declared.item.Item.TheVariants.{Plain, WithWord, Mark}
+use Rattle.asm8080.specs.declared.item.Item.TheVariants.{Plain, Mark}
 use Rattle.asm8080.specs.Items.{Layout, Stands}
-use Rattle.std.specs.Prelude.{bit_and}
-use Rattle.asm8080.specs.Runs.{Comes}
-use Rattle.machine_runs.proofs.Steps.{at, goes_past, jumps_where, returned, returns, returns_where, stays_here}
+use Rattle.asm8080.specs.Standing.{size_of_instruction}
+use Rattle.machine_runs.proofs.Steps.{returned, returns, returns_where, stays_here}
+use Rattle.machine_runs.proofs.Straight.{effect, past, plain, steps_of, straight, touch_registers}
+use Rattle.machine_runs.proofs.Loops.{loop_after, not_zero, steps_counted, tested_after, turns_counted}
 use Rattle.machine_runs.proofs.Kept.{stands_still}
-use Rattle.machine_runs.proofs.Straight.{effect, past, steps_of, straight}
 use Rattle.meaning.specs.Values.{turned}
+use Rattle.runtime8080.specs.declared.routine.Routine.{Routine}
 use Rattle.runtime8080.specs.declared.routine.Routine.TheVariants as routines
-use Rattle.runtime8080.specs.Routines.{HoldBytes, IsRoutine}
-use Rattle.runtime8080.specs.internal.Listings.{rotate_left}
-use Rattle.runtime8080.proofs.Bits.{low_three, not_equal, turn_left, turned_left, turns_left}
+use Rattle.runtime8080.specs.Routines.{Computes, HoldBytes, IsRoutine, Leaves, LeavesBcAndHl, most_steps}
+use Rattle.runtime8080.specs.internal.Listings.{rotate_left, rotate_right}
+use Rattle.runtime8080.proofs.Bits.{low_three, times, turn_left, turn_right, turned_left, turned_right}
 use Rattle.runtime8080.proofs.Bodies.{Body, held, returns_quietly}
+use Rattle.runtime8080.proofs.ByteLoops.{ChangedA, ChangesA, after_turns, changed_bytes}
 
--- A run from a place to a return, with a value in A, that changes of the other registers E alone.
-pub record Leads
-    (script : List (List ℕ)) (place : ℕ) (r : Registers) (memory : List ℕ) (events : List Event)
-    (value most : ℕ) : Type 0 where
-  pub count : ℕ
-  pub after : Registers
-  pub run : Comes script count (at place r memory events) (returned after memory events)
-  pub few : count ≤ most
-  pub a : after.a ≡ value
-  pub small : after.a < 256
-  pub b : after.b ≡ r.b
-  pub c : after.c ≡ r.c
-  pub d : after.d ≡ r.d
-  pub e : after.e < 256
-  pub h : after.h ≡ r.h
-  pub l : after.l ≡ r.l
-  pub sp : after.sp ≡ r.sp
-
-word_is : (place top : ℕ) → place ≡ top → top < MEMORY_SIZE → wrap place ≡ top
-word_is place top h small = omega arith
-
-one_less_is : (e n : ℕ) → e ≡ suc n → n < 256 → (e + 254 + 1) % 256 ≡ n
-one_less_is e n h small = omega arith
-
-counted_out : (e : ℕ) → e ≡ 1 → not ((e + 254 + 1) % 256 == 0) ≡ false
-counted_out e h = ap not (eq-eqb ((e + 254 + 1) % 256) 0 (one_less_is e 0 h (omega arith)))
-
-counts_on : (e n : ℕ) → e ≡ suc (suc n) → suc n < 256 → not ((e + 254 + 1) % 256 == 0) ≡ true
-counts_on e n h small =
-    let is = one_less_is e (suc n) h small in
-    ap not (not_equal ((e + 254 + 1) % 256) 0 (λ z. absurd_of ((e + 254 + 1) % 256) n is z))
-  where
-    absurd_of : (m n : ℕ) → m ≡ suc n → m ≡ 0 → ⊥
-    absurd_of m n is z = omega arith
-
-abbrev left_tail : (label : ℕ) → List Item
-left_tail label = WithWord (JumpWhere NotZero) (AtLabel label) ∷ Plain Ret ∷ []
-
-abbrev left_loop : (label : ℕ) → List Item
-left_loop label =
-    Plain Rlc ∷ Plain (Dcr (Of E)) ∷ left_tail label
-
-abbrev turned_once : List Instr
-turned_once = Rlc ∷ Dcr (Of E) ∷ []
-
-turn_small : (byte : ℕ) → byte < 256 → turn_left byte < 256
-turn_small byte h = omega arith
-
-one_more : (k n : ℕ) → k ≤ 3 * suc n + 1 → suc (suc (suc k)) ≤ 3 * suc (suc n) + 1
-one_more k n h = omega arith
-
-left_turns :
-    (script : List (List ℕ)) (layout : Layout) (label top to : ℕ) (memory : List ℕ) (events : List Event)
-    → Stands layout memory (left_loop label) top to
-    → to ≤ MEMORY_SIZE
-    → layout.place_of label ≡ top
-    → (n : ℕ) (r : Registers)
-    → n < 8
-    → r.e ≡ suc n
-    → r.a < 256
-    → Leads script top r memory events (turns_left (suc n) r.a) (3 * suc n + 1)
-left_turns script layout label top to memory events stands limit bound zero r few counter small =
-    let end : top + 1 + 1 + 3 + 1 ≡ to = stands.1.1.1.1 in
-    let r2 = effect turned_once r in
-    record {
-      count = steps_of turned_once 2;
-      after = r2;
-      run =
-          straight script layout turned_once (left_tail label) top to r memory events 2 (returned r2 memory events) refl stands (omega arith)
-          (goes_past script 1 NotZero (wrap (layout.place_of label)) (past top turned_once) r2 memory events (returned r2 memory events)
-          stands.1.1.0 (omega arith) (counted_out r.e counter)
-          (returns script (past top turned_once + 3) r2 memory events stands.1.1.1.0 (omega arith)));
-      few = omega arith;
-      a = refl;
-      small = turn_small r.a small;
-      b = refl;
-      c = refl;
-      d = refl;
-      e = omega arith;
-      h = refl;
-      l = refl;
-      sp = refl;
-    }
-left_turns script layout label top to memory events stands limit bound (suc n) r few counter small =
-    let end : top + 1 + 1 + 3 + 1 ≡ to = stands.1.1.1.1 in
-    let r2 = effect turned_once r in
-    let more =
-    left_turns script layout label top to memory events stands limit bound n r2 (omega arith)
-    (one_less_is r.e (suc n) counter (omega arith)) (turn_small r.a small) in
-    record {
-      count = steps_of turned_once (suc more.count);
-      after = more.after;
-      run =
-          straight script layout turned_once (left_tail label) top to r memory events (suc more.count) (returned more.after memory events) refl stands (omega arith)
-          (jumps_where script more.count NotZero (wrap (layout.place_of label)) (past top turned_once) top r2 memory events (returned more.after memory events)
-          stands.1.1.0 (omega arith) (counts_on r.e n counter (omega arith))
-          (word_is (layout.place_of label) top bound (omega arith)) more.run);
-      few = one_more more.count n more.few;
-      a = more.a;
-      small = more.small;
-      b = more.b;
-      c = more.c;
-      d = more.d;
-      e = more.e;
-      h = more.h;
-      l = more.l;
-      sp = more.sp;
-    }
-
+-- the lowest three bits of E are put into E, and A is kept in D meanwhile
 abbrev head : List Instr
 head =
     Mov D (Of A) ∷ Mov A (Of E) ∷ AccumulateImmediate And 7 ∷ Mov E (Of A) ∷ Mov A (Of D) ∷ []
 
-below : (e k : ℕ) → e % 8 ≡ k → k < 8
-below e k h = omega arith
+abbrev rest : (turn : Instr) → (first : ℕ) → List Item
+rest turn first =
+    Plain (ReturnIf Zero) ∷ Mark first ∷ tested_after (turn ∷ []) first (Plain Ret ∷ [])
 
-same_byte : (a : ℕ) → a < 256 → a ≡ a % 256
-same_byte a h = omega arith
+-- what a rotation is proved from: its instruction, and what that does to a byte
+record Rotation (routine : Routine) (turn : Instr) (f : ℕ → ℕ) : Type 0 where
+  touches : touch_registers (turn ∷ []) ≡ true
+  size : size_of_instruction turn ≡ 1
+  changes : ChangesA (turn ∷ []) f
+  most : (r : Registers) → 29 ≤ most_steps routine r
+  computes :
+      (r after : Registers) → r.a < 256 → after.a ≡ times f (r.e % 8) r.a → Computes routine r after
+  leaves : (r after : Registers) → LeavesBcAndHl r after → Leaves routine r after
 
-left_value :
-    (k a e : ℕ) → a < 256 → e % 8 ≡ k → turns_left k a ≡ turned (a % 256) (e % 8)
-left_value k a e small is =
-    turned_left k a (below e k is) small
-    ∙ (ap (λ n. turned n k) (same_byte a small) ∙ ap (turned (a % 256)) (sym is))
+low_is : (e k : ℕ) → e < 256 → e % 8 ≡ k → bit_and e 7 ≡ k
+low_is e k small is = low_three e small ∙ is
 
-z_is : (e k : ℕ) → e < 256 → e % 8 ≡ k → bit_and e 7 ≡ k
-z_is e k small is = low_three e small ∙ is
+low_small : (e k m : ℕ) → e % 8 ≡ k → m ≡ k → m < 256
+low_small e k m is same = omega arith
 
-not_zero : (m n : ℕ) → m ≡ suc n → (m == 0) ≡ false
-not_zero m n is = not_equal m 0 (λ z. zero_not m n is z)
-  where
-    zero_not : (m n : ℕ) → m ≡ suc n → m ≡ 0 → ⊥
-    zero_not m n is z = omega arith
+steps_is : (turn : Instr) (n k : ℕ) → steps_counted (turn ∷ []) n k ≡ k + 3 * n + 3
+steps_is turn zero k = omega arith
+steps_is turn (suc n) k =
+    let more : steps_counted (turn ∷ []) n k ≡ k + 3 * n + 3 = steps_is turn n k in omega arith
 
-small_low : (e k m : ℕ) → e % 8 ≡ k → m ≡ k → m < 256
-small_low e k m is same = omega arith
-
-below_eight : (e n : ℕ) → e % 8 ≡ suc n → n < 8
-below_eight e n is = omega arith
-
-few_turns : (k n : ℕ) → n < 8 → k ≤ 3 * suc n + 1 → n < 7 → suc (suc (suc (suc (suc (suc (suc k)))))) ≤ 29
-few_turns k n small few less = omega arith
+few_turns : (count n most : ℕ) → count ≡ 1 + 3 * n + 3 → n < 7 → 29 ≤ most
+    → suc (suc (suc (suc (suc (suc (suc count)))))) ≤ most
+few_turns count n most is less room = omega arith
 
 below_seven : (e n : ℕ) → e % 8 ≡ suc n → n < 7
 below_seven e n is = omega arith
 
--- what stands after the head
-abbrev pub left_rest : (first : ℕ) → List Item
-left_rest first = Plain (ReturnIf Zero) ∷ Mark first ∷ left_loop first
-
-abbrev pub left_goes :
-    (script : List (List ℕ)) (layout : Layout) (first from to : ℕ) (r : Registers) (memory : List ℕ)
-    (events : List Event) (k : ℕ) → Type 0
-left_goes script layout first from to r memory events k =
-    Stands layout memory (rotate_left first) from to
+rotation_body :
+    (script : List (List ℕ)) (routine : Routine) (turn : Instr) (f : ℕ → ℕ)
+    → Rotation routine turn f
+    → (layout : Layout) (first from to : ℕ) (r : Registers) (memory : List ℕ) (events : List Event)
+    → Stands layout memory (plain head (rest turn first)) from to
     → to ≤ MEMORY_SIZE
     → HoldBytes r
+    → (k : ℕ)
     → r.e % 8 ≡ k
-    → Body script routines.RotateLeft from r memory events
-
-left_by :
-    (script : List (List ℕ)) (layout : Layout) (first from to : ℕ) (r : Registers) (memory : List ℕ)
-    (events : List Event) (k : ℕ) → left_goes script layout first from to r memory events k
-left_by script layout first from to r memory events zero stands limit are is =
+    → Body script routine from r memory events
+rotation_body script routine turn f is layout first from to r memory events stands limit are zero low =
     let r1 = effect head r in
-    let more : Stands layout memory (left_rest first) (past from head) to = stands.1.1.1.1.1 in
-    let end : past from head + 1 + 1 + 1 + 3 + 1 ≡ to = more.1.1.1.1.1.1 in
+    let more : Stands layout memory (rest turn first) (past from head) to = stands.1.1.1.1.1 in
+    let end : past from head + 1 + size_of_instruction turn + 1 + 3 + 1 ≡ to = more.1.1.1.1.1.1 in
+    let room = is.most r in
     record {
       count = steps_of head 1;
       after = r1;
       run =
-          straight script layout head (left_rest first) from to r memory events 1 (returned r1 memory events) refl stands (omega arith)
+          straight script layout head (rest turn first) from to r memory events 1 (returned r1 memory events) refl stands (omega arith)
           (returns_where script Zero (past from head) r1 memory events more.0 (omega arith)
-          (eq-eqb (bit_and r.e 7) 0 (z_is r.e 0 are.e is)));
+          (eq-eqb (bit_and r.e 7) 0 (low_is r.e 0 are.e low)));
       few = omega arith;
       sp = refl;
       bytes = record {
@@ -208,55 +94,110 @@ left_by script layout first from to r memory events zero stands limit are is =
         b = are.b;
         c = are.c;
         d = are.a;
-        e = small_low r.e 0 (bit_and r.e 7) is (z_is r.e 0 are.e is);
+        e = low_small r.e 0 (bit_and r.e 7) low (low_is r.e 0 are.e low);
         h = are.h;
         l = are.l;
       };
-      computes = left_value 0 r.a r.e are.a is;
-      leaves = record { b = refl; c = refl; h = refl; l = refl };
+      computes = is.computes r r1 are.a (ap (λ k. times f k r.a) (sym low));
+      leaves = is.leaves r r1 (record { b = refl; c = refl; h = refl; l = refl });
     }
-left_by script layout first from to r memory events (suc n) stands limit are is =
+rotation_body script routine turn f is layout first from to r memory events stands limit are (suc n) low =
     let r1 = effect head r in
-    let more : Stands layout memory (left_rest first) (past from head) to = stands.1.1.1.1.1 in
-    let end : past from head + 1 + 1 + 1 + 3 + 1 ≡ to = more.1.1.1.1.1.1 in
-    let turned = left_turns script layout first (past from head + 1) to memory events more.1.1 limit more.1.0 n r1
-    (below_eight r.e n is) (z_is r.e (suc n) are.e is) are.a in
+    let more : Stands layout memory (rest turn first) (past from head) to = stands.1.1.1.1.1 in
+    let end : past from head + 1 + size_of_instruction turn + 1 + 3 + 1 ≡ to = more.1.1.1.1.1.1 in
+    let size = is.size in
+    let top = past from head + 1 in
+    let after = turns_counted (turn ∷ []) n r1 in
+    let changed = after_turns (turn ∷ []) f is.changes n r1 are.a in
+    let u = returned after memory events in
     record {
-      count = steps_of head (suc turned.count);
-      after = turned.after;
+      count = steps_of head (suc (steps_counted (turn ∷ []) n 1));
+      after = after;
       run =
-          straight script layout head (left_rest first) from to r memory events (suc turned.count) (returned turned.after memory events) refl stands (omega arith)
-          (stays_here script turned.count Zero (past from head) r1 memory events (returned turned.after memory events) more.0 (omega arith)
-          (not_zero (bit_and r.e 7) n (z_is r.e (suc n) are.e is)) turned.run);
-      few = few_turns turned.count n (below_eight r.e n is) turned.few (below_seven r.e n is);
-      sp = turned.sp;
-      bytes = record {
-        a = turned.small;
-        b = rw turned.b are.b;
-        c = rw turned.c are.c;
-        d = rw turned.d are.a;
-        e = turned.e;
-        h = rw turned.h are.h;
-        l = rw turned.l are.l;
-      };
-      computes = turned.a ∙ left_value (suc n) r.a r.e are.a is;
-      leaves = record { b = turned.b; c = turned.c; h = turned.h; l = turned.l };
+          straight script layout head (rest turn first) from to r memory events (suc (steps_counted (turn ∷ []) n 1)) u refl stands (omega arith)
+          (stays_here script (steps_counted (turn ∷ []) n 1) Zero (past from head) r1 memory events u more.0 (omega arith)
+          (not_zero (bit_and r.e 7) n (low_is r.e (suc n) are.e low))
+          (loop_after script layout (turn ∷ []) first top to (Plain Ret ∷ []) memory events is.touches is.changes.e more.1.1 (omega arith) more.1.0 n r1 1 u
+          (low_is r.e (suc n) are.e low) (omega arith)
+          (returns script (past top (turn ∷ []) + 1 + 3) after memory events more.1.1.1.1.1.0 (omega arith))));
+      few = few_turns (steps_counted (turn ∷ []) n 1) n (most_steps routine r) (steps_is turn n 1) (below_seven r.e n low) (is.most r);
+      sp = changed.sp;
+      bytes = changed_bytes r r1 after (times f (suc n) r.a) are changed refl refl refl refl refl;
+      computes = is.computes r after are.a (changed.a ∙ ap (λ k. times f k r.a) (sym low));
+      leaves = is.leaves r after (record { b = changed.b; c = changed.c; h = changed.h; l = changed.l });
     }
 
-pub left_body :
-    (script : List (List ℕ)) (layout : Layout) (first from to : ℕ) (r : Registers) (memory : List ℕ)
-    (events : List Event)
-    → Stands layout memory (rotate_left first) from to
-    → to ≤ MEMORY_SIZE
-    → HoldBytes r
-    → Body script routines.RotateLeft from r memory events
-left_body script layout first from to r memory events stands limit are =
-    left_by script layout first from to r memory events (r.e % 8) stands limit are refl
+rotates :
+    (routine : Routine) (turn : Instr) (f : ℕ → ℕ)
+    → Rotation routine turn f
+    → (first : ℕ)
+    → ((s : Rattle.isa8080.specs.State.State) → Rattle.runtime8080.specs.Routines.memory_after routine s ≡ s.memory)
+    → IsRoutine routine (plain head (rest turn first))
+rotates routine turn f is first quiet layout from to script level s limit stands may =
+    returns_quietly script routine from to level s may (quiet s)
+    (λ memory alike.
+    rotation_body script routine turn f is layout first from to (record s.registers { sp = level - 2 }) memory s.events
+    (stands_still layout s.memory memory (plain head (rest turn first)) from to limit alike stands) limit
+    (held s.registers (level - 2) may.registers) (s.registers.e % 8) refl)
+
+below_eight : (e : ℕ) → e % 8 < 8
+below_eight e = omega arith
+
+same_byte : (a : ℕ) → a < 256 → a ≡ a % 256
+same_byte a h = omega arith
+
+left_small : (byte : ℕ) → byte < 256 → turn_left byte < 256
+left_small byte h = omega arith
+
+right_small : (byte : ℕ) → byte < 256 → turn_right byte < 256
+right_small byte h = omega arith
+
+to_the_left : Rotation routines.RotateLeft Rlc turn_left
+to_the_left = record {
+  touches = refl;
+  size = refl;
+  changes = record {
+    a = λ r small. refl;
+    small = left_small;
+    b = λ r. refl;
+    c = λ r. refl;
+    d = λ r. refl;
+    e = λ r. refl;
+    h = λ r. refl;
+    l = λ r. refl;
+    sp = λ r. refl;
+  };
+  most = λ r. omega arith;
+  computes = λ r after small is.
+      is ∙ (turned_left (r.e % 8) r.a (below_eight r.e) small
+      ∙ ap (λ n. turned n (r.e % 8)) (same_byte r.a small));
+  leaves = λ r after is. is;
+}
+
+to_the_right : Rotation routines.RotateRight Rrc turn_right
+to_the_right = record {
+  touches = refl;
+  size = refl;
+  changes = record {
+    a = λ r small. refl;
+    small = right_small;
+    b = λ r. refl;
+    c = λ r. refl;
+    d = λ r. refl;
+    e = λ r. refl;
+    h = λ r. refl;
+    l = λ r. refl;
+    sp = λ r. refl;
+  };
+  most = λ r. omega arith;
+  computes = λ r after small is.
+      is ∙ (turned_right (r.e % 8) r.a (below_eight r.e) small
+      ∙ ap (λ n. turned n ((8 - r.e % 8) % 8)) (same_byte r.a small));
+  leaves = λ r after is. is;
+}
 
 pub rotates_left : (first : ℕ) → IsRoutine routines.RotateLeft (rotate_left first)
-rotates_left first layout from to script level s limit stands may =
-    returns_quietly script routines.RotateLeft from to level s may refl
-    (λ memory alike.
-    left_body script layout first from to (record s.registers { sp = level - 2 }) memory s.events
-    (stands_still layout s.memory memory (rotate_left first) from to limit alike stands) limit
-    (held s.registers (level - 2) may.registers))
+rotates_left first = rotates routines.RotateLeft Rlc turn_left to_the_left first (λ s. refl)
+
+pub rotates_right : (first : ℕ) → IsRoutine routines.RotateRight (rotate_right first)
+rotates_right first = rotates routines.RotateRight Rrc turn_right to_the_right first (λ s. refl)

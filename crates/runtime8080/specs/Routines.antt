@@ -1,5 +1,5 @@
 -- What each routine promises to who calls it.
-use Rattle.std.specs.Prelude.{◌≡◌, ◌≢◌, ℕ, zero, suc, ◌+◌, ◌-◌, ◌*◌, ◌%◌, ◌<◌, ◌≤◌, List, [], ◌∷◌, ◌++◌, length, All, Some, slice_set, not, IsTrue}
+use Rattle.std.specs.Prelude.{◌≡◌, ◌≢◌, ℕ, zero, suc, ◌+◌, ◌-◌, ◌*◌, ◌%◌, ◌<◌, ◌≤◌, List, [], ◌∷◌, ◌++◌, length, All, Some, slice_set, false, not, IsTrue}
 use Rattle.trees.specs.declared.declaration.ScalarType.TheVariants.{Byte, Address}
 use Rattle.trees.specs.declared.expression.BinaryOperator.TheVariants.{Multiply, Divide, Modulo}
 use Rattle.typed_trees.specs.declared.parts.ShiftFunction.{ShiftFunction}
@@ -183,6 +183,10 @@ IsRoutine routine items =
     → Stands layout s.memory items from to
     → MayCall routine from (record { start = from; len = to - from }) level s
     → Returns script routine level s
+
+-- no label from the number of labels on is bound
+abbrev pub IsFresh : Assembly → Type 0
+IsFresh assembly = (label : ℕ) → assembly.labels ≤ label → is_bound label assembly.items ≡ false
 
 -- an assembly with a routine added, all of whose own labels are bound
 pub record AddsRoutine (routine : Routine) (before after : Assembly) : Type 0 where

@@ -1,17 +1,84 @@
 //! The routines as code.
 
-ghost use Rattle.std.specs.Prelude.{◌≡◌, ◌≤◌, ◌++◌, List, OnErr, OnOk};
-ghost use Rattle.asm8080.specs.declared.item.Item.{Item};
-ghost use Rattle.asm8080.specs.Items.{Assembly};
-ghost use Rattle.runtime8080.specs.Routines.{AddsRoutine};
+ghost use Rattle.std.specs.Prelude.{◌≡◌, IfOk, OnOk};
+ghost use Rattle.isa8080.specs.declared.instr.Instr.TheVariants.{Rlc, Rrc};
+ghost use Rattle.runtime8080.specs.declared.routine.Routine.TheVariants.{RotateLeft, RotateRight, ShiftLeftByte, ShiftRightByte};
+ghost use Rattle.runtime8080.specs.Routines.{AddsRoutine, IsFresh};
+ghost use Rattle.runtime8080.specs.internal.Emission.{with_routine};
 
+use crate::parts::{emit_parts, Part};
 use crate::routine::Routine;
-use asm8080::Code;
+use asm8080::{Code, WordForm};
+use isa8080::{Condition, Instr, Operand, Operation, Register};
 use std::alloc::AllocError;
 
-/// Adds a routine, with labels of its own. It is to be called at its first byte.
-pub fn emit_routine(code: &mut Code, routine: Routine) -> Result<(), AllocError>
-    ensures ok { OnOk result (AddsRoutine routine code.old code.new) }
+/// Adds a routine to code, with labels of its own. It is to be called at its first byte. Where there is no
+/// memory for it, the code is dropped.
+#[tactic(auto, using(crate::proofs::Added::adds_rotate_left, crate::proofs::Added::adds_rotate_right))]
+pub fn emit_routine(code: Code, routine: Routine) -> Result<Code, AllocError>
+    requires fresh { IsFresh code }
+    ensures ok { IfOk result (λ after. AddsRoutine routine code after) }
 {
-    Err(AllocError)
+    let mut code = code;
+    match routine {
+        Routine::RotateLeft => rotate_left(&mut code)?,
+        Routine::RotateRight => rotate_right(&mut code)?,
+        Routine::Multiply => return Err(AllocError),
+        Routine::Divide => return Err(AllocError),
+        Routine::ShiftLeftByte => return Err(AllocError),
+        Routine::ShiftRightByte => return Err(AllocError),
+        Routine::ShiftLeftAddress => return Err(AllocError),
+        Routine::ShiftRightAddress => return Err(AllocError),
+        Routine::Move => return Err(AllocError),
+    }
+    Ok(code)
+}
+
+// The lowest three bits of E are put into E, and A is kept in D meanwhile.
+#[tactic(auto, using(crate::proofs::Added::fits_rotate_left))]
+fn rotate_left(code: &mut Code) -> Result<(), AllocError>
+    requires fresh { IsFresh code.old }
+    ensures ok { OnOk result (code.new ≡ with_routine RotateLeft code.old) }
+{
+    let turn = code.label()?;
+    emit_parts(
+        code,
+        &[
+            Part::Does(Instr::Mov(Register::D, Operand::Of(Register::A))),
+            Part::Does(Instr::Mov(Register::A, Operand::Of(Register::E))),
+            Part::Does(Instr::AccumulateImmediate(Operation::And, 7)),
+            Part::Does(Instr::Mov(Register::E, Operand::Of(Register::A))),
+            Part::Does(Instr::Mov(Register::A, Operand::Of(Register::D))),
+            Part::Does(Instr::ReturnIf(Condition::Zero)),
+            Part::Here(turn),
+            Part::Does(Instr::Rlc),
+            Part::Does(Instr::Dcr(Operand::Of(Register::E))),
+            Part::Goes(WordForm::JumpWhere(Condition::NotZero), turn),
+            Part::Does(Instr::Ret),
+        ],
+    )
+}
+
+#[tactic(auto, using(crate::proofs::Added::fits_rotate_right))]
+fn rotate_right(code: &mut Code) -> Result<(), AllocError>
+    requires fresh { IsFresh code.old }
+    ensures ok { OnOk result (code.new ≡ with_routine RotateRight code.old) }
+{
+    let turn = code.label()?;
+    emit_parts(
+        code,
+        &[
+            Part::Does(Instr::Mov(Register::D, Operand::Of(Register::A))),
+            Part::Does(Instr::Mov(Register::A, Operand::Of(Register::E))),
+            Part::Does(Instr::AccumulateImmediate(Operation::And, 7)),
+            Part::Does(Instr::Mov(Register::E, Operand::Of(Register::A))),
+            Part::Does(Instr::Mov(Register::A, Operand::Of(Register::D))),
+            Part::Does(Instr::ReturnIf(Condition::Zero)),
+            Part::Here(turn),
+            Part::Does(Instr::Rrc),
+            Part::Does(Instr::Dcr(Operand::Of(Register::E))),
+            Part::Goes(WordForm::JumpWhere(Condition::NotZero), turn),
+            Part::Does(Instr::Ret),
+        ],
+    )
 }

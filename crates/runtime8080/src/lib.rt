@@ -2,6 +2,7 @@
 #![tactic(auto)]
 
 mod emission;
+mod parts;
 mod routine;
 
 pub use emission::emit_routine;

@@ -1,0 +1,2 @@
+-- The shift of an ADDRESS to the left.
+use Rattle.std.proofs.Common.{◌≡◌, ℕ}
