@@ -3,10 +3,12 @@ use Rattle.std.proofs.Common.{◌≡◌, ◌≢◌, ℕ, ◌+◌, ◌<◌, ◌�
 use Rattle.std.proofs.lemmas.Bool.{eqb-true, eq-eqb}
 use Rattle.asm8080.specs.declared.item.Item.{Item}
 use Rattle.asm8080.specs.declared.item.Item.TheVariants.{Plain, WithWord, Byte, Address, Mark}
-use Rattle.asm8080.specs.Items.{KnowsLabels, is_bound, marks}
+use Rattle.asm8080.specs.Items.{BindsNew, KnowsLabels, is_bound, marks}
 use Rattle.asm8080.proofs.ItemLemmas.{bound_more}
 use Rattle.machine_runs.proofs.Loops.{not_equal}
-use Rattle.runtime8080.specs.internal.Emission.{FitItems}
+use Rattle.runtime8080.specs.declared.parts.Part.{Part}
+use Rattle.runtime8080.specs.declared.parts.Part.TheVariants.{Here}
+use Rattle.runtime8080.specs.internal.Emission.{FitItems, item_of}
 
 -- the labels that items bind, in their order
 abbrev pub bound_by : List Item → List ℕ
@@ -142,3 +144,13 @@ true_unless false h = absurd (h refl)
 pub not_true : (b : Bool) → b ≡ false → IsTrue (not b)
 not_true false h = refl
 not_true true h = let bad : true ≡ false = h in cc
+
+-- a part that is the place of a label binds it first
+pub mark_is_new :
+    (part : Part) (label : ℕ) (items : List Item)
+    → BindsNew (item_of part) items
+    → part ≡ Here label
+    → is_bound label items ≡ false
+mark_is_new part label items new is =
+    let h : BindsNew (Mark label) items = subst (λ (p : Part). BindsNew (item_of p) items) is new in
+    h label (eq-eqb label label refl)

@@ -185,8 +185,8 @@ IsRoutine routine items =
     → Returns script routine level s
 
 -- no label from the number of labels on is bound
-abbrev pub IsFresh : Assembly → Type 0
-IsFresh assembly = (label : ℕ) → assembly.labels ≤ label → is_bound label assembly.items ≡ false
+pub record IsFresh (assembly : Assembly) : Type 0 where
+  pub unbound : (label : ℕ) → assembly.labels ≤ label → is_bound label assembly.items ≡ false
 
 -- an assembly with a routine added, all of whose own labels are bound
 pub record AddsRoutine (routine : Routine) (before after : Assembly) : Type 0 where

@@ -14,7 +14,7 @@ use std::alloc::AllocError;
 
 /// Adds a routine to code, with labels of its own. It is to be called at its first byte. Where there is no
 /// memory for it, the code is dropped.
-#[tactic(auto, using(crate::proofs::Added::adds_rotate_left, crate::proofs::Added::adds_rotate_right))]
+#[tactic(auto, using(crate::proofs::Added::adds_rotate_left, crate::proofs::Added::adds_rotate_right, crate::proofs::Added::adds_shift_left_byte, crate::proofs::Added::adds_shift_right_byte))]
 pub fn emit_routine(code: Code, routine: Routine) -> Result<Code, AllocError>
     requires fresh { IsFresh code }
     ensures ok { IfOk result (λ after. AddsRoutine routine code after) }
@@ -25,8 +25,8 @@ pub fn emit_routine(code: Code, routine: Routine) -> Result<Code, AllocError>
         Routine::RotateRight => rotate_right(&mut code)?,
         Routine::Multiply => return Err(AllocError),
         Routine::Divide => return Err(AllocError),
-        Routine::ShiftLeftByte => return Err(AllocError),
-        Routine::ShiftRightByte => return Err(AllocError),
+        Routine::ShiftLeftByte => shift_left_byte(&mut code)?,
+        Routine::ShiftRightByte => shift_right_byte(&mut code)?,
         Routine::ShiftLeftAddress => return Err(AllocError),
         Routine::ShiftRightAddress => return Err(AllocError),
         Routine::Move => return Err(AllocError),
@@ -35,7 +35,7 @@ pub fn emit_routine(code: Code, routine: Routine) -> Result<Code, AllocError>
 }
 
 // The lowest three bits of E are put into E, and A is kept in D meanwhile.
-#[tactic(auto, using(crate::proofs::Added::fits_rotate_left))]
+#[tactic(auto, using(crate::proofs::Added::fits_rotate_left, crate::proofs::Added::done_rotate_left))]
 fn rotate_left(code: &mut Code) -> Result<(), AllocError>
     requires fresh { IsFresh code.old }
     ensures ok { OnOk result (code.new ≡ with_routine RotateLeft code.old) }
@@ -59,7 +59,7 @@ fn rotate_left(code: &mut Code) -> Result<(), AllocError>
     )
 }
 
-#[tactic(auto, using(crate::proofs::Added::fits_rotate_right))]
+#[tactic(auto, using(crate::proofs::Added::fits_rotate_right, crate::proofs::Added::done_rotate_right))]
 fn rotate_right(code: &mut Code) -> Result<(), AllocError>
     requires fresh { IsFresh code.old }
     ensures ok { OnOk result (code.new ≡ with_routine RotateRight code.old) }
@@ -79,6 +79,57 @@ fn rotate_right(code: &mut Code) -> Result<(), AllocError>
             Part::Does(Instr::Dcr(Operand::Of(Register::E))),
             Part::Goes(WordForm::JumpWhere(Condition::NotZero), turn),
             Part::Does(Instr::Ret),
+        ],
+    )
+}
+
+#[tactic(auto, using(crate::proofs::Added::fits_shift_left_byte, crate::proofs::Added::done_shift_left_byte))]
+fn shift_left_byte(code: &mut Code) -> Result<(), AllocError>
+    requires fresh { IsFresh code.old }
+    ensures ok { OnOk result (code.new ≡ with_routine ShiftLeftByte code.old) }
+{
+    let few = code.label()?;
+    emit_parts(
+        code,
+        &[
+            Part::Does(Instr::Mov(Register::D, Operand::Of(Register::A))),
+            Part::Does(Instr::Mov(Register::A, Operand::Of(Register::E))),
+            Part::Does(Instr::AccumulateImmediate(Operation::Compare, 8)),
+            Part::Does(Instr::Mov(Register::A, Operand::Of(Register::D))),
+            Part::Goes(WordForm::JumpWhere(Condition::Carry), few),
+            Part::Does(Instr::Mvi(Operand::Of(Register::A), 0)),
+            Part::Does(Instr::Ret),
+            Part::Here(few),
+            Part::Does(Instr::Dcr(Operand::Of(Register::E))),
+            Part::Does(Instr::ReturnIf(Condition::Minus)),
+            Part::Does(Instr::Accumulate(Operation::Add, Operand::Of(Register::A))),
+            Part::Goes(WordForm::Jump, few),
+        ],
+    )
+}
+
+#[tactic(auto, using(crate::proofs::Added::fits_shift_right_byte, crate::proofs::Added::done_shift_right_byte))]
+fn shift_right_byte(code: &mut Code) -> Result<(), AllocError>
+    requires fresh { IsFresh code.old }
+    ensures ok { OnOk result (code.new ≡ with_routine ShiftRightByte code.old) }
+{
+    let few = code.label()?;
+    emit_parts(
+        code,
+        &[
+            Part::Does(Instr::Mov(Register::D, Operand::Of(Register::A))),
+            Part::Does(Instr::Mov(Register::A, Operand::Of(Register::E))),
+            Part::Does(Instr::AccumulateImmediate(Operation::Compare, 8)),
+            Part::Does(Instr::Mov(Register::A, Operand::Of(Register::D))),
+            Part::Goes(WordForm::JumpWhere(Condition::Carry), few),
+            Part::Does(Instr::Mvi(Operand::Of(Register::A), 0)),
+            Part::Does(Instr::Ret),
+            Part::Here(few),
+            Part::Does(Instr::Dcr(Operand::Of(Register::E))),
+            Part::Does(Instr::ReturnIf(Condition::Minus)),
+            Part::Does(Instr::Accumulate(Operation::Or, Operand::Of(Register::A))),
+            Part::Does(Instr::Rar),
+            Part::Goes(WordForm::Jump, few),
         ],
     )
 }

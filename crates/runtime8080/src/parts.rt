@@ -33,6 +33,7 @@ fn emit_part(code: &mut Code, part: Part) -> Result<(), AllocError>
 }
 
 /// Adds the parts of a routine.
+#[tactic(auto, unfolding(crate::specs::internal::Emission::Fits))]
 pub(crate) fn emit_parts(code: &mut Code, parts: &[Part]) -> Result<(), AllocError>
     requires fits { Fits code.old (map item_of parts.now) }
     ensures ok { OnOk result (code.new

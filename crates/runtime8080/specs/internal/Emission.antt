@@ -20,7 +20,7 @@ FitItems labels items [] = Unit {0}
 FitItems labels items (item ∷ others) =
     KnowsLabels labels item × BindsNew item items × FitItems labels (items ++ item ∷ []) others
 
-abbrev pub Fits : Assembly → List Item → Type 0
+unfoldable pub Fits : Assembly → List Item → Type 0
 Fits assembly more = FitItems assembly.labels assembly.items more
 
 -- an assembly with the items of a routine
