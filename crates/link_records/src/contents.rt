@@ -30,25 +30,10 @@ fn add_contents(
         (data_bytes.new ≡ grown_in resolved.now Data data_bytes.old walk.old.contents) }
 {
     while let Some(content) = walk.next_content() {
-        let (offset, bytes) = (content.offset, content.bytes);
-        fixes.take(walk, offset, bytes.len())?;
+        fixes.take(walk, content.offset, content.bytes.len())?;
         match content.segment {
-            Segment::Code => code.add_content(
-                alloc,
-                Segment::Code,
-                offset,
-                bytes,
-                fixes.as_slice(),
-                resolved,
-            )?,
-            Segment::Data => data_bytes.add_content(
-                alloc,
-                Segment::Data,
-                offset,
-                bytes,
-                fixes.as_slice(),
-                resolved,
-            )?,
+            Segment::Code => code.add_content(alloc, &content, fixes.as_slice(), resolved)?,
+            Segment::Data => data_bytes.add_content(alloc, &content, fixes.as_slice(), resolved)?,
             Segment::Absolute | Segment::Stack => {}
         }
     }

@@ -8,7 +8,8 @@ ghost use Rattle.link_laws.specs.internal.Building.{AreWithin};
 ghost use Rattle.file_merges.specs.internal.Growing.{gain_by, grown_with, kept_by, nothing_grown, runs_with};
 
 use crate::resolved::Resolved;
-use object_modules::{Alignment, Fix, FixKind, Run, Segment, SegmentBytes};
+use object_modules::{Alignment, Fix, FixKind, Run, SegmentBytes};
+use objmod::Content;
 use std::alloc::{AllocError, Global};
 use std::marker::Model;
 
@@ -68,21 +69,19 @@ fn fix_all(bytes: &mut [u8], offset: u16, fixes: &[Fix], resolved: &Resolved)
 // Bytes of a content at their place in a merge, after these fixes, which are within them.
 fn moved_run(
     alloc: Global,
-    segment: Segment,
-    offset: u16,
-    bytes: &[u8],
+    content: &Content<'_>,
     fixes: &[Fix],
     resolved: &Resolved,
 ) -> Result<Run, AllocError>
-    requires room { start_of resolved.now.start segment + offset < 65536 }
-    requires within { AreWithin offset (length bytes.now) fixes.now }
+    requires room { start_of resolved.now.start content.now.segment + content.now.offset < 65536 }
+    requires within { AreWithin content.now.offset (length content.now.bytes.now) fixes.now }
     ensures { IfOk result (λ moved. moved
-        ≡ run_fixed (start_of resolved.now.start segment) (gain_by resolved.now) fixes.now
-        (run_at offset bytes.now)) }
+        ≡ run_fixed (start_of resolved.now.start content.now.segment) (gain_by resolved.now) fixes.now
+        (run_at content.now.offset content.now.bytes.now)) }
 {
-    let mut copy = Vec::from_slice(alloc, bytes)?;
-    fix_all(copy.as_mut_slice(), offset, fixes, resolved);
-    Ok(Run::new(resolved.start(segment) + offset, copy))
+    let mut bytes = Vec::from_slice(alloc, content.bytes)?;
+    fix_all(bytes.as_mut_slice(), content.offset, fixes, resolved);
+    Ok(Run::new(resolved.start(content.segment) + content.offset, bytes))
 }
 
 // Adds two runs, as one where the second begins at the end of the first.
@@ -114,21 +113,21 @@ fn add_run(runs: &mut Vec<Run>, run: Run) -> Result<(), AllocError>
     }
 }
 
-// Adds the fixes that stay, moved to their places.
+// Adds those fixes of a content that stay, moved to their places.
 fn add_fixes(
     fixes: &mut Vec<Fix>,
-    segment: Segment,
-    offset: u16,
-    size: usize,
+    content: &Content<'_>,
     own: &[Fix],
     resolved: &Resolved,
 ) -> Result<(), AllocError>
-    requires room { start_of resolved.now.start segment + offset + size ≤ 65535 }
-    requires within { AreWithin offset size own.now }
+    requires room { start_of resolved.now.start content.now.segment + content.now.offset
+        + length content.now.bytes.now ≤ 65535 }
+    requires within { AreWithin content.now.offset (length content.now.bytes.now) own.now }
     ensures { OnOk result (fixes.new.items ≡ fixes.old.items
-        ++ filter_map (fix_kept (start_of resolved.now.start segment) (kept_by resolved.now)) own.now) }
+        ++ filter_map (fix_kept (start_of resolved.now.start content.now.segment) (kept_by resolved.now))
+        own.now) }
 {
-    let start = resolved.start(segment);
+    let start = resolved.start(content.segment);
     for fix in own {
         if let Some(target) = resolved.kept(fix.target) {
             fixes.push(Fix {
@@ -153,24 +152,23 @@ impl GrowingSegment {
         }
     }
 
-    // Adds bytes from an offset on, after their fixes. No bytes add nothing.
+    // Adds the bytes of a content, after its fixes. No bytes add nothing.
     fn add_bytes(
         &mut self,
         alloc: Global,
-        segment: Segment,
-        offset: u16,
-        bytes: &[u8],
+        content: &Content<'_>,
         fixes: &[Fix],
         resolved: &Resolved,
     ) -> Result<(), AllocError>
-        requires room { start_of resolved.now.start segment + offset < 65536 }
-        requires within { AreWithin offset (length bytes.now) fixes.now }
+        requires room { start_of resolved.now.start content.now.segment + content.now.offset < 65536 }
+        requires within { AreWithin content.now.offset (length content.now.bytes.now) fixes.now }
         ensures { OnOk result (self.new ≡ record self.old {
-          runs = runs_with resolved.now segment self.old.runs offset bytes.now fixes.now;
+          runs = runs_with resolved.now content.now.segment self.old.runs content.now.offset
+              content.now.bytes.now fixes.now;
         }) }
     {
-        if !bytes.is_empty() {
-            let run = moved_run(alloc, segment, offset, bytes, fixes, resolved)?;
+        if !content.bytes.is_empty() {
+            let run = moved_run(alloc, content, fixes, resolved)?;
             add_run(&mut self.runs, run)?;
         }
         Ok(())
@@ -180,18 +178,18 @@ impl GrowingSegment {
     pub(crate) fn add_content(
         &mut self,
         alloc: Global,
-        segment: Segment,
-        offset: u16,
-        bytes: &[u8],
+        content: &Content<'_>,
         fixes: &[Fix],
         resolved: &Resolved,
     ) -> Result<(), AllocError>
-        requires room { start_of resolved.now.start segment + offset + length bytes.now ≤ 65535 }
-        requires within { AreWithin offset (length bytes.now) fixes.now }
-        ensures { OnOk result (self.new ≡ grown_with resolved.now segment self.old offset bytes.now fixes.now) }
+        requires room { start_of resolved.now.start content.now.segment + content.now.offset
+            + length content.now.bytes.now ≤ 65535 }
+        requires within { AreWithin content.now.offset (length content.now.bytes.now) fixes.now }
+        ensures { OnOk result (self.new ≡ grown_with resolved.now content.now.segment self.old
+            content.now.offset content.now.bytes.now fixes.now) }
     {
-        self.add_bytes(alloc, segment, offset, bytes, fixes, resolved)?;
-        add_fixes(&mut self.fixes, segment, offset, bytes.len(), fixes, resolved)?;
+        self.add_bytes(alloc, content, fixes, resolved)?;
+        add_fixes(&mut self.fixes, content, fixes, resolved)?;
         self.moves = self.moves || resolved.any_moves(fixes);
         Ok(())
     }

@@ -1,4 +1,4 @@
-use Rattle.std.proofs.Common.{◌≡◌, ◌++◌, drop, filter_map}
+use Rattle.std.proofs.Common.{◌≡◌, ◌++◌, drop, filter_map, length}
 use Rattle.object_modules.specs.Displacements.{start_of}
 use Rattle.object_modules.specs.internal.Joining.{fix_kept}
 use Rattle.link_laws.specs.internal.Building.{AreWithin}
@@ -7,10 +7,10 @@ use Rattle.link_records.proofs.growing.add_fixes.Given as goal
 
 abbrev pub invariant-loop-fix : goal.invariant-loop-fix
 invariant-loop-fix l = record {
-  within : AreWithin l.offset l.fn.size (drop l.fix-index l.own);
+  within : AreWithin l.content.offset (length l.content.bytes.now) (drop l.fix-index l.own);
   added :
       l.fixes.items
-      ++ filter_map (fix_kept (start_of l.resolved.start l.fn.segment) (kept_by l.resolved)) (drop l.fix-index l.own)
+      ++ filter_map (fix_kept (start_of l.resolved.start l.content.segment) (kept_by l.resolved)) (drop l.fix-index l.own)
       ≡ l.initial.fixes.items
-      ++ filter_map (fix_kept (start_of l.resolved.start l.fn.segment) (kept_by l.resolved)) l.own;
+      ++ filter_map (fix_kept (start_of l.resolved.start l.content.segment) (kept_by l.resolved)) l.own;
 }
