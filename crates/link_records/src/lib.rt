@@ -94,8 +94,12 @@ fn merge(alloc: Global, files: &[&[u8]]) -> Result<ObjectModule, Failure<StreamF
 }
 
 /// Writes the text of the merge of the modules that files spell, in their order. The first file that is no object file,
-/// and why there is no merge, is answered before the first byte is written, and so is out of memory: memory holds the
-/// modules and their merge. After that each failure is one of the writer, which then has a beginning of the text.
+/// and why there is no merge, is answered before the first byte is written, and so is out of memory. After that each
+/// failure is one of the writer, which then has a beginning of the text.
+///
+/// It looks at one content at a time, and leaves the files' bytes where they are. Memory grows with the number of files
+/// and with their names. Beside these it holds the code and the data of the merge, however long the files are: of each at
+/// most 65535 bytes and as many fixes, which is less than 4 MiB.
 pub fn link_records<W: Write>(
     alloc: Global,
     files: &[&[u8]],

@@ -102,7 +102,8 @@ fn merge_placed<'a>(
     ensures refused { IfFault result (λ fault. merge_of files.now ≡ Err (refusal_of fault)) }
 {
     let placed = pieces.placed.as_slice();
-    let publics = Publics::new(names, publics_of(alloc, placed)?);
+    let owned = publics_of(alloc, names.count(), placed)?;
+    let publics = Publics::new(names, owned);
     let (code, data_bytes) = segments_of(alloc, &publics, placed)?;
     if high_byte_moves(&code, &data_bytes) {
         return Err(Failure::Fault(LinkFault::HighByteMoves));

@@ -1,6 +1,6 @@
 //! The public names of files, by which external names are found. Their characters stay in the files.
 
-ghost use Rattle.std.specs.Prelude.{◌≡◌, ◌++◌, ◌∷◌, [], IsTrue, map, not, position, if◌then◌else◌, IfOk, OnOk, Ok, Err};
+ghost use Rattle.std.specs.Prelude.{◌≡◌, ◌++◌, ◌∷◌, [], IsTrue, length, map, not, position, if◌then◌else◌, IfOk, OnOk, Ok, Err};
 ghost use Rattle.std.specs.List.{list_all};
 ghost use Rattle.std.specs.Option.{option_map};
 ghost use Rattle.std.specs.Str.{bytes_eq};
@@ -43,6 +43,13 @@ impl<'a> NameTable<'a> {
         NameTable {
             names: IndexSet::new(alloc),
         }
+    }
+
+    /// How many names there are.
+    pub(crate) fn count(&self) -> usize
+        ensures { result ≡ length self.now }
+    {
+        self.names.len()
     }
 
     /// Whether a name is among them.

@@ -94,14 +94,15 @@ fn add_publics(
     Ok(())
 }
 
-/// The publics of files, moved with their pieces, file by file.
+/// The publics of files, moved with their pieces, file by file. Takes memory for so many at once.
 pub(crate) fn publics_of(
     alloc: Global,
+    count: usize,
     placed: &[PlacedFile<'_>],
 ) -> Result<Vec<OwnedPublic>, AllocError>
     ensures { IfOk result (λ publics. map owned_public_view publics.items ≡ all_publics placed.now) }
 {
-    let mut publics = Vec::new(alloc);
+    let mut publics = Vec::with_capacity(alloc, count)?;
     for one in placed {
         add_publics(&mut publics, one, &mut one.file().walk())?;
     }

@@ -6,15 +6,15 @@ use Rattle.link_records.proofs.merging.merge_placed.Goals as goal
 
 pub new-publics-requires : goal.new-publics-requires
 new-publics-requires c =
-    names_same c.args.files.now c.args.names c.in_ok-publics_of.field-0.items c.requires.known
-    (c.in_ok-publics_of.ensures ∙ ap all_publics (c.as_slice-placed.ensures.value ∙ c.requires.placed))
+    names_same c.args.files.now c.args.names c.in_ok-owned.owned.items c.requires.known
+    (c.in_ok-owned.ensures ∙ ap all_publics (c.as_slice-placed.ensures.value ∙ c.requires.placed))
 
 pub returns-then-high_byte_moves-clause-refused : goal.returns-then-high_byte_moves-clause-refused
 returns-then-high_byte_moves-clause-refused c =
     by_highs c.args.files.now c.args.names c.requires.known c.requires.resolved c.requires.fits c.requires.single
     c.new-publics.result c.as_slice-placed.result.now c.high_byte_moves.result
     (c.as_slice-placed.ensures.value ∙ c.requires.placed)
-    (c.new-publics.ensures ∙ c.in_ok-publics_of.ensures
+    (c.new-publics.ensures ∙ c.in_ok-owned.ensures
     ∙ ap all_publics (c.as_slice-placed.ensures.value ∙ c.requires.placed))
     (c.high_byte_moves.ensures
     ∙ high_grown c.new-publics.result c.as_slice-placed.result.now c.in_ok-code.code c.in_ok-code.data_bytes
@@ -23,7 +23,7 @@ returns-then-high_byte_moves-clause-refused c =
 
 pub from_parts-requires : goal.from_parts-requires
 from_parts-requires c =
-    let named = c.new-publics.ensures ∙ c.in_ok-publics_of.ensures
+    let named = c.new-publics.ensures ∙ c.in_ok-owned.ensures
     ∙ ap all_publics (c.as_slice-placed.ensures.value ∙ c.requires.placed) in
     made_kept c.args.files.now c.parts_of-parts.result
     (none_refused c.args.files.now c.args.names c.requires.known c.requires.resolved c.requires.fits c.requires.single
@@ -40,7 +40,7 @@ from_parts-requires c =
 
 pub returns-clause-merged : goal.returns-clause-merged
 returns-clause-merged c =
-    let named = c.new-publics.ensures ∙ c.in_ok-publics_of.ensures
+    let named = c.new-publics.ensures ∙ c.in_ok-owned.ensures
     ∙ ap all_publics (c.as_slice-placed.ensures.value ∙ c.requires.placed) in
     made_merged c.args.files.now c.parts_of-parts.result c.from_parts.result
     (none_refused c.args.files.now c.args.names c.requires.known c.requires.resolved c.requires.fits c.requires.single
