@@ -1,16 +1,18 @@
 -- Files that are written, and those that stay.
-use Rattle.std.proofs.Common.{◌≡◌, ℕ, ◌+◌, ◌<◌, ◌≤◌, Bool, true, false, List, [], ◌++◌, Option, None, Some, length, take, drop, refl, sym, ap, subst, ◌∙◌, arith}
+use Rattle.std.proofs.Common.{◌≡◌, ℕ, ◌+◌, ◌<◌, ◌≤◌, Bool, true, false, inl, inr, List, [], ◌++◌, Option, None, Some, length, take, drop, refl, sym, ap, subst, ◌∙◌, arith}
 use Rattle.std.specs.Prelude.{unwrap_or, if◌then◌else◌}
 use Rattle.std.specs.Str.{bytes_eq}
 use Rattle.std.specs.Bool.{Decides}
 use Rattle.std.proofs.lemmas.Grind.{common_steps}
 use Rattle.std.proofs.lemmas.Slice.Eq.{bytes_eq-Decides}
+use Rattle.std.proofs.lemmas.List.{take-append-drop}
 use Rattle.std.proofs.Math.Seq.{take-add, take-length}
 use Rattle.files.specs.Files.{BeginsFile, ChangesFiles, Directory, GrowsFile, KeepsFiles, with_file}
 use Rattle.object_modules.specs.Text.{text_of}
 use Rattle.link_records.specs.Streams.{Merges, WritesMerge}
 use Rattle.answers.specs.Reading.{HasFiles}
-use Rattle.object_commands.specs.Linking.{KeepsOthers, LinksFiles, MergesTo}
+use Rattle.writing.specs.Writing.{IsBeginning}
+use Rattle.object_commands.specs.Linking.{BeginsLinking, BeginsWriting, KeepsOthers, LinksFiles, MergesTo, StopsLinking, StopsWriting}
 
 decided : (t : Bool) (P : Type 0) → Decides t P → P → t ≡ true
 decided t P h p = grind (arith, common_steps)
@@ -84,9 +86,29 @@ kept_then_written (Some old) (Some now) (Some new) name bytes before after = λ 
     go true other = refl
     go false other = before other
 
--- what was sent in part leaves the others, also where a later call fails
-pub others_kept_on : (old now new : Option Directory) (name bytes : List ℕ) → ChangesFiles old now (with_file name bytes) → KeepsFiles now new → KeepsOthers old new name
-others_kept_on old now new name bytes before after = others_then_kept old now new name (written_others old now name bytes before) after
+-- what was sent in part is a beginning, also where a later call fails
+written_then_kept : (old now new : Option Directory) (name bytes : List ℕ) → ChangesFiles old now (with_file name bytes) → KeepsFiles now new
+    → ChangesFiles old new (with_file name bytes)
+written_then_kept None now new name bytes before after = tt
+written_then_kept (Some old) None new name bytes before after = absurd before
+written_then_kept (Some old) (Some now) None name bytes before after = absurd after
+written_then_kept (Some old) (Some now) (Some new) name bytes before after = λ other. after other ∙ before other
+
+pub stopped_on : (old now new : Option Directory) (name bytes : List ℕ) (sent : ℕ) → ChangesFiles old now (with_file name (take sent bytes)) → KeepsFiles now new
+    → StopsWriting old new name bytes
+stopped_on old now new name bytes sent before after = inr (record {
+  sent = take sent bytes;
+  beginning = (drop sent bytes, sym (take-append-drop sent bytes));
+  written = written_then_kept old now new name (take sent bytes) before after;
+})
+
+-- a beginning leaves the others
+stopped_others : (old new : Option Directory) (name bytes : List ℕ) → StopsWriting old new name bytes → KeepsOthers old new name
+stopped_others old new name bytes (inl kept) = kept_others old new name kept
+stopped_others old new name bytes (inr begins) = written_others old new name begins.sent begins.written
+
+pub kept_then_stopped : (old now new : Option Directory) (name bytes : List ℕ) → KeepsFiles old now → StopsWriting now new name bytes → KeepsOthers old new name
+kept_then_stopped old now new name bytes before after = kept_then_others old now new name before (stopped_others now new name bytes after)
 
 -- what a writer has that was empty is the text of the merge
 pub merges_to : (slices texts : List (List ℕ)) (bytes : List ℕ) → slices ≡ texts → WritesMerge slices (Some []) (Some bytes) → MergesTo texts bytes
@@ -102,3 +124,25 @@ links old now new names texts out bytes kept read m written = record {
   merges = m.merges;
   written = kept_then_written old now new out (text_of m.object) kept (subst (λ (l : List ℕ). ChangesFiles now new (with_file out l)) m.text written);
 }
+
+kept_twice : (old now new : Option Directory) → KeepsFiles old now → KeepsFiles now new → KeepsFiles old new
+kept_twice None now new before after = tt
+kept_twice (Some old) None new before after = absurd before
+kept_twice (Some old) (Some now) None before after = absurd after
+kept_twice (Some old) (Some now) (Some new) before after = λ other. after other ∙ before other
+
+-- files that were read and merged, and whose merge was written in part or not at all
+pub stopped_linking : (old now new : Option Directory) (names texts : List (List ℕ)) (out bytes : List ℕ) → KeepsFiles old now → HasFiles old names texts → MergesTo texts bytes
+    → StopsWriting now new out bytes → StopsLinking old new names out
+stopped_linking old now new names texts out bytes kept read m (inl same) = inl (kept_twice old now new kept same)
+stopped_linking old now new names texts out bytes kept read m (inr begins) = inr (record {
+  texts = texts;
+  read = read;
+  object = m.object;
+  merges = m.merges;
+  written = record {
+    sent = begins.sent;
+    beginning = subst (λ (l : List ℕ). IsBeginning begins.sent l) m.text begins.beginning;
+    written = kept_then_written old now new out begins.sent kept begins.written;
+  };
+})

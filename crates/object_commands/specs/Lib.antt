@@ -3,5 +3,7 @@ pub use Rattle.files.specs.Files
 pub use Rattle.hex80.specs.Texts
 pub use Rattle.link_records.specs.Streams
 pub use Rattle.locate.specs.Locating
+pub use Rattle.writing.specs.Writing
 pub mod Linking
+pub mod Lines
 pub mod Placing

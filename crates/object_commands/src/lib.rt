@@ -1,6 +1,7 @@
 //! The commands that carry out orders on object files, over files and output streams that are handed in.
 #![tactic(auto)]
 
+mod lines;
 mod linking;
 mod placing;
 mod writing_files;
