@@ -5,4 +5,5 @@ pub mod Fixing
 pub mod Moving
 pub mod Assemblies
 pub mod Places
+pub mod Parts
 pub mod Worked
