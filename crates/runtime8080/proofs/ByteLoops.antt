@@ -34,7 +34,7 @@ pub record ChangedA (r after : Registers) (value : ℕ) : Type 0 where
 a_byte : (n : ℕ) → (n + 254 + 1) % 256 < 256
 a_byte n = omega arith
 
-small_by : (n m : ℕ) → n ≡ m → m < 256 → n < 256
+pub small_by : (n m : ℕ) → n ≡ m → m < 256 → n < 256
 small_by n m h small = omega arith
 
 pub after_turns :
