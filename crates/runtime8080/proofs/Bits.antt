@@ -5,7 +5,7 @@ use Rattle.std.proofs.lemmas.Bool.{agree_below, agree_below_at, eqb-true, eq-eqb
 use Rattle.std.proofs.Math.Nat.{div-eq_of_lt, pow-le-pow_right}
 use Rattle.meaning.specs.Values.{turned}
 
-equal_below :
+pub equal_below :
     (f g : ℕ → ℕ) (limit n : ℕ)
     → agree_below (λ k. f k == g k) (λ k. true) limit ≡ true
     → n < limit

@@ -55,7 +55,7 @@ few_where :
 few_where routines.Multiply r top n h = h
 few_where routine r top n h = h
 
-bytes_where : (r : Registers) (sp pc : ℕ) → HoldBytes r → HoldBytes (record r { sp = sp; pc = pc })
+pub bytes_where : (r : Registers) (sp pc : ℕ) → HoldBytes r → HoldBytes (record r { sp = sp; pc = pc })
 bytes_where r sp pc h =
     record { a = h.a; b = h.b; c = h.c; d = h.d; e = h.e; h = h.h; l = h.l }
 
@@ -63,7 +63,7 @@ bytes_where r sp pc h =
 pub held : (r : Registers) (sp : ℕ) → HoldBytes r → HoldBytes (record r { sp = sp })
 held r sp h = record { a = h.a; b = h.b; c = h.c; d = h.d; e = h.e; h = h.h; l = h.l }
 
-in_spare : (level address : ℕ) → SPARE_BYTES ≤ level → level ≤ MEMORY_SIZE → level - 2 ≤ address → address < level → IsIn address (below level SPARE_BYTES)
+pub in_spare : (level address : ℕ) → SPARE_BYTES ≤ level → level ≤ MEMORY_SIZE → level - 2 ≤ address → address < level → IsIn address (below level SPARE_BYTES)
 in_spare level address room limit low high = (omega arith, omega arith)
 
 -- the code is apart from the return address
@@ -92,7 +92,7 @@ two_of_two level address room e = omega arith
 two_of_two_high : (level address : ℕ) → 10 ≤ level → address ≡ level - 2 → address < level
 two_of_two_high level address room e = omega arith
 
-pushed_elsewhere :
+pub pushed_elsewhere :
     (level word : ℕ) (memory : List ℕ) (address : ℕ)
     → 10 ≤ level
     → (level - 2 ≤ address → address < level → ⊥)
@@ -102,10 +102,10 @@ pushed_elsewhere level word memory address room out =
     (λ e. out (one_of_two level address room e) (one_of_two_high level address room e))
     (λ e. out (two_of_two level address room e) (two_of_two_high level address room e))
 
-two_fit : (level : ℕ) → SPARE_BYTES ≤ level → 2 ≤ level
+pub two_fit : (level : ℕ) → SPARE_BYTES ≤ level → 2 ≤ level
 two_fit level h = omega arith
 
-wrapped_small : (n : ℕ) → wrap n < MEMORY_SIZE
+pub wrapped_small : (n : ℕ) → wrap n < MEMORY_SIZE
 wrapped_small n = omega arith
 
 -- the code stands in memory after the call

@@ -4,5 +4,11 @@ pub mod ByteLoops
 pub mod Rotations
 pub mod ByteShifts
 pub mod LeftShift
+pub mod Copies
+pub mod MoveLoop
+pub mod MoveReturns
+pub mod Turns
+pub mod Products
+pub mod RightShift
 pub mod Labels
 pub mod Added

@@ -2,19 +2,21 @@
 
 ghost use Rattle.std.specs.Prelude.{◌≡◌, IfOk, OnOk};
 ghost use Rattle.isa8080.specs.declared.instr.Instr.TheVariants.{Rlc, Rrc};
-ghost use Rattle.runtime8080.specs.declared.routine.Routine.TheVariants.{RotateLeft, RotateRight, ShiftLeftByte, ShiftRightByte};
+ghost use Rattle.runtime8080.specs.declared.routine.Routine.TheVariants.{RotateLeft, RotateRight, ShiftLeftByte, ShiftRightByte, ShiftLeftAddress, ShiftRightAddress};
 ghost use Rattle.runtime8080.specs.Routines.{AddsRoutine, IsFresh};
 ghost use Rattle.runtime8080.specs.internal.Emission.{with_routine};
 
-use crate::parts::{emit_parts, Part};
+use crate::moves::move_bytes;
+use crate::parts::{emit_parts, two_labels, Part};
+use crate::product::multiply;
 use crate::routine::Routine;
 use asm8080::{Code, WordForm};
-use isa8080::{Condition, Instr, Operand, Operation, Register};
+use isa8080::{Condition, Instr, Operand, Operation, Pair, Register};
 use std::alloc::AllocError;
 
 /// Adds a routine to code, with labels of its own. It is to be called at its first byte. Where there is no
 /// memory for it, the code is dropped.
-#[tactic(auto, using(crate::proofs::Added::adds_rotate_left, crate::proofs::Added::adds_rotate_right, crate::proofs::Added::adds_shift_left_byte, crate::proofs::Added::adds_shift_right_byte))]
+#[tactic(auto, using(crate::proofs::Added::adds_rotate_left, crate::proofs::Added::adds_rotate_right, crate::proofs::Added::adds_shift_left_byte, crate::proofs::Added::adds_shift_right_byte, crate::proofs::Added::adds_shift_left_address, crate::proofs::Added::adds_shift_right_address, crate::proofs::Added::adds_multiply, crate::proofs::Added::adds_move))]
 pub fn emit_routine(code: Code, routine: Routine) -> Result<Code, AllocError>
     requires fresh { IsFresh code }
     ensures ok { IfOk result (λ after. AddsRoutine routine code after) }
@@ -23,13 +25,13 @@ pub fn emit_routine(code: Code, routine: Routine) -> Result<Code, AllocError>
     match routine {
         Routine::RotateLeft => rotate_left(&mut code)?,
         Routine::RotateRight => rotate_right(&mut code)?,
-        Routine::Multiply => return Err(AllocError),
+        Routine::Multiply => multiply(&mut code)?,
         Routine::Divide => return Err(AllocError),
         Routine::ShiftLeftByte => shift_left_byte(&mut code)?,
         Routine::ShiftRightByte => shift_right_byte(&mut code)?,
-        Routine::ShiftLeftAddress => return Err(AllocError),
-        Routine::ShiftRightAddress => return Err(AllocError),
-        Routine::Move => return Err(AllocError),
+        Routine::ShiftLeftAddress => shift_left_address(&mut code)?,
+        Routine::ShiftRightAddress => shift_right_address(&mut code)?,
+        Routine::Move => move_bytes(&mut code)?,
     }
     Ok(code)
 }
@@ -130,6 +132,70 @@ fn shift_right_byte(code: &mut Code) -> Result<(), AllocError>
             Part::Does(Instr::Accumulate(Operation::Or, Operand::Of(Register::A))),
             Part::Does(Instr::Rar),
             Part::Goes(WordForm::Jump, few),
+        ],
+    )
+}
+
+// HL is doubled once for each that E counts, and 0 from 16 on.
+#[tactic(auto, using(crate::proofs::Added::fits_shift_left_address, crate::proofs::Added::done_shift_left_address))]
+fn shift_left_address(code: &mut Code) -> Result<(), AllocError>
+    requires fresh { IsFresh code.old }
+    ensures ok { OnOk result (code.new ≡ with_routine ShiftLeftAddress code.old) }
+{
+    let few = code.label()?;
+    emit_parts(
+        code,
+        &[
+            Part::Does(Instr::Mov(Register::A, Operand::Of(Register::E))),
+            Part::Does(Instr::AccumulateImmediate(Operation::Compare, 16)),
+            Part::Goes(WordForm::JumpWhere(Condition::Carry), few),
+            Part::Does(Instr::Lxi(Pair::Hl, 0)),
+            Part::Does(Instr::Ret),
+            Part::Here(few),
+            Part::Does(Instr::Dcr(Operand::Of(Register::E))),
+            Part::Does(Instr::ReturnIf(Condition::Minus)),
+            Part::Does(Instr::Dad(Pair::Hl)),
+            Part::Goes(WordForm::Jump, few),
+        ],
+    )
+}
+
+// The bits of A, H and L are shifted to the left by 8 less the count; the higher 16 of them are the value. By 8 or
+// more H takes the place of L first.
+#[tactic(auto, using(crate::proofs::Added::fits_shift_right_address, crate::proofs::Added::done_shift_right_address))]
+fn shift_right_address(code: &mut Code) -> Result<(), AllocError>
+    requires fresh { IsFresh code.old }
+    ensures ok { OnOk result (code.new ≡ with_routine ShiftRightAddress code.old) }
+{
+    let (few, shift) = two_labels(code)?;
+    emit_parts(
+        code,
+        &[
+            Part::Does(Instr::Mov(Register::A, Operand::Of(Register::E))),
+            Part::Does(Instr::AccumulateImmediate(Operation::Compare, 8)),
+            Part::Goes(WordForm::JumpWhere(Condition::Carry), few),
+            Part::Does(Instr::Mov(Register::L, Operand::Of(Register::H))),
+            Part::Does(Instr::Mvi(Operand::Of(Register::H), 0)),
+            Part::Does(Instr::AccumulateImmediate(Operation::Subtract, 8)),
+            Part::Does(Instr::ReturnIf(Condition::Zero)),
+            Part::Does(Instr::Mov(Register::E, Operand::Of(Register::A))),
+            Part::Does(Instr::AccumulateImmediate(Operation::Compare, 8)),
+            Part::Goes(WordForm::JumpWhere(Condition::Carry), few),
+            Part::Does(Instr::Mvi(Operand::Of(Register::L), 0)),
+            Part::Does(Instr::Ret),
+            Part::Here(few),
+            Part::Does(Instr::Mvi(Operand::Of(Register::A), 8)),
+            Part::Does(Instr::Accumulate(Operation::Subtract, Operand::Of(Register::E))),
+            Part::Does(Instr::Mov(Register::E, Operand::Of(Register::A))),
+            Part::Does(Instr::Mvi(Operand::Of(Register::A), 0)),
+            Part::Here(shift),
+            Part::Does(Instr::Dad(Pair::Hl)),
+            Part::Does(Instr::Ral),
+            Part::Does(Instr::Dcr(Operand::Of(Register::E))),
+            Part::Goes(WordForm::JumpWhere(Condition::NotZero), shift),
+            Part::Does(Instr::Mov(Register::L, Operand::Of(Register::H))),
+            Part::Does(Instr::Mov(Register::H, Operand::Of(Register::A))),
+            Part::Does(Instr::Ret),
         ],
     )
 }

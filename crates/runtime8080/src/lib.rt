@@ -2,7 +2,9 @@
 #![tactic(auto)]
 
 mod emission;
+mod moves;
 mod parts;
+mod product;
 mod routine;
 
 pub use emission::emit_routine;

@@ -1,6 +1,6 @@
 //! Parts of which routines are made.
 
-ghost use Rattle.std.specs.Prelude.{◌≡◌, ◌∷◌, ◌++◌, [], map, OnOk};
+ghost use Rattle.std.specs.Prelude.{◌≡◌, ◌+◌, ◌∷◌, ◌++◌, [], map, IfOk, OnOk};
 ghost use Rattle.asm8080.specs.Items.{BindsNew, KnowsLabels};
 ghost use Rattle.runtime8080.specs.internal.Emission.{Fits, item_of};
 
@@ -45,4 +45,16 @@ pub(crate) fn emit_parts(code: &mut Code, parts: &[Part]) -> Result<(), AllocErr
         rest = more;
     }
     Ok(())
+}
+
+/// The next two labels.
+#[tactic(auto, using(crate::proofs::Added::two_more))]
+pub(crate) fn two_labels(code: &mut Code) -> Result<(Label, Label), AllocError>
+    ensures first { IfOk result (λ labels. labels.0 ≡ code.old.labels) }
+    ensures second { IfOk result (λ labels. labels.1 ≡ code.old.labels + 1) }
+    ensures more { OnOk result (code.new ≡ record code.old { labels = code.old.labels + 2 }) }
+{
+    let first = code.label()?;
+    let second = code.label()?;
+    Ok((first, second))
 }

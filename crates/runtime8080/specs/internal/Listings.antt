@@ -14,88 +14,94 @@ use Rattle.asm8080.specs.declared.item.Item.TheVariants.{Plain, WithWord, Mark}
 use Rattle.runtime8080.specs.declared.routine.Routine.{Routine}
 use Rattle.runtime8080.specs.declared.routine.Routine.TheVariants as routines
 
-abbrev pub multiply : (first : ℕ) → List Item
-multiply first =
+abbrev pub multiply_with : (first second third fourth fifth : ℕ) → List Item
+multiply_with first second third fourth fifth =
     Plain (Mov B (Of H))
     ∷ Plain (Mov C (Of L))
     ∷ Plain (Lxi Hl 0)
     ∷ Plain (Mov A (Of D))
     ∷ Plain (Accumulate Or (Of A))
-    ∷ WithWord (JumpWhere Zero) (AtLabel (first + 1))
+    ∷ WithWord (JumpWhere Zero) (AtLabel second)
     ∷ Plain (Mvi (Of D) 8)
     ∷ Mark first
     ∷ Plain (Dad Hl)
     ∷ Plain (Accumulate Add (Of A))
-    ∷ WithWord (JumpWhere NoCarry) (AtLabel (first + 2))
+    ∷ WithWord (JumpWhere NoCarry) (AtLabel third)
     ∷ Plain (Dad Bc)
-    ∷ Mark (first + 2)
+    ∷ Mark third
     ∷ Plain (Dcr (Of D))
     ∷ WithWord (JumpWhere NotZero) (AtLabel first)
-    ∷ Mark (first + 1)
+    ∷ Mark second
     ∷ Plain (Mov A (Of E))
     ∷ Plain (Mvi (Of D) 8)
-    ∷ Mark (first + 3)
+    ∷ Mark fourth
     ∷ Plain (Dad Hl)
     ∷ Plain (Accumulate Add (Of A))
-    ∷ WithWord (JumpWhere NoCarry) (AtLabel (first + 4))
+    ∷ WithWord (JumpWhere NoCarry) (AtLabel fifth)
     ∷ Plain (Dad Bc)
-    ∷ Mark (first + 4)
+    ∷ Mark fifth
     ∷ Plain (Dcr (Of D))
-    ∷ WithWord (JumpWhere NotZero) (AtLabel (first + 3))
+    ∷ WithWord (JumpWhere NotZero) (AtLabel fourth)
     ∷ Plain Ret
     ∷ []
 
-abbrev pub divide : (first : ℕ) → List Item
-divide first =
+abbrev pub multiply : (first : ℕ) → List Item
+multiply first = multiply_with first (first + 1) (first + 2) (first + 3) (first + 4)
+
+abbrev pub divide_with : (first second third fourth fifth sixth seventh : ℕ) → List Item
+divide_with first second third fourth fifth sixth seventh =
     Plain (Mov A (Of D))
     ∷ Plain (Accumulate Or (Of A))
-    ∷ WithWord (JumpWhere NotZero) (AtLabel (first + 3))
+    ∷ WithWord (JumpWhere NotZero) (AtLabel fourth)
     ∷ Plain (Mvi (Of D) 16)
     ∷ Mark first
     ∷ Plain (Dad Hl)
     ∷ Plain Ral
-    ∷ WithWord (JumpWhere Carry) (AtLabel (first + 1))
+    ∷ WithWord (JumpWhere Carry) (AtLabel second)
     ∷ Plain (Accumulate Compare (Of E))
-    ∷ WithWord (JumpWhere Carry) (AtLabel (first + 2))
-    ∷ Mark (first + 1)
+    ∷ WithWord (JumpWhere Carry) (AtLabel third)
+    ∷ Mark second
     ∷ Plain (Accumulate Subtract (Of E))
     ∷ Plain (Inr (Of L))
-    ∷ Mark (first + 2)
+    ∷ Mark third
     ∷ Plain (Dcr (Of D))
     ∷ WithWord (JumpWhere NotZero) (AtLabel first)
     ∷ Plain (Mov E (Of A))
     ∷ Plain Ret
-    ∷ Mark (first + 3)
+    ∷ Mark fourth
     ∷ Plain (Mov B (Of L))
     ∷ Plain (Mov L (Of H))
     ∷ Plain (Mvi (Of H) 0)
     ∷ Plain (Mvi (Of C) 8)
-    ∷ Mark (first + 4)
+    ∷ Mark fifth
     ∷ Plain (Dad Hl)
     ∷ Plain (Mov A (Of B))
     ∷ Plain (Accumulate Add (Of A))
     ∷ Plain (Mov B (Of A))
-    ∷ WithWord (JumpWhere NoCarry) (AtLabel (first + 5))
+    ∷ WithWord (JumpWhere NoCarry) (AtLabel sixth)
     ∷ Plain (Inr (Of L))
-    ∷ Mark (first + 5)
+    ∷ Mark sixth
     ∷ Plain (Mov A (Of L))
     ∷ Plain (Accumulate Subtract (Of E))
     ∷ Plain (Mov A (Of H))
     ∷ Plain (Accumulate SubtractWithBorrow (Of D))
-    ∷ WithWord (JumpWhere Carry) (AtLabel (first + 6))
+    ∷ WithWord (JumpWhere Carry) (AtLabel seventh)
     ∷ Plain (Mov H (Of A))
     ∷ Plain (Mov A (Of L))
     ∷ Plain (Accumulate Subtract (Of E))
     ∷ Plain (Mov L (Of A))
     ∷ Plain (Inr (Of B))
-    ∷ Mark (first + 6)
+    ∷ Mark seventh
     ∷ Plain (Dcr (Of C))
-    ∷ WithWord (JumpWhere NotZero) (AtLabel (first + 4))
+    ∷ WithWord (JumpWhere NotZero) (AtLabel fifth)
     ∷ Plain Xchg
     ∷ Plain (Mov L (Of B))
     ∷ Plain (Mvi (Of H) 0)
     ∷ Plain Ret
     ∷ []
+
+abbrev pub divide : (first : ℕ) → List Item
+divide first = divide_with first (first + 1) (first + 2) (first + 3) (first + 4) (first + 5) (first + 6)
 
 abbrev pub shift_left_byte : (first : ℕ) → List Item
 shift_left_byte first =
@@ -144,8 +150,8 @@ shift_left_address first =
     ∷ WithWord Jump (AtLabel first)
     ∷ []
 
-abbrev pub shift_right_address : (first : ℕ) → List Item
-shift_right_address first =
+abbrev pub shift_right_address_with : (first second : ℕ) → List Item
+shift_right_address_with first second =
     Plain (Mov A (Of E))
     ∷ Plain (AccumulateImmediate Compare 8)
     ∷ WithWord (JumpWhere Carry) (AtLabel first)
@@ -153,23 +159,28 @@ shift_right_address first =
     ∷ Plain (Mvi (Of H) 0)
     ∷ Plain (AccumulateImmediate Subtract 8)
     ∷ Plain (ReturnIf Zero)
+    ∷ Plain (Mov E (Of A))
     ∷ Plain (AccumulateImmediate Compare 8)
     ∷ WithWord (JumpWhere Carry) (AtLabel first)
-    ∷ Plain (Mov L (Of H))
+    ∷ Plain (Mvi (Of L) 0)
     ∷ Plain Ret
     ∷ Mark first
-    ∷ Plain (AccumulateImmediate Subtract 8)
+    ∷ Plain (Mvi (Of A) 8)
+    ∷ Plain (Accumulate Subtract (Of E))
     ∷ Plain (Mov E (Of A))
     ∷ Plain (Mvi (Of A) 0)
-    ∷ Mark (first + 1)
+    ∷ Mark second
     ∷ Plain (Dad Hl)
     ∷ Plain Ral
-    ∷ Plain (Inr (Of E))
-    ∷ WithWord (JumpWhere NotZero) (AtLabel (first + 1))
+    ∷ Plain (Dcr (Of E))
+    ∷ WithWord (JumpWhere NotZero) (AtLabel second)
     ∷ Plain (Mov L (Of H))
     ∷ Plain (Mov H (Of A))
     ∷ Plain Ret
     ∷ []
+
+abbrev pub shift_right_address : (first : ℕ) → List Item
+shift_right_address first = shift_right_address_with first (first + 1)
 
 abbrev pub rotate_left : (first : ℕ) → List Item
 rotate_left first =
@@ -201,11 +212,11 @@ rotate_right first =
     ∷ Plain Ret
     ∷ []
 
-abbrev pub move_bytes : (first : ℕ) → List Item
-move_bytes first =
+abbrev pub move_bytes_with : (first second : ℕ) → List Item
+move_bytes_with first second =
     Plain (Inr (Of C))
     ∷ Plain (Dcr (Of C))
-    ∷ WithWord (JumpWhere Zero) (AtLabel (first + 1))
+    ∷ WithWord (JumpWhere Zero) (AtLabel second)
     ∷ Plain (Inr (Of B))
     ∷ Mark first
     ∷ Plain (Ldax IndexDe)
@@ -217,12 +228,15 @@ move_bytes first =
     ∷ Plain (Dcr (Of B))
     ∷ WithWord (JumpWhere NotZero) (AtLabel first)
     ∷ Plain Ret
-    ∷ Mark (first + 1)
+    ∷ Mark second
     ∷ Plain (Inr (Of B))
     ∷ Plain (Dcr (Of B))
     ∷ WithWord (JumpWhere NotZero) (AtLabel first)
     ∷ Plain Ret
     ∷ []
+
+abbrev pub move_bytes : (first : ℕ) → List Item
+move_bytes first = move_bytes_with first (first + 1)
 
 -- the routines, whose labels are numbered from one on
 abbrev pub listing : Routine → (first : ℕ) → List Item
