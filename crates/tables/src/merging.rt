@@ -15,6 +15,7 @@ const CALLER: [&str; 6] = [
     "04 05 00 01 01 00 00 f5",
     "0e 01 00 f1",
 ];
+
 const CALLED: [&str; 5] = [
     "02 09 00 01 42 00 00 01 05 00 03 a9",
     "16 07 00 01 00 00 01 53 00 8e",
@@ -32,6 +33,7 @@ const HALVES: [&str; 7] = [
     "04 05 00 01 01 00 00 f5",
     "0e 01 00 f1",
 ];
+
 const PAGE: [&str; 5] = [
     "02 09 00 01 44 00 00 01 01 00 01 ad",
     "16 07 00 01 00 00 01 53 00 8e",
@@ -84,7 +86,11 @@ fn print_merge<W: Write>(
         write!(out, " {byte:02X}")?;
     }
     let modules = merged_modules(alloc, first.as_slice(), second.as_slice())?;
-    let same = if merged == modules { "the same" } else { "other bytes" };
+    let same = if merged == modules {
+        "the same"
+    } else {
+        "other bytes"
+    };
     writeln!(out, ", {same} of the modules")?;
     Ok(())
 }
