@@ -9,7 +9,7 @@ use Rattle.object_modules.specs.Module.{ObjectModule}
 use Rattle.object_modules.specs.Spelling.{Spells}
 use Rattle.writing.specs.Writing.{AppendsBeginning}
 use Rattle.object_commands.specs.Lines.{places_text}
-use Rattle.object_commands.specs.Placing.{BeginsHex, BeginsPlaces, PlacesFile, PrintsHex, PrintsPlaces, StopsHex, StopsPlaces}
+use Rattle.object_commands.specs.Placing.{PlacesFile, PrintsHex, PrintsPlaces, StopsHex, StopsPlaces}
 
 pub placed : (files : Option Directory) (name bytes : List ℕ) (plan : Plan) (object : ObjectModule) (absolute : Absolute) → HasFile files name bytes → Spells bytes object
     → IsPlaced (plan_view plan) object absolute → PlacesFile files name plan object absolute

@@ -12,7 +12,7 @@ use Rattle.object_modules.specs.Text.{text_of}
 use Rattle.link_records.specs.Streams.{Merges, WritesMerge}
 use Rattle.answers.specs.Reading.{HasFiles}
 use Rattle.writing.specs.Writing.{IsBeginning}
-use Rattle.object_commands.specs.Linking.{BeginsLinking, BeginsWriting, KeepsOthers, LinksFiles, MergesTo, StopsLinking, StopsWriting}
+use Rattle.object_commands.specs.Linking.{KeepsOthers, LinksFiles, MergesTo, StopsLinking, StopsWriting}
 
 decided : (t : Bool) (P : Type 0) → Decides t P → P → t ≡ true
 decided t P h p = grind (arith, common_steps)
