@@ -1,8 +1,10 @@
-//! What is timed: `bench machine PROGRAM STEPS` runs the 8080, and `bench text KIND LENGTH PHASE` reads a source. With no words
-//! it runs a program for 1000 steps.
+//! What is timed: `bench machine PROGRAM STEPS` runs the 8080, `bench text KIND LENGTH PHASE` reads a source, and `bench objects KIND
+//! LENGTH PHASE` works on object files. With no words it runs a program for 1000 steps.
 #![tactic(auto)]
 
 mod machine;
+mod made_objects;
+mod objects;
 mod sources;
 mod text;
 
@@ -19,6 +21,7 @@ fn main(rt: HostRuntime) -> Result<()> {
         [_] => machine::measure(&rt, "tight", "1000"),
         [_, "machine", program, steps] => machine::measure(&rt, program, steps),
         [_, "text", kind, length, phase] => text::measure(&rt, kind, length, phase),
-        _ => bail!("bench machine PROGRAM STEPS or bench text KIND LENGTH PHASE"),
+        [_, "objects", kind, length, phase] => objects::measure(&rt, kind, length, phase),
+        _ => bail!("bench machine PROGRAM STEPS, or bench text or bench objects KIND LENGTH PHASE"),
     }
 }

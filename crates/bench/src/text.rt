@@ -26,8 +26,8 @@ fn plain_reading(source: &[u8]) -> (usize, u32) {
     (lines, sum)
 }
 
-// The line of the system's status of this program with its greatest memory so far.
-fn greatest_memory(rt: &HostRuntime) -> Result<String> {
+/// The line of the system's status of this program with its greatest memory so far.
+pub fn greatest_memory(rt: &HostRuntime) -> Result<String> {
     let status = fs::read_to_string(rt, "/proc/self/status")?;
     for line in status.lines() {
         if line.starts_with("VmHWM:") {
@@ -37,8 +37,8 @@ fn greatest_memory(rt: &HostRuntime) -> Result<String> {
     bail!("the system does not tell")
 }
 
-// Prints how many microseconds a phase took.
-fn report(rt: &HostRuntime, phase: &str, begun: Instant) -> Result<()> {
+/// Prints how many microseconds a phase took.
+pub fn report(rt: &HostRuntime, phase: &str, begun: Instant) -> Result<()> {
     println!(rt; "{phase} {}", begun.elapsed(rt)?.as_micros())?;
     Ok(())
 }

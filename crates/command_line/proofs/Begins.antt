@@ -4,31 +4,32 @@ use Rattle.std.specs.Prelude.{fold}
 use Rattle.std.specs.List.{AllByRecursion}
 use Rattle.clap.proofs.OnLiterals.{clap_on_literals}
 use Rattle.clap.specs.Words.{Kinds, Row, Text}
-use Rattle.clap.specs.Walk.{Held, Walk, idle, option, has_row, nothing_held, reading_by, rows_after, settled, walk, walk_from, walked, with_default}
+use Rattle.clap.specs.Walk.{Held, Walk, idle, option, has_row, nothing_held, reading_by, settled, walk, walk_from, walked}
 use Rattle.clap.specs.Simple.{filled}
-use Rattle.clap.specs.Faults.{check_fault, defaults_fault, level_fault, settle_fault, turn_fault, walk_fault}
+use Rattle.clap.specs.Faults.{settle_fault, turn_fault, walk_fault}
 use Rattle.clap.specs.Kinds.{or_else}
 use Rattle.clap.specs.declared.parser.matches.ValueSource.TheVariants.{CommandLine}
-use Rattle.command_line.specs.declared.reading.Action.{Action}
-use Rattle.command_line.specs.Command.{IsBare, ValueOption, Code, DataBase, Stack, StackSize, Limit, Input, Wanted, map_rule, option_name, option_words, usual, wanted_of, with_text}
-use Rattle.command_line.proofs.Files.{all_done, bare_fault, bare_word, done_of, files_fault, files_walk, last_of, leaf, level_of, rows_more, rows_of_level, rules, source_filled, source_row, source_rows, state}
+use Rattle.command_line.specs.Command.{Code, DataBase, Input, IsBare, Limit, OfPlan, PlanOption, Stack, StackSize, ValueOption, map_rule, option_name, option_words, plan_option_name}
+use Rattle.command_line.proofs.Files.{all_done, bare_fault, bare_word, done_of, files_fault, files_filled, files_row, files_rows, files_walk, last_of, rows_more, state}
+use Rattle.command_line.proofs.Verbs.{Form, Objects, Placed, Sources, leaf, rules}
 
-then_walk : (w v : Walk) (word : Text) (rest : List Text) → walked rules [] w word ≡ v → fold (walked rules []) w (word ∷ rest) ≡ fold (walked rules []) v rest
-then_walk w v word rest e = ap (λ (x : Walk). fold (walked rules []) x rest) e
+then_walk : (form : Form) (w v : Walk) (word : Text) (rest : List Text) → walked (rules form) [] w word ≡ v
+    → fold (walked (rules form) []) w (word ∷ rest) ≡ fold (walked (rules form) []) v rest
+then_walk form w v word rest e = ap (λ (x : Walk). fold (walked (rules form) []) x rest) e
 
-then_fault : (name : Text) (w v : Walk) (word : Text) (rest : List Text) → turn_fault (leaf name) [] w word ≡ [] → walked rules [] w word ≡ v
-    → walk_fault (leaf name) [] w (word ∷ rest) ≡ walk_fault (leaf name) [] v rest
+then_fault : (form : Form) (name : Text) (w v : Walk) (word : Text) (rest : List Text) → turn_fault (leaf form name) [] w word ≡ [] → walked (rules form) [] w word ≡ v
+    → walk_fault (leaf form name) [] w (word ∷ rest) ≡ walk_fault (leaf form name) [] v rest
 unfolding walk_fault
-then_fault name w v word rest fine e =
-    ap (λ (k : Kinds). or_else k (walk_fault (leaf name) [] (walked rules [] w word) rest)) fine ∙ ap (λ (x : Walk). walk_fault (leaf name) [] x rest) e
+then_fault form name w v word rest fine e =
+    ap (λ (k : Kinds). or_else k (walk_fault (leaf form name) [] (walked (rules form) [] w word) rest)) fine ∙ ap (λ (x : Walk). walk_fault (leaf form name) [] x rest) e
 
 -- the words before the files: whatever file comes next, the walk stands after it, and nothing has a fault
-pub record Begins (name : Text) (first : List Text) (before : List Row) : Type 0 where
-  pub no_source : has_row (codes "SOURCE") before ≡ false
+pub record Begins (form : Form) (name : Text) (first : List Text) (before : List Row) : Type 0 where
+  pub no_file : has_row (codes "FILES") before ≡ false
   pub goes_to : (file : Text) → IsBare file → (rest : List Text)
-      → fold (walked rules []) (walk_from nothing_held) (first ++ file ∷ rest) ≡ fold (walked rules []) (state before [] file) rest
+      → fold (walked (rules form) []) (walk_from nothing_held) (first ++ file ∷ rest) ≡ fold (walked (rules form) []) (state before [] file) rest
   pub goes_well : (file : Text) → IsBare file → (rest : List Text)
-      → walk_fault (leaf name) [] (walk_from nothing_held) (first ++ file ∷ rest) ≡ walk_fault (leaf name) [] (state before [] file) rest
+      → walk_fault (leaf form name) [] (walk_from nothing_held) (first ++ file ∷ rest) ≡ walk_fault (leaf form name) [] (state before [] file) rest
 
 -- a walk with nothing pending, and what it has found
 abbrev found_walk : List Row → Walk
@@ -40,193 +41,242 @@ found_walk rows = record {
   stopped = None;
 }
 
-found_step : (rows : List Row) (file : Text) → IsBare file → walked rules [] (found_walk rows) file ≡ state rows [] file
+nothing_after : (rows : List Row) → rows ++ files_rows [] ≡ rows
+nothing_after [] = refl
+nothing_after (r ∷ rs) = ap (λ (x : List Row). r ∷ x) (nothing_after rs)
+
+found_step : (form : Form) (rows : List Row) (file : Text) → IsBare file → walked (rules form) [] (found_walk rows) file ≡ state rows [] file
 unfolding walked
-found_step rows file bare = rw (bare_word rules idle 1 file (found_walk rows).held bare) (rw (nothing_after rows) refl)
-  where
-    nothing_after : (rows : List Row) → rows ++ source_rows [] ≡ rows
-    nothing_after [] = refl
-    nothing_after (r ∷ rs) = ap (λ (x : List Row). r ∷ x) (nothing_after rs)
+found_step Sources rows file bare = rw (bare_word (rules Sources) idle 1 file (found_walk rows).held bare) (rw (nothing_after rows) refl)
+found_step Objects rows file bare = rw (bare_word (rules Objects) idle 1 file (found_walk rows).held bare) (rw (nothing_after rows) refl)
+found_step Placed rows file bare = rw (bare_word (rules Placed) idle 1 file (found_walk rows).held bare) (rw (nothing_after rows) refl)
 
-found_turn : (name : Text) (rows : List Row) (file : Text) → IsBare file → turn_fault (leaf name) [] (found_walk rows) file ≡ []
-found_turn name rows file bare =
-    rw (bare_word rules idle 1 file (found_walk rows).held bare, bare_fault (leaf name) idle file (found_walk rows).held bare) refl
+found_turn : (form : Form) (name : Text) (rows : List Row) (file : Text) → IsBare file → turn_fault (leaf form name) [] (found_walk rows) file ≡ []
+found_turn Sources name rows file bare =
+    rw (bare_word (rules Sources) idle 1 file (found_walk rows).held bare, bare_fault (leaf Sources name) idle file (found_walk rows).held bare) refl
+found_turn Objects name rows file bare =
+    rw (bare_word (rules Objects) idle 1 file (found_walk rows).held bare, bare_fault (leaf Objects name) idle file (found_walk rows).held bare) refl
+found_turn Placed name rows file bare =
+    rw (bare_word (rules Placed) idle 1 file (found_walk rows).held bare, bare_fault (leaf Placed name) idle file (found_walk rows).held bare) refl
 
-pub plain_begins : (name : Text) → Begins name [] []
-plain_begins name = record {
-  no_source = refl;
-  goes_to = λ file bare rest. then_walk (found_walk []) (state [] [] file) file rest (found_step [] file bare);
-  goes_well = λ file bare rest. then_fault name (found_walk []) (state [] [] file) file rest (found_turn name [] file bare) (found_step [] file bare);
+pub plain_begins : (form : Form) (name : Text) → Begins form name [] []
+plain_begins form name = record {
+  no_file = refl;
+  goes_to = λ file bare rest. then_walk form (found_walk []) (state [] [] file) file rest (found_step form [] file bare);
+  goes_well = λ file bare rest. then_fault form name (found_walk []) (state [] [] file) file rest (found_turn form name [] file bare) (found_step form [] file bare);
 }
 
 abbrev pub map_row : Row
 map_row = record { id = codes "map"; values = codes "true" ∷ []; count = None; source = Some CommandLine; reading = reading_by (filled map_rule) }
 
-map_step : walked rules [] (found_walk []) (codes "--map") ≡ found_walk (map_row ∷ [])
+map_step : walked (rules Sources) [] (found_walk []) (codes "--map") ≡ found_walk (map_row ∷ [])
 unfolding clap_on_literals
 map_step = refl
 
-map_turn : (name : Text) → turn_fault (leaf name) [] (found_walk []) (codes "--map") ≡ []
+map_turn : (name : Text) → turn_fault (leaf Sources name) [] (found_walk []) (codes "--map") ≡ []
 unfolding clap_on_literals
 map_turn name = refl
 
-pub map_begins : (name : Text) → Begins name (codes "--map" ∷ []) (map_row ∷ [])
+pub map_begins : (name : Text) → Begins Sources name (codes "--map" ∷ []) (map_row ∷ [])
 map_begins name = record {
-  no_source = refl;
-  goes_to = λ file bare rest. then_walk (found_walk []) (found_walk (map_row ∷ [])) (codes "--map") (file ∷ rest) map_step
-      ∙ then_walk (found_walk (map_row ∷ [])) (state (map_row ∷ []) [] file) file rest (found_step (map_row ∷ []) file bare);
-  goes_well = λ file bare rest. then_fault name (found_walk []) (found_walk (map_row ∷ [])) (codes "--map") (file ∷ rest) (map_turn name) map_step
-      ∙ then_fault name (found_walk (map_row ∷ [])) (state (map_row ∷ []) [] file) file rest (found_turn name (map_row ∷ []) file bare) (found_step (map_row ∷ []) file bare);
+  no_file = refl;
+  goes_to = λ file bare rest. then_walk Sources (found_walk []) (found_walk (map_row ∷ [])) (codes "--map") (file ∷ rest) map_step
+      ∙ then_walk Sources (found_walk (map_row ∷ [])) (state (map_row ∷ []) [] file) file rest (found_step Sources (map_row ∷ []) file bare);
+  goes_well = λ file bare rest. then_fault Sources name (found_walk []) (found_walk (map_row ∷ [])) (codes "--map") (file ∷ rest) (map_turn name) map_step
+      ∙ then_fault Sources name (found_walk (map_row ∷ [])) (state (map_row ∷ []) [] file) file rest (found_turn Sources name (map_row ∷ []) file bare)
+      (found_step Sources (map_row ∷ []) file bare);
 }
 
-abbrev pub option_row : ValueOption → Text → Row
-option_row o text = record { id = option_name o; values = text ∷ []; count = None; source = Some CommandLine; reading = reading_by source_filled }
+-- an option of a command
+pub data Choice : Type 0 where
+  of_program : ValueOption → Choice
+  of_place : PlanOption → Choice
+  out : Choice
 
-abbrev waiting_walk : ValueOption → Walk
+abbrev pub form_at : Choice → Form
+form_at (of_program o) = Sources
+form_at (of_place o) = Placed
+form_at out = Objects
+
+abbrev pub name_at : Choice → Text
+name_at (of_program o) = option_name o
+name_at (of_place o) = plan_option_name o
+name_at out = codes "out"
+
+abbrev pub option_row : Choice → Text → Row
+option_row o text = record { id = name_at o; values = text ∷ []; count = None; source = Some CommandLine; reading = reading_by files_filled }
+
+abbrev waiting_walk : Choice → Walk
 waiting_walk o = record {
-  held = record { rows = []; pending = Some (option_name o, []); skip = 0 };
-  waiting = option (option_name o);
+  held = record { rows = []; pending = Some (name_at o, []); skip = 0 };
+  waiting = option (name_at o);
   position = 1;
   is_trailing = false;
   stopped = None;
 }
 
-abbrev pending_walk : ValueOption → Text → Walk
+abbrev pending_walk : Choice → Text → Walk
 pending_walk o text = record {
-  held = record { rows = []; pending = Some (option_name o, text ∷ []); skip = 0 };
+  held = record { rows = []; pending = Some (name_at o, text ∷ []); skip = 0 };
   waiting = idle;
   position = 1;
   is_trailing = false;
   stopped = None;
 }
 
-option_step : (o : ValueOption) → walked rules [] (found_walk []) (45 ∷ 45 ∷ option_name o) ≡ waiting_walk o
+option_step : (o : Choice) → walked (rules (form_at o)) [] (found_walk []) (45 ∷ 45 ∷ name_at o) ≡ waiting_walk o
 unfolding clap_on_literals
-option_step Code = refl
-option_step DataBase = refl
-option_step Stack = refl
-option_step StackSize = refl
-option_step Limit = refl
-option_step Input = refl
+option_step (of_program (OfPlan Code)) = refl
+option_step (of_program (OfPlan DataBase)) = refl
+option_step (of_program (OfPlan Stack)) = refl
+option_step (of_program (OfPlan StackSize)) = refl
+option_step (of_program Limit) = refl
+option_step (of_program Input) = refl
+option_step (of_place Code) = refl
+option_step (of_place DataBase) = refl
+option_step (of_place Stack) = refl
+option_step (of_place StackSize) = refl
+option_step out = refl
 
-option_turn : (name : Text) (o : ValueOption) → turn_fault (leaf name) [] (found_walk []) (45 ∷ 45 ∷ option_name o) ≡ []
+option_turn : (name : Text) (o : Choice) → turn_fault (leaf (form_at o) name) [] (found_walk []) (45 ∷ 45 ∷ name_at o) ≡ []
 unfolding clap_on_literals
-option_turn name Code = refl
-option_turn name DataBase = refl
-option_turn name Stack = refl
-option_turn name StackSize = refl
-option_turn name Limit = refl
-option_turn name Input = refl
+option_turn name (of_program (OfPlan Code)) = refl
+option_turn name (of_program (OfPlan DataBase)) = refl
+option_turn name (of_program (OfPlan Stack)) = refl
+option_turn name (of_program (OfPlan StackSize)) = refl
+option_turn name (of_program Limit) = refl
+option_turn name (of_program Input) = refl
+option_turn name (of_place Code) = refl
+option_turn name (of_place DataBase) = refl
+option_turn name (of_place Stack) = refl
+option_turn name (of_place StackSize) = refl
+option_turn name out = refl
 
-text_step : (o : ValueOption) (text : Text) → IsBare text → walked rules [] (waiting_walk o) text ≡ pending_walk o text
+text_step : (o : Choice) (text : Text) → IsBare text → walked (rules (form_at o)) [] (waiting_walk o) text ≡ pending_walk o text
 unfolding walked
-text_step Code text bare = rw (bare_word rules (waiting_walk Code).waiting 1 text (waiting_walk Code).held bare) refl
-text_step DataBase text bare = rw (bare_word rules (waiting_walk DataBase).waiting 1 text (waiting_walk DataBase).held bare) refl
-text_step Stack text bare = rw (bare_word rules (waiting_walk Stack).waiting 1 text (waiting_walk Stack).held bare) refl
-text_step StackSize text bare = rw (bare_word rules (waiting_walk StackSize).waiting 1 text (waiting_walk StackSize).held bare) refl
-text_step Limit text bare = rw (bare_word rules (waiting_walk Limit).waiting 1 text (waiting_walk Limit).held bare) refl
-text_step Input text bare = rw (bare_word rules (waiting_walk Input).waiting 1 text (waiting_walk Input).held bare) refl
+text_step (of_program (OfPlan Code)) text bare = rw (bare_word (rules Sources) (waiting_walk (of_program (OfPlan Code))).waiting 1 text (waiting_walk (of_program (OfPlan Code))).held bare) refl
+text_step (of_program (OfPlan DataBase)) text bare = rw (bare_word (rules Sources) (waiting_walk (of_program (OfPlan DataBase))).waiting 1 text (waiting_walk (of_program (OfPlan DataBase))).held bare) refl
+text_step (of_program (OfPlan Stack)) text bare = rw (bare_word (rules Sources) (waiting_walk (of_program (OfPlan Stack))).waiting 1 text (waiting_walk (of_program (OfPlan Stack))).held bare) refl
+text_step (of_program (OfPlan StackSize)) text bare = rw (bare_word (rules Sources) (waiting_walk (of_program (OfPlan StackSize))).waiting 1 text (waiting_walk (of_program (OfPlan StackSize))).held bare) refl
+text_step (of_program Limit) text bare = rw (bare_word (rules Sources) (waiting_walk (of_program Limit)).waiting 1 text (waiting_walk (of_program Limit)).held bare) refl
+text_step (of_program Input) text bare = rw (bare_word (rules Sources) (waiting_walk (of_program Input)).waiting 1 text (waiting_walk (of_program Input)).held bare) refl
+text_step (of_place Code) text bare = rw (bare_word (rules Placed) (waiting_walk (of_place Code)).waiting 1 text (waiting_walk (of_place Code)).held bare) refl
+text_step (of_place DataBase) text bare = rw (bare_word (rules Placed) (waiting_walk (of_place DataBase)).waiting 1 text (waiting_walk (of_place DataBase)).held bare) refl
+text_step (of_place Stack) text bare = rw (bare_word (rules Placed) (waiting_walk (of_place Stack)).waiting 1 text (waiting_walk (of_place Stack)).held bare) refl
+text_step (of_place StackSize) text bare = rw (bare_word (rules Placed) (waiting_walk (of_place StackSize)).waiting 1 text (waiting_walk (of_place StackSize)).held bare) refl
+text_step out text bare = rw (bare_word (rules Objects) (waiting_walk out).waiting 1 text (waiting_walk out).held bare) refl
 
-text_turn : (name : Text) (o : ValueOption) (text : Text) → IsBare text → turn_fault (leaf name) [] (waiting_walk o) text ≡ []
-text_turn name o text bare =
-    rw (bare_word rules (waiting_walk o).waiting 1 text (waiting_walk o).held bare, bare_fault (leaf name) (waiting_walk o).waiting text (waiting_walk o).held bare) refl
+text_turn : (name : Text) (o : Choice) (text : Text) → IsBare text → turn_fault (leaf (form_at o) name) [] (waiting_walk o) text ≡ []
+text_turn name (of_program (OfPlan Code)) text bare =
+    rw (bare_word (rules Sources) (waiting_walk (of_program (OfPlan Code))).waiting 1 text (waiting_walk (of_program (OfPlan Code))).held bare, bare_fault (leaf Sources name) (waiting_walk (of_program (OfPlan Code))).waiting text (waiting_walk (of_program (OfPlan Code))).held bare) refl
+text_turn name (of_program (OfPlan DataBase)) text bare =
+    rw (bare_word (rules Sources) (waiting_walk (of_program (OfPlan DataBase))).waiting 1 text (waiting_walk (of_program (OfPlan DataBase))).held bare, bare_fault (leaf Sources name) (waiting_walk (of_program (OfPlan DataBase))).waiting text (waiting_walk (of_program (OfPlan DataBase))).held bare) refl
+text_turn name (of_program (OfPlan Stack)) text bare =
+    rw (bare_word (rules Sources) (waiting_walk (of_program (OfPlan Stack))).waiting 1 text (waiting_walk (of_program (OfPlan Stack))).held bare, bare_fault (leaf Sources name) (waiting_walk (of_program (OfPlan Stack))).waiting text (waiting_walk (of_program (OfPlan Stack))).held bare) refl
+text_turn name (of_program (OfPlan StackSize)) text bare =
+    rw (bare_word (rules Sources) (waiting_walk (of_program (OfPlan StackSize))).waiting 1 text (waiting_walk (of_program (OfPlan StackSize))).held bare, bare_fault (leaf Sources name) (waiting_walk (of_program (OfPlan StackSize))).waiting text (waiting_walk (of_program (OfPlan StackSize))).held bare) refl
+text_turn name (of_program Limit) text bare =
+    rw (bare_word (rules Sources) (waiting_walk (of_program Limit)).waiting 1 text (waiting_walk (of_program Limit)).held bare, bare_fault (leaf Sources name) (waiting_walk (of_program Limit)).waiting text (waiting_walk (of_program Limit)).held bare) refl
+text_turn name (of_program Input) text bare =
+    rw (bare_word (rules Sources) (waiting_walk (of_program Input)).waiting 1 text (waiting_walk (of_program Input)).held bare, bare_fault (leaf Sources name) (waiting_walk (of_program Input)).waiting text (waiting_walk (of_program Input)).held bare) refl
+text_turn name (of_place Code) text bare =
+    rw (bare_word (rules Placed) (waiting_walk (of_place Code)).waiting 1 text (waiting_walk (of_place Code)).held bare, bare_fault (leaf Placed name) (waiting_walk (of_place Code)).waiting text (waiting_walk (of_place Code)).held bare) refl
+text_turn name (of_place DataBase) text bare =
+    rw (bare_word (rules Placed) (waiting_walk (of_place DataBase)).waiting 1 text (waiting_walk (of_place DataBase)).held bare, bare_fault (leaf Placed name) (waiting_walk (of_place DataBase)).waiting text (waiting_walk (of_place DataBase)).held bare) refl
+text_turn name (of_place Stack) text bare =
+    rw (bare_word (rules Placed) (waiting_walk (of_place Stack)).waiting 1 text (waiting_walk (of_place Stack)).held bare, bare_fault (leaf Placed name) (waiting_walk (of_place Stack)).waiting text (waiting_walk (of_place Stack)).held bare) refl
+text_turn name (of_place StackSize) text bare =
+    rw (bare_word (rules Placed) (waiting_walk (of_place StackSize)).waiting 1 text (waiting_walk (of_place StackSize)).held bare, bare_fault (leaf Placed name) (waiting_walk (of_place StackSize)).waiting text (waiting_walk (of_place StackSize)).held bare) refl
+text_turn name out text bare =
+    rw (bare_word (rules Objects) (waiting_walk out).waiting 1 text (waiting_walk out).held bare, bare_fault (leaf Objects name) (waiting_walk out).waiting text (waiting_walk out).held bare) refl
 
-value_step : (o : ValueOption) (text file : Text) → IsBare file → walked rules [] (pending_walk o text) file ≡ state (option_row o text ∷ []) [] file
+value_step : (o : Choice) (text file : Text) → IsBare file → walked (rules (form_at o)) [] (pending_walk o text) file ≡ state (option_row o text ∷ []) [] file
 unfolding walked
-value_step Code text file bare = rw (bare_word rules idle 1 file (pending_walk Code text).held bare) refl
-value_step DataBase text file bare = rw (bare_word rules idle 1 file (pending_walk DataBase text).held bare) refl
-value_step Stack text file bare = rw (bare_word rules idle 1 file (pending_walk Stack text).held bare) refl
-value_step StackSize text file bare = rw (bare_word rules idle 1 file (pending_walk StackSize text).held bare) refl
-value_step Limit text file bare = rw (bare_word rules idle 1 file (pending_walk Limit text).held bare) refl
-value_step Input text file bare = rw (bare_word rules idle 1 file (pending_walk Input text).held bare) refl
+value_step (of_program (OfPlan Code)) text file bare = rw (bare_word (rules Sources) idle 1 file (pending_walk (of_program (OfPlan Code)) text).held bare) refl
+value_step (of_program (OfPlan DataBase)) text file bare = rw (bare_word (rules Sources) idle 1 file (pending_walk (of_program (OfPlan DataBase)) text).held bare) refl
+value_step (of_program (OfPlan Stack)) text file bare = rw (bare_word (rules Sources) idle 1 file (pending_walk (of_program (OfPlan Stack)) text).held bare) refl
+value_step (of_program (OfPlan StackSize)) text file bare = rw (bare_word (rules Sources) idle 1 file (pending_walk (of_program (OfPlan StackSize)) text).held bare) refl
+value_step (of_program Limit) text file bare = rw (bare_word (rules Sources) idle 1 file (pending_walk (of_program Limit) text).held bare) refl
+value_step (of_program Input) text file bare = rw (bare_word (rules Sources) idle 1 file (pending_walk (of_program Input) text).held bare) refl
+value_step (of_place Code) text file bare = rw (bare_word (rules Placed) idle 1 file (pending_walk (of_place Code) text).held bare) refl
+value_step (of_place DataBase) text file bare = rw (bare_word (rules Placed) idle 1 file (pending_walk (of_place DataBase) text).held bare) refl
+value_step (of_place Stack) text file bare = rw (bare_word (rules Placed) idle 1 file (pending_walk (of_place Stack) text).held bare) refl
+value_step (of_place StackSize) text file bare = rw (bare_word (rules Placed) idle 1 file (pending_walk (of_place StackSize) text).held bare) refl
+value_step out text file bare = rw (bare_word (rules Objects) idle 1 file (pending_walk out text).held bare) refl
 
-value_turn : (name : Text) (o : ValueOption) (text file : Text) → IsBare file → turn_fault (leaf name) [] (pending_walk o text) file ≡ []
-value_turn name Code text file bare =
-    rw (bare_word rules idle 1 file (pending_walk Code text).held bare, bare_fault (leaf name) idle file (pending_walk Code text).held bare) refl
-value_turn name DataBase text file bare =
-    rw (bare_word rules idle 1 file (pending_walk DataBase text).held bare, bare_fault (leaf name) idle file (pending_walk DataBase text).held bare) refl
-value_turn name Stack text file bare =
-    rw (bare_word rules idle 1 file (pending_walk Stack text).held bare, bare_fault (leaf name) idle file (pending_walk Stack text).held bare) refl
-value_turn name StackSize text file bare =
-    rw (bare_word rules idle 1 file (pending_walk StackSize text).held bare, bare_fault (leaf name) idle file (pending_walk StackSize text).held bare) refl
-value_turn name Limit text file bare =
-    rw (bare_word rules idle 1 file (pending_walk Limit text).held bare, bare_fault (leaf name) idle file (pending_walk Limit text).held bare) refl
-value_turn name Input text file bare =
-    rw (bare_word rules idle 1 file (pending_walk Input text).held bare, bare_fault (leaf name) idle file (pending_walk Input text).held bare) refl
+value_turn : (name : Text) (o : Choice) (text file : Text) → IsBare file → turn_fault (leaf (form_at o) name) [] (pending_walk o text) file ≡ []
+value_turn name (of_program (OfPlan Code)) text file bare =
+    rw (bare_word (rules Sources) idle 1 file (pending_walk (of_program (OfPlan Code)) text).held bare, bare_fault (leaf Sources name) idle file (pending_walk (of_program (OfPlan Code)) text).held bare) refl
+value_turn name (of_program (OfPlan DataBase)) text file bare =
+    rw (bare_word (rules Sources) idle 1 file (pending_walk (of_program (OfPlan DataBase)) text).held bare, bare_fault (leaf Sources name) idle file (pending_walk (of_program (OfPlan DataBase)) text).held bare) refl
+value_turn name (of_program (OfPlan Stack)) text file bare =
+    rw (bare_word (rules Sources) idle 1 file (pending_walk (of_program (OfPlan Stack)) text).held bare, bare_fault (leaf Sources name) idle file (pending_walk (of_program (OfPlan Stack)) text).held bare) refl
+value_turn name (of_program (OfPlan StackSize)) text file bare =
+    rw (bare_word (rules Sources) idle 1 file (pending_walk (of_program (OfPlan StackSize)) text).held bare, bare_fault (leaf Sources name) idle file (pending_walk (of_program (OfPlan StackSize)) text).held bare) refl
+value_turn name (of_program Limit) text file bare =
+    rw (bare_word (rules Sources) idle 1 file (pending_walk (of_program Limit) text).held bare, bare_fault (leaf Sources name) idle file (pending_walk (of_program Limit) text).held bare) refl
+value_turn name (of_program Input) text file bare =
+    rw (bare_word (rules Sources) idle 1 file (pending_walk (of_program Input) text).held bare, bare_fault (leaf Sources name) idle file (pending_walk (of_program Input) text).held bare) refl
+value_turn name (of_place Code) text file bare =
+    rw (bare_word (rules Placed) idle 1 file (pending_walk (of_place Code) text).held bare, bare_fault (leaf Placed name) idle file (pending_walk (of_place Code) text).held bare) refl
+value_turn name (of_place DataBase) text file bare =
+    rw (bare_word (rules Placed) idle 1 file (pending_walk (of_place DataBase) text).held bare, bare_fault (leaf Placed name) idle file (pending_walk (of_place DataBase) text).held bare) refl
+value_turn name (of_place Stack) text file bare =
+    rw (bare_word (rules Placed) idle 1 file (pending_walk (of_place Stack) text).held bare, bare_fault (leaf Placed name) idle file (pending_walk (of_place Stack) text).held bare) refl
+value_turn name (of_place StackSize) text file bare =
+    rw (bare_word (rules Placed) idle 1 file (pending_walk (of_place StackSize) text).held bare, bare_fault (leaf Placed name) idle file (pending_walk (of_place StackSize) text).held bare) refl
+value_turn name out text file bare =
+    rw (bare_word (rules Objects) idle 1 file (pending_walk out text).held bare, bare_fault (leaf Objects name) idle file (pending_walk out text).held bare) refl
 
-no_source_in : (o : ValueOption) (text : Text) → has_row (codes "SOURCE") (option_row o text ∷ []) ≡ false
-no_source_in Code text = refl
-no_source_in DataBase text = refl
-no_source_in Stack text = refl
-no_source_in StackSize text = refl
-no_source_in Limit text = refl
-no_source_in Input text = refl
+no_file_in : (o : Choice) (text : Text) → has_row (codes "FILES") (option_row o text ∷ []) ≡ false
+no_file_in (of_program (OfPlan Code)) text = refl
+no_file_in (of_program (OfPlan DataBase)) text = refl
+no_file_in (of_program (OfPlan Stack)) text = refl
+no_file_in (of_program (OfPlan StackSize)) text = refl
+no_file_in (of_program Limit) text = refl
+no_file_in (of_program Input) text = refl
+no_file_in (of_place Code) text = refl
+no_file_in (of_place DataBase) text = refl
+no_file_in (of_place Stack) text = refl
+no_file_in (of_place StackSize) text = refl
+no_file_in out text = refl
 
-pub option_begins : (name : Text) (o : ValueOption) (text : Text) → IsBare text → Begins name (option_words o text) (option_row o text ∷ [])
+pub option_begins : (name : Text) (o : Choice) (text : Text) → IsBare text → Begins (form_at o) name (option_words (name_at o) text) (option_row o text ∷ [])
 option_begins name o text fits = record {
-  no_source = no_source_in o text;
-  goes_to = λ file bare rest. then_walk (found_walk []) (waiting_walk o) (45 ∷ 45 ∷ option_name o) (text ∷ file ∷ rest) (option_step o)
-      ∙ then_walk (waiting_walk o) (pending_walk o text) text (file ∷ rest) (text_step o text fits)
-      ∙ then_walk (pending_walk o text) (state (option_row o text ∷ []) [] file) file rest (value_step o text file bare);
-  goes_well = λ file bare rest. then_fault name (found_walk []) (waiting_walk o) (45 ∷ 45 ∷ option_name o) (text ∷ file ∷ rest) (option_turn name o) (option_step o)
-      ∙ then_fault name (waiting_walk o) (pending_walk o text) text (file ∷ rest) (text_turn name o text fits) (text_step o text fits)
-      ∙ then_fault name (pending_walk o text) (state (option_row o text ∷ []) [] file) file rest (value_turn name o text file bare) (value_step o text file bare);
+  no_file = no_file_in o text;
+  goes_to = λ file bare rest. then_walk (form_at o) (found_walk []) (waiting_walk o) (45 ∷ 45 ∷ name_at o) (text ∷ file ∷ rest) (option_step o)
+      ∙ then_walk (form_at o) (waiting_walk o) (pending_walk o text) text (file ∷ rest) (text_step o text fits)
+      ∙ then_walk (form_at o) (pending_walk o text) (state (option_row o text ∷ []) [] file) file rest (value_step o text file bare);
+  goes_well = λ file bare rest. then_fault (form_at o) name (found_walk []) (waiting_walk o) (45 ∷ 45 ∷ name_at o) (text ∷ file ∷ rest) (option_turn name o) (option_step o)
+      ∙ then_fault (form_at o) name (waiting_walk o) (pending_walk o text) text (file ∷ rest) (text_turn name o text fits) (text_step o text fits)
+      ∙ then_fault (form_at o) name (pending_walk o text) (state (option_row o text ∷ []) [] file) file rest (value_turn name o text file bare) (value_step o text file bare);
 }
 
 -- where the walk over such words ends
-pub record Ends (name : Text) (words : List Text) (rows : List Row) : Type 0 where
+pub record Ends (form : Form) (name : Text) (words : List Text) (rows : List Row) : Type 0 where
   pub held : Held
-  pub fine : walk_fault (leaf name) [] (walk_from nothing_held) words ≡ []
-  pub is : (walk rules [] nothing_held words).held ≡ held
-  pub settle : settle_fault rules false held ≡ []
-  pub settles : (settled rules held).rows ≡ rows
+  pub fine : walk_fault (leaf form name) [] (walk_from nothing_held) words ≡ []
+  pub is : (walk (rules form) [] nothing_held words).held ≡ held
+  pub settle : settle_fault (rules form) false held ≡ []
+  pub settles : (settled (rules form) held).rows ≡ rows
 
-pub ends_by : (name : Text) (first : List Text) (before : List Row) → Begins name first before → (file : Text) (files : List Text) → IsBare file → AllByRecursion IsBare files
-    → Ends name (first ++ file ∷ files) (before ++ source_row (file ∷ files) ∷ [])
-ends_by name first before b file files bare others = record {
+settle_by : (form : Form) (before : List Row) (done : List Text) (last : Text) → settle_fault (rules form) false (state before done last).held ≡ []
+settle_by Sources before done last = refl
+settle_by Objects before done last = refl
+settle_by Placed before done last = refl
+
+settles_by : (form : Form) (before : List Row) (done : List Text) (last : Text) → has_row (codes "FILES") before ≡ false
+    → (settled (rules form) (state before done last).held).rows ≡ before ++ files_rows (done ++ last ∷ [])
+settles_by Sources before done last none = rows_more before done last none
+settles_by Objects before done last none = rows_more before done last none
+settles_by Placed before done last none = rows_more before done last none
+
+pub ends_by : (form : Form) (name : Text) (first : List Text) (before : List Row) → Begins form name first before → (file : Text) (files : List Text) → IsBare file
+    → AllByRecursion IsBare files → Ends form name (first ++ file ∷ files) (before ++ files_row (file ∷ files) ∷ [])
+ends_by form name first before b file files bare others = record {
   held = (state before (done_of [] file files) (last_of file files)).held;
-  fine = b.goes_well file bare files ∙ files_fault name before b.no_source [] file files others;
-  is = ap (λ (w : Walk). w.held) (b.goes_to file bare files ∙ files_walk before b.no_source [] file files others);
-  settle = refl;
-  settles = rows_more before (done_of [] file files) (last_of file files) b.no_source ∙ ap (λ (fs : List Text). before ++ source_rows fs) (all_done [] file files);
+  fine = b.goes_well file bare files ∙ files_fault form name before b.no_file [] file files others;
+  is = ap (λ (w : Walk). w.held) (b.goes_to file bare files ∙ files_walk form before b.no_file [] file files others);
+  settle = settle_by form before (done_of [] file files) (last_of file files);
+  settles = settles_by form before (done_of [] file files) (last_of file files) b.no_file ∙ ap (λ (fs : List Text). before ++ files_rows fs) (all_done [] file files);
 }
-
--- such words have no fault, and give what is wanted
-pub record Line (name : Text) (action : Action) (words : List Text) (wanted : Wanted) : Type 0 where
-  pub level : level_fault (leaf name) [] nothing_held words false [] ≡ []
-  pub gives : wanted_of action (rows_after rules [] words) ≡ wanted
-
-line_of : (name : Text) (action : Action) (words : List Text) (rows : List Row) (wanted : Wanted) (e : Ends name words rows) → defaults_fault rows rules ≡ []
-    → check_fault (leaf name) (fold with_default rows rules) false ≡ [] → wanted_of action (fold with_default rows rules) ≡ wanted → Line name action words wanted
-line_of name action words rows wanted e defaults check gives = record {
-  level = level_of (leaf name) words e.held rows e.fine e.is e.settle e.settles defaults check;
-  gives = ap (wanted_of action) (rows_of_level rules words e.held rows e.is e.settles) ∙ gives;
-}
-
-pub plain_line : (name : Text) (action : Action) (file : Text) (files : List Text) → Ends name (file ∷ files) (source_row (file ∷ files) ∷ [])
-    → Line name action (file ∷ files) (usual action (file ∷ files))
-unfolding defaults_fault
-plain_line name action file files e = line_of name action (file ∷ files) (source_row (file ∷ files) ∷ []) (usual action (file ∷ files)) e refl refl refl
-
-pub map_line : (name : Text) (action : Action) (file : Text) (files : List Text) → Ends name (codes "--map" ∷ file ∷ files) (map_row ∷ source_row (file ∷ files) ∷ [])
-    → Line name action (codes "--map" ∷ file ∷ files) (record (usual action (file ∷ files)) { map = true })
-unfolding defaults_fault
-map_line name action file files e =
-    line_of name action (codes "--map" ∷ file ∷ files) (map_row ∷ source_row (file ∷ files) ∷ []) (record (usual action (file ∷ files)) { map = true }) e refl refl refl
-
-pub option_line : (name : Text) (action : Action) (o : ValueOption) (text file : Text) (files : List Text)
-    → Ends name (option_words o text ++ file ∷ files) (option_row o text ∷ source_row (file ∷ files) ∷ [])
-    → Line name action (option_words o text ++ file ∷ files) (with_text o text (usual action (file ∷ files)))
-unfolding defaults_fault
-option_line name action Code text file files e =
-    line_of name action (option_words Code text ++ file ∷ files) (option_row Code text ∷ source_row (file ∷ files) ∷ []) (with_text Code text (usual action (file ∷ files))) e refl refl refl
-option_line name action DataBase text file files e =
-    line_of name action (option_words DataBase text ++ file ∷ files) (option_row DataBase text ∷ source_row (file ∷ files) ∷ []) (with_text DataBase text (usual action (file ∷ files))) e refl refl refl
-option_line name action Stack text file files e =
-    line_of name action (option_words Stack text ++ file ∷ files) (option_row Stack text ∷ source_row (file ∷ files) ∷ []) (with_text Stack text (usual action (file ∷ files))) e refl refl refl
-option_line name action StackSize text file files e =
-    line_of name action (option_words StackSize text ++ file ∷ files) (option_row StackSize text ∷ source_row (file ∷ files) ∷ []) (with_text StackSize text (usual action (file ∷ files))) e refl refl refl
-option_line name action Limit text file files e =
-    line_of name action (option_words Limit text ++ file ∷ files) (option_row Limit text ∷ source_row (file ∷ files) ∷ []) (with_text Limit text (usual action (file ∷ files))) e refl refl refl
-option_line name action Input text file files e =
-    line_of name action (option_words Input text ++ file ∷ files) (option_row Input text ∷ source_row (file ∷ files) ∷ []) (with_text Input text (usual action (file ∷ files))) e refl refl refl

@@ -1,5 +1,5 @@
 -- From the matches of the subcommand to the order, and from an error to a failure.
-use Rattle.std.proofs.Common.{◌≡◌, ℕ, List, [], ◌∷◌, Option, Some, None, Bool, true, inl, inr, refl, sym, ap, subst, ◌∙◌, arith, Err, Bor, ◌<◌, length}
+use Rattle.std.proofs.Common.{◌≡◌, ℕ, List, [], ◌∷◌, Option, Some, None, Bool, true, inl, inr, refl, sym, ap, subst, ◌∙◌, arith, Err}
 use Rattle.std.specs.Prelude.{option_map}
 use Rattle.std.specs.Str.{bytes_eq}
 use Rattle.std.specs.Bool.{Decides}
@@ -8,7 +8,6 @@ use Rattle.std.proofs.lemmas.Slice.Eq.{bytes_eq-Decides}
 use Rattle.clap.specs.Words.{IsAmong, Kinds, Row, Text, kind_of, subcommand_name_of, subcommand_rows_of}
 use Rattle.clap.specs.declared.ArgMatches.{ArgMatches}
 use Rattle.clap.specs.Kinds.{HasKind}
-use Rattle.clap.specs.Walk.{texts}
 use Rattle.clap.specs.declared.error.Error.{Error}
 use Rattle.clap.specs.declared.error.ErrorKind.{ErrorKind}
 use Rattle.clap.specs.declared.error.ErrorKind.TheVariants.{DisplayHelp, OutOfMemory}
@@ -73,7 +72,3 @@ fault_among A error (Fault (Wrong held)) kinds (inl out) (same, no_help, no_want
 fault_among A error (Fault (Wrong held)) kinds (inr among) (same, no_help, no_want) =
     (λ e. no_help (sym (ap kind_of same) ∙ e), subst (λ (k : ErrorKind). IsAmong k kinds) (sym (ap kind_of same)) among)
 fault_among A error Memory kinds has is = tt
-
-pub some_texts : (xs : List (Bor Text)) → 0 < length (texts xs) → 0 < length xs
-some_texts [] some = some
-some_texts (x ∷ xs) some = omega arith

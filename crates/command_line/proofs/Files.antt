@@ -6,32 +6,27 @@ use Rattle.std.specs.Str.{bytes_eq}
 use Rattle.clap.specs.Lexer.{long_of, short_of, strip_byte}
 use Rattle.clap.specs.Words.{Kinds, Row, Rule, Shape, Text}
 use Rattle.clap.specs.Walk.{Held, Waiting, Walk, idle, option, positional, has_row, nothing_held, plain_word, reading_by, rows_after, settled, walk, walk_from, walked, with_default, with_values, word_met}
-use Rattle.clap.specs.Simple.{built_leaf, filled, with_index}
+use Rattle.clap.specs.Simple.{filled, with_index}
 use Rattle.clap.specs.Faults.{check_fault, defaults_fault, level_fault, settle_fault, turn_fault, walk_fault, word_fault}
 use Rattle.clap.specs.Kinds.{or_else}
 use Rattle.clap.specs.declared.parser.matches.ValueSource.TheVariants.{CommandLine}
-use Rattle.command_line.specs.Command.{IsBare, command_app, source_rule}
+use Rattle.command_line.specs.Command.{IsBare, files_rule}
+use Rattle.command_line.proofs.Verbs.{Form, Objects, Placed, Sources, leaf, rules}
 
-abbrev pub leaf : Text → Shape
-leaf name = built_leaf (command_app name).top
+abbrev pub files_filled : Rule
+files_filled = with_index 1 (filled files_rule)
 
-abbrev pub rules : List Rule
-rules = (leaf []).rules
+abbrev pub files_row : List Text → Row
+files_row values = record { id = codes "FILES"; values = values; count = None; source = Some CommandLine; reading = reading_by files_filled }
 
-abbrev pub source_filled : Rule
-source_filled = with_index 1 (filled source_rule)
-
-abbrev pub source_row : List Text → Row
-source_row values = record { id = codes "SOURCE"; values = values; count = None; source = Some CommandLine; reading = reading_by source_filled }
-
-abbrev pub source_rows : List Text → List Row
-source_rows [] = []
-source_rows (file ∷ files) = source_row (file ∷ files) ∷ []
+abbrev pub files_rows : List Text → List Row
+files_rows [] = []
+files_rows (file ∷ files) = files_row (file ∷ files) ∷ []
 
 -- the walk after files, of which the last is still pending
 abbrev pub state : List Row → List Text → Text → Walk
 state before done last = record {
-  held = record { rows = before ++ source_rows done; pending = Some (codes "SOURCE", last ∷ []); skip = 0 };
+  held = record { rows = before ++ files_rows done; pending = Some (codes "FILES", last ∷ []); skip = 0 };
   waiting = positional;
   position = 1;
   is_trailing = false;
@@ -56,27 +51,36 @@ bare_fault s idle word h bare = let (dashes, long, short) = file_word word bare 
 bare_fault s (option id) word h bare = let (dashes, long, short) = file_word word bare in rw (dashes, long, short) refl
 bare_fault s positional word h bare = let (dashes, long, short) = file_word word bare in rw (dashes, long, short) refl
 
-pub rows_more : (before : List Row) (done : List Text) (last : Text) → has_row (codes "SOURCE") before ≡ false
-    → with_values (codes "SOURCE") (reading_by source_filled) CommandLine (last ∷ []) (before ++ source_rows done) ≡ before ++ source_rows (done ++ last ∷ [])
+pub rows_more : (before : List Row) (done : List Text) (last : Text) → has_row (codes "FILES") before ≡ false
+    → with_values (codes "FILES") (reading_by files_filled) CommandLine (last ∷ []) (before ++ files_rows done) ≡ before ++ files_rows (done ++ last ∷ [])
 rows_more [] [] last none = refl
 rows_more [] (file ∷ files) last none = refl
-rows_more (r ∷ rs) done last none = go (bytes_eq r.id (codes "SOURCE")) refl none (rows_more rs done last)
+rows_more (r ∷ rs) done last none = go (bytes_eq r.id (codes "FILES")) refl none (rows_more rs done last)
   where
-    go : (t : Bool) → bytes_eq r.id (codes "SOURCE") ≡ t → (t || has_row (codes "SOURCE") rs) ≡ false
-        → (has_row (codes "SOURCE") rs ≡ false → with_values (codes "SOURCE") (reading_by source_filled) CommandLine (last ∷ []) (rs ++ source_rows done) ≡ rs ++ source_rows (done ++ last ∷ []))
-        → with_values (codes "SOURCE") (reading_by source_filled) CommandLine (last ∷ []) (r ∷ (rs ++ source_rows done)) ≡ r ∷ (rs ++ source_rows (done ++ last ∷ []))
+    go : (t : Bool) → bytes_eq r.id (codes "FILES") ≡ t → (t || has_row (codes "FILES") rs) ≡ false
+        → (has_row (codes "FILES") rs ≡ false → with_values (codes "FILES") (reading_by files_filled) CommandLine (last ∷ []) (rs ++ files_rows done) ≡ rs ++ files_rows (done ++ last ∷ []))
+        → with_values (codes "FILES") (reading_by files_filled) CommandLine (last ∷ []) (r ∷ (rs ++ files_rows done)) ≡ r ∷ (rs ++ files_rows (done ++ last ∷ []))
     go true e f others = let bad : true ≡ false = f in cc
     go false e f others = rw e (ap (λ (rows : List Row). r ∷ rows) (others f))
 
-pub file_step : (before : List Row) (done : List Text) (last file : Text) → has_row (codes "SOURCE") before ≡ false → IsBare file
-    → walked rules [] (state before done last) file ≡ state before (done ++ last ∷ []) file
+pub file_step : (form : Form) (before : List Row) (done : List Text) (last file : Text) → has_row (codes "FILES") before ≡ false → IsBare file
+    → walked (rules form) [] (state before done last) file ≡ state before (done ++ last ∷ []) file
 unfolding walked
-file_step before done last file none bare =
-    rw (bare_word rules positional 1 file (state before done last).held bare) (rw (rows_more before done last none) refl)
+file_step Sources before done last file none bare =
+    rw (bare_word (rules Sources) positional 1 file (state before done last).held bare) (rw (rows_more before done last none) refl)
+file_step Objects before done last file none bare =
+    rw (bare_word (rules Objects) positional 1 file (state before done last).held bare) (rw (rows_more before done last none) refl)
+file_step Placed before done last file none bare =
+    rw (bare_word (rules Placed) positional 1 file (state before done last).held bare) (rw (rows_more before done last none) refl)
 
-pub file_turn : (name : Text) (before : List Row) (done : List Text) (last file : Text) → IsBare file → turn_fault (leaf name) [] (state before done last) file ≡ []
-file_turn name before done last file bare =
-    rw (bare_word rules positional 1 file (state before done last).held bare, bare_fault (leaf name) positional file (state before done last).held bare) refl
+pub file_turn : (form : Form) (name : Text) (before : List Row) (done : List Text) (last file : Text) → IsBare file
+    → turn_fault (leaf form name) [] (state before done last) file ≡ []
+file_turn Sources name before done last file bare =
+    rw (bare_word (rules Sources) positional 1 file (state before done last).held bare, bare_fault (leaf Sources name) positional file (state before done last).held bare) refl
+file_turn Objects name before done last file bare =
+    rw (bare_word (rules Objects) positional 1 file (state before done last).held bare, bare_fault (leaf Objects name) positional file (state before done last).held bare) refl
+file_turn Placed name before done last file bare =
+    rw (bare_word (rules Placed) positional 1 file (state before done last).held bare, bare_fault (leaf Placed name) positional file (state before done last).held bare) refl
 
 abbrev pub last_of : Text → List Text → Text
 last_of last [] = last
@@ -90,20 +94,20 @@ pub all_done : (done : List Text) (last : Text) (files : List Text) → done_of 
 all_done done last [] = refl
 all_done done last (file ∷ files) = all_done (done ++ last ∷ []) file files ∙ append_assoc done (last ∷ []) (file ∷ files)
 
-pub files_walk : (before : List Row) → has_row (codes "SOURCE") before ≡ false → (done : List Text) (last : Text) (files : List Text) → AllByRecursion IsBare files
-    → fold (walked rules []) (state before done last) files ≡ state before (done_of done last files) (last_of last files)
-files_walk before none done last [] bare = refl
-files_walk before none done last (file ∷ files) bare =
-    ap (λ (w : Walk). fold (walked rules []) w files) (file_step before done last file none bare.0) ∙ files_walk before none (done ++ last ∷ []) file files bare.1
+pub files_walk : (form : Form) (before : List Row) → has_row (codes "FILES") before ≡ false → (done : List Text) (last : Text) (files : List Text) → AllByRecursion IsBare files
+    → fold (walked (rules form) []) (state before done last) files ≡ state before (done_of done last files) (last_of last files)
+files_walk form before none done last [] bare = refl
+files_walk form before none done last (file ∷ files) bare =
+    ap (λ (w : Walk). fold (walked (rules form) []) w files) (file_step form before done last file none bare.0) ∙ files_walk form before none (done ++ last ∷ []) file files bare.1
 
-pub files_fault : (name : Text) (before : List Row) → has_row (codes "SOURCE") before ≡ false → (done : List Text) (last : Text) (files : List Text) → AllByRecursion IsBare files
-    → walk_fault (leaf name) [] (state before done last) files ≡ []
+pub files_fault : (form : Form) (name : Text) (before : List Row) → has_row (codes "FILES") before ≡ false → (done : List Text) (last : Text) (files : List Text) → AllByRecursion IsBare files
+    → walk_fault (leaf form name) [] (state before done last) files ≡ []
 unfolding walk_fault
-files_fault name before none done last [] bare = refl
-files_fault name before none done last (file ∷ files) bare =
-    ap (λ (k : Kinds). or_else k (walk_fault (leaf name) [] (walked rules [] (state before done last) file) files)) (file_turn name before done last file bare.0)
-    ∙ ap (λ (w : Walk). walk_fault (leaf name) [] w files) (file_step before done last file none bare.0)
-    ∙ files_fault name before none (done ++ last ∷ []) file files bare.1
+files_fault form name before none done last [] bare = refl
+files_fault form name before none done last (file ∷ files) bare =
+    ap (λ (k : Kinds). or_else k (walk_fault (leaf form name) [] (walked (rules form) [] (state before done last) file) files)) (file_turn form name before done last file bare.0)
+    ∙ ap (λ (w : Walk). walk_fault (leaf form name) [] w files) (file_step form before done last file none bare.0)
+    ∙ files_fault form name before none (done ++ last ∷ []) file files bare.1
 
 -- a level has no fault where none of its steps has
 pub level_of : (s : Shape) (words : List Text) (h : Held) (rows : List Row) → walk_fault s [] (walk_from nothing_held) words ≡ [] → (walk s.rules [] nothing_held words).held ≡ h

@@ -6,7 +6,7 @@ use Rattle.std.specs.Option.{option_map_or}
 use Rattle.std.specs.Str.{bytes_eq, chars}
 use Rattle.clap.specs.Lexer.{long_of, short_of}
 use Rattle.clap.specs.Facts.{explicit_source, unwrap_or_range}
-use Rattle.clap.specs.Words.{Kinds, Row, Rule, Shape, Text, all_of}
+use Rattle.clap.specs.Words.{Kinds, Row, Rule, Shape, Text}
 use Rattle.clap.specs.Walk.{Held, Names, Outcome, Step, Waiting, Walk, action_of, after_flag, after_step, arg_by_id, arg_by_index, arg_by_long, arg_by_short, at_row, attached_value, bundle_met, bundle_step, default_rows, done, has_row, idle, is_pending, long_met, long_or_other, more_values, next, nothing_held, option, option_met, option_word, plain, plain_word, positional, reacted, reading_by, refused, rows_after, settled, settled_rows, short_met, short_or_plain, subcommand, subcommand_met, subcommand_or_other, takes_several, takes_values, to_positional, trailing, used, used_by_id, value, waits, walk, walk_from, walked, walked_from, with_default, with_values, without, word_met}
 use Rattle.clap.specs.Takes.{is_given}
 use Rattle.clap.specs.Faults.{bundle_fault, bundle_step_fault, check_fault, flag_word_fault, flags_fault, level_fault, long_fault, option_fault, other_fault, positional_fault, react_fault, settle_fault, short_fault, step_fault, stray_fault, turn_fault, use_fault, walk_fault, word_fault}
@@ -14,7 +14,8 @@ use Rattle.clap.specs.Kinds.{or_else}
 use Rattle.clap.specs.declared.builder.action.ArgAction.TheVariants.{Set, Append, SetTrue, Help}
 use Rattle.clap.specs.declared.builder.value_parser.Reading.{Reading}
 use Rattle.clap.specs.declared.parser.matches.ValueSource.{ValueSource}
-use Rattle.command_line.proofs.Files.{leaf, rules}
+use Rattle.command_line.proofs.Verbs.{Form, Objects, Placed, Sources, leaf, rules}
+use Rattle.command_line.specs.Command.{files_of}
 use Rattle.command_line.proofs.Levels.{level_passes_by, never, none_of_both}
 
 abbrev IsFull : Row → Type 0
@@ -267,32 +268,10 @@ level_full s all words fine =
     defaults_full s.rules (settled s.rules end).rows
     (settle_full s.args_override_self s.rules all end passes.settle_passes (walk_full s all [] words (walk_from nothing_held) passes.words_pass tt))
 
-rules_take : AllTake rules
-rules_take = (
-  set_takes _ refl refl,
-  (
-    set_takes _ refl refl,
-    (
-      set_takes _ refl refl,
-      (
-        set_takes _ refl refl,
-        (
-          set_takes _ refl refl,
-          (
-            set_takes _ refl refl,
-            (
-              flag_takes _ refl refl,
-              (
-                append_takes _ refl refl,
-                (help_takes _ refl, tt),
-              ),
-            ),
-          ),
-        ),
-      ),
-    ),
-  ),
-)
+rules_take : (form : Form) → AllTake (rules form)
+rules_take Sources = (set_takes _ refl refl, (set_takes _ refl refl, (set_takes _ refl refl, (set_takes _ refl refl, (set_takes _ refl refl, (set_takes _ refl refl, (flag_takes _ refl refl, (append_takes _ refl refl, (help_takes _ refl, tt)))))))))
+rules_take Objects = (set_takes _ refl refl, (append_takes _ refl refl, (help_takes _ refl, tt)))
+rules_take Placed = (set_takes _ refl refl, (set_takes _ refl refl, (set_takes _ refl refl, (set_takes _ refl refl, (append_takes _ refl refl, (help_takes _ refl, tt))))))
 
 abbrev IfFull : Option Row → Type 0
 IfFull None = Unit {0}
@@ -310,18 +289,29 @@ given_full : (o : Option Row) → IfFull o → option_map_or (λ r. explicit_sou
 given_full None full given = let bad : false ≡ true = given in cc
 given_full (Some r) full given = full
 
-source_given : (name : Text) (rows : List Row) → check_fault (leaf name) rows false ≡ [] → is_given (codes "SOURCE") rows ≡ true
-source_given name rows fine = go (is_given (codes "SOURCE") rows) refl
+files_given : (form : Form) (name : Text) (rows : List Row) → check_fault (leaf form name) rows false ≡ [] → is_given (codes "FILES") rows ≡ true
+files_given Sources name rows fine = go (is_given (codes "FILES") rows) refl
   where
-    go : (t : Bool) → is_given (codes "SOURCE") rows ≡ t → is_given (codes "SOURCE") rows ≡ true
+    go : (t : Bool) → is_given (codes "FILES") rows ≡ t → is_given (codes "FILES") rows ≡ true
+    go true e = e
+    go false e = absurd (never _ _ (rw e at fine))
+files_given Objects name rows fine = go (is_given (codes "FILES") rows) (is_given (codes "out") rows) refl refl
+  where
+    go : (t u : Bool) → is_given (codes "FILES") rows ≡ t → is_given (codes "out") rows ≡ u → is_given (codes "FILES") rows ≡ true
+    go true u e f = e
+    go false false e f = absurd (never _ _ (rw (e, f) at fine))
+    go false true e f = absurd (never _ _ (rw (e, f) at fine))
+files_given Placed name rows fine = go (is_given (codes "FILES") rows) refl
+  where
+    go : (t : Bool) → is_given (codes "FILES") rows ≡ t → is_given (codes "FILES") rows ≡ true
     go true e = e
     go false e = absurd (never _ _ (rw e at fine))
 
--- a command without a fault has a source
-pub some_source : (name : Text) (words : List Text) → level_fault (leaf name) [] nothing_held words false [] ≡ []
-    → 0 < length (unwrap_or (all_of (codes "SOURCE") (rows_after rules [] words)) [])
-some_source name words fine =
-    let rows = rows_after rules [] words in
-    let passes = level_passes_by (leaf name) [] nothing_held words false [] fine in
-    given_full (find (λ r. bytes_eq r.id (codes "SOURCE")) rows) (found_full (λ r. bytes_eq r.id (codes "SOURCE")) rows (level_full (leaf name) rules_take words fine))
-    (source_given name rows passes.check_passes)
+-- a command without a fault has a file
+pub some_file : (form : Form) (name : Text) (words : List Text) → level_fault (leaf form name) [] nothing_held words false [] ≡ []
+    → 0 < length (files_of (rows_after (rules form) [] words))
+some_file form name words fine =
+    let rows = rows_after (rules form) [] words in
+    let passes = level_passes_by (leaf form name) [] nothing_held words false [] fine in
+    given_full (find (λ r. bytes_eq r.id (codes "FILES")) rows) (found_full (λ r. bytes_eq r.id (codes "FILES")) rows (level_full (leaf form name) (rules_take form) words fine))
+    (files_given form name rows passes.check_passes)

@@ -4,12 +4,15 @@ use Rattle.clap.specs.Kinds.{HasKind}
 use Rattle.clap.specs.Words.{Text, fault_of}
 use Rattle.clap.specs.declared.error.Error.{Error}
 use Rattle.failure.specs.declared.Failure.{Failure}
-use Rattle.command_line.specs.declared.reading.Action.{Action}
+use Rattle.command_line.specs.declared.orders.Action.{Action}
+use Rattle.command_line.specs.declared.orders.Order.{Order}
+use Rattle.command_line.specs.declared.orders.PlaceAction.{PlaceAction}
 use Rattle.command_line.specs.declared.reading.LineFault.{LineFault}
-use Rattle.command_line.specs.declared.reading.Order.{Order}
 use Rattle.command_line.specs.internal.Errors.{IsFailureFor}
-use Rattle.command_line.specs.Command.{Gives, IsBare, Orders, OrdersFiles, OrdersMap, OrdersText, ValueOption, Wanted, name_of_action, option_words, plm_app, usual, wanted_by, wanted_in, with_text}
-use Rattle.command_line.proofs.Begins.{Line, ends_by, map_begins, map_line, map_row, option_begins, option_line, option_row, plain_begins, plain_line}
+use Rattle.command_line.specs.Command.{Gives, IsBare, Orders, OrdersFiles, OrdersLink, OrdersMap, OrdersPlace, OrdersPlaceText, OrdersText, PlanOption, ValueOption, Wanted, name_of_action, name_of_place_action, option_name, option_words, plan_option_name, plm_app, usual, usual_place, usual_plan, wanted_by, wanted_in, wants_link, wants_place, wants_program, with_plan_text, with_text}
+use Rattle.command_line.proofs.Begins.{ends_by, map_begins, map_row, of_place, of_program, option_begins, option_row, out, plain_begins}
+use Rattle.command_line.proofs.Lines.{Line, link_line, map_line, option_line, place_line, place_option_line, plain_line}
+use Rattle.command_line.proofs.Verbs.{Objects, Placed, Sources, Verb, link, name_of, place, program}
 use Rattle.command_line.proofs.CommandLemmas.{only_memory}
 use Rattle.command_line.proofs.PlmWords.{line_fine, line_wanted}
 
@@ -18,58 +21,100 @@ record Wants (words : List Text) (wanted : Wanted) : Type 0 where
   fine : fault_of plm_app words ≡ []
   gives : wanted_by words ≡ Some wanted
 
-wants_by : (words rest : List Text) (name : Text) (action : Action) (wanted : Wanted) → words ≡ name ∷ name_of_action action ∷ rest
-    → Line (name_of_action action) action rest wanted → Wants words wanted
-wants_by words rest name action wanted e line =
-    rw e (record { fine = line_fine name action rest line.level; gives = line_wanted name action rest wanted line.gives })
+wants_by : (words rest : List Text) (name : Text) (verb : Verb) (wanted : Wanted) → words ≡ name ∷ name_of verb ∷ rest → Line verb rest wanted → Wants words wanted
+wants_by words rest name verb wanted e line = rw e (record { fine = line_fine name verb rest line.level; gives = line_wanted name verb rest wanted line.gives })
 
-files_wanted : (words : List Text) (name : Text) (action : Action) (files : List Text) → Gives words name action [] files → Wants words (usual action files)
+files_wanted : (words : List Text) (name : Text) (action : Action) (files : List Text)
+    → Gives words name (name_of_action action) [] files → Wants words (wants_program (usual action files))
 files_wanted words name action [] g = absurd (let none = g.some in omega arith)
 files_wanted words name action (file ∷ files) g =
-    wants_by words (file ∷ files) name action (usual action (file ∷ files)) g.words_are
-    (plain_line (name_of_action action) action file files (ends_by (name_of_action action) [] [] (plain_begins (name_of_action action)) file files g.bare.0 g.bare.1))
+    wants_by words (file ∷ files) name (program action) (wants_program (usual action (file ∷ files))) g.words_are
+    (plain_line action file files
+    (ends_by Sources (name_of (program action)) [] [] (plain_begins Sources (name_of (program action))) file files g.bare.0 g.bare.1))
 
-map_wanted : (words : List Text) (name : Text) (action : Action) (files : List Text) → Gives words name action (codes "--map" ∷ []) files
-    → Wants words (record (usual action files) { map = true })
+map_wanted : (words : List Text) (name : Text) (action : Action) (files : List Text)
+    → Gives words name (name_of_action action) (codes "--map" ∷ []) files → Wants words (wants_program (record (usual action files) { map = true }))
 map_wanted words name action [] g = absurd (let none = g.some in omega arith)
 map_wanted words name action (file ∷ files) g =
-    wants_by words (codes "--map" ∷ file ∷ files) name action (record (usual action (file ∷ files)) { map = true }) g.words_are
-    (map_line (name_of_action action) action file files
-    (ends_by (name_of_action action) (codes "--map" ∷ []) (map_row ∷ []) (map_begins (name_of_action action)) file files g.bare.0 g.bare.1))
+    wants_by words (codes "--map" ∷ file ∷ files) name (program action) (wants_program (record (usual action (file ∷ files)) { map = true })) g.words_are
+    (map_line action file files
+    (ends_by Sources (name_of (program action)) (codes "--map" ∷ []) (map_row ∷ []) (map_begins (name_of (program action))) file files g.bare.0 g.bare.1))
 
-text_wanted : (words : List Text) (name : Text) (action : Action) (option : ValueOption) (text : Text) (files : List Text) → IsBare text
-    → Gives words name action (option_words option text) files → Wants words (with_text option text (usual action files))
-text_wanted words name action option text [] bare g = absurd (let none = g.some in omega arith)
-text_wanted words name action option text (file ∷ files) bare g =
-    wants_by words (option_words option text ++ file ∷ files) name action (with_text option text (usual action (file ∷ files))) g.words_are
-    (option_line (name_of_action action) action option text file files
-    (ends_by (name_of_action action) (option_words option text) (option_row option text ∷ []) (option_begins (name_of_action action) option text bare) file files g.bare.0 g.bare.1))
+text_wanted : (words : List Text) (name : Text) (action : Action) (files : List Text) (option : ValueOption) (text : Text) → IsBare text
+    → Gives words name (name_of_action action) (option_words (option_name option) text) files → Wants words (wants_program (with_text option text (usual action files)))
+text_wanted words name action [] option text bare g = absurd (let none = g.some in omega arith)
+text_wanted words name action (file ∷ files) option text bare g =
+    wants_by words (option_words (option_name option) text ++ file ∷ files) name (program action) (wants_program (with_text option text (usual action (file ∷ files)))) g.words_are
+    (option_line action option text file files
+    (ends_by Sources (name_of (program action)) (option_words (option_name option) text) (option_row (of_program option) text ∷ []) (option_begins (name_of (program action)) (of_program option) text bare) file files g.bare.0 g.bare.1))
+
+link_wanted : (words : List Text) (name : Text) (target : Text) (files : List Text) → IsBare target
+    → Gives words name (codes "link") (option_words (codes "out") target) files → Wants words (wants_link (record { out = target; objects = files }))
+link_wanted words name target [] bare g = absurd (let none = g.some in omega arith)
+link_wanted words name target (file ∷ files) bare g =
+    wants_by words (option_words (codes "out") target ++ file ∷ files) name (link) (wants_link (record { out = target; objects = (file ∷ files) })) g.words_are
+    (link_line target file files
+    (ends_by Objects (name_of (link)) (option_words (codes "out") target) (option_row out target ∷ []) (option_begins (name_of (link)) out target bare) file files g.bare.0 g.bare.1))
+
+place_wanted : (words : List Text) (name : Text) (action : PlaceAction) (files : List Text)
+    → Gives words name (name_of_place_action action) [] files → Wants words (wants_place (usual_place action files))
+place_wanted words name action [] g = absurd (let none = g.some in omega arith)
+place_wanted words name action (file ∷ files) g =
+    wants_by words (file ∷ files) name (place action) (wants_place (usual_place action (file ∷ files))) g.words_are
+    (place_line action file files
+    (ends_by Placed (name_of (place action)) [] [] (plain_begins Placed (name_of (place action))) file files g.bare.0 g.bare.1))
+
+place_text_wanted : (words : List Text) (name : Text) (action : PlaceAction) (files : List Text) (option : PlanOption) (text : Text) → IsBare text
+    → Gives words name (name_of_place_action action) (option_words (plan_option_name option) text) files → Wants words (wants_place (record (usual_place action files) { plan = with_plan_text option text usual_plan }))
+place_text_wanted words name action [] option text bare g = absurd (let none = g.some in omega arith)
+place_text_wanted words name action (file ∷ files) option text bare g =
+    wants_by words (option_words (plan_option_name option) text ++ file ∷ files) name (place action) (wants_place (record (usual_place action (file ∷ files)) { plan = with_plan_text option text usual_plan })) g.words_are
+    (place_option_line action option text file files
+    (ends_by Placed (name_of (place action)) (option_words (plan_option_name option) text) (option_row (of_place option) text ∷ []) (option_begins (name_of (place action)) (of_place option) text bare) file files g.bare.0 g.bare.1))
 
 order_is : (words : List Text) (order : Order) (wanted : Wanted) → Orders words order → Wants words wanted → wanted_in order ≡ wanted
 order_is words order wanted found wants = let same : Some (wanted_in order) ≡ Some wanted = sym found ∙ wants.gives in cc
 
 -- an order that the words give is the one that is wanted
 pub files_ordered : (words : List Text) (order : Order) → Orders words order → OrdersFiles words (Ok order)
-files_ordered words order found = λ name action files g. order_is words order (usual action files) found (files_wanted words name action files g)
-
-pub text_ordered : (words : List Text) (order : Order) → Orders words order → OrdersText words (Ok order)
-text_ordered words order found = λ name action files option text bare g.
-    order_is words order (with_text option text (usual action files)) found (text_wanted words name action option text files bare g)
+files_ordered words order found = λ name action files g. order_is words order (wants_program (usual action files)) found (files_wanted words name action files g)
 
 pub map_ordered : (words : List Text) (order : Order) → Orders words order → OrdersMap words (Ok order)
-map_ordered words order found = λ name action files g.
-    order_is words order (record (usual action files) { map = true }) found (map_wanted words name action files g)
+map_ordered words order found = λ name action files g. order_is words order (wants_program (record (usual action files) { map = true })) found (map_wanted words name action files g)
+
+pub text_ordered : (words : List Text) (order : Order) → Orders words order → OrdersText words (Ok order)
+text_ordered words order found = λ name action files option text bare g. order_is words order (wants_program (with_text option text (usual action files))) found (text_wanted words name action files option text bare g)
+
+pub link_ordered : (words : List Text) (order : Order) → Orders words order → OrdersLink words (Ok order)
+link_ordered words order found = λ name target files bare g. order_is words order (wants_link (record { out = target; objects = files })) found (link_wanted words name target files bare g)
+
+pub place_ordered : (words : List Text) (order : Order) → Orders words order → OrdersPlace words (Ok order)
+place_ordered words order found = λ name action files g. order_is words order (wants_place (usual_place action files)) found (place_wanted words name action files g)
+
+pub place_text_ordered : (words : List Text) (order : Order) → Orders words order → OrdersPlaceText words (Ok order)
+place_text_ordered words order found = λ name action files option text bare g. order_is words order (wants_place (record (usual_place action files) { plan = with_plan_text option text usual_plan })) found (place_text_wanted words name action files option text bare g)
 
 -- where they have none, only memory can fail
 pub files_failed : (words : List Text) (error : Error) (failure : Failure LineFault) → HasKind (fault_of plm_app words) error → IsFailureFor error failure
     → OrdersFiles words (Err failure)
 files_failed words error failure has is = λ name action files g. only_memory error failure (fault_of plm_app words) (files_wanted words name action files g).fine has is
 
-pub text_failed : (words : List Text) (error : Error) (failure : Failure LineFault) → HasKind (fault_of plm_app words) error → IsFailureFor error failure
-    → OrdersText words (Err failure)
-text_failed words error failure has is = λ name action files option text bare g.
-    only_memory error failure (fault_of plm_app words) (text_wanted words name action option text files bare g).fine has is
-
 pub map_failed : (words : List Text) (error : Error) (failure : Failure LineFault) → HasKind (fault_of plm_app words) error → IsFailureFor error failure
     → OrdersMap words (Err failure)
 map_failed words error failure has is = λ name action files g. only_memory error failure (fault_of plm_app words) (map_wanted words name action files g).fine has is
+
+pub text_failed : (words : List Text) (error : Error) (failure : Failure LineFault) → HasKind (fault_of plm_app words) error → IsFailureFor error failure
+    → OrdersText words (Err failure)
+text_failed words error failure has is = λ name action files option text bare g. only_memory error failure (fault_of plm_app words) (text_wanted words name action files option text bare g).fine has is
+
+pub link_failed : (words : List Text) (error : Error) (failure : Failure LineFault) → HasKind (fault_of plm_app words) error → IsFailureFor error failure
+    → OrdersLink words (Err failure)
+link_failed words error failure has is = λ name target files bare g. only_memory error failure (fault_of plm_app words) (link_wanted words name target files bare g).fine has is
+
+pub place_failed : (words : List Text) (error : Error) (failure : Failure LineFault) → HasKind (fault_of plm_app words) error → IsFailureFor error failure
+    → OrdersPlace words (Err failure)
+place_failed words error failure has is = λ name action files g. only_memory error failure (fault_of plm_app words) (place_wanted words name action files g).fine has is
+
+pub place_text_failed : (words : List Text) (error : Error) (failure : Failure LineFault) → HasKind (fault_of plm_app words) error → IsFailureFor error failure
+    → OrdersPlaceText words (Err failure)
+place_text_failed words error failure has is = λ name action files option text bare g. only_memory error failure (fault_of plm_app words) (place_text_wanted words name action files option text bare g).fine has is

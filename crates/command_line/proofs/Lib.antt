@@ -1,7 +1,9 @@
 pub mod Levels
 pub mod CommandLemmas
+pub mod Verbs
 pub mod Files
 pub mod Begins
+pub mod Lines
 pub mod Full
 pub mod PlmWords
 pub mod Given

@@ -1,9 +1,10 @@
 -- The words of a whole command line: without a fault they give an order.
 use Rattle.std.proofs.Common.{◌≡◌, ℕ, List, [], ◌∷◌, Option, Some, None, Bool, true, false, refl, sym, subst, codes, drop, is_some, ap, ◌∙◌, ◌++◌, append_assoc, ◌<◌, length}
-use Rattle.std.specs.Prelude.{unwrap_or, find, fold, option_and_then, option_map, if◌then◌else◌, not, ◌&&◌, ◌||◌}
+use Rattle.std.specs.Prelude.{find, fold, option_and_then, option_map, if◌then◌else◌, not, ◌&&◌, ◌||◌}
+use Rattle.std.specs.List.{AllByRecursion}
 use Rattle.std.specs.Option.{option_map_or}
 use Rattle.std.specs.Str.{bytes_eq}
-use Rattle.clap.specs.Words.{App, Kinds, Row, Rule, Shape, Text, all_of, fault_of, is_simple}
+use Rattle.clap.specs.Words.{App, Kinds, Row, Rule, Shape, Text, fault_of, is_simple}
 use Rattle.clap.specs.Walk.{Names, rows_after, settled, Waiting, option, positional, waits, done, refused, next, subcommand, plain_word, bundle, long_met, subcommand_or_other, subcommand_met, to_positional, arg_by_index, walked_from, walk, walk_from, nothing_held, answers_to, Held, Walk, Step, Outcome, plain, idle, value, trailing, walked, after_step, word_met, after_flag, short_or_plain, long_or_other, arg_by_long, finished}
 use Rattle.clap.specs.Lexer.{long_of, short_of}
 use Rattle.clap.proofs.OnLiterals.{clap_on_literals}
@@ -11,14 +12,14 @@ use Rattle.clap.specs.Simple.{built, entered, filled, label_of, names_of, rows_a
 use Rattle.clap.specs.Faults.{level_fault, entered_fault, other_fault, is_simple_and_free, step_fault, turn_fault, walk_fault, word_fault, check_fault, defaults_fault, settle_fault}
 use Rattle.clap.specs.Kinds.{or_else}
 use Rattle.clap.specs.declared.error.ErrorKind.{ErrorKind}
-use Rattle.command_line.specs.Command.{Wanted, name_of_action, plm_app, wanted_by, wanted_of, wanted_of_match}
+use Rattle.command_line.specs.Command.{Wanted, files_in, files_of, plm_app, wanted_by, wanted_of_match}
 use Rattle.clap.proofs.FaultLemmas.{stopped_fault}
 use Rattle.std.proofs.lemmas.List.{append-nil}
-use Rattle.command_line.specs.declared.reading.Action.{Action}
-use Rattle.command_line.specs.declared.reading.Action.TheVariants.{Run, Interpret}
+use Rattle.command_line.specs.declared.orders.Action.TheVariants.{Run, Interpret}
+use Rattle.command_line.specs.declared.orders.PlaceAction.TheVariants.{Locate, Hex}
 use Rattle.command_line.proofs.CommandLemmas.{same_text_of}
-use Rattle.command_line.proofs.Files.{leaf, rules}
-use Rattle.command_line.proofs.Full.{some_source}
+use Rattle.command_line.proofs.Full.{some_file}
+use Rattle.command_line.proofs.Verbs.{Objects, Placed, Sources, Verb, form_of, leaf, link, name_of, place, program, rules, wanted_of}
 use Rattle.command_line.proofs.Levels.{level_passes_by, never, none_of_both}
 
 pub plm_is_simple : is_simple plm_app ≡ true
@@ -110,36 +111,30 @@ plm_walk s names (word ∷ rest) w e before fine =
 abbrev top_built : Shape
 top_built = record (new_shape (codes "plm")) { rules = filled help_rule ∷ []; is_leaf = false; subcommand_required = true; is_built = true }
 
-abbrev run_built : Shape
-run_built = leaf (codes "run")
-
-abbrev interpret_built : Shape
-interpret_built = leaf (codes "interpret")
-
 abbrev help_built : Shape
 help_built = built_leaf help_shape
 
 abbrev plm_built : App
-plm_built = record { top = top_built; subs = run_built ∷ interpret_built ∷ help_built ∷ [] }
+plm_built = record {
+  top = top_built;
+  subs = leaf Sources (codes "run") ∷ leaf Sources (codes "interpret") ∷ leaf Objects (codes "link") ∷ leaf Placed (codes "locate") ∷ leaf Placed (codes "hex") ∷ help_built ∷ [];
+}
 
 built_is : built plm_app ≡ plm_built
 built_is = refl
 
--- what is found among three: one of the first two, one that is the third, or none
-data AmongThree (p : Shape → Bool) (x y z : Shape) : Option Shape → Type 0 where
-  first : AmongThree p x y z (Some x)
-  second : AmongThree p x y z (Some y)
-  third : p z ≡ true → AmongThree p x y z (Some z)
-  none : AmongThree p x y z None
+-- what is found among shapes is one of them
+abbrev IfFound : (Shape → Type 0) → Option Shape → Type 0
+IfFound P None = Unit {0}
+IfFound P (Some s) = P s
 
-find_three : (p : Shape → Bool) (x y z : Shape) → AmongThree p x y z (find p (x ∷ y ∷ z ∷ []))
-find_three p x y z = go (p x) (p y) (p z) refl refl refl
+found_has : (P : Shape → Type 0) (p : Shape → Bool) (shapes : List Shape) → AllByRecursion (λ s. p s ≡ true → P s) shapes → IfFound P (find p shapes)
+found_has P p [] all = tt
+found_has P p (s ∷ shapes) all = go (p s) all.0 (found_has P p shapes all.1)
   where
-    go : (s t u : Bool) → p x ≡ s → p y ≡ t → p z ≡ u → AmongThree p x y z (find p (x ∷ y ∷ z ∷ []))
-    go true t u e f g = rw e first
-    go false true u e f g = rw (e, f) second
-    go false false true e f g = rw (e, f, g) (third g)
-    go false false false e f g = rw (e, f, g) none
+    go : (t : Bool) → (t ≡ true → P s) → IfFound P (find p shapes) → IfFound P (if t then Some s else find p shapes)
+    go true here there = here refl
+    go false here there = there
 
 help_named : (name : Text) → (bytes_eq (codes "help") name || false) ≡ true → bytes_eq name (codes "help") ≡ false → ⊥
 help_named name e other = go (bytes_eq (codes "help") name) refl e
@@ -153,30 +148,36 @@ help_named name e other = go (bytes_eq (codes "help") name) refl e
 some_is_none : {A : Type 0} (x : A) → Some x ≡ None → ⊥
 some_is_none x e = cc
 
-run_wanted : (name : Text) (rows : List Row) → name ≡ codes "run" → wanted_of_match (name, rows) ≡ None → ⊥
-run_wanted name rows e missing = some_is_none _ (rw e at missing)
+-- the matches of a command give an order
+abbrev IsCommand : Shape → Type 0
+IsCommand s = (rows : List Row) → wanted_of_match (s.name, rows) ≡ None → ⊥
 
-interpret_wanted : (name : Text) (rows : List Row) → name ≡ codes "interpret" → wanted_of_match (name, rows) ≡ None → ⊥
-interpret_wanted name rows e missing = some_is_none _ (rw e at missing)
+all_commands : (name : Text) → bytes_eq name (codes "help") ≡ false → AllByRecursion (λ s. answers_to name (label_of s) ≡ true → IsCommand s) plm_built.subs
+all_commands name other = (
+  λ e rows missing. some_is_none _ missing,
+  (
+    λ e rows missing. some_is_none _ missing,
+    (
+      λ e rows missing. some_is_none _ missing,
+      (
+        λ e rows missing. some_is_none _ missing,
+        (λ e rows missing. some_is_none _ missing, (λ e rows missing. help_named name e other, tt)),
+      ),
+    ),
+  ),
+)
 
-entered_one : (x y z : Shape) (name : Text) (rest : List Text) (rows : List Row) (o : Option Shape) → x.name ≡ codes "run" → y.name ≡ codes "interpret"
-    → z.name ≡ codes "help" → z.aliases ≡ [] → AmongThree (λ s. answers_to name (label_of s)) x y z o → bytes_eq name (codes "help") ≡ false
-    → check_fault top_built rows (is_some (option_map (λ s. rows_at s rest) o)) ≡ []
+entered_one : (rest : List Text) (rows : List Row) (o : Option Shape) → IfFound IsCommand o → check_fault top_built rows (is_some (option_map (λ s. rows_at s rest) o)) ≡ []
     → option_and_then wanted_of_match (option_map (λ s. rows_at s rest) o) ≡ None → ⊥
-entered_one x y z name rest rows _ is_run is_interpret is_help no_alias first other check missing =
-    run_wanted x.name (rows_at x rest).1 is_run missing
-entered_one x y z name rest rows _ is_run is_interpret is_help no_alias second other check missing =
-    interpret_wanted y.name (rows_at y rest).1 is_interpret missing
-entered_one x y z name rest rows _ is_run is_interpret is_help no_alias (third e) other check missing =
-    help_named name (rw (is_help, no_alias) at e) other
-entered_one x y z name rest rows _ is_run is_interpret is_help no_alias none other check missing = never _ _ check
+entered_one rest rows None is check missing = never _ _ check
+entered_one rest rows (Some s) is check missing = is (rows_at s rest).1 missing
 
 entered_order : (rows : List Row) (stop : Option (Text × List Text)) → IsNoHelp stop → check_fault top_built rows (is_some (entered plm_built stop)) ≡ []
     → option_and_then wanted_of_match (entered plm_built stop) ≡ None → ⊥
 entered_order rows None other check missing = never _ _ check
 entered_order rows (Some (name, rest)) other check missing =
-    entered_one run_built interpret_built help_built name rest rows (find (λ s. answers_to name (label_of s)) plm_built.subs) refl refl refl refl
-    (find_three (λ s. answers_to name (label_of s)) run_built interpret_built help_built) other check missing
+    entered_one rest rows (find (λ s. answers_to name (label_of s)) plm_built.subs)
+    (found_has IsCommand (λ s. answers_to name (label_of s)) plm_built.subs (all_commands name other)) check missing
 
 pub order_is_there : (words : List Text) → fault_of plm_app words ≡ [] → wanted_by words ≡ None → ⊥
 order_is_there words fine missing =
@@ -193,40 +194,52 @@ unfolding walked
 stopped_walk c names w name seen [] = rw (append-nil seen) refl
 stopped_walk c names w name seen (word ∷ rest) = stopped_walk c names w name (seen ++ word ∷ []) rest ∙ rw (append_assoc seen (word ∷ []) rest) refl
 
-command_met : (action : Action) → walked top_built.rules (names_of plm_built) (walk_from nothing_held) (name_of_action action) ≡ record (walk_from nothing_held) { stopped = Some (name_of_action action, []) }
+command_met : (verb : Verb) → walked top_built.rules (names_of plm_built) (walk_from nothing_held) (name_of verb) ≡ record (walk_from nothing_held) { stopped = Some (name_of verb, []) }
 unfolding clap_on_literals
-command_met Run = refl
-command_met Interpret = refl
+command_met (program Run) = refl
+command_met (program Interpret) = refl
+command_met link = refl
+command_met (place Locate) = refl
+command_met (place Hex) = refl
 
-command_walk : (action : Action) (rest : List Text)
-    → walk top_built.rules (names_of plm_built) nothing_held (name_of_action action ∷ rest) ≡ record (walk_from nothing_held) { stopped = Some (name_of_action action, rest) }
-command_walk action rest =
-    ap (λ (w : Walk). fold (walked top_built.rules (names_of plm_built)) w rest) (command_met action)
-    ∙ stopped_walk top_built.rules (names_of plm_built) (walk_from nothing_held) (name_of_action action) [] rest
+command_walk : (verb : Verb) (rest : List Text)
+    → walk top_built.rules (names_of plm_built) nothing_held (name_of verb ∷ rest) ≡ record (walk_from nothing_held) { stopped = Some (name_of verb, rest) }
+command_walk verb rest =
+    ap (λ (w : Walk). fold (walked top_built.rules (names_of plm_built)) w rest) (command_met verb)
+    ∙ stopped_walk top_built.rules (names_of plm_built) (walk_from nothing_held) (name_of verb) [] rest
 
-command_turn : (action : Action) → turn_fault top_built (names_of plm_built) (walk_from nothing_held) (name_of_action action) ≡ []
+command_turn : (verb : Verb) → turn_fault top_built (names_of plm_built) (walk_from nothing_held) (name_of verb) ≡ []
 unfolding clap_on_literals
-command_turn Run = refl
-command_turn Interpret = refl
+command_turn (program Run) = refl
+command_turn (program Interpret) = refl
+command_turn link = refl
+command_turn (place Locate) = refl
+command_turn (place Hex) = refl
 
-command_fault : (action : Action) (rest : List Text) → walk_fault top_built (names_of plm_built) (walk_from nothing_held) (name_of_action action ∷ rest) ≡ []
+command_fault : (verb : Verb) (rest : List Text) → walk_fault top_built (names_of plm_built) (walk_from nothing_held) (name_of verb ∷ rest) ≡ []
 unfolding walk_fault
-command_fault action rest =
-    ap (λ (k : Kinds). or_else k (walk_fault top_built (names_of plm_built) (walked top_built.rules (names_of plm_built) (walk_from nothing_held) (name_of_action action)) rest)) (command_turn action)
-    ∙ ap (λ (w : Walk). walk_fault top_built (names_of plm_built) w rest) (command_met action)
-    ∙ stopped_fault top_built (names_of plm_built) (walk_from nothing_held) (name_of_action action, []) rest
+command_fault verb rest =
+    ap (λ (k : Kinds). or_else k (walk_fault top_built (names_of plm_built) (walked top_built.rules (names_of plm_built) (walk_from nothing_held) (name_of verb)) rest)) (command_turn verb)
+    ∙ ap (λ (w : Walk). walk_fault top_built (names_of plm_built) w rest) (command_met verb)
+    ∙ stopped_fault top_built (names_of plm_built) (walk_from nothing_held) (name_of verb, []) rest
 
 -- the command that is entered
-abbrev leaf_of : Action → Shape
-leaf_of action = leaf (name_of_action action)
+abbrev leaf_of : Verb → Shape
+leaf_of verb = leaf (form_of verb) (name_of verb)
 
-entered_is : (action : Action) (rest : List Text) → entered plm_built (Some (name_of_action action, rest)) ≡ Some (rows_at (leaf_of action) rest)
-entered_is Run rest = refl
-entered_is Interpret rest = refl
+entered_is : (verb : Verb) (rest : List Text) → entered plm_built (Some (name_of verb, rest)) ≡ Some (rows_at (leaf_of verb) rest)
+entered_is (program Run) rest = refl
+entered_is (program Interpret) rest = refl
+entered_is link rest = refl
+entered_is (place Locate) rest = refl
+entered_is (place Hex) rest = refl
 
-entered_fine : (action : Action) (rest : List Text) → level_fault (leaf_of action) [] nothing_held rest false [] ≡ [] → entered_fault plm_built (Some (name_of_action action, rest)) ≡ []
-entered_fine Run rest fine = fine
-entered_fine Interpret rest fine = fine
+entered_fine : (verb : Verb) (rest : List Text) → level_fault (leaf_of verb) [] nothing_held rest false [] ≡ [] → entered_fault plm_built (Some (name_of verb, rest)) ≡ []
+entered_fine (program Run) rest fine = fine
+entered_fine (program Interpret) rest fine = fine
+entered_fine link rest fine = fine
+entered_fine (place Locate) rest fine = fine
+entered_fine (place Hex) rest fine = fine
 
 top_level : (s : Shape) (names : Names) (words : List Text) (inside : Option (Text × List Text) → Bool) (below : Option (Text × List Text) → Kinds) (end : Walk)
     → walk_fault s names (walk_from nothing_held) words ≡ [] → walk s.rules names nothing_held words ≡ end → below end.stopped ≡ [] → settle_fault s.rules s.args_override_self end.held ≡ []
@@ -234,64 +247,73 @@ top_level : (s : Shape) (names : Names) (words : List Text) (inside : Option (Te
     → (let stop = (walk s.rules names nothing_held words).stopped in level_fault s names nothing_held words (inside stop) (below stop)) ≡ []
 top_level s names words inside below end fine is under settle defaults check = rw (fine, is, under, settle, defaults) check
 
-pub line_fine : (name : Text) (action : Action) (rest : List Text) → level_fault (leaf_of action) [] nothing_held rest false [] ≡ []
-    → fault_of plm_app (name ∷ name_of_action action ∷ rest) ≡ []
+pub line_fine : (name : Text) (verb : Verb) (rest : List Text) → level_fault (leaf_of verb) [] nothing_held rest false [] ≡ []
+    → fault_of plm_app (name ∷ name_of verb ∷ rest) ≡ []
 unfolding defaults_fault
-line_fine name action rest fine =
-    top_level top_built (names_of plm_built) (name_of_action action ∷ rest) (λ stop. is_some (entered plm_built stop)) (entered_fault plm_built)
-    (record (walk_from nothing_held) { stopped = Some (name_of_action action, rest) }) (command_fault action rest) (command_walk action rest) (entered_fine action rest fine) refl refl
-    (rw (entered_is action rest) refl)
+line_fine name verb rest fine =
+    top_level top_built (names_of plm_built) (name_of verb ∷ rest) (λ stop. is_some (entered plm_built stop)) (entered_fault plm_built)
+    (record (walk_from nothing_held) { stopped = Some (name_of verb, rest) }) (command_fault verb rest) (command_walk verb rest) (entered_fine verb rest fine) refl refl
+    (rw (entered_is verb rest) refl)
 
-pub line_wanted : (name : Text) (action : Action) (rest : List Text) (wanted : Wanted) → wanted_of action (rows_after rules [] rest) ≡ wanted
-    → wanted_by (name ∷ name_of_action action ∷ rest) ≡ Some wanted
-line_wanted name action rest wanted gives =
-    ap (λ (w : Walk). option_and_then wanted_of_match (entered plm_built w.stopped)) (command_walk action rest) ∙ ap (option_and_then wanted_of_match) (entered_is action rest)
-    ∙ named action ∙ ap Some gives
+wanted_named : (verb : Verb) (rest : List Text) → wanted_of_match (rows_at (leaf_of verb) rest) ≡ Some (wanted_of verb (rows_after (rules (form_of verb)) [] rest))
+wanted_named (program Run) rest = refl
+wanted_named (program Interpret) rest = refl
+wanted_named link rest = refl
+wanted_named (place Locate) rest = refl
+wanted_named (place Hex) rest = refl
+
+pub line_wanted : (name : Text) (verb : Verb) (rest : List Text) (wanted : Wanted) → wanted_of verb (rows_after (rules (form_of verb)) [] rest) ≡ wanted
+    → wanted_by (name ∷ name_of verb ∷ rest) ≡ Some wanted
+line_wanted name verb rest wanted gives =
+    ap (λ (w : Walk). option_and_then wanted_of_match (entered plm_built w.stopped)) (command_walk verb rest) ∙ ap (option_and_then wanted_of_match) (entered_is verb rest)
+    ∙ wanted_named verb rest ∙ ap Some gives
+
+-- a level without a fault gives a file
+abbrev HasFile : Shape → Type 0
+HasFile s = (rest : List Text) (wanted : Wanted) → level_fault s [] nothing_held rest false [] ≡ [] → wanted_of_match (rows_at s rest) ≡ Some wanted → 0 < length (files_in wanted)
+
+same_wanted : (x y : Wanted) → Some x ≡ Some y → x ≡ y
+same_wanted x y e = cc
+
+verb_has_file : (verb : Verb) → HasFile (leaf_of verb)
+verb_has_file verb rest wanted fine found =
+    let is = same_wanted (wanted_of verb (rows_after (rules (form_of verb)) [] rest)) wanted (sym (wanted_named verb rest) ∙ found) in
+    subst (λ (w : Wanted). 0 < length (files_in w)) is (has_file verb (some_file (form_of verb) (name_of verb) rest fine))
   where
-    named : (action : Action) → wanted_of_match (rows_at (leaf_of action) rest) ≡ Some (wanted_of action (rows_after rules [] rest))
-    named Run = refl
-    named Interpret = refl
+    has_file : (v : Verb) → 0 < length (files_of (rows_after (rules (form_of v)) [] rest)) → 0 < length (files_in (wanted_of v (rows_after (rules (form_of v)) [] rest)))
+    has_file (program action) some = some
+    has_file link some = some
+    has_file (place action) some = some
 
-run_files : (name : Text) (rows : List Row) (wanted : Wanted) → name ≡ codes "run" → wanted_of_match (name, rows) ≡ Some wanted
-    → unwrap_or (all_of (codes "SOURCE") rows) [] ≡ wanted.files
-run_files name rows wanted e found =
-    let same : Some (wanted_of Run rows) ≡ Some wanted = rw e at found in
-    let is : wanted_of Run rows ≡ wanted = cc in
-    ap (λ (w : Wanted). w.files) is
+all_have_files : (name : Text) → bytes_eq name (codes "help") ≡ false → AllByRecursion (λ s. answers_to name (label_of s) ≡ true → HasFile s) plm_built.subs
+all_have_files name other = (
+  λ e. verb_has_file (program Run),
+  (
+    λ e. verb_has_file (program Interpret),
+    (
+      λ e. verb_has_file link,
+      (
+        λ e. verb_has_file (place Locate),
+        (λ e. verb_has_file (place Hex), (λ e rest wanted fine found. absurd (help_named name e other), tt)),
+      ),
+    ),
+  ),
+)
 
-interpret_files : (name : Text) (rows : List Row) (wanted : Wanted) → name ≡ codes "interpret" → wanted_of_match (name, rows) ≡ Some wanted
-    → unwrap_or (all_of (codes "SOURCE") rows) [] ≡ wanted.files
-interpret_files name rows wanted e found =
-    let same : Some (wanted_of Interpret rows) ≡ Some wanted = rw e at found in
-    let is : wanted_of Interpret rows ≡ wanted = cc in
-    ap (λ (w : Wanted). w.files) is
-
--- what a level without a fault gives SOURCE
-abbrev HasSource : Shape → List Text → Type 0
-HasSource s rest = level_fault s [] nothing_held rest false [] ≡ [] → 0 < length (unwrap_or (all_of (codes "SOURCE") (rows_at s rest).1) [])
-
-files_of_one : (x y z : Shape) (name : Text) (rest : List Text) (wanted : Wanted) (o : Option Shape) → x.name ≡ codes "run" → y.name ≡ codes "interpret"
-    → z.name ≡ codes "help" → z.aliases ≡ [] → HasSource x rest → HasSource y rest → AmongThree (λ s. answers_to name (label_of s)) x y z o → bytes_eq name (codes "help") ≡ false
-    → option_map_or (λ s. level_fault s [] nothing_held rest false []) o [] ≡ []
-    → option_and_then wanted_of_match (option_map (λ s. rows_at s rest) o) ≡ Some wanted → 0 < length wanted.files
-files_of_one x y z name rest wanted _ is_run is_interpret is_help no_alias by_run by_interpret first other below found =
-    subst (λ (files : List Text). 0 < length files) (run_files x.name (rows_at x rest).1 wanted is_run found) (by_run below)
-files_of_one x y z name rest wanted _ is_run is_interpret is_help no_alias by_run by_interpret second other below found =
-    subst (λ (files : List Text). 0 < length files) (interpret_files y.name (rows_at y rest).1 wanted is_interpret found) (by_interpret below)
-files_of_one x y z name rest wanted _ is_run is_interpret is_help no_alias by_run by_interpret (third e) other below found =
-    absurd (help_named name (rw (is_help, no_alias) at e) other)
-files_of_one x y z name rest wanted _ is_run is_interpret is_help no_alias by_run by_interpret none other below found = cc
+files_of_one : (rest : List Text) (wanted : Wanted) (o : Option Shape) → IfFound HasFile o → option_map_or (λ s. level_fault s [] nothing_held rest false []) o [] ≡ []
+    → option_and_then wanted_of_match (option_map (λ s. rows_at s rest) o) ≡ Some wanted → 0 < length (files_in wanted)
+files_of_one rest wanted None has below found = cc
+files_of_one rest wanted (Some s) has below found = has rest wanted below found
 
 entered_files : (stop : Option (Text × List Text)) (wanted : Wanted) → IsNoHelp stop → entered_fault plm_built stop ≡ []
-    → option_and_then wanted_of_match (entered plm_built stop) ≡ Some wanted → 0 < length wanted.files
+    → option_and_then wanted_of_match (entered plm_built stop) ≡ Some wanted → 0 < length (files_in wanted)
 entered_files None wanted other below found = cc
 entered_files (Some (name, rest)) wanted other below found =
-    files_of_one run_built interpret_built help_built name rest wanted (find (λ s. answers_to name (label_of s)) plm_built.subs) refl refl refl refl
-    (some_source (codes "run") rest) (some_source (codes "interpret") rest)
-    (find_three (λ s. answers_to name (label_of s)) run_built interpret_built help_built) other below found
+    files_of_one rest wanted (find (λ s. answers_to name (label_of s)) plm_built.subs)
+    (found_has HasFile (λ s. answers_to name (label_of s)) plm_built.subs (all_have_files name other)) below found
 
--- words without a fault give a source
-pub some_files : (words : List Text) (wanted : Wanted) → fault_of plm_app words ≡ [] → wanted_by words ≡ Some wanted → 0 < length wanted.files
+-- words without a fault give a file
+pub some_files : (words : List Text) (wanted : Wanted) → fault_of plm_app words ≡ [] → wanted_by words ≡ Some wanted → 0 < length (files_in wanted)
 some_files words wanted fine found =
     let given = drop 1 words in
     let end = walk top_built.rules (names_of plm_built) nothing_held given in

@@ -13,11 +13,18 @@ use Rattle.clap.specs.declared.builder.action.ArgAction.TheVariants.{Append, Set
 use Rattle.clap.specs.declared.error.ErrorKind.TheVariants.{DisplayHelp}
 use Rattle.failure.specs.declared.Failure.{Failure}
 use Rattle.failure.specs.declared.Failure.TheVariants.{Memory}
-use Rattle.command_line.specs.declared.reading.Action.{Action}
-use Rattle.command_line.specs.declared.reading.Action.TheVariants.{Run, Interpret}
+use Rattle.command_line.specs.declared.orders.Action.{Action}
+use Rattle.command_line.specs.declared.orders.Action.TheVariants.{Run, Interpret}
+use Rattle.command_line.specs.declared.orders.PlaceAction.{PlaceAction}
+use Rattle.command_line.specs.declared.orders.PlaceAction.TheVariants.{Locate, Hex}
+use Rattle.command_line.specs.declared.orders.LinkOrder.{LinkOrder}
+use Rattle.command_line.specs.declared.orders.Order.{Order}
+use Rattle.command_line.specs.declared.orders.Order.TheVariants.{Link, Place, Program}
+use Rattle.command_line.specs.declared.orders.PlaceOrder.{PlaceOrder}
+use Rattle.command_line.specs.declared.orders.PlanTexts.{PlanTexts}
+use Rattle.command_line.specs.declared.orders.ProgramOrder.{ProgramOrder}
 use Rattle.command_line.specs.declared.reading.LineFault.{LineFault}
 use Rattle.command_line.specs.declared.reading.LineFault.TheVariants.{Help, Wrong}
-use Rattle.command_line.specs.declared.reading.Order.{Order}
 
 -- the option `--name VALUE`
 abbrev pub option_rule : Text → Rule
@@ -31,9 +38,13 @@ default_rule name text = record (option_rule name) { defaults = text ∷ [] }
 abbrev pub map_rule : Rule
 map_rule = record (new_rule (codes "map")) { long = Some (codes "map"); action = Some SetTrue }
 
--- the arguments SOURCE, of which one at least has to be there
-abbrev pub source_rule : Rule
-source_rule = record (new_rule (codes "SOURCE")) { required = true; action = Some Append }
+-- the option `--out FILE`, which has to be there
+abbrev pub out_rule : Rule
+out_rule = record (option_rule (codes "out")) { required = true }
+
+-- the files, of which one at least has to be there
+abbrev pub files_rule : Rule
+files_rule = record (new_rule (codes "FILES")) { required = true; action = Some Append; value_names = 1 }
 
 -- a command with the options of a plan
 abbrev pub with_plan : App → App
@@ -44,46 +55,82 @@ with_plan app =
     (default_rule (codes "stack") (codes "61440")))
     (default_rule (codes "stack-size") (codes "1024"))
 
--- a command with the options of a run, and with its sources
+-- a command with the options of a run
 abbrev pub with_run : App → App
 with_run app =
-    with_rule (with_rule (with_rule (with_rule app
+    with_rule (with_rule (with_rule app
     (default_rule (codes "limit") (codes "10000000")))
     (option_rule (codes "input")))
-    map_rule)
-    source_rule
+    map_rule
 
 -- the command `name [plan] [--limit N] [--input T] [--map] SOURCE...`
-abbrev pub command_app : Text → App
-command_app name = with_run (with_plan (new_app name))
+abbrev pub program_app : Text → App
+program_app name = with_rule (with_run (with_plan (new_app name))) files_rule
+
+-- the command `name --out FILE OBJECT...`
+abbrev pub link_app : Text → App
+link_app name = with_rule (with_rule (new_app name) out_rule) files_rule
+
+-- the command `name [plan] FILE...`, which asks for one file when it is carried out
+abbrev pub place_app : Text → App
+place_app name = with_rule (with_plan (new_app name)) files_rule
 
 -- the program, which has to have a command
 abbrev pub bare_app : App
 bare_app = record { top = record (new_app (codes "plm")).top { subcommand_required = true }; subs = [] }
 
+-- the program with the commands that build sources
+abbrev pub programs_app : App
+programs_app =
+    with_subcommand (with_subcommand bare_app (program_app (codes "run")).top)
+    (program_app (codes "interpret")).top
+
 -- the program `plm` with its commands
 abbrev pub plm_app : App
 plm_app =
-    with_subcommand (with_subcommand bare_app (command_app (codes "run")).top)
-    (command_app (codes "interpret")).top
+    with_subcommand (with_subcommand (with_subcommand programs_app
+    (link_app (codes "link")).top)
+    (place_app (codes "locate")).top)
+    (place_app (codes "hex")).top
 
--- what the words give, as texts
-pub record Wanted : Type 0 where
-  pub action : Action
-  pub files : List Text
+-- the texts of the options of a plan
+pub record PlanWanted : Type 0 where
   pub code : Text
   pub data_base : Text
   pub stack : Text
   pub stack_size : Text
+
+-- what is wanted of sources
+pub record ProgramWanted : Type 0 where
+  pub action : Action
+  pub files : List Text
+  pub plan : PlanWanted
   pub limit : Text
   pub input : Option Text
   pub map : Bool
 
--- the command of this name
-abbrev pub action_named : Text → Option Action
-action_named name =
-    if bytes_eq name (codes "run") then Some Run
-    else (if bytes_eq name (codes "interpret") then Some Interpret else None)
+-- the objects to be linked, and the file to which the merge goes
+pub record LinkWanted : Type 0 where
+  pub out : Text
+  pub objects : List Text
+
+-- what is wanted of an object that is placed
+pub record PlaceWanted : Type 0 where
+  pub action : PlaceAction
+  pub files : List Text
+  pub plan : PlanWanted
+
+-- what the words want, as texts
+pub data Wanted : Type 0 where
+  wants_program : ProgramWanted → Wanted
+  wants_link : LinkWanted → Wanted
+  wants_place : PlaceWanted → Wanted
+
+-- the files that are read
+abbrev pub files_in : Wanted → List Text
+files_in (wants_program wanted) = wanted.files
+files_in (wants_link wanted) = wanted.objects
+files_in (wants_place wanted) = wanted.files
 
 -- the text of an option that has a default
 abbrev pub text_of : Text → List Row → Text
@@ -93,41 +140,79 @@ text_of name rows = unwrap_or (first_of name rows) []
 abbrev pub is_set : Text → List Row → Bool
 is_set name rows = option_map_or (λ text. bytes_eq text (codes "true")) (first_of name rows) false
 
--- what a command with these matches wants
-abbrev pub wanted_of : Action → List Row → Wanted
-wanted_of action rows = record {
-  action = action;
-  files = unwrap_or (all_of (codes "SOURCE") rows) [];
+-- the files of a command
+abbrev pub files_of : List Row → List Text
+files_of rows = unwrap_or (all_of (codes "FILES") rows) []
+
+-- the plan of a command
+abbrev pub plan_of : List Row → PlanWanted
+plan_of rows = record {
   code = text_of (codes "code") rows;
   data_base = text_of (codes "data") rows;
   stack = text_of (codes "stack") rows;
   stack_size = text_of (codes "stack-size") rows;
+}
+
+-- what a command with these matches wants
+abbrev pub program_of : Action → List Row → ProgramWanted
+program_of action rows = record {
+  action = action;
+  files = files_of rows;
+  plan = plan_of rows;
   limit = text_of (codes "limit") rows;
   input = first_of (codes "input") rows;
   map = is_set (codes "map") rows;
 }
 
+abbrev pub link_of : List Row → LinkWanted
+link_of rows = record { out = text_of (codes "out") rows; objects = files_of rows }
+
+abbrev pub place_of : PlaceAction → List Row → PlaceWanted
+place_of action rows = record { action = action; files = files_of rows; plan = plan_of rows }
+
 -- the same of a command's name and matches
 abbrev pub wanted_of_match : Text × List Row → Option Wanted
-wanted_of_match (name, rows) = option_map (λ action. wanted_of action rows) (action_named name)
+wanted_of_match (name, rows) =
+    if bytes_eq name (codes "run") then Some (wants_program (program_of Run rows))
+    else (if bytes_eq name (codes "interpret") then Some (wants_program (program_of Interpret rows))
+    else (if bytes_eq name (codes "link") then Some (wants_link (link_of rows))
+    else (if bytes_eq name (codes "locate") then Some (wants_place (place_of Locate rows))
+    else (if bytes_eq name (codes "hex") then Some (wants_place (place_of Hex rows)) else None))))
 
 -- what the words, with the program's name in front, want
 abbrev pub wanted_by : List Text → Option Wanted
 wanted_by words = option_and_then wanted_of_match (subcommand_of plm_app words)
 
--- what an order holds
-abbrev pub wanted_in : Order → Wanted
-wanted_in order = record {
+-- what orders hold
+abbrev pub plan_in : PlanTexts → PlanWanted
+plan_in plan = record {
+  code = plan.code.now;
+  data_base = plan.data_base.now;
+  stack = plan.stack.now;
+  stack_size = plan.stack_size.now;
+}
+
+abbrev pub program_in : ProgramOrder → ProgramWanted
+program_in order = record {
   action = order.action;
   files = texts order.files.items;
-  code = order.code.now;
-  data_base = order.data_base.now;
-  stack = order.stack.now;
-  stack_size = order.stack_size.now;
+  plan = plan_in order.plan;
   limit = order.limit.now;
   input = option_map (λ text. text.now) order.input;
   map = order.map;
 }
+
+abbrev pub link_in : LinkOrder → LinkWanted
+link_in order = record { out = order.out.now; objects = texts order.objects.items }
+
+abbrev pub place_in : PlaceOrder → PlaceWanted
+place_in order =
+    record { action = order.action; files = texts order.files.items; plan = plan_in order.plan }
+
+abbrev pub wanted_in : Order → Wanted
+wanted_in (Program order) = wants_program (program_in order)
+wanted_in (Link order) = wants_link (link_in order)
+wanted_in (Place order) = wants_place (place_in order)
 
 -- the words give this order
 abbrev pub Orders : List Text → Order → Type 0
@@ -138,60 +223,83 @@ abbrev pub name_of_action : Action → Text
 name_of_action Run = codes "run"
 name_of_action Interpret = codes "interpret"
 
+abbrev pub name_of_place_action : PlaceAction → Text
+name_of_place_action Locate = codes "locate"
+name_of_place_action Hex = codes "hex"
+
 -- a word that is no option: it doesn't begin with a hyphen (45)
 abbrev pub IsBare : Text → Type 0
 IsBare word = strip_byte 45 word ≡ None
 
--- what a command wants with these files, where no option is given
-abbrev pub usual : Action → List Text → Wanted
-usual action files = record {
-  action = action;
-  files = files;
+-- the plan where no option is given
+abbrev pub usual_plan : PlanWanted
+usual_plan = record {
   code = codes "256";
   data_base = codes "16384";
   stack = codes "61440";
   stack_size = codes "1024";
+}
+
+-- what a command wants with these files, where no option is given
+abbrev pub usual : Action → List Text → ProgramWanted
+usual action files = record {
+  action = action;
+  files = files;
+  plan = usual_plan;
   limit = codes "10000000";
   input = None;
   map = false;
 }
 
+abbrev pub usual_place : PlaceAction → List Text → PlaceWanted
+usual_place action files = record { action = action; files = files; plan = usual_plan }
+
+-- the options of a plan
+pub data PlanOption : Type 0 where
+  Code : PlanOption
+  DataBase : PlanOption
+  Stack : PlanOption
+  StackSize : PlanOption
+
 -- the options with a value
 pub data ValueOption : Type 0 where
-  Code : ValueOption
-  DataBase : ValueOption
-  Stack : ValueOption
-  StackSize : ValueOption
+  OfPlan : PlanOption → ValueOption
   Limit : ValueOption
   Input : ValueOption
 
 -- the name of an option
+abbrev pub plan_option_name : PlanOption → Text
+plan_option_name Code = codes "code"
+plan_option_name DataBase = codes "data"
+plan_option_name Stack = codes "stack"
+plan_option_name StackSize = codes "stack-size"
+
 abbrev pub option_name : ValueOption → Text
-option_name Code = codes "code"
-option_name DataBase = codes "data"
-option_name Stack = codes "stack"
-option_name StackSize = codes "stack-size"
+option_name (OfPlan option) = plan_option_name option
 option_name Limit = codes "limit"
 option_name Input = codes "input"
 
 -- what is wanted, with the text of an option
-abbrev pub with_text : ValueOption → Text → Wanted → Wanted
-with_text Code text wanted = record wanted { code = text }
-with_text DataBase text wanted = record wanted { data_base = text }
-with_text Stack text wanted = record wanted { stack = text }
-with_text StackSize text wanted = record wanted { stack_size = text }
+abbrev pub with_plan_text : PlanOption → Text → PlanWanted → PlanWanted
+with_plan_text Code text plan = record plan { code = text }
+with_plan_text DataBase text plan = record plan { data_base = text }
+with_plan_text Stack text plan = record plan { stack = text }
+with_plan_text StackSize text plan = record plan { stack_size = text }
+
+abbrev pub with_text : ValueOption → Text → ProgramWanted → ProgramWanted
+with_text (OfPlan option) text wanted = record wanted { plan = with_plan_text option text wanted.plan }
 with_text Limit text wanted = record wanted { limit = text }
 with_text Input text wanted = record wanted { input = Some text }
 
 -- the words are a program's name, a command, and then these words and bare files, one at least
-pub record Gives (words : List Text) (name : Text) (action : Action) (first files : List Text) : Type 0 where
-  pub words_are : words ≡ name ∷ name_of_action action ∷ (first ++ files)
+pub record Gives (words : List Text) (name command : Text) (first files : List Text) : Type 0 where
+  pub words_are : words ≡ name ∷ command ∷ (first ++ files)
   pub bare : AllByRecursion IsBare files
   pub some : 0 < length files
 
 -- an option with its text, as two words
-abbrev pub option_words : ValueOption → Text → List Text
-option_words option text = (45 ∷ 45 ∷ option_name option) ∷ text ∷ []
+abbrev pub option_words : Text → Text → List Text
+option_words option text = (45 ∷ 45 ∷ option) ∷ text ∷ []
 
 -- the answer is the order that is wanted, unless memory ran out
 abbrev pub IsOrderOf : Wanted → Result Order (Failure LineFault) → Type 0
@@ -200,20 +308,44 @@ IsOrderOf wanted answer = MatchResult answer (λ order. wanted_in order ≡ want
 -- a command with bare files alone wants these
 abbrev pub OrdersFiles : List Text → Result Order (Failure LineFault) → Type 0
 OrdersFiles words answer = (name : Text) (action : Action) (files : List Text)
-    → Gives words name action [] files → IsOrderOf (usual action files) answer
+    → Gives words name (name_of_action action) [] files
+    → IsOrderOf (wants_program (usual action files)) answer
 
 -- with an option before them, it wants its text too
 abbrev pub OrdersText : List Text → Result Order (Failure LineFault) → Type 0
 OrdersText words answer = (name : Text) (action : Action) (files : List Text) (option : ValueOption) (text : Text)
     → IsBare text
-    → Gives words name action (option_words option text) files
-    → IsOrderOf (with_text option text (usual action files)) answer
+    → Gives words name (name_of_action action) (option_words (option_name option) text) files
+    → IsOrderOf (wants_program (with_text option text (usual action files))) answer
 
 -- with the flag before them, it wants a map too
 abbrev pub OrdersMap : List Text → Result Order (Failure LineFault) → Type 0
 OrdersMap words answer = (name : Text) (action : Action) (files : List Text)
-    → Gives words name action (codes "--map" ∷ []) files
-    → IsOrderOf (record (usual action files) { map = true }) answer
+    → Gives words name (name_of_action action) (codes "--map" ∷ []) files
+    → IsOrderOf (wants_program (record (usual action files) { map = true })) answer
+
+-- `link --out FILE` with bare files wants their merge in that file
+abbrev pub OrdersLink : List Text → Result Order (Failure LineFault) → Type 0
+OrdersLink words answer = (name out : Text) (files : List Text)
+    → IsBare out
+    → Gives words name (codes "link") (option_words (codes "out") out) files
+    → IsOrderOf (wants_link (record { out = out; objects = files })) answer
+
+-- a command that places an object, with bare files alone
+abbrev pub OrdersPlace : List Text → Result Order (Failure LineFault) → Type 0
+OrdersPlace words answer = (name : Text) (action : PlaceAction) (files : List Text)
+    → Gives words name (name_of_place_action action) [] files
+    → IsOrderOf (wants_place (usual_place action files)) answer
+
+-- with an option before them, it wants its text too
+abbrev pub OrdersPlaceText : List Text → Result Order (Failure LineFault) → Type 0
+OrdersPlaceText words answer =
+    (name : Text) (action : PlaceAction) (files : List Text) (option : PlanOption) (text : Text)
+    → IsBare text
+    → Gives words name (name_of_place_action action) (option_words (plan_option_name option) text) files
+    → IsOrderOf (wants_place (record (usual_place action files) {
+      plan = with_plan_text option text usual_plan;
+    })) answer
 
 -- a fault has one of the kinds that `clap` finds in the words, where Help stands for that of help alone
 abbrev pub IsFaultOf : Kinds → LineFault → Type 0

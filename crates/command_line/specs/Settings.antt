@@ -7,7 +7,7 @@ use Rattle.std.specs.Str.Parse.{digits_value}
 use Rattle.clap.specs.Words.{Text}
 use Rattle.failure.specs.declared.Failure.{Failure}
 use Rattle.failure.specs.declared.Failure.TheVariants.{Fault, Memory}
-use Rattle.command_line.specs.Command.{Wanted}
+use Rattle.command_line.specs.Command.{PlanWanted, ProgramWanted}
 use Rattle.command_line.specs.declared.values.InputByte.{InputByte}
 use Rattle.command_line.specs.declared.values.Plan.{Plan}
 use Rattle.command_line.specs.declared.values.Settings.{Settings}
@@ -84,8 +84,8 @@ pub record Values : Type 0 where
   pub limit : ℕ
   pub input : List InputByte
 
--- the plan of what is wanted
-abbrev pub plan_read : Wanted → Read Plan
+-- the plan that texts write
+abbrev pub plan_read : PlanWanted → Read Plan
 plan_read wanted = do
   code ← plan_number wanted.code
   data_base ← plan_number wanted.data_base
@@ -94,12 +94,18 @@ plan_read wanted = do
   Ok (record { code = code; data_base = data_base; stack = stack; stack_size = stack_size })
 
 -- the values of what is wanted, or the first text that is no value
-abbrev pub values_read : Wanted → Read Values
+abbrev pub values_read : ProgramWanted → Read Values
 values_read wanted = do
-  plan ← plan_read wanted
+  plan ← plan_read wanted.plan
   limit ← limit_number wanted.limit
   input ← input_read wanted.input
   Ok (record { plan = plan; limit = limit; input = input })
+
+-- the file, where there is one alone: a second one is refused
+abbrev pub only_file : List Text → Read Text
+only_file [] = Err []
+only_file (file ∷ []) = Ok file
+only_file (file ∷ second ∷ more) = Err second
 
 -- what settings hold
 abbrev pub values_in : Settings → Values

@@ -4,23 +4,16 @@ ghost use Rattle.std.specs.Prelude.{◌≡◌, IfOk, codes, false};
 ghost use Rattle.clap.specs.Words.{app_of, rule_of, with_rule, with_subcommand};
 ghost use Rattle.clap.specs.declared.builder.command.Command.TheViews.{out-Command};
 ghost use Rattle.command_line.specs.internal.Building.{KeepsGlobals};
-ghost use Rattle.command_line.specs.Command.{bare_app, command_app, default_rule, map_rule};
-ghost use Rattle.command_line.specs.Command.{option_rule, plm_app, source_rule, with_plan, with_run};
+ghost use Rattle.clap.specs.Words.{new_app};
+ghost use Rattle.command_line.specs.Command.{bare_app, default_rule, files_rule, link_app, map_rule};
+ghost use Rattle.command_line.specs.Command.{option_rule, out_rule, place_app, plm_app, program_app};
+ghost use Rattle.command_line.specs.Command.{programs_app, with_plan, with_run};
 
 use crate::help::{
-    ABOUT, ABOUT_INTERPRET, ABOUT_RUN, EXAMPLE, INTERPRET_LIMIT, PRINTED_BY_INTERPRET,
-    PRINTED_BY_RUN, RUN_LIMIT,
+    ABOUT, EXAMPLE, HEX, INTERPRET, INTERPRET_LIMIT, LINK, LOCATE, RUN, RUN_LIMIT, Teaching,
 };
 use clap::{Arg, ArgAction, Command};
 use std::alloc::{AllocError, Global};
-
-// What help says of a command.
-#[derive(Clone, Copy)]
-struct Teaching {
-    about: &'static str,
-    printed: &'static str,
-    limit: &'static str,
-}
 
 // The option `--name VALUE`, by the name of its value in help and its line there.
 fn option<'a>(alloc: Global, name: &'a str, value: &'a str, help: &'a str) -> Arg<'a>
@@ -107,7 +100,7 @@ fn add_plan<'a>(alloc: Global, command: Command<'a>) -> Result<Command<'a>, Allo
     Ok(planned)
 }
 
-// The command with the options of a run, and with its sources.
+// The command with the options of a run.
 fn add_run<'a>(
     alloc: Global,
     command: Command<'a>,
@@ -125,8 +118,7 @@ fn add_run<'a>(
     );
     let with_limit = add(command, limit)?;
     let with_input = add(with_limit, input)?;
-    let with_map = add(with_input, map(alloc))?;
-    let whole = add(with_map, source(alloc))?;
+    let whole = add(with_input, map(alloc))?;
     Ok(whole)
 }
 
@@ -141,27 +133,72 @@ fn map<'a>(alloc: Global) -> Arg<'a>
         .help("Print where each object lies, before all else")
 }
 
-// The arguments SOURCE.
-fn source<'a>(alloc: Global) -> Arg<'a>
-    ensures rule { rule_of result ≡ source_rule }
+// The option `--out`, which has to be there.
+fn out<'a>(alloc: Global) -> Arg<'a>
+    ensures rule { rule_of result ≡ out_rule }
     ensures local { result.global ≡ false }
 {
-    Arg::new(alloc, "SOURCE")
-        .required(true)
-        .action(ArgAction::Append)
-        .help("The files with the sources")
+    option(alloc, "out", "FILE", "The file to write").required(true)
 }
 
-// A command by its name and what help says of it.
-fn leaf<'a>(alloc: Global, name: &'a str, teaching: Teaching) -> Result<Command<'a>, AllocError>
-    ensures app { IfOk result (λ command. app_of command ≡ command_app name.entry.now) }
+// The files, by the name of each in help and its line there.
+fn files<'a>(alloc: Global, value: &'a str, help: &'a str) -> Arg<'a>
+    ensures rule { rule_of result ≡ files_rule }
+    ensures local { result.global ≡ false }
+{
+    Arg::new(alloc, "FILES")
+        .value_name(value)
+        .required(true)
+        .action(ArgAction::Append)
+        .help(help)
+}
+
+// A command by its name and what help says of it, before any argument.
+fn named<'a>(alloc: Global, name: &'a str, teaching: Teaching) -> Command<'a>
+    ensures app { app_of result ≡ new_app name.entry.now }
+    ensures globals { (out-Command result).has_globals ≡ false }
+{
+    Command::new(alloc, name)
+        .about(teaching.about)
+        .after_help(teaching.printed)
+}
+
+// A command that builds sources.
+fn program<'a>(
+    alloc: Global,
+    name: &'a str,
+    teaching: Teaching,
+    limit_help: &'a str,
+) -> Result<Command<'a>, AllocError>
+    ensures app { IfOk result (λ command. app_of command ≡ program_app name.entry.now) }
     ensures globals { IfOk result (λ command. (out-Command command).has_globals ≡ false) }
 {
-    let named = Command::new(alloc, name)
-        .about(teaching.about)
-        .after_help(teaching.printed);
-    let planned = add_plan(alloc, named)?;
-    let whole = add_run(alloc, planned, teaching.limit)?;
+    let planned = add_plan(alloc, named(alloc, name, teaching))?;
+    let limited = add_run(alloc, planned, limit_help)?;
+    let sources = files(alloc, "SOURCE", "The files with the sources");
+    let whole = add(limited, sources)?;
+    Ok(whole)
+}
+
+// The command that links object files.
+fn link<'a>(alloc: Global) -> Result<Command<'a>, AllocError>
+    ensures app { IfOk result (λ command. app_of command ≡ link_app (codes "link")) }
+    ensures globals { IfOk result (λ command. (out-Command command).has_globals ≡ false) }
+{
+    let objects = files(alloc, "OBJECT", "The object files, in their order");
+    let with_out = add(named(alloc, "link", LINK), out(alloc))?;
+    let whole = add(with_out, objects)?;
+    Ok(whole)
+}
+
+// A command that places an object file.
+fn place<'a>(alloc: Global, name: &'a str, teaching: Teaching) -> Result<Command<'a>, AllocError>
+    ensures app { IfOk result (λ command. app_of command ≡ place_app name.entry.now) }
+    ensures globals { IfOk result (λ command. (out-Command command).has_globals ≡ false) }
+{
+    let planned = add_plan(alloc, named(alloc, name, teaching))?;
+    let file = files(alloc, "FILE", "The object file");
+    let whole = add(planned, file)?;
     Ok(whole)
 }
 
@@ -174,30 +211,28 @@ fn bare_command<'a>(alloc: Global) -> Result<Command<'a>, AllocError>
     Ok(taught.subcommand_required(true))
 }
 
-// The program `plm` with its commands.
+// The program with the commands that build sources.
+fn with_programs<'a>(alloc: Global) -> Result<Command<'a>, AllocError>
+    ensures { IfOk result (λ command. app_of command ≡ programs_app) }
+{
+    let run = program(alloc, "run", RUN, RUN_LIMIT)?;
+    let interpret = program(alloc, "interpret", INTERPRET, INTERPRET_LIMIT)?;
+    let bare = bare_command(alloc)?;
+    let with_run = add_leaf(bare, run)?;
+    let whole = add_leaf(with_run, interpret)?;
+    Ok(whole)
+}
+
+/// The program `plm` with its commands.
 pub(crate) fn plm_command<'a>(alloc: Global) -> Result<Command<'a>, AllocError>
     ensures { IfOk result (λ command. app_of command ≡ plm_app) }
 {
-    let run = leaf(
-        alloc,
-        "run",
-        Teaching {
-            about: ABOUT_RUN,
-            printed: PRINTED_BY_RUN,
-            limit: RUN_LIMIT,
-        },
-    )?;
-    let interpret = leaf(
-        alloc,
-        "interpret",
-        Teaching {
-            about: ABOUT_INTERPRET,
-            printed: PRINTED_BY_INTERPRET,
-            limit: INTERPRET_LIMIT,
-        },
-    )?;
-    let bare = bare_command(alloc)?;
-    let with_run = add_leaf(bare, run)?;
-    let plm = add_leaf(with_run, interpret)?;
+    let link = link(alloc)?;
+    let locate = place(alloc, "locate", LOCATE)?;
+    let hex = place(alloc, "hex", HEX)?;
+    let programs = with_programs(alloc)?;
+    let with_link = add_leaf(programs, link)?;
+    let with_locate = add_leaf(with_link, locate)?;
+    let plm = add_leaf(with_locate, hex)?;
     Ok(plm)
 }

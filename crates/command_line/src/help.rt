@@ -1,7 +1,15 @@
 //! What `plm --help` prints, beside the lines that `clap` makes of the arguments.
 
-pub(crate) const ABOUT: &str =
-    "Builds PL/M-80 sources, and runs their image on a simulated 8080 or interprets them";
+/// What help says of a command: what it does, and what it prints and answers.
+#[derive(Clone, Copy)]
+pub(crate) struct Teaching {
+    pub(crate) about: &'static str,
+    pub(crate) printed: &'static str,
+}
+
+pub(crate) const ABOUT: &str = "\
+Builds PL/M-80 sources, and runs their image on a simulated 8080 or interprets them;
+links object files, and places them in memory";
 
 pub(crate) const EXAMPLE: &str = "\
 A source is a module, as in this file of one line:
@@ -10,18 +18,37 @@ Both `plm run FILE` and `plm interpret FILE` print
   OUT 01 2A
   HALT";
 
-pub(crate) const ABOUT_RUN: &str =
-    "Builds sources to an image, places it in memory, and runs it on a simulated 8080";
+pub(crate) const RUN: Teaching = Teaching {
+    about: "Builds sources to an image, places it in memory, and runs it on a simulated 8080",
+    printed: PRINTED_BY_RUN,
+};
 
-pub(crate) const ABOUT_INTERPRET: &str =
-    "Builds sources, and carries out what they mean, with no machine";
+pub(crate) const INTERPRET: Teaching = Teaching {
+    about: "Builds sources, and carries out what they mean, with no machine",
+    printed: PRINTED_BY_INTERPRET,
+};
+
+pub(crate) const LINK: Teaching = Teaching {
+    about: "Merges object files to one",
+    printed: PRINTED_BY_LINK,
+};
+
+pub(crate) const LOCATE: Teaching = Teaching {
+    about: "Places an object file in memory, and prints where its parts lie",
+    printed: PRINTED_BY_LOCATE,
+};
+
+pub(crate) const HEX: Teaching = Teaching {
+    about: "Places an object file in memory, and prints its bytes as Intel HEX",
+    printed: PRINTED_BY_HEX,
+};
 
 pub(crate) const RUN_LIMIT: &str = "The most instructions that are run, to 1000000000000";
 
 pub(crate) const INTERPRET_LIMIT: &str =
     "The budget: the most calls, GOTOs and turns of loops, to 1000000000000";
 
-pub(crate) const PRINTED_BY_RUN: &str = "\
+const PRINTED_BY_RUN: &str = "\
 The sources are the modules of one program, with one main module.
 
 Prints a line for each byte at a port, and then how the run ended:
@@ -53,7 +80,7 @@ prints
   OUT 01 2A
   HALT";
 
-pub(crate) const PRINTED_BY_INTERPRET: &str = "\
+const PRINTED_BY_INTERPRET: &str = "\
 The sources are the modules of one program, with one main module.
 
 Prints a line for each byte at a port, and then how the program ended:
@@ -89,3 +116,68 @@ Example: a file with the line
 prints
   OUT 01 2A
   HALT";
+
+const PRINTED_BY_LINK: &str = "\
+One of the objects is a main module, and each external name of an object is a public name of
+another. Their order is the order of their code and data in the merged object.
+
+Prints nothing. The file is written once all objects were read and merged; until then it stays
+as it was. A write that fails leaves a beginning of the merged object, which no command takes
+for a whole one.
+
+Exit status:
+  0  the merged object was written, or help was asked for
+  1  an object or the merge was refused, memory ran out, or a file can't be read or written
+  2  the command line is wrong
+
+A refusal prints `number where 0` to standard error: the file of an object (O1 to O9), the name
+of a public that is there twice (L1) or of an external that none has (L2), or `-` (L3 to L5).
+
+Example: link two objects, and print the bytes of the program
+  plm link --out program.obj main.obj show.obj
+  plm hex program.obj";
+
+const PRINTED_BY_LOCATE: &str = "\
+The object is a main module without external names, such as `plm link` writes.
+
+Prints addresses as four hexadecimal digits, and numbers of bytes in decimal ones:
+  CODE aaaa n       where the code begins, and how many bytes it has
+  DATA aaaa n       the same of the data
+  STACK aaaa n      the same of the stack, as --stack and --stack-size say
+  START aaaa        where the program starts
+  PUBLIC name aaaa  a public name, in the order of the object
+
+Exit status:
+  0  all was printed, or help was asked for
+  1  the object or its place was refused, memory ran out, or a file can't be read
+  2  the command line is wrong, or a value in it
+
+A refused object prints `number file 0` to standard error, a refused place `number - 0`, and a
+refused value or a second file `U4 - 0`.
+
+Example: an object with nine bytes of code and a public name S at offset 4 prints
+  CODE 0100 9
+  DATA 4000 0
+  STACK F000 1024
+  START 0100
+  PUBLIC S 0104";
+
+const PRINTED_BY_HEX: &str = "\
+The object is a main module without external names, such as `plm link` writes.
+
+Prints a line for each 16 bytes, by rising addresses, and an end line:
+  :nnaaaa00bb..ss  nn bytes bb from address aaaa on, and a checksum
+  :00000001FF      the end
+
+Exit status:
+  0  all was printed, or help was asked for
+  1  the object or its place was refused, memory ran out, or a file can't be read
+  2  the command line is wrong, or a value in it
+
+A refused object prints `number file 0` to standard error, a refused place `number - 0`, and a
+refused value or a second file `U4 - 0`.
+
+Example: an object with the code cd 04 00 76 3e 08 d3 04 c9, whose bytes 04 00 are an address in
+the code, prints
+  :09010000CD0401763E08D304C9C8
+  :00000001FF";

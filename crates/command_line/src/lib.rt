@@ -3,8 +3,10 @@
 
 mod app;
 mod help;
+mod orders;
 mod reading;
 mod values;
 
-pub use reading::{Action, LineFault, Order, command};
+pub use orders::{Action, LinkOrder, Order, PlaceAction, PlaceOrder, PlanTexts, ProgramOrder};
+pub use reading::{LineFault, command};
 pub use values::{InputByte, Plan, Settings, ValueFault};

@@ -5,49 +5,21 @@ ghost use Rattle.std.specs.Prelude.{option_and_then, option_map, unwrap_or};
 ghost use Rattle.clap.specs.Walk.{texts};
 ghost use Rattle.clap.specs.Words.{all_of, fault_of, first_of, found_of, rows_of, subcommand_rows_of};
 ghost use Rattle.failure.specs.Failure.{IfFault};
-ghost use Rattle.command_line.specs.Command.{IsFaultOf, Orders, OrdersFiles, OrdersMap, OrdersText};
-ghost use Rattle.command_line.specs.Command.{action_named, is_set, plm_app, text_of};
-ghost use Rattle.command_line.specs.Command.{wanted_in, wanted_of, wanted_of_match};
+ghost use Rattle.command_line.specs.Command.{IsFaultOf, Orders, OrdersFiles, OrdersLink, OrdersMap};
+ghost use Rattle.command_line.specs.Command.{OrdersPlace, OrdersPlaceText, OrdersText};
+ghost use Rattle.command_line.specs.Command.{files_in, is_set, link_of, place_of, plan_in, plan_of};
+ghost use Rattle.command_line.specs.Command.{plm_app, program_of, text_of};
+ghost use Rattle.command_line.specs.Command.{wanted_in, wanted_of_match};
+ghost use Rattle.command_line.specs.Command.{wants_link, wants_place, wants_program};
 ghost use Rattle.command_line.specs.internal.Errors.{IsFailureFor};
 
 use crate::app::plm_command;
+use crate::orders::{Action, LinkOrder, Order, PlaceAction, PlaceOrder, PlanTexts, ProgramOrder};
 use clap::ArgMatches;
 use clap::error::ErrorKind;
 use failure::Failure;
 use std::alloc::{AllocError, Global};
 use thiserror::Error;
-
-/// What is done with the sources.
-#[derive(Clone, Copy)]
-pub enum Action {
-    /// Build the sources and run their image.
-    Run,
-    /// Build the sources and interpret them.
-    Interpret,
-}
-
-/// What the command line asks for. The options are the texts of the words, which `Order::settings` reads.
-#[derive(Drop)]
-pub struct Order<'a> {
-    /// What is done with the sources.
-    pub action: Action,
-    /// The files of the sources, in their order.
-    pub files: Vec<&'a str>,
-    /// The address of the code.
-    pub code: &'a str,
-    /// The address of the data.
-    pub data_base: &'a str,
-    /// The lowest address of the stack.
-    pub stack: &'a str,
-    /// The number of bytes of the stack.
-    pub stack_size: &'a str,
-    /// The most instructions that are run, or the budget of the interpreter.
-    pub limit: &'a str,
-    /// What the ports give, where that was said.
-    pub input: Option<&'a str>,
-    /// Whether it is first printed where each object lies.
-    pub map: bool,
-}
 
 /// Why the command line gives no order.
 #[derive(Debug, Drop, Error)]
@@ -71,19 +43,6 @@ fn failure_of(error: clap::Error) -> Failure<LineFault>
     }
 }
 
-// The command of a name.
-fn action_of(name: &str) -> Option<Action>
-    ensures { result ≡ action_named name.now }
-{
-    if name == "run" {
-        Some(Action::Run)
-    } else if name == "interpret" {
-        Some(Action::Interpret)
-    } else {
-        None
-    }
-}
-
 // The first text of an argument.
 fn first<'a>(matches: &ArgMatches<'a>, name: &str) -> Option<&'a str>
     ensures { option_map (λ text. text.now) result ≡ first_of name.now (rows_of (found_of matches.now)) }
@@ -91,14 +50,14 @@ fn first<'a>(matches: &ArgMatches<'a>, name: &str) -> Option<&'a str>
     matches.get_str(name)
 }
 
-// The files of the sources.
+// The files that a command reads.
 fn files<'a>(alloc: Global, matches: &ArgMatches<'a>) -> Result<Vec<&'a str>, AllocError>
     ensures { IfOk result (λ files.
-        texts files.items ≡ unwrap_or (all_of (codes "SOURCE") (rows_of (found_of matches.now))) []) }
+        texts files.items ≡ unwrap_or (all_of (codes "FILES") (rows_of (found_of matches.now))) []) }
 {
-    match matches.get_raw("SOURCE") {
-        Some(sources) => {
-            let files = Vec::from_slice(alloc, sources)?;
+    match matches.get_raw("FILES") {
+        Some(names) => {
+            let files = Vec::from_slice(alloc, names)?;
             Ok(files)
         }
         None => Ok(Vec::new(alloc)),
@@ -125,26 +84,89 @@ fn flag(matches: &ArgMatches, name: &str) -> bool
     }
 }
 
-// The order for a command, from the matches of its arguments.
-fn order_of<'a>(
-    alloc: Global,
-    action: Action,
-    matches: &ArgMatches<'a>,
-) -> Result<Order<'a>, AllocError>
-    ensures { IfOk result (λ order. wanted_in order ≡ wanted_of action (rows_of (found_of matches.now))) }
+// The texts of the options of a plan.
+fn plan<'a>(matches: &ArgMatches<'a>) -> PlanTexts<'a>
+    ensures { plan_in result ≡ plan_of (rows_of (found_of matches.now)) }
 {
-    let files = files(alloc, matches)?;
-    Ok(Order {
-        action,
-        files,
+    PlanTexts {
         code: text(matches, "code"),
         data_base: text(matches, "data"),
         stack: text(matches, "stack"),
         stack_size: text(matches, "stack-size"),
+    }
+}
+
+// The order for a command that builds sources, from the matches of its arguments.
+fn program<'a>(
+    alloc: Global,
+    action: Action,
+    matches: &ArgMatches<'a>,
+) -> Result<Order<'a>, AllocError>
+    ensures { IfOk result (λ order.
+        wanted_in order ≡ wants_program (program_of action (rows_of (found_of matches.now)))) }
+{
+    let files = files(alloc, matches)?;
+    Ok(Order::Program(ProgramOrder {
+        action,
+        files,
+        plan: plan(matches),
         limit: text(matches, "limit"),
         input: first(matches, "input"),
         map: flag(matches, "map"),
-    })
+    }))
+}
+
+// The order to link, from the matches of its arguments.
+fn link<'a>(alloc: Global, matches: &ArgMatches<'a>) -> Result<Order<'a>, AllocError>
+    ensures { IfOk result (λ order.
+        wanted_in order ≡ wants_link (link_of (rows_of (found_of matches.now)))) }
+{
+    let objects = files(alloc, matches)?;
+    Ok(Order::Link(LinkOrder {
+        out: text(matches, "out"),
+        objects,
+    }))
+}
+
+// The order for a command that places an object file, from the matches of its arguments.
+fn place<'a>(
+    alloc: Global,
+    action: PlaceAction,
+    matches: &ArgMatches<'a>,
+) -> Result<Order<'a>, AllocError>
+    ensures { IfOk result (λ order.
+        wanted_in order ≡ wants_place (place_of action (rows_of (found_of matches.now)))) }
+{
+    let files = files(alloc, matches)?;
+    Ok(Order::Place(PlaceOrder {
+        action,
+        files,
+        plan: plan(matches),
+    }))
+}
+
+// The order for the command of a name, from the matches of its arguments.
+fn order_named<'a>(
+    alloc: Global,
+    name: &str,
+    matches: &ArgMatches<'a>,
+) -> Result<Option<Order<'a>>, AllocError>
+    ensures { IfOk result (λ order.
+        option_map wanted_in order ≡ wanted_of_match (name.now, rows_of (found_of matches.now))) }
+{
+    if name == "run" {
+        Ok(Some(program(alloc, Action::Run, matches)?))
+    } else if name == "interpret" {
+        Ok(Some(program(alloc, Action::Interpret, matches)?))
+    } else if name == "link" {
+        Ok(Some(link(alloc, matches)?))
+    } else if name == "locate" {
+        Ok(Some(place(alloc, PlaceAction::Locate, matches)?))
+    } else if name == "hex" {
+        Ok(Some(place(alloc, PlaceAction::Hex, matches)?))
+    } else {
+        Ok(None)
+    }
 }
 
 // The order in what a parse found.
@@ -153,10 +175,7 @@ fn order_in<'a>(alloc: Global, matches: &ArgMatches<'a>) -> Result<Option<Order<
         option_map wanted_in order ≡ option_and_then wanted_of_match (subcommand_rows_of matches.now)) }
 {
     match matches.subcommand() {
-        Some((name, found)) => match action_of(name) {
-            Some(action) => Ok(Some(order_of(alloc, action, found)?)),
-            None => Ok(None),
-        },
+        Some((name, found)) => order_named(alloc, name, found),
         None => Ok(None),
     }
 }
@@ -168,8 +187,11 @@ pub fn command<'a>(alloc: Global, words: &'a [&'a str]) -> Result<Order<'a>, Fai
     ensures files { OrdersFiles (texts words.entry.now) result }
     ensures option { OrdersText (texts words.entry.now) result }
     ensures map { OrdersMap (texts words.entry.now) result }
+    ensures link { OrdersLink (texts words.entry.now) result }
+    ensures place { OrdersPlace (texts words.entry.now) result }
+    ensures place_option { OrdersPlaceText (texts words.entry.now) result }
     ensures order { IfOk result (λ order. Orders (texts words.entry.now) order) }
-    ensures some { IfOk result (λ order. 0 < length order.files.items) }
+    ensures some { IfOk result (λ order. 0 < length (files_in (wanted_in order))) }
     ensures ok { OnOk result (fault_of plm_app (texts words.entry.now) ≡ []) }
     ensures fault { IfFault result (IsFaultOf (fault_of plm_app (texts words.entry.now))) }
 {

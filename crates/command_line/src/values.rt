@@ -5,14 +5,16 @@ ghost use Rattle.std.specs.List.{slice_split};
 ghost use Rattle.std.specs.Option.{SomeIff};
 ghost use Rattle.std.specs.Char.{digit_value, is_digit};
 ghost use Rattle.failure.specs.Failure.{IfFault};
-ghost use Rattle.command_line.specs.Command.{wanted_in};
+ghost use Rattle.clap.specs.Walk.{texts};
+ghost use Rattle.command_line.specs.Command.{plan_in, program_in};
 ghost use Rattle.command_line.specs.Settings.{HasMemory, IsSettingsOf, byte_of, bytes_for, group_bytes};
 ghost use Rattle.command_line.specs.Settings.{groups_bytes};
-ghost use Rattle.command_line.specs.Settings.{input_bytes, input_read, limit_number, plan_number, plan_read};
+ghost use Rattle.command_line.specs.Settings.{input_bytes, input_read, limit_number, only_file, plan_number};
+ghost use Rattle.command_line.specs.Settings.{plan_read};
 ghost use Rattle.command_line.specs.Settings.{values_read};
-ghost use Rattle.command_line.specs.internal.Reads.{Reads, if_read, in_front};
+ghost use Rattle.command_line.specs.internal.Reads.{Reads, ReadsFile, if_read, in_front};
 
-use crate::reading::Order;
+use crate::orders::{PlaceOrder, PlanTexts, ProgramOrder};
 use failure::Failure;
 use std::alloc::{AllocError, Global};
 use thiserror::Error;
@@ -112,14 +114,14 @@ fn limit<'a>(text: &'a str) -> Result<u64, ValueFault<'a>>
     }
 }
 
-// The plan of an order.
-fn plan_of<'a>(order: &Order<'a>) -> Result<Plan, ValueFault<'a>>
-    ensures { Reads (plan_read (wanted_in order.now)) result }
+// The plan that texts write.
+fn plan_of<'a>(texts: &PlanTexts<'a>) -> Result<Plan, ValueFault<'a>>
+    ensures { Reads (plan_read (plan_in texts.now)) result }
 {
-    let code = place(order.code)?;
-    let data_base = place(order.data_base)?;
-    let stack = place(order.stack)?;
-    let stack_size = place(order.stack_size)?;
+    let code = place(texts.code)?;
+    let data_base = place(texts.data_base)?;
+    let stack = place(texts.stack)?;
+    let stack_size = place(texts.stack_size)?;
     Ok(Plan {
         code,
         data_base,
@@ -237,15 +239,38 @@ fn input<'a>(
     }
 }
 
-impl<'a> Order<'a> {
+impl<'a> PlaceOrder<'a> {
+    /// Where the parts of the program are to lie. It answers U4 only where a text is none of its option's values, with
+    /// the first such text, in the order code, data, stack, stack size.
+    pub fn plan(&self) -> Result<Plan, ValueFault<'a>>
+        ensures { Reads (plan_read (plan_in self.now.plan)) result }
+    {
+        plan_of(&self.plan)
+    }
+
+    /// The object file. It answers U4 where there are more files than one, with the second.
+    pub fn file(&self) -> Result<&'a str, ValueFault<'a>>
+        ensures { ReadsFile (only_file (texts self.now.files.items)) result }
+    {
+        if let Some(second) = self.files.get(1) {
+            return Err(ValueFault { text: *second });
+        }
+        match self.files.first() {
+            Some(file) => Ok(*file),
+            None => Err(ValueFault { text: "" }),
+        }
+    }
+}
+
+impl<'a> ProgramOrder<'a> {
     /// The values of the options. It answers U4 only where a text is none of its option's values, with the first
     /// such text, in the order code, data, stack, stack size, limit, input; else the values, or that memory ran
     /// out. Only an input takes memory.
     pub fn settings(&self, alloc: Global) -> Result<Settings, Failure<ValueFault<'a>>>
-        ensures values { IsSettingsOf (values_read (wanted_in self.now)) result }
+        ensures values { IsSettingsOf (values_read (program_in self.now)) result }
         ensures memory { self.now.input ≡ None → HasMemory result }
     {
-        let plan = match plan_of(self) {
+        let plan = match plan_of(&self.plan) {
             Ok(plan) => plan,
             Err(fault) => return Err(Failure::Fault(fault)),
         };

@@ -1,1 +1,1 @@
-pub mod KeptFiles
+pub mod OrdersKept

@@ -7,10 +7,11 @@ ghost use Rattle.placing.specs.Tables.{IsTableOf};
 ghost use Rattle.placing.specs.Views.{placement_view};
 ghost use Rattle.tool.specs.Construction.{program_modules};
 
-use crate::answers::{Ending, refuse_memory, refuse_output, refuse_sources, refuse_write};
 use crate::loading::script_of;
 use crate::map::print_map;
-use command_line::{Order, Settings};
+use crate::refusals::refuse_sources;
+use answers::{Ending, refuse_memory, refuse_output, refuse_write};
+use command_line::{ProgramOrder, Settings};
 use failure::Failure;
 use interpretation::{Readied, read_program};
 use interpreter::{RunFault, SourceEnd, interpret};
@@ -25,7 +26,7 @@ use tool::{Plan, Source};
 #[tactic(auto, using(interpretation::proofs::Programs::has_table, interpretation::proofs::Programs::has_sound_jumps))]
 pub(crate) fn interpret_sources<O: Write, E: Write>(
     alloc: Global,
-    order: &Order,
+    order: &ProgramOrder,
     settings: &Settings,
     sources: &[Source],
     out: &mut O,
@@ -47,7 +48,7 @@ pub(crate) fn interpret_sources<O: Write, E: Write>(
 // Interprets a program from a memory of zeros.
 fn interpret_program<O: Write, E: Write>(
     alloc: Global,
-    order: &Order,
+    order: &ProgramOrder,
     settings: &Settings,
     readied: &Readied,
     out: &mut O,

@@ -1,9 +1,10 @@
 //! Runs of programs on the 8080.
 
-use crate::answers::{Ending, refuse_memory, refuse_output, refuse_sources, refuse_write};
 use crate::loading::script_of;
 use crate::map::print_map;
-use command_line::{Order, Settings};
+use crate::refusals::refuse_sources;
+use answers::{Ending, refuse_memory, refuse_output, refuse_write};
+use command_line::{ProgramOrder, Settings};
 use cpu8080::End;
 use failure::Failure;
 use mem80::Memory;
@@ -15,7 +16,7 @@ use tool::{Built, Plan, Source, build, execute};
 /// Builds the program of sources, and runs its image on a memory of zeros.
 pub(crate) fn run_sources<O: Write, E: Write>(
     alloc: Global,
-    order: &Order,
+    order: &ProgramOrder,
     settings: &Settings,
     sources: &[Source],
     out: &mut O,
@@ -37,7 +38,7 @@ pub(crate) fn run_sources<O: Write, E: Write>(
 // Runs an image on a memory of zeros.
 fn run_built<O: Write, E: Write>(
     alloc: Global,
-    order: &Order,
+    order: &ProgramOrder,
     settings: &Settings,
     built: &Built,
     out: &mut O,

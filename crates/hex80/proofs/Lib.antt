@@ -9,5 +9,6 @@ pub mod Written
 pub mod Ordered
 pub mod SumLemmas
 pub mod ReadLemmas
+pub mod Writable
 pub mod TableLemmas
 pub mod WriteLemmas

@@ -1,15 +1,15 @@
 -- The lines of a text that is written.
-use Rattle.std.proofs.Common.{◌≡◌, ℕ, zero, suc, ◌+◌, ◌-◌, ◌/◌, ◌%◌, ◌<◌, ◌≤◌, ◌≢◌, Bool, true, false, cond, ◌==◌, nat_lt, List, [], ◌∷◌, ◌++◌, length, get_or, take, slice_index, flat_map, map, refl, ap, sym, subst, ◌∙◌, arith}
+use Rattle.std.proofs.Common.{◌≡◌, ℕ, ◌+◌, ◌-◌, ◌/◌, ◌%◌, ◌<◌, ◌≤◌, Bool, true, false, cond, ◌==◌, nat_lt, List, [], ◌∷◌, ◌++◌, length, get_or, take, flat_map, map, refl, ap, sym, ◌∙◌, arith}
 use Rattle.std.specs.Prelude.{All}
 use Rattle.std.specs.List.{AllByRecursion, slice_split, onto_first}
 use Rattle.std.specs.Str.Lines.{lines, lines_of_parts, strip_carriage_return}
-use Rattle.std.proofs.lemmas.Bool.{eqb-true, ltb-true, ltb-false}
+use Rattle.std.proofs.lemmas.Bool.{eqb-true}
 use Rattle.std.proofs.lemmas.List.{append_assoc}
 use Rattle.std.proofs.lemmas.List.Elements.{All-from_recursion, All-get_or}
 use Rattle.std.proofs.lemmas.List.Splits.{slice_split_at}
 use Rattle.mem80.specs.declared.range.Piece.{Piece}
 use Rattle.mem80.specs.Sums.{checksum_of}
-use Rattle.hex80.specs.Lines.{digit_of, digits_of, data_line_bytes, data_line, line_of_bytes, end_line, ended_line}
+use Rattle.hex80.specs.Lines.{digit_of, digits_of, data_line_bytes, data_line, end_line, ended_line}
 use Rattle.hex80.specs.internal.Writing.{written_line}
 
 -- a character that ends no line

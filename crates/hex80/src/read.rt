@@ -6,6 +6,7 @@ ghost use Rattle.std.specs.Str.{bytes_eq};
 ghost use Rattle.std.specs.Str.Lines.{lines, strip_carriage_return};
 ghost use Rattle.failure.specs.Failure.{IfFault};
 ghost use Rattle.mem80.specs.declared.range.Piece.{Piece};
+ghost use Rattle.mem80.specs.Pieces.{AreWritable};
 ghost use Rattle.hex80.specs.Lines.{end_line};
 ghost use Rattle.hex80.specs.Spelling.{digit_value, bytes_in, bytes_of_line, piece_in, read_line, fault_of_line, Spells, HasFirstFault};
 ghost use Rattle.hex80.specs.internal.Judgement.{judgement_of};
@@ -268,11 +269,13 @@ fn judge(alloc: Global, text: &[u8]) -> Result<Vec<Piece>, Failure<Fault>>
     Err(Failure::Fault(Fault::NoEnd))
 }
 
-/// The pieces that a text spells, one for each data line in the order of the text, also for one without bytes. Takes
-/// memory for these alone. The format is `docs/hex.md`.
-#[tactic(auto, using(crate::proofs::ReadLemmas::spelled_by, crate::proofs::ReadLemmas::faulty_by, crate::proofs::ReadLemmas::none_by))]
+/// The pieces that a text spells, one for each data line in the order of the text, also for one without
+/// bytes. They can be written again by `write_hex`. Takes memory for these alone. The format is
+/// `docs/hex.md`.
+#[tactic(auto, using(crate::proofs::ReadLemmas::spelled_by, crate::proofs::ReadLemmas::faulty_by, crate::proofs::ReadLemmas::none_by, crate::proofs::Writable::read_writable))]
 pub fn read_hex(alloc: Global, text: &[u8]) -> Result<Vec<Piece>, Failure<Fault>>
     ensures spelled { IfOk result (λ pieces. Spells text.now pieces.items) }
+    ensures writable { IfOk result (λ pieces. AreWritable pieces.items) }
     ensures fault { IfFault result (λ fault. HasFirstFault text.now fault) }
     ensures none { IfFault result (λ _. (pieces : List Piece) → ¬ Spells text.now pieces) }
 {

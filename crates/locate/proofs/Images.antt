@@ -1,24 +1,23 @@
 -- The pieces of an image are its longest runs, and lie in memory.
-use Rattle.std.proofs.Common.{◌≡◌, ℕ, suc, ◌+◌, ◌<◌, ◌≤◌, ◌==◌, ◌⊎◌, inl, inr, Bool, true, false, cond, ◌||◌, not, min, max, nat_le, List, [], ◌∷◌, length, map, drop, All, Option, Some, None, option_map, refl, ap, sym, subst, ◌∙◌, arith}
+use Rattle.std.proofs.Common.{◌≡◌, ℕ, suc, ◌+◌, ◌<◌, ◌≤◌, ◌==◌, inl, inr, Bool, true, false, cond, ◌||◌, not, min, max, nat_le, List, [], ◌∷◌, length, map, drop, Option, Some, None, option_map, refl, ap, sym, subst, ◌∙◌, arith}
 use Rattle.std.specs.Option.{option_or}
-use Rattle.std.proofs.lemmas.Bool.{eqb-true, ltb-false, leb-true, leb-false, or_parts, cases_lt}
-use Rattle.std.proofs.lemmas.List.Elements.{All-from_recursion}
+use Rattle.std.proofs.lemmas.Bool.{ltb-false, leb-true, leb-false, or_parts, cases_lt}
 use Rattle.mem80.specs.declared.range.Piece.{Piece}
-use Rattle.mem80.specs.Pieces.{EndsInMemory, AreLongestRuns, byte_in, has_bytes, are_runs}
+use Rattle.mem80.specs.Pieces.{AreLongestRuns, byte_in, are_runs}
 use Rattle.mem80.specs.Range.{ranges_meet}
 use Rattle.object_modules.specs.declared.segment.Segment.{Segment}
 use Rattle.object_modules.specs.declared.segment.Segment.TheVariants.{Code, Data}
 use Rattle.object_modules.specs.declared.segment.Target.{Target}
 use Rattle.object_modules.specs.Before.{is_empty}
-use Rattle.object_modules.specs.Image.{Plan, PlacementRefusal, ExternalLeft, NoStart, PassesMemory, SegmentsMeet, base_of, gain_at, placed_bytes, at_address, image_at, code_range, data_range, stack_range, passes_memory, placement_refusals, placement_refusal}
+use Rattle.object_modules.specs.Image.{Plan, ExternalLeft, NoStart, PassesMemory, SegmentsMeet, base_of, gain_at, placed_bytes, at_address, image_at, code_range, data_range, stack_range, passes_memory, placement_refusals, placement_refusal}
 use Rattle.std.specs.Option.{is_none}
-use Rattle.object_modules.specs.Module.{SetByte, ObjectModule, places_of, length_of}
-use Rattle.object_modules.specs.Moving.{moved_after, moved}
-use Rattle.object_modules.specs.Runs.{bytes_of_run, fixes_of_run, runs_of, fixes_in}
+use Rattle.object_modules.specs.Module.{SetByte, ObjectModule, places_of}
+use Rattle.object_modules.specs.Moving.{moved_after}
+use Rattle.object_modules.specs.Runs.{bytes_of_run, runs_of, fixes_in}
 use Rattle.object_modules.specs.Text.{Run, before_runs, runs_from}
 use Rattle.omf80.proofs.Conditions.{none_holds}
 use Rattle.locate.specs.internal.Images.{segment_pieces, in_turn, image_pieces}
-use Rattle.locate.specs.internal.Putting.{LieInMemory, piece_at, pieces_from, with_pieces}
+use Rattle.locate.specs.internal.Putting.{LieInMemory, piece_at, with_pieces}
 use Rattle.locate.proofs.Values.{value_of}
 use Rattle.locate.proofs.Runs.{segment_pieces_are}
 use Rattle.locate.proofs.Pieces.{piece_end, one_more, above, below, has_more, Begins, Begins-less, Ends, Ends-more, runs_parts, runs_with_pieces, ends_with_pieces, with_pieces_is}

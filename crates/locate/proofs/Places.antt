@@ -1,9 +1,9 @@
 -- The runs of places as pieces: what they have at an address, where they begin and end.
-use Rattle.std.proofs.Common.{◌≡◌, ℕ, zero, suc, ◌+◌, ◌-◌, ◌<◌, ◌≤◌, ◌==◌, ◌⊎◌, inl, inr, Bool, true, false, cond, nat_lt, List, [], ◌∷◌, ◌++◌, length, map, slice_get, slice_index, Option, Some, None, refl, ap, sym, ◌∙◌, arith}
+use Rattle.std.proofs.Common.{◌≡◌, ℕ, suc, ◌+◌, ◌-◌, ◌≤◌, ◌==◌, inl, inr, Bool, true, false, cond, nat_lt, List, [], ◌∷◌, length, map, slice_get, slice_index, Option, Some, None, refl, ap, sym, ◌∙◌, arith}
 use Rattle.std.specs.Option.{option_or, option_flatten}
 use Rattle.std.proofs.lemmas.Bool.{eqb-true, eqb-false, eq-eqb, ne_eqb, lt-ltb, le-ltb, cases_order}
 use Rattle.mem80.specs.declared.range.Piece.{Piece}
-use Rattle.mem80.specs.Pieces.{byte_in, has_bytes, are_runs}
+use Rattle.mem80.specs.Pieces.{byte_in, are_runs}
 use Rattle.object_modules.specs.Image.{at_address}
 use Rattle.object_modules.specs.Text.{Run, before_runs, runs_from}
 use Rattle.locate.specs.internal.Putting.{piece_at}

@@ -1,12 +1,13 @@
 -- What placing a module rests on.
-use Rattle.std.proofs.Common.{◌≡◌, ℕ, ◌+◌, ◌<◌, ◌≤◌, Bool, true, false, cond, List, [], ◌∷◌, length, All, None, refl, ap, sym, subst, ◌∙◌, arith}
+use Rattle.std.proofs.Common.{◌≡◌, ◌+◌, ◌<◌, ◌≤◌, true, cond, List, [], ◌∷◌, length, All, Some, None, Err, ap, sym, subst, ◌∙◌}
 use Rattle.std.proofs.lemmas.Bool.{le-leb, lt-leb}
 use Rattle.std.proofs.lemmas.List.Elements.{All-from_recursion}
 use Rattle.std.specs.List.{AllByRecursion}
 use Rattle.mem80.specs.declared.range.Piece.{Piece}
 use Rattle.mem80.specs.Pieces.{AreLongestRuns, EndsInMemory, are_runs}
 use Rattle.object_modules.specs.declared.segment.Segment.TheVariants.{Code, Data}
-use Rattle.object_modules.specs.Image.{Plan, base_of, image_at, placed, placement_refusal}
+use Rattle.object_modules.specs.Image.{Plan, PlacementRefusal, base_of, image_at, image_of, placed, placement_refusal}
+use Rattle.object_modules.specs.Merge.{unless_refused}
 use Rattle.object_modules.specs.Module.{ObjectModule, places_of}
 use Rattle.locate.specs.Locating.{Absolute, IsPlaced}
 use Rattle.locate.specs.internal.Images.{segment_pieces, in_turn, image_pieces}
@@ -70,8 +71,15 @@ pub is_placed :
 is_placed plan object absolute h same start symbols =
     let P : List Piece → Type 0 = λ these. AreLongestRuns these (image_at plan object) in
     record {
-      allowed = h;
+      image = placed plan object;
+      found = ap (unless_refused (placed plan object)) h;
       pieces = subst P (sym same) (image_is plan object h).longest;
       start = start;
       symbols = symbols;
     }
+
+-- a plan that is refused has no image
+pub is_refused :
+    (plan : Plan) (object : ObjectModule) (refusal : PlacementRefusal)
+    → placement_refusal plan object ≡ Some refusal → image_of plan object ≡ Err refusal
+is_refused plan object refusal h = ap (unless_refused (placed plan object)) h

@@ -1,9 +1,9 @@
 -- Plans, placed modules and faults.
-use Rattle.std.specs.Prelude.{◌≡◌, ℕ, IsTrue, List, All, None}
+use Rattle.std.specs.Prelude.{◌≡◌, ℕ, IsTrue, List, All, Ok}
 use Rattle.mem80.specs.declared.range.Piece.{Piece}
 use Rattle.mem80.specs.Pieces.{AreLongestRuns, are_runs, EndsInMemory}
 use Rattle.object_modules.specs.Module.{ObjectModule}
-use Rattle.object_modules.specs.Image.{Plan, Symbol, PlacementRefusal, ExternalLeft, NoStart, PassesMemory, SegmentsMeet, PageBroken, HighByteBroken, image_at, placed, placement_refusal}
+use Rattle.object_modules.specs.Image.{Plan, Symbol, Image, PlacementRefusal, ExternalLeft, NoStart, PassesMemory, SegmentsMeet, PageBroken, HighByteBroken, image_of}
 use Rattle.locate.specs.declared.plan.Plan.{Plan as CodePlan}
 use Rattle.locate.specs.declared.absolute.Symbol.{Symbol as CodeSymbol}
 use Rattle.locate.specs.declared.fault.LocateFault.{LocateFault}
@@ -32,12 +32,13 @@ pub record Absolute : Type 0 where
   pub start : ℕ
   pub symbols : List Symbol
 
--- a module is placed by a plan: its pieces are the longest runs of its image
+-- a module is placed by a plan: it has an image there, and the pieces are the longest runs of that
 pub record IsPlaced (plan : Plan) (object : ObjectModule) (absolute : Absolute) : Type 0 where
-  pub allowed : placement_refusal plan object ≡ None
-  pub pieces : AreLongestRuns absolute.pieces (image_at plan object)
-  pub start : absolute.start ≡ (placed plan object).start
-  pub symbols : absolute.symbols ≡ (placed plan object).symbols
+  pub image : Image
+  pub found : image_of plan object ≡ Ok image
+  pub pieces : AreLongestRuns absolute.pieces image.byte_at
+  pub start : absolute.start ≡ image.start
+  pub symbols : absolute.symbols ≡ image.symbols
 
 -- what each placed module keeps: runs, which lie in memory
 pub record IsAbsolute (absolute : Absolute) : Type 0 where

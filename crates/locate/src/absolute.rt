@@ -68,10 +68,12 @@ impl Absolute {
         }
     }
 
-    /// The bytes that it sets, as the longest runs, in the order of their addresses.
+    /// The bytes that it sets, as the longest runs, in the order of their addresses: each has bytes, and the
+    /// next one begins after the address where it ends.
     #[tactic(auto, using(crate::proofs::Loads::runs_writable))]
     pub fn pieces(&self) -> &[Piece]
         ensures same { result.now ≡ self.now.pieces }
+        ensures runs { IsTrue (are_runs result.now) }
         ensures writable { AreWritable result.now }
     {
         self.pieces.as_slice()

@@ -1,8 +1,8 @@
 //! Placing a module: its pieces, where it starts, and its symbols.
 
-ghost use Rattle.std.specs.Prelude.{◌≡◌, ◌+◌, ◌≤◌, IfOk, None, OnOk, Some, length, map};
+ghost use Rattle.std.specs.Prelude.{◌≡◌, ◌+◌, ◌≤◌, Err, IfOk, None, OnOk, length, map};
 ghost use Rattle.failure.specs.Failure.{IfFault};
-ghost use Rattle.object_modules.specs.Image.{base_of, placement_refusal, symbol_at};
+ghost use Rattle.object_modules.specs.Image.{base_of, image_of, placement_refusal, symbol_at};
 ghost use Rattle.object_modules.specs.Module.{places_of};
 ghost use Rattle.object_modules.specs.Views.{owned_public_view};
 ghost use Rattle.locate.specs.Locating.{IsPlaced, plan_view, refusal_of, symbol_view};
@@ -15,7 +15,7 @@ use crate::plan::Plan;
 use crate::putting::add_segment;
 use crate::refusals::refusal;
 use failure::Failure;
-use mem80::Piece;
+use mem80::{MEMORY_SIZE, Piece};
 use object_modules::{ObjectModule, OwnedPublic, Segment};
 use std::alloc::{AllocError, Global};
 
@@ -28,7 +28,7 @@ fn add_runs_of(
     segment: Segment,
     plan: &Plan,
 ) -> Result<(), AllocError>
-    requires { base_of (plan_view plan.now) segment + length (places_of object.now segment) ≤ 65536 }
+    requires { base_of (plan_view plan.now) segment + length (places_of object.now segment) ≤ MEMORY_SIZE }
     ensures { OnOk result (pieces.new.items
         ≡ with_pieces pieces.old.items (segment_pieces (plan_view plan.now) object.now segment)) }
 {
@@ -91,8 +91,9 @@ fn absolute_of(alloc: Global, object: &ObjectModule, plan: &Plan) -> Result<Abso
     Ok(absolute)
 }
 
-/// Places a module by a plan: the length of its stack is that of the plan. Nothing is placed where an external
-/// name is left or one of the other causes holds; the first in their order is the fault.
+/// Places a module by a plan: the length of its stack is that of the plan. Nothing is placed where an
+/// external name is left or one of the other causes holds; the first in their order is the fault.
+#[tactic(auto, using(crate::proofs::Placing::is_refused))]
 pub fn locate(
     alloc: Global,
     object: &ObjectModule,
@@ -100,7 +101,7 @@ pub fn locate(
 ) -> Result<Absolute, Failure<LocateFault>>
     ensures placed { IfOk result (λ absolute. IsPlaced (plan_view plan.now) object.now absolute) }
     ensures refused { IfFault result (λ fault.
-        placement_refusal (plan_view plan.now) object.now ≡ Some (refusal_of fault)) }
+        image_of (plan_view plan.now) object.now ≡ Err (refusal_of fault)) }
 {
     match refusal(object, plan) {
         Some(fault) => Err(Failure::Fault(fault)),

@@ -9,6 +9,7 @@ ghost use Rattle.locate.specs.internal.Fixing.{after_first, carry_by, first_at, 
 ghost use Rattle.locate.specs.internal.Views.{carry_view, walk_view};
 
 use crate::plan::Plan;
+use mem80::MEMORY_SIZE;
 use object_modules::{Fix, FixKind, Run};
 use std::alloc::{AllocError, Global};
 
@@ -111,7 +112,7 @@ fn word_with(value: u8, fix: Option<Fix>, plan: &Plan) -> Option<Carry>
 impl Walk<'_> {
     // What the byte at this place becomes, and on to the next place.
     fn place(&mut self, value: u8, plan: &Plan) -> u8
-        requires { self.old.offset < 65536 }
+        requires { self.old.offset < MEMORY_SIZE }
         ensures value { result ≡ value_at (gain_at (plan_view plan.now)) (walk_view self.old) value }
         ensures walk { walk_view self.new
             ≡ walk_after (gain_at (plan_view plan.now)) (walk_view self.old) value }
@@ -132,7 +133,7 @@ pub(crate) fn moved_bytes<'a>(
     fixes: &'a [Fix],
     plan: &Plan,
 ) -> Result<(Vec<u8>, &'a [Fix]), AllocError>
-    requires { run.now.offset + length run.now.items ≤ 65536 }
+    requires { run.now.offset + length run.now.items ≤ MEMORY_SIZE }
     ensures bytes { IfOk result (λ moved. moved.0.items
         ≡ values_from (gain_at (plan_view plan.now)) (walk_at run.now.offset fixes.now) run.now.items) }
     ensures fixes { IfOk result (λ moved. moved.1.now

@@ -6,6 +6,7 @@ use Rattle.std.specs.Str.{bytes_eq}
 use Rattle.std.proofs.lemmas.Bool.{and_parts, and_from, lt-ltb}
 use Rattle.std.proofs.lemmas.List.{append_assoc, map-append}
 use Rattle.std.proofs.lemmas.List.Folds.{list_all-append}
+use Rattle.omf80.specs.declared.kind.TheConstants.{BODY_LIMIT}
 use Rattle.omf80.specs.declared.kind.RecordKind.{RecordKind}
 use Rattle.omf80.specs.declared.kind.RecordKind.TheVariants as kinds
 use Rattle.omf80.proofs.Conditions.{none_holds}
@@ -37,9 +38,9 @@ no_fault_there (Some fault) h = absurd (let bad : false ≡ true = h in cc)
 
 pub part_fits : (before : List Part) (part : Part) → is_accepted before part ≡ true → Fits before part
 part_fits before part accepted =
-    let first = and_parts (nat_le (length (body_of part)) 1027 && may_follow before (kind_of_part part))
+    let first = and_parts (nat_le (length (body_of part)) BODY_LIMIT && may_follow before (kind_of_part part))
     (option_map_or (λ (_ : Fault). false) (part_fault before part) true) accepted in
-    let second = and_parts (nat_le (length (body_of part)) 1027) (may_follow before (kind_of_part part)) first.0 in
+    let second = and_parts (nat_le (length (body_of part)) BODY_LIMIT) (may_follow before (kind_of_part part)) first.0 in
     let served : Bool × Fault = (not (list_all is_served (entries_of part)), WrongAlignment) in
     let placed : Bool × Fault =
     (option_map_or (λ content. not (fits_segment before content)) (content_of part) false, ContentMisplaced) in

@@ -3,6 +3,7 @@ use Rattle.std.proofs.Common.{◌≡◌, ℕ, zero, suc, ◌+◌, ◌<◌, ◌�
 use Rattle.std.specs.Option.{option_or, option_map_or}
 use Rattle.std.proofs.lemmas.Bool.{leb-true}
 use Rattle.std.proofs.lemmas.List.{append_assoc, append-nil, reverse-append, reverse-reverse, length-append}
+use Rattle.omf80.specs.declared.kind.TheConstants.{BODY_LIMIT}
 use Rattle.omf80.specs.declared.kind.RecordKind.{RecordKind}
 use Rattle.omf80.specs.declared.kind.RecordKind.TheVariants as kinds
 use Rattle.omf80.specs.Records.{kind_of_type, record_end, first_body, record_bytes, record_fault}
@@ -58,9 +59,9 @@ judged_again :
 unfolding fault_at
 judged_again before part rest bytes accepted r =
     let kind : RecordKind = kind_of_part part in
-    let first = both (nat_le (length (body_of part)) 1027 && may_follow before kind)
+    let first = both (nat_le (length (body_of part)) BODY_LIMIT && may_follow before kind)
     (option_map_or (λ (_ : Fault). false) (part_fault before part) true) accepted in
-    let second = both (nat_le (length (body_of part)) 1027) (may_follow before kind) first.0 in
+    let second = both (nat_le (length (body_of part)) BODY_LIMIT) (may_follow before kind) first.0 in
     let no_fault : part_fault before part ≡ None = no_fault_there (part_fault before part) first.1 in
     let of_record : fault_of_record before kind (body_of part) ≡ None =
     ap (λ follows.
@@ -86,12 +87,12 @@ judged_again before part rest bytes accepted r =
       rest_is = r.rest_is;
     }
 
-pub limit_of : (before : List Part) (part : Part) → is_accepted before part ≡ true → length (body_of part) ≤ 1027
+pub limit_of : (before : List Part) (part : Part) → is_accepted before part ≡ true → length (body_of part) ≤ BODY_LIMIT
 limit_of before part accepted =
-    let first = both (nat_le (length (body_of part)) 1027 && may_follow before (kind_of_part part))
+    let first = both (nat_le (length (body_of part)) BODY_LIMIT && may_follow before (kind_of_part part))
     (option_map_or (λ (_ : Fault). false) (part_fault before part) true) accepted in
-    let second = both (nat_le (length (body_of part)) 1027) (may_follow before (kind_of_part part)) first.0 in
-    leb-true (length (body_of part)) 1027 second.0
+    let second = both (nat_le (length (body_of part)) BODY_LIMIT) (may_follow before (kind_of_part part)) first.0 in
+    leb-true (length (body_of part)) BODY_LIMIT second.0
 
 -- the judgement of bytes that begin with a part goes on after it
 onward :

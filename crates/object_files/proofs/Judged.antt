@@ -3,6 +3,7 @@ use Rattle.std.proofs.Common.{◌≡◌, ℕ, zero, suc, ◌<◌, ◌≤◌, Boo
 use Rattle.std.specs.Option.{option_or, option_map_or}
 use Rattle.std.proofs.lemmas.Bool.{le-leb}
 use Rattle.std.proofs.lemmas.List.{append_assoc, append-nil, reverse-append}
+use Rattle.omf80.specs.declared.kind.TheConstants.{BODY_LIMIT}
 use Rattle.omf80.specs.declared.kind.RecordKind.{RecordKind}
 use Rattle.omf80.specs.Records.{kind_of_type, record_end, first_body, record_bytes, record_fault, type_byte}
 use Rattle.omf80.proofs.Conditions.{IsBytes}
@@ -64,7 +65,7 @@ next_by before bytes b a =
       part = a.part;
       found = ap (option_and_then (λ kind. part_in kind (first_body bytes))) b.of_type ∙ a.read;
       accepted = all_pass _ _ _
-          (le-leb (length (body_of a.part)) 1027 (subst (λ body. length body ≤ 1027) is.1 b.long))
+          (le-leb (length (body_of a.part)) BODY_LIMIT (subst (λ body. length body ≤ BODY_LIMIT) is.1 b.long))
           (ap (may_follow before) is.0 ∙ a.follows)
           (ap (λ fault. option_map_or (λ _. false) fault true) a.no_fault);
       spelled =

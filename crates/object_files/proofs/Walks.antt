@@ -1,6 +1,7 @@
 -- The parts of a file are read from its bytes alone, and its module is what a walk over it tells.
 use Rattle.std.proofs.Common.{◌≡◌, ℕ, zero, suc, ◌+◌, ◌<◌, ◌≤◌, true, List, [], ◌∷◌, ◌++◌, length, drop, flat_map, option_and_then, refl, ap, sym, ◌∙◌, arith}
 use Rattle.std.proofs.lemmas.List.{length-drop, length-append}
+use Rattle.omf80.specs.declared.kind.TheConstants.{BODY_LIMIT}
 use Rattle.omf80.specs.Records.{record_end, record_fault, first_body}
 use Rattle.omf80.proofs.RecordsAgain.{read_again}
 use Rattle.object_modules.specs.Parts.{Part, kind_of_part, body_of, part_bytes}
@@ -36,7 +37,7 @@ any_count (suc count) (suc other) (byte ∷ rest) h k =
     (any_count count other after (omega (arith, shorter)) (omega (arith, shorter)))
 
 part_within :
-    (count : ℕ) (part : Part) (rest : List ℕ) → length (body_of part) ≤ 1027
+    (count : ℕ) (part : Part) (rest : List ℕ) → length (body_of part) ≤ BODY_LIMIT
     → parts_within (suc count) (part_bytes part ++ rest) ≡ part ∷ parts_within count rest
 part_within count part rest limit =
     let bytes : List ℕ = part_bytes part ++ rest in
@@ -52,7 +53,7 @@ part_within count part rest limit =
 
 -- a part in front of bytes is read, and then what is after it
 pub part_first :
-    (part : Part) (rest : List ℕ) → length (body_of part) ≤ 1027
+    (part : Part) (rest : List ℕ) → length (body_of part) ≤ BODY_LIMIT
     → parts_from (part_bytes part ++ rest) ≡ part ∷ parts_from rest
 unfolding parts_from
 part_first part rest limit =

@@ -1,5 +1,5 @@
 -- What the parts of an object module tell: its runs, its fixes and its lengths.
-use Rattle.std.proofs.Common.{◌≡◌, ℕ, IsTrue, List, [], length, map, refl, ap, sym, subst, ◌∙◌}
+use Rattle.std.proofs.Common.{◌≡◌, IsTrue, [], map, refl, ap, sym, subst, ◌∙◌}
 use Rattle.std.specs.List.{list_all}
 use Rattle.std.proofs.lemmas.List.FromFn.{length-map-range_with_len}
 use Rattle.object_modules.specs.declared.object.ModuleParts.{ModuleParts}

@@ -3,6 +3,7 @@ use Rattle.std.specs.Prelude.{ℕ, ◌<◌, ◌≤◌, Bool, true, false, not, �
 use Rattle.std.specs.List.{list_all, list_any}
 use Rattle.std.specs.Option.{option_map_or, option_flatten}
 use Rattle.std.specs.Str.{bytes_eq}
+use Rattle.mem80.specs.declared.memory.TheConstants.{MEMORY_SIZE}
 use Rattle.symbols.specs.Names.{is_name}
 use Rattle.object_modules.specs.declared.segment.Segment.{Segment}
 use Rattle.object_modules.specs.declared.segment.Segment.TheVariants.{Absolute, Code, Data, Stack}
@@ -119,7 +120,7 @@ may_have_publics Code = true
 may_have_publics Data = true
 may_have_publics Stack = false
 
--- a module with so many external names has this target
+-- a module with so many external names has this target; the number of one stands in two bytes
 abbrev pub is_target : (external_count : ℕ) → Target → Bool
 is_target external_count (InSegment segment) = is_movable segment
 is_target external_count (External number) = nat_lt number external_count && nat_lt number 65536
@@ -142,7 +143,7 @@ is_valid_segment external_count segment =
     && (not (is_page segment.alignment) || nat_lt 0 (length segment.places))
 
 abbrev pub is_valid_public : Public → Bool
-is_valid_public public = may_have_publics public.segment && nat_lt public.offset 65536
+is_valid_public public = may_have_publics public.segment && nat_lt public.offset MEMORY_SIZE
 
 -- all names of a module but its own
 abbrev pub linkage_names : ObjectModule → List (List ℕ)
@@ -157,4 +158,4 @@ pub record IsObjectModule (object : ObjectModule) : Type 0 where
   pub publics : IsTrue (list_all is_valid_public object.publics)
   pub names : IsTrue (list_all is_name (linkage_names object))
   pub different : IsTrue (are_new (linkage_names object) [])
-  pub start : IfSome object.start (λ offset. offset < 65536)
+  pub start : IfSome object.start (λ offset. offset < MEMORY_SIZE)

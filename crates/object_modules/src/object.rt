@@ -16,14 +16,19 @@ use symbols::Name;
 
 /// What an object module is made of.
 pub struct ModuleParts {
+    /// Its own name; a public or an external name may be the same.
     pub name: Name,
+    /// The code segment.
     pub code: SegmentBytes,
+    /// The data segment.
     pub data_bytes: SegmentBytes,
-    /// The length of its stack segment, 0 to 65535.
+    /// How many bytes the stack segment has, 0 to 65535.
     pub stack_length: u16,
+    /// The public names in their order, none of them twice and none an external name.
     pub publics: Vec<OwnedPublic>,
+    /// The external names, none of them twice. The number of one is its index, from 0.
     pub externals: Vec<Name>,
-    /// The offset in its code where a main module starts.
+    /// The offset in the code where a main module starts, 0 to 65535; none in another module.
     pub start: Option<u16>,
 }
 
@@ -44,7 +49,8 @@ impl Model for ObjectModule {
 }
 
 impl ObjectModule {
-    /// A module of these parts. Takes no memory.
+    /// A module of these parts, which are those of a valid module: each segment has its longest runs and its
+    /// fixes in the order of their offsets. Takes no memory.
     pub fn from_parts(parts: ModuleParts) -> ObjectModule
         requires { AreKept parts }
         ensures { result ≡ module_of_parts parts }
@@ -52,7 +58,7 @@ impl ObjectModule {
         ObjectModule { parts }
     }
 
-    /// Its name: 1 to 31 characters (Module Header Record).
+    /// Its own name: 1 to 31 characters (Module Header Record). The module is valid.
     pub fn name(&self) -> &[u8]
         ensures name { result.now ≡ self.now.name }
         ensures object { IsObjectModule self.now }
@@ -73,7 +79,7 @@ impl ObjectModule {
         }
     }
 
-    /// The length of its stack segment, 0 to 65535.
+    /// How many bytes its stack segment has, 0 to 65535.
     pub fn stack_length(&self) -> u16
         ensures { result ≡ self.now.stack_length }
     {
@@ -91,21 +97,21 @@ impl ObjectModule {
         }
     }
 
-    /// The offset in its code where it starts, if it is a main module.
+    /// The offset in its code where it starts, 0 to 65535, if it is a main module.
     pub fn start(&self) -> Option<u16>
         ensures { result ≡ self.now.start }
     {
         self.parts.start
     }
 
-    /// Its public names, in their order.
+    /// Its public names in their order, none of them twice.
     pub fn publics(&self) -> &[OwnedPublic]
         ensures { map owned_public_view result.now ≡ self.now.publics }
     {
         self.parts.publics.as_slice()
     }
 
-    /// The public name of a number, counted from 0.
+    /// The public name with this index, from 0; none where there are not so many.
     pub fn public(&self, number: usize) -> Option<PublicName<'_>>
         ensures { option_map public_view result ≡ slice_get self.now.publics number }
     {
@@ -115,14 +121,14 @@ impl ObjectModule {
         }
     }
 
-    /// Its external names, in their order.
+    /// Its external names in their order, none of them twice.
     pub fn externals(&self) -> &[Name]
         ensures { result.now ≡ self.now.externals }
     {
         self.parts.externals.as_slice()
     }
 
-    /// The external name of a number, counted from 0.
+    /// The external name with this number, from 0; none where there are not so many.
     pub fn external(&self, number: usize) -> Option<&[u8]>
         ensures { option_map (λ name. name.now) result ≡ slice_get self.now.externals number }
     {
@@ -132,8 +138,9 @@ impl ObjectModule {
         }
     }
 
-    /// The longest runs of bytes that are set in a segment, by their offsets; none in the absolute one and the
-    /// stack.
+    /// The longest runs of bytes that are set in a segment, in the order of their offsets: each has bytes,
+    /// ends before the offset where the next one begins, and lies within the segment. None in the absolute
+    /// segment and the stack.
     #[tactic(auto, using(crate::proofs::ObjectLaws::absolute_fixed, crate::proofs::ObjectLaws::absolute_runs, crate::proofs::ObjectLaws::code_fixed, crate::proofs::ObjectLaws::code_longest, crate::proofs::ObjectLaws::code_runs, crate::proofs::ObjectLaws::data_fixed, crate::proofs::ObjectLaws::data_longest, crate::proofs::ObjectLaws::data_runs, crate::proofs::ObjectLaws::stack_fixed, crate::proofs::ObjectLaws::stack_runs))]
     pub fn runs(&self, segment: Segment) -> &[Run]
         ensures runs { result.now ≡ runs_of self.now segment }
@@ -148,7 +155,8 @@ impl ObjectModule {
         }
     }
 
-    /// The fixes of a segment, by their offsets; none in the absolute one and the stack.
+    /// The fixes of a segment in the order of their offsets: none begins before the one before it ends, and
+    /// all bytes of each are in one run. None in the absolute segment and the stack.
     #[tactic(auto, using(crate::proofs::ObjectLaws::absolute_fixes, crate::proofs::ObjectLaws::code_fixes, crate::proofs::ObjectLaws::code_within, crate::proofs::ObjectLaws::data_fixes, crate::proofs::ObjectLaws::data_within, crate::proofs::ObjectLaws::stack_fixes))]
     pub fn fixes(&self, segment: Segment) -> &[Fix]
         ensures fixes { result.now ≡ fixes_in self.now segment }

@@ -3,11 +3,13 @@
 use crate::segment::Segment;
 use symbols::Name;
 
-/// A public name of a module: an offset of a segment, 0 to 65535, that other modules may refer to by the name
-/// (Public Declarations Record).
+/// A public name of a module: a place that other modules may refer to by the name (Public Declarations
+/// Record).
 #[derive(Clone, Copy, Debug, PartialEq, Eq)]
 pub struct OwnedPublic {
+    /// The segment that the place is counted from; the stack has none in a valid module.
     pub segment: Segment,
+    /// The place, from the start of the segment, 0 to 65535; an address for the absolute one.
     pub offset: u16,
     pub name: Name,
 }
@@ -16,7 +18,9 @@ pub struct OwnedPublic {
 #[derive(Clone, Copy, Debug, PartialEq, Eq)]
 pub struct PublicName<'a> {
     pub segment: Segment,
+    /// The place, from the start of the segment, 0 to 65535.
     pub offset: u16,
+    /// Its characters, 1 to 31 in a valid module.
     pub name: &'a [u8],
 }
 

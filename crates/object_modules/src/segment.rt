@@ -1,6 +1,6 @@
 //! Segments of object modules, and the places in them that depend on where something lies.
 
-/// The greatest number of bytes of a segment.
+/// The greatest number of bytes of a segment, whose length stands in two bytes (Module Header Record).
 pub const SEGMENT_LIMIT: u32 = 65_535;
 
 /// What an offset is counted from.
@@ -41,7 +41,7 @@ pub enum FixKind {
 pub enum Target {
     /// A segment of the module.
     InSegment(Segment),
-    /// The external name of this number.
+    /// The external name of this number, from 0.
     External(u16),
 }
 
@@ -50,6 +50,6 @@ pub enum Target {
 pub struct Fix {
     pub kind: FixKind,
     pub target: Target,
-    /// The place, from the start of the segment that it lies in.
+    /// The place of its first byte, from the start of the segment that it lies in, 0 to 65535.
     pub offset: u16,
 }

@@ -6,7 +6,7 @@ use crate::segment::{Alignment, Fix};
 use std::alloc::AllocError;
 use std::marker::Model;
 
-/// Bytes that are set one after another, from an offset of their segment on.
+/// Bytes that are set one after another, the first at an offset from the start of their segment, 0 to 65535.
 pub struct Run {
     offset: u16,
     bytes: Vec<u8>,
@@ -22,28 +22,28 @@ impl Model for Run {
 }
 
 impl Run {
-    /// Bytes from an offset on.
+    /// Bytes from an offset on. That they lie within a segment is asked for where a module is made of it.
     pub fn new(offset: u16, bytes: Vec<u8>) -> Run
         ensures { result ≡ record { offset = offset; items = bytes.items } }
     {
         Run { offset, bytes }
     }
 
-    /// Where the first of its bytes is set.
+    /// Where the first of its bytes is set, from the start of the segment, 0 to 65535.
     pub fn offset(&self) -> u16
         ensures { result ≡ self.now.offset }
     {
         self.offset
     }
 
-    /// Its bytes.
+    /// Its bytes: the one with index k is set at k places after `offset`.
     pub fn bytes(&self) -> &[u8]
         ensures { result.now ≡ self.now.items }
     {
         self.bytes.as_slice()
     }
 
-    /// Adds bytes after its last one. Out of memory: nothing changes.
+    /// Adds bytes after its last one. Fails only where there is no memory for them, and then nothing changes.
     pub fn append(&mut self, bytes: &[u8]) -> Result<(), AllocError>
         ensures offset { self.new.offset ≡ self.old.offset }
         ensures ok { OnOk result (self.new.items ≡ self.old.items ++ bytes.now) }
@@ -53,7 +53,8 @@ impl Run {
     }
 }
 
-/// A segment: how many bytes it has, where it may begin, the bytes that are set, and the fixes of these.
+/// A segment: how many bytes it has, set or not, where it may begin, the bytes that are set, and the fixes of
+/// these.
 pub struct SegmentBytes {
     size: u16,
     alignment: Alignment,
@@ -75,7 +76,9 @@ impl Model for SegmentBytes {
 }
 
 impl SegmentBytes {
-    /// A segment of a size with these bytes and fixes.
+    /// A segment of this many bytes, 0 to 65535, with these runs and fixes. Takes no memory. What they are to
+    /// keep to is asked for where a module is made of it: the longest runs, within the segment, and fixes
+    /// within these, both in the order of their offsets.
     pub fn new(size: u16, alignment: Alignment, runs: Vec<Run>, fixes: Vec<Fix>) -> SegmentBytes
         ensures { result ≡ record {
           size = size;
@@ -92,7 +95,7 @@ impl SegmentBytes {
         }
     }
 
-    /// How many bytes it has.
+    /// How many bytes it has, set or not, 0 to 65535.
     pub fn size(&self) -> u16
         ensures { result ≡ self.now.size }
     {
@@ -106,14 +109,14 @@ impl SegmentBytes {
         self.alignment
     }
 
-    /// The bytes that are set.
+    /// The runs of bytes that are set, as they were handed in.
     pub fn runs(&self) -> &[Run]
         ensures { result.now ≡ self.now.runs }
     {
         self.runs.as_slice()
     }
 
-    /// The places that depend on where something lies.
+    /// The places that depend on where something lies, as they were handed in.
     pub fn fixes(&self) -> &[Fix]
         ensures { result.now ≡ self.now.fixes }
     {

@@ -5,6 +5,7 @@ use Rattle.std.specs.Option.{option_or, option_map_or}
 use Rattle.std.proofs.lemmas.Bool.{and_parts, and_from, le-leb}
 use Rattle.std.proofs.lemmas.List.{length-append}
 use Rattle.std.proofs.lemmas.List.Sums.{take_while-cons}
+use Rattle.omf80.specs.declared.kind.TheConstants.{BODY_LIMIT}
 use Rattle.omf80.specs.declared.kind.RecordKind.{RecordKind}
 use Rattle.omf80.specs.declared.kind.RecordKind.TheVariants as kinds
 use Rattle.omf80.specs.Records.{first_that_holds}
@@ -37,7 +38,7 @@ onto_append (part ∷ first) second before = onto_append first second (part ∷ 
 
 -- a part may stand after others
 pub record Acceptable (before : List Part) (part : Part) : Type 0 where
-  pub limit : length (body_of part) ≤ 1027
+  pub limit : length (body_of part) ≤ BODY_LIMIT
   pub follows : may_follow before (kind_of_part part) ≡ true
   pub body : is_body before part ≡ true
   pub served : list_all is_served (entries_of part) ≡ true
@@ -62,10 +63,10 @@ accepted_by before part a =
     none_of (not (list_all is_served (entries_of part))) WrongAlignment from_third (ap not a.served) third in
     let none : part_fault before part ≡ None =
     none_of (not (is_body before part)) WrongBody from_second (ap not a.body) second in
-    and_from (nat_le (length (body_of part)) 1027 && may_follow before (kind_of_part part))
+    and_from (nat_le (length (body_of part)) BODY_LIMIT && may_follow before (kind_of_part part))
     (option_map_or (λ (_ : Fault). false) (part_fault before part) true)
-    (and_from (nat_le (length (body_of part)) 1027) (may_follow before (kind_of_part part))
-    (le-leb (length (body_of part)) 1027 a.limit) a.follows)
+    (and_from (nat_le (length (body_of part)) BODY_LIMIT) (may_follow before (kind_of_part part))
+    (le-leb (length (body_of part)) BODY_LIMIT a.limit) a.follows)
     (ap (λ fault. option_map_or (λ (_ : Fault). false) fault true) none)
 
 -- a part without fixes fits each content

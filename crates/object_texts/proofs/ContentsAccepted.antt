@@ -29,7 +29,7 @@ use Rattle.object_texts.proofs.Accepting.{onto, accepted_append, accepted_by, fi
 
 -- a fix record of a content, in a file with so many external names
 pub record IsFixPart (content : Content) (external_count : ℕ) (part : Part) : Type 0 where
-  pub limit : length (body_of part) ≤ 1027
+  pub limit : length (body_of part) ≤ BODY_LIMIT
   pub fix_record : is_fix_record (kind_of_part part) ≡ true
   pub rank : rank_of (kind_of_part part) ≡ 3
   pub no_entries : entries_of part ≡ []
@@ -54,7 +54,7 @@ reference_parts content external_count kind group h =
     length_total reference_bytes group in
     let limit : total (λ (reference : Reference). 4) group ≤ 1026 = h.0.1 in
     record {
-      limit = (let l : suc (length (flat_map reference_bytes group)) ≤ 1027 = omega (arith, long, limit) in l);
+      limit = (let l : suc (length (flat_map reference_bytes group)) ≤ BODY_LIMIT = omega (arith, long, limit) in l);
       fix_record = refl;
       rank = refl;
       no_entries = refl;
@@ -134,7 +134,7 @@ relocation_part content external_count kind group h =
     let long : length (flat_map word_bytes group) ≡ total (λ (offset : ℕ). 2) group = length_total word_bytes group in
     let limit : total (λ (offset : ℕ). 2) group ≤ 1026 = h.1 in
     record {
-      limit = (let l : suc (length (flat_map word_bytes group)) ≤ 1027 = omega (arith, long, limit) in l);
+      limit = (let l : suc (length (flat_map word_bytes group)) ≤ BODY_LIMIT = omega (arith, long, limit) in l);
       fix_record = refl;
       rank = refl;
       no_entries = refl;
@@ -174,7 +174,7 @@ intersegment_part content external_count target other kind group h =
     let long : length (flat_map word_bytes group) ≡ total (λ (offset : ℕ). 2) group = length_total word_bytes group in
     let limit : total (λ (offset : ℕ). 2) group ≤ 1025 = h.1 in
     record {
-      limit = (let l : suc (suc (length (flat_map word_bytes group))) ≤ 1027 = omega (arith, long, limit) in l);
+      limit = (let l : suc (suc (length (flat_map word_bytes group))) ≤ BODY_LIMIT = omega (arith, long, limit) in l);
       fix_record = refl;
       rank = refl;
       no_entries = refl;
@@ -308,7 +308,7 @@ content_accepted segment holds external_count size filled cut before facts from 
     let stated : stated_length_of segment before ≡ size = facts.stated in
     let to_here : filled_to segment before ≤ filled = facts.to_here in
     accepted_by before (ContentPart content) (record {
-      limit = (let l : suc (suc (suc (length content.bytes))) ≤ 1027 = omega (arith, long, counted, limit) in l);
+      limit = (let l : suc (suc (suc (length content.bytes))) ≤ BODY_LIMIT = omega (arith, long, counted, limit) in l);
       follows = follows_content before facts.up;
       body = and_from (holds_bytes segment) (not (is_empty content.bytes)) holds
           (some_items content.bytes (omega (arith, long, some)));

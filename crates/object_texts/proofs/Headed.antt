@@ -4,6 +4,7 @@ use Rattle.std.specs.List.{cons_option, list_all}
 use Rattle.std.proofs.lemmas.Bool.{and_from, eqb-true}
 use Rattle.std.proofs.lemmas.List.{length-append}
 use Rattle.symbols.specs.Names.{is_name}
+use Rattle.omf80.specs.declared.kind.TheConstants.{BODY_LIMIT}
 use Rattle.object_modules.specs.declared.segment.Alignment.{Alignment}
 use Rattle.object_modules.specs.declared.segment.Alignment.TheVariants.{Byte, Page}
 use Rattle.object_modules.specs.declared.segment.Segment.{Segment}
@@ -95,7 +96,7 @@ header_accepted object valid =
     ≡ length object.name + length (0 ∷ 0 ∷ flat_map segment_entry_bytes listed) =
     length-append object.name (0 ∷ 0 ∷ flat_map segment_entry_bytes listed) in
     accepted_by [] (header_for object) (record {
-      limit = (let l : suc (length (object.name ++ 0 ∷ 0 ∷ flat_map segment_entry_bytes listed)) ≤ 1027 =
+      limit = (let l : suc (length (object.name ++ 0 ∷ 0 ∷ flat_map segment_entry_bytes listed)) ≤ BODY_LIMIT =
           omega (arith, short, of_entries, long) in l);
       follows = refl;
       body = and_from (is_name object.name) (ascend_from 0 listed) valid

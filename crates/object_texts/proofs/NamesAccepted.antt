@@ -6,6 +6,7 @@ use Rattle.std.proofs.lemmas.Bool.{and_parts, and_from, leb-true}
 use Rattle.std.proofs.lemmas.List.{length-append, map-append}
 use Rattle.symbols.specs.Names.{is_name, is_name_character}
 use Rattle.std.specs.Char.{is_ascii_uppercase}
+use Rattle.omf80.specs.declared.kind.TheConstants.{BODY_LIMIT}
 use Rattle.object_modules.specs.declared.segment.Segment.{Segment}
 use Rattle.object_modules.specs.Module.{may_have_publics, are_new}
 use Rattle.object_modules.specs.Parts.{Definition, Part, ExternalNamesPart, PublicsPart, listed_name_bytes, definition_bytes}
@@ -51,7 +52,7 @@ names_are names before valid once =
 -- external names
 pub externals_accepted :
     (groups : List (List (List ℕ))) (before : List Part) → UpTo 1 before → latest_content before ≡ None
-    → AllByRecursion (Fits (λ name. length (listed_name_bytes name)) 1027) groups
+    → AllByRecursion (Fits (λ name. length (listed_name_bytes name)) BODY_LIMIT) groups
     → AllByRecursion (AllByRecursion IsName) groups
     → ((name : List ℕ) → times (bytes_eq name) (joined groups) + times (bytes_eq name) (flat_map names_of before) ≤ 1)
     → are_accepted before (map ExternalNamesPart groups) ≡ true
@@ -60,14 +61,14 @@ externals_accepted (group ∷ groups) before up latest fit valid once =
     let part : Part = ExternalNamesPart group in
     let long : length (flat_map listed_name_bytes group) ≡ total (λ name. length (listed_name_bytes name)) group =
     length_total listed_name_bytes group in
-    let limit : total (λ name. length (listed_name_bytes name)) group ≤ 1027 = fit.0.1 in
+    let limit : total (λ name. length (listed_name_bytes name)) group ≤ BODY_LIMIT = fit.0.1 in
     let split : (name : List ℕ)
     → times (bytes_eq name) (group ++ joined groups)
     ≡ times (bytes_eq name) group + times (bytes_eq name) (joined groups) =
     λ name. times_append (bytes_eq name) group (joined groups) in
     and_from (is_accepted before part) (are_accepted (part ∷ before) (map ExternalNamesPart groups))
     (accepted_by before part (record {
-      limit = (let l : length (flat_map listed_name_bytes group) ≤ 1027 = omega (arith, long, limit) in l);
+      limit = (let l : length (flat_map listed_name_bytes group) ≤ BODY_LIMIT = omega (arith, long, limit) in l);
       follows = follows_externals before up;
       body = and_from (not (is_empty group)) (are_names group before) (some_items group fit.0.0)
           (names_are group before valid.0
@@ -125,7 +126,7 @@ publics_accepted segment may (group ∷ groups) before up latest fit valid once 
     ∙ times_append (bytes_eq name) own others in
     and_from (is_accepted before part) (are_accepted (part ∷ before) (map (PublicsPart segment) groups))
     (accepted_by before part (record {
-      limit = (let l : suc (length (flat_map definition_bytes group)) ≤ 1027 = omega (arith, long, limit) in l);
+      limit = (let l : suc (length (flat_map definition_bytes group)) ≤ BODY_LIMIT = omega (arith, long, limit) in l);
       follows = follows_publics before up;
       body = and_from (may_have_publics segment && not (is_empty group)) (are_names own before)
           (and_from (may_have_publics segment) (not (is_empty group)) may (some_items group fit.0.0))

@@ -63,9 +63,9 @@ externals_again names =
     externals_in_groups (packed (λ name. length (listed_name_bytes name)) BODY_LIMIT names)
     ∙ packed_joined (λ name. length (listed_name_bytes name)) BODY_LIMIT names
 
-short_names : (names : List (List ℕ)) → AllByRecursion IsName names → AllByRecursion (λ name. length (listed_name_bytes name) ≤ 1027) names
+short_names : (names : List (List ℕ)) → AllByRecursion IsName names → AllByRecursion (λ name. length (listed_name_bytes name) ≤ BODY_LIMIT) names
 short_names names valid =
-    all_weaker IsName (λ name. length (listed_name_bytes name) ≤ 1027)
+    all_weaker IsName (λ name. length (listed_name_bytes name) ≤ BODY_LIMIT)
     (λ name h. let short : length (listed_name_bytes name) ≤ 33 = listed_short name h in omega (arith, short)) names valid
 
 pub externals_stage :

@@ -7,6 +7,7 @@ use Rattle.std.proofs.lemmas.Bool.{and_parts, and_from}
 use Rattle.std.proofs.lemmas.List.{append-nil}
 use Rattle.std.proofs.lemmas.Grind.{flat_map-append}
 use Rattle.symbols.specs.Names.{is_name}
+use Rattle.omf80.specs.declared.kind.TheConstants.{BODY_LIMIT}
 use Rattle.object_modules.specs.declared.segment.Segment.{Segment}
 use Rattle.object_modules.specs.declared.segment.Segment.TheVariants.{Absolute, Code, Data}
 use Rattle.object_modules.specs.declared.segment.TheConstants.{SEGMENT_LIMIT}
@@ -309,9 +310,9 @@ middle object code data_valid =
     (segment_parts_are Data count (cuts_of object.data_places.places) data_valid.cuts.targets)) tt))
 
 -- the end
-end_short : (start : Option ℕ) → length (body_of (ModuleEndPart start)) ≤ 1027
-end_short None = (let l : 4 ≤ 1027 = omega arith in l)
-end_short (Some offset) = (let l : 4 ≤ 1027 = omega arith in l)
+end_short : (start : Option ℕ) → length (body_of (ModuleEndPart start)) ≤ BODY_LIMIT
+end_short None = (let l : 4 ≤ BODY_LIMIT = omega arith in l)
+end_short (Some offset) = (let l : 4 ≤ BODY_LIMIT = omega arith in l)
 
 end_accepted : (start : Option ℕ) (before : List Part) → UpTo 3 before → are_accepted before (ModuleEndPart start ∷ EndOfFilePart ∷ []) ≡ true
 end_accepted start before up =
@@ -327,7 +328,7 @@ end_accepted start before up =
     }))
     (and_from (is_accepted (last ∷ before) EndOfFilePart) true
     (accepted_by (last ∷ before) EndOfFilePart (record {
-      limit = (let l : 0 ≤ 1027 = omega arith in l);
+      limit = (let l : 0 ≤ BODY_LIMIT = omega arith in l);
       follows = refl;
       body = refl;
       served = refl;

@@ -2,6 +2,7 @@
 use Rattle.std.proofs.Common.{◌≡◌, ℕ, zero, suc, ◌+◌, ◌-◌, ◌*◌, ◌%◌, ◌<◌, ◌≤◌, min, Bool, true, false, not, ◌||◌, ◌==◌, nat_lt, List, [], ◌∷◌, ◌++◌, length, take, drop, sum, Option, Some, None, is_none, slice_index, refl, ap, sym, subst, ◌∙◌, arith}
 use Rattle.std.proofs.lemmas.Bool.{eqb-true, eqb-false, ltb-false, not-false}
 use Rattle.std.proofs.lemmas.List.{length-take, length-drop, append_assoc}
+use Rattle.omf80.specs.declared.kind.TheConstants.{BODY_LIMIT}
 use Rattle.omf80.specs.declared.fault.Fault.{Fault}
 use Rattle.omf80.specs.declared.fault.Fault.TheVariants.{Truncated, WrongSum, WrongLength, UnknownType}
 use Rattle.omf80.specs.declared.kind.RecordKind.{RecordKind}
@@ -37,7 +38,7 @@ split (x ∷ xs) (suc n) h =
 pub record Begins (bytes : List ℕ) : Type 0 where
   pub kind : RecordKind
   pub of_type : kind_of_type (slice_index bytes 0) ≡ Some kind
-  pub long : length (first_body bytes) ≤ 1027
+  pub long : length (first_body bytes) ≤ BODY_LIMIT
   pub spelled : bytes ≡ record_bytes (type_byte kind) (first_body bytes) ++ drop (record_end bytes) bytes
   pub all_bytes : IsBytes (first_body bytes)
   pub rest_bytes : IsBytes (drop (record_end bytes) bytes)
@@ -89,7 +90,7 @@ begins_at type low high m tail kind all stated limit fits adds found =
     record {
       kind = kind;
       of_type = found;
-      long = subst (λ b. length b ≤ 1027) (sym body) (omega arith);
+      long = subst (λ b. length b ≤ BODY_LIMIT) (sym body) (omega arith);
       spelled =
           ap (λ t. type ∷ low ∷ high ∷ t) s.whole
           ∙ sym (append_assoc front (s.item ∷ []) (drop (suc m) tail))

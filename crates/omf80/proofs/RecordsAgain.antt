@@ -4,6 +4,7 @@ use Rattle.std.proofs.lemmas.Bool.{eq-eqb, ne_eqb, le-ltb}
 use Rattle.std.proofs.lemmas.List.{length-append, append_assoc, take_at, drop_at}
 use Rattle.mem80.specs.Sums.{checksum_of}
 use Rattle.mem80.proofs.Sums.{sum_with_last}
+use Rattle.omf80.specs.declared.kind.TheConstants.{BODY_LIMIT}
 use Rattle.omf80.specs.declared.fault.Fault.{Fault}
 use Rattle.omf80.specs.declared.fault.Fault.TheVariants.{Truncated, WrongSum, WrongLength, UnknownType}
 use Rattle.omf80.specs.declared.kind.RecordKind.{RecordKind}
@@ -45,7 +46,7 @@ record_end_is kind body rest = omega arith
 with_sum : (body : List ℕ) (last : ℕ) → length (body ++ last ∷ []) ≡ suc (length body)
 with_sum body last = let l : length (body ++ last ∷ []) ≡ length body + length (last ∷ []) = length-append body (last ∷ []) in omega arith
 
-read_spelled : (kind : RecordKind) (body rest : List ℕ) → length body ≤ 1027 → ReadAgain kind body rest (spelled kind body rest)
+read_spelled : (kind : RecordKind) (body rest : List ℕ) → length body ≤ BODY_LIMIT → ReadAgain kind body rest (spelled kind body rest)
 unfolding record_fault
 read_spelled kind body rest limit =
     let low : ℕ = (length body + 1) % 256 in
@@ -94,7 +95,7 @@ read_spelled kind body rest limit =
     }
 
 pub read_again :
-    (kind : RecordKind) (body rest : List ℕ) → length body ≤ 1027
+    (kind : RecordKind) (body rest : List ℕ) → length body ≤ BODY_LIMIT
     → ReadAgain kind body rest (record_bytes (type_byte kind) body ++ rest)
 unfolding record_bytes
 read_again kind body rest limit = read_spelled kind body rest limit

@@ -1,12 +1,14 @@
 //! Types of records, and how long a record may be.
 
-/// The bytes before the body of a record: its type, and its length in two bytes.
+/// The bytes before the body of a record: its type, and its length in two bytes (Record Format).
 pub const HEADING_SIZE: usize = 3;
 
-/// The greatest length that a record may state. It counts the body and the checksum.
+/// The greatest length that a record may state, in the two bytes after its type (Record Format). It counts
+/// the body and the checksum. The limit is this profile's own.
 pub const LENGTH_LIMIT: usize = 1028;
 
-/// How many bytes a body has at most.
+/// How many bytes a body has at most: those between the length that the record states and its checksum
+/// (Record Format). One byte, the checksum, is left of `LENGTH_LIMIT`.
 pub const BODY_LIMIT: usize = 1027;
 
 /// The types of records that object files of this profile have.

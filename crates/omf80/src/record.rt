@@ -6,6 +6,6 @@ use crate::kind::RecordKind;
 #[derive(Clone, Copy, Debug)]
 pub struct Record<'a> {
     pub kind: RecordKind,
-    /// The bytes between the length and the checksum, at most 1027.
+    /// The bytes between the length and the checksum, at most `BODY_LIMIT`.
     pub body: &'a [u8],
 }

@@ -8,7 +8,7 @@ ghost use Rattle.omf80.specs.Views.{record_view};
 ghost use Rattle.writing.specs.Writing.{AppendsBeginning};
 
 use crate::fault::Fault;
-use crate::kind::{HEADING_SIZE, LENGTH_LIMIT, RecordKind};
+use crate::kind::{BODY_LIMIT, HEADING_SIZE, LENGTH_LIMIT, RecordKind};
 use crate::record::Record;
 use byteorder::{ByteOrder, LittleEndian};
 use failure::Failure;
@@ -142,9 +142,10 @@ fn checksum(heading: &[u8], body: &[u8]) -> u8
     0_u8.wrapping_sub(total)
 }
 
-/// Writes a record with a type and a body of at most 1027 bytes. After a failure the writer has a beginning of it.
+/// Writes a record with a type and a body of at most `BODY_LIMIT` bytes. After a failure the writer has a
+/// beginning of it.
 pub fn write_record<W: Write>(out: &mut W, kind: u8, body: &[u8]) -> Result<(), Failure<WriteFault>>
-    requires { length body.now ≤ 1027 }
+    requires { length body.now ≤ BODY_LIMIT }
     ensures ok { OnOk result (Appends (W.contents out.old) (W.contents out.new) (record_bytes kind body.now)) }
     ensures err { OnErr result
         (AppendsBeginning (W.contents out.old) (W.contents out.new) (record_bytes kind body.now)) }

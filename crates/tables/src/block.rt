@@ -13,6 +13,7 @@ pub struct Block {
     place: usize,
     words: String,
     files: Vec<File>,
+    written: Vec<File>,
     out: Said,
     err: Said,
     failed: String,
@@ -26,11 +27,21 @@ impl Block {
             place: 0,
             words: String::new(alloc),
             files: Vec::new(alloc),
+            written: Vec::new(alloc),
             out: Said::new(alloc),
             err: Said::new(alloc),
             failed: String::new(alloc),
             status: String::new(alloc),
         }
+    }
+
+    // Whether these files are those that are said to be written.
+    fn are_written(&self, files: &[File]) -> bool {
+        files.len() == self.written.len()
+            && files
+                .iter()
+                .zip(&self.written)
+                .all(|(file, said)| file.is_same(said))
     }
 
     /// The line of standard input on which its command line stands.
@@ -45,6 +56,8 @@ impl Block {
             self.words.push_str(words)?;
         } else if let Some(name) = line.strip_prefix("@ ") {
             self.files.push(File::new(alloc, name)?)?;
+        } else if let Some(name) = line.strip_prefix("& ") {
+            self.written.push(File::new(alloc, name)?)?;
         } else if let Some(printed) = line.strip_prefix(">") {
             self.out.read(printed)?;
         } else if let Some(told) = line.strip_prefix("!") {
@@ -53,8 +66,10 @@ impl Block {
             self.failed.push_str(failed)?;
         } else if let Some(status) = line.strip_prefix("= ") {
             self.status.push_str(status)?;
+        } else if let Some(file) = self.written.last_mut() {
+            file.read(alloc, line)?;
         } else if let Some(file) = self.files.last_mut() {
-            file.read(line)?;
+            file.read(alloc, line)?;
         }
         Ok(())
     }
@@ -99,11 +114,12 @@ impl Said {
     }
 }
 
-/// What a command line answers: its exit status, and what it prints, also as faults.
+/// What a command line answers: its exit status, the files that it writes, and what it prints, also as faults.
 #[derive(Drop)]
 pub struct Answer {
     status: u8,
     failed: u64,
+    written: Vec<File>,
     out: Vec<u8>,
     err: Vec<u8>,
 }
@@ -119,6 +135,7 @@ impl Answer {
         Ok(Answer {
             status,
             failed: files.failed(),
+            written: files.into_written(),
             out,
             err,
         })
@@ -128,6 +145,7 @@ impl Answer {
     pub fn is_as_said(&self, block: &Block) -> bool {
         block.status.as_str().parse::<u8>() == Ok(self.status)
             && block.failed.as_str().parse::<u64>().unwrap_or(0) == self.failed
+            && block.are_written(self.written.as_slice())
             && block.out.is_of(self.out.as_slice())
             && block.err.is_of(self.err.as_slice())
     }
@@ -142,9 +160,10 @@ impl fmt::Display for Answer {
     fn fmt<W: fmt::Write>(&self, f: &mut fmt::Formatter<W>) -> fmt::Result {
         write!(
             f,
-            "status {}, {} calls of files failed\n{}{}",
+            "status {}, {} calls of files failed, {} files written\n{}{}",
             self.status,
             self.failed,
+            self.written.len(),
             text(self.out.as_slice()),
             text(self.err.as_slice())
         )

@@ -1,14 +1,17 @@
 //! Carries out the command lines of standard input over files in memory, and prints those that answer otherwise than is said
 //! of them. A block begins with the words of a command line after `$ `. Then come its files, each a line `@ NAME` and the
-//! lines of its text, where a last line that ends in `\` has no line feed; then what is printed, a line after `> `, and as
+//! lines of its text, where a last line that ends in `\` has no line feed, and `x ` stands before bytes in hexadecimal digits;
+//! then its files that are written, after `& ` in place of `@ `; then what is printed, a line after `> `, and as
 //! faults, a line after `! `; then how many calls of files failed, after `% `, where some did; then the exit status after
 //! `= `; and at last a line `====`. A line `* COUNT PIECE` of a text stands for so many pieces without an end, and `>* COUNT
 //! LINE` for so many lines of what is printed; `>?` and `!?` say only that something is printed. So no line of a text begins
-//! with `$ `, `@ `, `% `, `= `, `* `, `>` or `!`. Of the carriage returns that end a line the last one is no part of it.
+//! with `$ `, `@ `, `& `, `x `, `% `, `= `, `* `, `>` or `!`. Of the carriage returns that end a line the last one is no part of it.
+//! A file `closed.obj` can't be begun, and `broken.obj` takes three bytes.
 //! Then it prints what the machine, its parts and the interpreter do, as the manuals say it.
 //!
-//! What is said was written by hand from the rules of the language in `docs/language.md`, or computed from them by another
-//! program that shares nothing with this one.
+//! What is said was written by hand from the rules of the language in `docs/language.md`, of object files in
+//! `docs/object-format.md` and of the commands in `docs/commands.md`, or computed from them by other programs that share
+//! nothing with this one.
 #![tactic(auto)]
 
 mod adjusting;

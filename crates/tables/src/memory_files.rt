@@ -1,19 +1,27 @@
 //! Files in memory.
 
-ghost use Rattle.std.specs.Prelude.{◌≡◌};
+ghost use Rattle.std.specs.Prelude.{◌≡◌, ◌≤◌, length};
 ghost use Rattle.ports.specs.Events.{CountsFailure};
 
-use crate::texts::{add_line, add_often};
+use crate::texts::{add_bytes, add_line, add_often};
 use anyhow;
 use failure::Failure;
 use files::{FileFault, Files};
 use std::alloc::Global;
 
-/// A file: its name and its text.
+// A file of this name can't be begun.
+const CLOSED: &str = "closed.obj";
+
+// A file of this name takes a byte at a time, and no more than this many.
+const BROKEN: &str = "broken.obj";
+
+const BROKEN_LENGTH: usize = 3;
+
+/// A file: its name and its bytes.
 #[derive(Drop)]
 pub struct File {
     pub name: String,
-    pub text: String,
+    pub bytes: Vec<u8>,
 }
 
 impl File {
@@ -21,31 +29,42 @@ impl File {
     pub fn new(alloc: Global, name: &str) -> anyhow::Result<File> {
         let mut file = File {
             name: String::new(alloc),
-            text: String::new(alloc),
+            bytes: Vec::new(alloc),
         };
         file.name.push_str(name)?;
         Ok(file)
     }
 
-    /// Takes in the next line of its text: one that ends in a backslash without it and without an end, and a piece that is
-    /// added so often after a star.
-    pub fn read(&mut self, line: &str) -> anyhow::Result<()> {
-        if let Some(pieces) = line.strip_prefix("* ") {
-            add_often(&mut self.text, pieces, "")?;
-        } else if let Some(start) = line.strip_suffix("\\") {
-            self.text.push_str(start)?;
-        } else {
-            add_line(&mut self.text, line)?;
+    /// Takes in the next line of its text: one that ends in a backslash without it and without an end, a piece that is
+    /// added so often after a star, and bytes in hexadecimal digits after an `x`.
+    pub fn read(&mut self, alloc: Global, line: &str) -> anyhow::Result<()> {
+        if let Some(digits) = line.strip_prefix("x ") {
+            return add_bytes(&mut self.bytes, digits);
         }
+        let mut text = String::new(alloc);
+        if let Some(pieces) = line.strip_prefix("* ") {
+            add_often(&mut text, pieces, "")?;
+        } else if let Some(start) = line.strip_suffix("\\") {
+            text.push_str(start)?;
+        } else {
+            add_line(&mut text, line)?;
+        }
+        self.bytes.extend_from_slice(text.as_bytes())?;
         Ok(())
+    }
+
+    /// Whether it has this name and these bytes.
+    pub fn is_same(&self, other: &File) -> bool {
+        self.name.as_str() == other.name.as_str() && self.bytes.as_slice() == other.bytes.as_slice()
     }
 }
 
-/// Some files, and a count of the calls that failed: those that name another file, and those that write.
+/// Some files, those that were written, and a count of the calls that failed.
 #[derive(Drop)]
 pub struct MemoryFiles<'a> {
     alloc: Global,
     files: &'a [File],
+    written: Vec<File>,
     failed: u64,
 }
 
@@ -57,6 +76,7 @@ impl<'a> MemoryFiles<'a> {
         MemoryFiles {
             alloc,
             files,
+            written: Vec::new(alloc),
             failed: 0,
         }
     }
@@ -64,6 +84,11 @@ impl<'a> MemoryFiles<'a> {
     /// How many calls failed.
     pub fn failed(&self) -> u64 {
         self.failed
+    }
+
+    /// The files that were written, in the order in which they were begun.
+    pub fn into_written(self) -> Vec<File> {
+        self.written
     }
 
     // Counts a failure.
@@ -74,14 +99,55 @@ impl<'a> MemoryFiles<'a> {
         FileFault
     }
 
-    // The text of a file.
-    fn text_of(&self, name: &str) -> Option<&'a [u8]> {
+    // The number of a file that was written, or how many there are.
+    fn number_of(&self, name: &str) -> usize {
+        for (number, file) in self.written.iter().enumerate() {
+            if file.name.as_str() == name {
+                return number;
+            }
+        }
+        self.written.len()
+    }
+
+    // The bytes of a file.
+    fn bytes_of(&self, name: &str) -> Option<&[u8]> {
+        let number = self.number_of(name);
+        if number < self.written.len() {
+            return Some(self.written[number].bytes.as_slice());
+        }
         for file in self.files {
             if file.name.as_str() == name {
-                return Some(file.text.as_bytes());
+                return Some(file.bytes.as_slice());
             }
         }
         None
+    }
+
+    // Makes a file empty.
+    fn clear(&mut self, name: &str) -> anyhow::Result<()>
+        ensures { self.new.failed ≡ self.old.failed }
+    {
+        let file = File::new(self.alloc, name)?;
+        let number = self.number_of(name);
+        if number < self.written.len() {
+            self.written[number] = file;
+        } else {
+            self.written.push(file)?;
+        }
+        Ok(())
+    }
+}
+
+// How many bytes a file takes.
+fn count_of(file: &File, bytes: &[u8]) -> usize
+    ensures { result ≤ length bytes.now }
+{
+    if file.name.as_str() != BROKEN {
+        bytes.len()
+    } else if file.bytes.len() < BROKEN_LENGTH {
+        bytes.len().min(1)
+    } else {
+        0
     }
 }
 
@@ -89,20 +155,43 @@ impl Files for MemoryFiles<'_> {
     ghost failures = { λ files. files.failed };
 
     fn read_file(&mut self, name: &str) -> Result<Vec<u8>, Failure<FileFault>> {
-        let Some(text) = self.text_of(name) else {
+        let Some(bytes) = self.bytes_of(name) else {
             return Err(Failure::Fault(self.fail()));
         };
-        match Vec::from_slice(self.alloc, text) {
+        match Vec::from_slice(self.alloc, bytes) {
             Ok(bytes) => Ok(bytes),
             Err(_) => Err(Failure::Memory),
         }
     }
 
-    fn begin(&mut self, _name: &str) -> Result<(), Failure<FileFault>> {
-        Err(Failure::Fault(self.fail()))
+    fn begin(&mut self, name: &str) -> Result<(), Failure<FileFault>> {
+        if name == CLOSED {
+            return Err(Failure::Fault(self.fail()));
+        }
+        match self.clear(name) {
+            Ok(()) => Ok(()),
+            Err(_) => Err(Failure::Memory),
+        }
     }
 
-    fn append(&mut self, _name: &str, _bytes: &[u8]) -> Result<usize, Failure<FileFault>> {
-        Err(Failure::Fault(self.fail()))
+    fn append(&mut self, name: &str, bytes: &[u8]) -> Result<usize, Failure<FileFault>> {
+        if bytes.is_empty() {
+            return Ok(0);
+        }
+        let number = self.number_of(name);
+        if number >= self.written.len() {
+            return Err(Failure::Fault(self.fail()));
+        }
+        let count = count_of(&self.written[number], bytes);
+        if count == 0 {
+            return Err(Failure::Fault(self.fail()));
+        }
+        match self.written[number]
+            .bytes
+            .extend_from_slice(&bytes[..count])
+        {
+            Ok(()) => Ok(count),
+            Err(_) => Err(Failure::Memory),
+        }
     }
 }

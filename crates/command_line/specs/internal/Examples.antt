@@ -1,6 +1,6 @@
 -- Texts of options that are values, and some that are none.
 use Rattle.std.specs.Prelude.{◌≡◌, ℕ, [], ◌∷◌, Some, None, Ok, Err, codes, refl}
-use Rattle.command_line.specs.declared.reading.Action.TheVariants.{Run}
+use Rattle.command_line.specs.declared.orders.Action.TheVariants.{Run}
 use Rattle.command_line.specs.declared.values.InputByte.{InputByte}
 use Rattle.command_line.specs.Command.{usual}
 use Rattle.command_line.specs.Settings.{input_bytes, limit_number, plan_number, values_read}

@@ -1,6 +1,6 @@
 -- The bytes of a run with the fixes among them done, place by place: the fixes stand by their places and are
 -- taken from the front.
-use Rattle.std.specs.Prelude.{ℕ, ◌+◌, ◌==◌, Bool, if◌then◌else◌, List, [], ◌∷◌, Option, Some, None}
+use Rattle.std.specs.Prelude.{ℕ, ◌+◌, ◌==◌, if◌then◌else◌, List, [], ◌∷◌, Option, Some, None}
 use Rattle.object_modules.specs.declared.segment.Fix.{Fix}
 use Rattle.object_modules.specs.declared.segment.FixKind.{FixKind}
 use Rattle.object_modules.specs.declared.segment.FixKind.TheVariants.{Low, High, Both}

@@ -5,9 +5,9 @@ use Rattle.clap.specs.Faults.{is_simple_and_free}
 use Rattle.clap.specs.Kinds.{HasKind}
 use Rattle.clap.specs.Words.{App, fault_of, is_simple, subcommand_of, subcommand_rows_of}
 use Rattle.command_line.specs.Command.{plm_app, wanted_by, wanted_in, wanted_of_match}
-use Rattle.command_line.specs.declared.reading.Order.{Order}
-use Rattle.command_line.proofs.CommandLemmas.{fault_among, some_texts}
-use Rattle.command_line.proofs.Given.{files_failed, files_ordered, map_failed, map_ordered, text_failed, text_ordered}
+use Rattle.command_line.specs.declared.orders.Order.{Order}
+use Rattle.command_line.proofs.CommandLemmas.{fault_among}
+use Rattle.command_line.proofs.Given.{files_failed, files_ordered, link_failed, link_ordered, map_failed, map_ordered, place_failed, place_ordered, place_text_failed, place_text_ordered, text_failed, text_ordered}
 use Rattle.command_line.proofs.PlmWords.{order_is_there, some_files, plm_is_free, plm_is_simple}
 use Rattle.command_line.proofs.reading.command.Goals as goal
 use Rattle.command_line.proofs.reading.command.Goals.{In-Ok}
@@ -35,8 +35,11 @@ returns c =
       files = files_ordered (texts c.args.words.now) c.in-Some.order order;
       option = text_ordered (texts c.args.words.now) c.in-Some.order order;
       map = map_ordered (texts c.args.words.now) c.in-Some.order order;
+      link = link_ordered (texts c.args.words.now) c.in-Some.order order;
+      place = place_ordered (texts c.args.words.now) c.in-Some.order order;
+      place_option = place_text_ordered (texts c.args.words.now) c.in-Some.order order;
       order = order;
-      some = some_texts c.in-Some.order.files.items (some_files (texts c.args.words.now) (wanted_in c.in-Some.order) (no_fault at) order);
+      some = some_files (texts c.args.words.now) (wanted_in c.in-Some.order) (no_fault at) order;
       ok = no_fault at;
       fault = tt;
     }
@@ -51,6 +54,9 @@ returns-in-Err c = record {
   files = files_failed (texts c.args.words.now) c.in-Err.error c.failure_of.result (has_kind c) c.failure_of.ensures;
   option = text_failed (texts c.args.words.now) c.in-Err.error c.failure_of.result (has_kind c) c.failure_of.ensures;
   map = map_failed (texts c.args.words.now) c.in-Err.error c.failure_of.result (has_kind c) c.failure_of.ensures;
+  link = link_failed (texts c.args.words.now) c.in-Err.error c.failure_of.result (has_kind c) c.failure_of.ensures;
+  place = place_failed (texts c.args.words.now) c.in-Err.error c.failure_of.result (has_kind c) c.failure_of.ensures;
+  place_option = place_text_failed (texts c.args.words.now) c.in-Err.error c.failure_of.result (has_kind c) c.failure_of.ensures;
   order = tt;
   some = tt;
   ok = tt;

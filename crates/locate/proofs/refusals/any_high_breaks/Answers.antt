@@ -1,6 +1,6 @@
 use Rattle.std.proofs.Common.{◌||◌, sym, ap, ◌∙◌}
 use Rattle.std.specs.List.{list_any}
-use Rattle.object_modules.specs.declared.segment.Segment.TheVariants.{Code, Data}
+use Rattle.object_modules.specs.declared.segment.Segment.TheVariants.{Data}
 use Rattle.object_modules.specs.Image.{gain_at}
 use Rattle.object_modules.specs.Runs.{fixes_in}
 use Rattle.locate.specs.Locating.{plan_view}

@@ -1,0 +1,14 @@
+use Rattle.std.proofs.Common.{length, map}
+use Rattle.files.specs.Files.{KeepsFiles}
+use Rattle.answers.proofs.FilesRead.{ReadSoFar}
+use Rattle.answers.proofs.reading.read_files.Given as goal
+
+-- the files are as they were, and what was read is the front of what they have
+abbrev pub invariant-loop-rest : goal.invariant-loop-rest
+invariant-loop-rest g l = record {
+  kept : KeepsFiles (g.F.Files.files l.initial.files) (g.F.Files.files l.files);
+  made : ReadSoFar (g.F.Files.files l.initial.files) (map (λ n. n.now) l.initial.rest) (map (λ n. n.now) l.rest) (map (λ t. t.items) l.texts.items);
+}
+
+abbrev pub decreases-loop-rest : goal.decreases-loop-rest
+decreases-loop-rest g l = length l.rest

@@ -1,0 +1,3 @@
+pub use Rattle.files.specs.Files
+pub mod Endings
+pub mod Reading

@@ -1,0 +1,8 @@
+-- Files that were read.
+use Rattle.std.specs.Prelude.{ℕ, List, Option}
+use Rattle.std.specs.List.{AllZip}
+use Rattle.files.specs.Files.{Directory, HasFile}
+
+-- the files of these names have these bytes, each its own
+abbrev pub HasFiles : Option Directory → List (List ℕ) → List (List ℕ) → Type 0
+HasFiles files names texts = AllZip (HasFile files) names texts

@@ -1,0 +1,80 @@
+//! The orders that a command line gives. Options are the texts of its words.
+
+/// What is done with sources.
+#[derive(Clone, Copy)]
+pub enum Action {
+    /// Build the sources and run their image.
+    Run,
+    /// Build the sources and interpret them.
+    Interpret,
+}
+
+/// What is printed of an object file that is placed in memory.
+#[derive(Clone, Copy)]
+pub enum PlaceAction {
+    /// Where its segments, its start and its public names lie.
+    Locate,
+    /// Its bytes, as Intel HEX.
+    Hex,
+}
+
+/// The texts of the options that say where the parts of a program are to lie.
+#[derive(Clone, Copy)]
+pub struct PlanTexts<'a> {
+    /// The address of the code.
+    pub code: &'a str,
+    /// The address of the data.
+    pub data_base: &'a str,
+    /// The lowest address of the stack.
+    pub stack: &'a str,
+    /// The number of bytes of the stack.
+    pub stack_size: &'a str,
+}
+
+/// An order to build sources and run or interpret them.
+#[derive(Drop)]
+pub struct ProgramOrder<'a> {
+    /// What is done with the sources.
+    pub action: Action,
+    /// The files of the sources, in their order.
+    pub files: Vec<&'a str>,
+    /// Where the parts of the program are to lie.
+    pub plan: PlanTexts<'a>,
+    /// The most instructions that are run, or the budget of the interpreter.
+    pub limit: &'a str,
+    /// What the ports give, where that was said.
+    pub input: Option<&'a str>,
+    /// Whether it is first printed where each object lies.
+    pub map: bool,
+}
+
+/// An order to link object files.
+#[derive(Drop)]
+pub struct LinkOrder<'a> {
+    /// The file to which the merged object goes.
+    pub out: &'a str,
+    /// The object files, in their order.
+    pub objects: Vec<&'a str>,
+}
+
+/// An order to place an object file in memory. More files than one are refused by `PlaceOrder::file`.
+#[derive(Drop)]
+pub struct PlaceOrder<'a> {
+    /// What is printed.
+    pub action: PlaceAction,
+    /// The files.
+    pub files: Vec<&'a str>,
+    /// Where the parts of the program are to lie.
+    pub plan: PlanTexts<'a>,
+}
+
+/// What the command line asks for.
+#[derive(Drop)]
+pub enum Order<'a> {
+    /// Build sources and run or interpret them.
+    Program(ProgramOrder<'a>),
+    /// Link object files.
+    Link(LinkOrder<'a>),
+    /// Place an object file in memory.
+    Place(PlaceOrder<'a>),
+}

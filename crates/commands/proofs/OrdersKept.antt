@@ -1,0 +1,51 @@
+-- Files after a command line was carried out.
+use Rattle.std.proofs.Common.{◌≡◌, ◌≤◌, [], ◌∷◌, Option, None, Some, refl, arith}
+use Rattle.clap.specs.Words.{Kinds}
+use Rattle.files.specs.Files.{Directory, KeepsFiles}
+use Rattle.answers.specs.Endings.{status_of}
+use Rattle.answers.specs.declared.endings.Ending.{Ending}
+use Rattle.answers.specs.declared.endings.Ending.TheVariants.{Done, Refused, WrongLine, Limit, Stopped, Outside}
+use Rattle.command_line.specs.declared.reading.LineFault.{LineFault}
+use Rattle.command_line.specs.declared.reading.LineFault.TheVariants.{Help, Wrong}
+use Rattle.command_line.specs.Command.{IsFaultOf, Wanted, wants_link, wants_place, wants_program}
+use Rattle.object_commands.proofs.FilesWritten.{kept_others}
+use Rattle.commands.specs.Orders.{ChangesAsWanted, ChangesByWords, LinksAsWanted, LinksByWords}
+
+-- where no file changed, none changed but what was wanted
+pub kept_as_wanted : (wanted : Wanted) (old new : Option Directory) → KeepsFiles old new → ChangesAsWanted wanted old new
+kept_as_wanted (wants_program program) old new kept = kept
+kept_as_wanted (wants_link link) old new kept = kept_others old new link.out kept
+kept_as_wanted (wants_place place) old new kept = kept
+
+pub kept_by_words : (found : Option Wanted) (old new : Option Directory) → KeepsFiles old new → ChangesByWords found old new
+kept_by_words None old new kept = kept
+kept_by_words (Some wanted) old new kept = kept_as_wanted wanted old new kept
+
+-- the words give the order that was carried out
+pub by_words : (found : Option Wanted) (wanted : Wanted) (old new : Option Directory) → found ≡ Some wanted → ChangesAsWanted wanted old new → ChangesByWords found old new
+by_words found wanted old new e changes = rw e changes
+
+pub linked_by_words : (found : Option Wanted) (wanted : Wanted) (old new : Option Directory) → found ≡ Some wanted → LinksAsWanted wanted old new → LinksByWords found old new
+linked_by_words found wanted old new e links = rw e links
+
+-- words with a fault give no order
+pub faulty_links : (kinds : Kinds) (fault : LineFault) (found : Option Wanted) (old new : Option Directory) → IsFaultOf kinds fault → kinds ≡ [] → LinksByWords found old new
+faulty_links [] (Help error) found old new (is, among) none = absurd among
+faulty_links [] (Wrong error) found old new (is, among) none = absurd among
+faulty_links (k ∷ kinds) fault found old new is none = cc
+
+pub status_bound : (ending : Ending) → status_of ending ≤ 5
+status_bound Done = omega arith
+status_bound Refused = omega arith
+status_bound WrongLine = omega arith
+status_bound Limit = omega arith
+status_bound Stopped = omega arith
+status_bound Outside = omega arith
+
+pub done_is : (ending : Ending) → status_of ending ≡ 0 → ending ≡ Done
+done_is Done e = refl
+done_is Refused e = absurd (omega arith)
+done_is WrongLine e = absurd (omega arith)
+done_is Limit e = absurd (omega arith)
+done_is Stopped e = absurd (omega arith)
+done_is Outside e = absurd (omega arith)

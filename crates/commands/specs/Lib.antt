@@ -1,0 +1,3 @@
+pub use Rattle.command_line.specs.Command
+pub use Rattle.object_commands.specs.Linking
+pub mod Orders

@@ -1,0 +1,16 @@
+use Rattle.std.proofs.Common.{◌∙◌, ap, arith}
+use Rattle.object_modules.specs.Displacements.{start_after}
+use Rattle.link_laws.proofs.StartLoops.{one_more}
+use Rattle.link.proofs.pieces.pieces_of.Goals as goal
+
+pub loop-module-preserved : goal.loop-module-preserved
+loop-module-preserved c =
+    one_more c.loop-module.code c.loop-module.data_end c.loop-module.stack c.loop-module.placed.items c.args.modules.now
+    c.loop-module.module-index c.loop-module.invariant c.module-item.result (omega arith) c.module-item.is
+    c.start_at-code_start.result c.start_at-data_start.result c.length.result c.length-in-loop-module.result
+    c.stack_length.result c.push.new.self.items c.new.result
+    (c.start_at-code_start.ensures ∙ ap (start_after c.loop-module.code) c.alignment.ensures)
+    (c.start_at-data_start.ensures ∙ ap (start_after c.loop-module.data_end) c.alignment-in-loop-module.ensures)
+    c.length.ensures c.length-in-loop-module.ensures c.stack_length.ensures c.if-code-gt-SEGMENT_LIMIT.false
+    c.if-data_end-gt-SEGMENT_LIMIT.false c.if-stack-gt-SEGMENT_LIMIT.false c.new.ensures.object c.new.ensures.start
+    c.new.ensures.valid c.in_ok-push.ensures.items

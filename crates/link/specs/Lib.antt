@@ -1,0 +1,3 @@
+pub use Rattle.object_modules.specs.Merge
+pub mod Merging
+pub mod Views

@@ -1,0 +1,201 @@
+-- The runs of a module with their fixes: each fix lies within the run that it begins in.
+use Rattle.std.proofs.Common.{◌≡◌, ℕ, suc, ◌+◌, ◌<◌, ◌≤◌, true, false, not, ◌&&◌, ◌||◌, nat_lt, nat_le, List, [], ◌∷◌, ◌++◌, length, map, flat_map, Option, None, Some, IsTrue, refl, ap, sym, subst, ◌∙◌, arith}
+use Rattle.std.specs.List.{AllByRecursion}
+use Rattle.std.proofs.lemmas.Bool.{and_parts, leb-true, ltb-true}
+use Rattle.std.proofs.lemmas.List.{length-map}
+use Rattle.object_modules.specs.declared.segment.Fix.{Fix}
+use Rattle.object_modules.specs.declared.segment.FixKind.{FixKind}
+use Rattle.object_modules.specs.declared.segment.FixKind.TheVariants.{Low, High, Both}
+use Rattle.object_modules.specs.declared.segment.Segment.{Segment}
+use Rattle.object_modules.specs.declared.segment.Segment.TheVariants.{Absolute, Code, Data, Stack}
+use Rattle.object_modules.specs.declared.segment.Target.{Target}
+use Rattle.object_modules.specs.Before.{is_empty}
+use Rattle.object_modules.specs.Module.{Fixup, SetByte, ObjectModule, IsObjectModule, begins_word, is_plain, words_are_whole, length_of, places_of, width_of}
+use Rattle.object_modules.specs.Rules.{fix_end}
+use Rattle.object_modules.specs.Runs.{bytes_of_run, fixes_of_run, fixes_in, runs_of}
+use Rattle.object_modules.specs.Stored.{are_longest}
+use Rattle.object_modules.specs.Text.{Run, runs_from, fixes_from}
+use Rattle.object_modules.specs.internal.Joining.{before_fixes, place_fixes, run_end}
+use Rattle.object_merges.proofs.FixesOfPlaces.{fixes_step, runs_fixes}
+use Rattle.object_merges.proofs.MergeValid.{places_are}
+use Rattle.object_merges.proofs.PiecesByRuns.{Apart, AllBelow, AllPast, below_first, past_others, runs_apart}
+use Rattle.object_merges.proofs.PlacesKept.{AllFrom}
+use Rattle.object_merges.proofs.RunsMoved.{fixes_later, row_of, values_of}
+use Rattle.link_laws.specs.internal.Building.{AreWithin, HaveTheirFixes}
+
+-- fixes after the first place are within what begins one place before
+within_earlier :
+    (offset size : ℕ) (fixes : List Fix) → AreWithin (offset + 1) size fixes → AreWithin offset (suc size) fixes
+within_earlier offset size [] all = tt
+within_earlier offset size (fix ∷ others) all =
+    let low : offset + 1 ≤ fix.offset = (all.0).0 in
+    let high : fix_end fix ≤ (offset + 1) + size = (all.0).1 in
+    ((omega (arith, low), omega (arith, high)), within_earlier offset size others all.1)
+
+word_room :
+    (here : SetByte) (others : List SetByte) → words_are_whole (row_of (here ∷ others)) ≡ true
+    → begins_word (Some here) ≡ true → 0 < length others
+word_room here [] whole begins =
+    absurd (let bad : false ≡ true =
+    sym (ap (λ b. (not b || false) && true) begins) ∙ whole in cc)
+word_room here (next ∷ others) whole begins = omega arith
+
+before_within :
+    (offset value : ℕ) (fixup : Option Fixup) (others : List SetByte) (fixes : List Fix)
+    → words_are_whole (row_of (record { value = value; fixup = fixup } ∷ others)) ≡ true
+    → AreWithin offset (suc (length others)) fixes
+    → AreWithin offset (suc (length others)) (before_fixes offset fixup fixes)
+before_within offset value None others fixes whole all = all
+before_within offset value (Some fixup) others fixes whole all =
+    ((omega arith, go fixup.kind fixup.target whole), all)
+  where
+    go : (kind : FixKind) (target : Target)
+        → words_are_whole
+        (row_of (record { value = value; fixup = Some (record { kind = kind; target = target }) } ∷ others)) ≡ true
+        → offset + width_of kind ≤ offset + suc (length others)
+    go Low target w = omega arith
+    go High target w = omega arith
+    go Both target w =
+        let room : 0 < length others =
+        word_room (record { value = value; fixup = Some (record { kind = Both; target = target }) }) others w refl in
+        omega (arith, room)
+
+later_whole :
+    (here : SetByte) (others : List SetByte) → words_are_whole (row_of (here ∷ others)) ≡ true
+    → words_are_whole (row_of others) ≡ true
+later_whole here [] whole = refl
+later_whole here (next ∷ others) whole =
+    (and_parts (not (begins_word (Some here)) || is_plain (Some next)) (words_are_whole (row_of (next ∷ others))) whole).1
+
+items_within :
+    (offset : ℕ) (items : List SetByte) → words_are_whole (row_of items) ≡ true
+    → AreWithin offset (length items) (fixes_from offset items)
+items_within offset [] whole = tt
+items_within offset (here ∷ others) whole =
+    subst (AreWithin offset (suc (length others))) (sym (fixes_step offset here.value here.fixup others))
+    (before_within offset here.value here.fixup others (fixes_from (offset + 1) others) whole
+    (within_earlier offset (length others) (fixes_from (offset + 1) others)
+    (items_within (offset + 1) others (later_whole here others whole))))
+
+-- so they begin before the end of the items
+takes_some : (kind : FixKind) → 1 ≤ width_of kind
+takes_some Low = omega arith
+takes_some High = omega arith
+takes_some Both = omega arith
+
+within_below : (offset size : ℕ) (fixes : List Fix) → AreWithin offset size fixes → AllBelow (offset + size) fixes
+within_below offset size [] all = tt
+within_below offset size (fix ∷ others) all =
+    let high : fix_end fix ≤ offset + size = (all.0).1 in
+    let some : 1 ≤ width_of fix.kind = takes_some fix.kind in
+    (omega (arith, high, some), within_below offset size others all.1)
+
+past_both : (end : ℕ) (xs ys : List Fix) → AllPast end xs → AllPast end ys → AllPast end (xs ++ ys)
+past_both end [] ys x y = y
+past_both end (fix ∷ others) ys x y = (x.0, past_both end others ys x.1 y)
+
+past_runs : (end : ℕ) (runs : List (Run SetByte)) → AllFrom end runs → AllPast end (flat_map fixes_of_run runs)
+past_runs end [] all = tt
+past_runs end (run ∷ others) all =
+    past_both end (fixes_from run.offset run.items) (flat_map fixes_of_run others)
+    (fixes_later end run.offset run.items all.0) (past_runs end others all.1)
+
+-- runs that end within a size
+abbrev AllEnd : (size : ℕ) → List (Run ℕ) → Type 0
+AllEnd size runs = AllByRecursion (λ (run : Run ℕ). run_end run ≤ size) runs
+
+first_ends : (size : ℕ) (run : Run ℕ) (others : List (Run ℕ)) → AllEnd size (run ∷ others) → run_end run ≤ size
+first_ends size run others all = all.0
+
+longest_end : (size : ℕ) (runs : List (Run ℕ)) → are_longest size runs ≡ true → AllEnd size runs
+longest_end size [] h = tt
+longest_end size (run ∷ []) h =
+    (leb-true (run_end run) size (and_parts (not (is_empty run.items)) (nat_le (run_end run) size) h).1, tt)
+longest_end size (run ∷ next ∷ others) h =
+    let cut = and_parts (not (is_empty run.items) && nat_lt (run_end run) next.offset)
+    (are_longest size (next ∷ others)) h in
+    let later : AllEnd size (next ∷ others) = longest_end size (next ∷ others) cut.1 in
+    let gap : run_end run < next.offset =
+    ltb-true (run_end run) next.offset (and_parts (not (is_empty run.items)) (nat_lt (run_end run) next.offset) cut.0).1 in
+    let end : run_end next ≤ size = first_ends size next others later in
+    (omega (arith, gap, end), later)
+
+have_fixes :
+    (size : ℕ) (runs : List (Run SetByte)) → size ≤ 65535 → Apart runs → AllEnd size (map bytes_of_run runs)
+    → HaveTheirFixes size (flat_map fixes_of_run runs) (map bytes_of_run runs)
+have_fixes size [] small apart ends = tt
+have_fixes size (run ∷ others) small apart ends =
+    let own : List Fix = fixes_from run.offset run.items in
+    let later : List Fix = flat_map fixes_of_run others in
+    let end : ℕ = run_end (bytes_of_run run) in
+    let long : length (values_of run.items) ≡ length run.items =
+    length-map run.items (λ (item : SetByte). item.value) in
+    let same : run.offset + length run.items ≡ end = ap (λ n. run.offset + n) (sym long) in
+    let within : AreWithin run.offset (length run.items) own = items_within run.offset run.items apart.0 in
+    let below : AllBelow end own =
+    subst (λ n. AllBelow n own) same (within_below run.offset (length run.items) own within) in
+    let past : AllPast end later =
+    past_runs end others (subst (λ n. AllFrom n others) same apart.1) in
+    let ends_here : run_end (bytes_of_run run) ≤ size = ends.0 in (
+      ends_here,
+      omega (arith, ends_here, small),
+      subst (AreWithin run.offset (length (values_of run.items))) (sym (below_first end own later below past))
+          (subst (λ n. AreWithin run.offset n own) (sym long) within),
+      subst (λ f. HaveTheirFixes size f (map bytes_of_run others)) (sym (past_others end own later below past))
+          (have_fixes size others small apart.2 ends.1),
+    )
+
+-- no word of a valid module is cut
+pub whole_places :
+    (object : ObjectModule) (segment : Segment) → IsObjectModule object
+    → words_are_whole (places_of object segment) ≡ true
+whole_places object Absolute valid = refl
+whole_places object Code valid = (places_are (length object.externals) object.code valid.code).whole
+whole_places object Data valid = (places_are (length object.externals) object.data_places valid.data_places).whole
+whole_places object Stack valid = refl
+
+-- the runs of a module that is valid have their fixes
+pub runs_have_fixes :
+    (object : ObjectModule) (segment : Segment) (size : ℕ) (runs : List (Run ℕ)) (fixes : List Fix)
+    → IsObjectModule object → size ≤ 65535 → runs ≡ runs_of object segment → fixes ≡ fixes_in object segment
+    → IsTrue (are_longest size runs) → HaveTheirFixes size fixes runs
+unfolding runs_of fixes_in
+runs_have_fixes object segment size runs fixes valid small made of_these longest =
+    subst (λ f. HaveTheirFixes size f runs) (sym of_these)
+    (subst (HaveTheirFixes size (flat_map fixes_of_run (runs_from 0 (places_of object segment)))) (sym made)
+    (have_fixes size (runs_from 0 (places_of object segment)) small
+    (runs_apart 0 (places_of object segment) (whole_places object segment valid))
+    (subst (AllEnd size) made (longest_end size runs longest))))
+
+-- fixes begin within their segment
+later_fixes :
+    (offset end : ℕ) (fixup : Option Fixup) (fixes : List Fix) → offset < end
+    → AllByRecursion (λ (fix : Fix). fix.offset < end) fixes
+    → AllByRecursion (λ (fix : Fix). fix.offset < end) (before_fixes offset fixup fixes)
+later_fixes offset end None fixes h all = all
+later_fixes offset end (Some fixup) fixes h all = (h, all)
+
+places_below :
+    (offset end : ℕ) (places : List (Option SetByte)) → offset + length places ≤ end
+    → AllByRecursion (λ (fix : Fix). fix.offset < end) (place_fixes offset places)
+places_below offset end [] h = tt
+places_below offset end (None ∷ others) h = places_below (offset + 1) end others (omega (arith, h))
+places_below offset end (Some here ∷ others) h =
+    later_fixes offset end here.fixup (place_fixes (offset + 1) others) (omega (arith, h))
+    (places_below (offset + 1) end others (omega (arith, h)))
+
+length_in : (object : ObjectModule) (segment : Segment) → length (places_of object segment) ≤ length_of object segment
+length_in object Absolute = omega arith
+length_in object Code = omega arith
+length_in object Data = omega arith
+length_in object Stack = omega arith
+
+pub fixes_below_end :
+    (object : ObjectModule) (segment : Segment) (fixes : List Fix) → fixes ≡ fixes_in object segment
+    → AllByRecursion (λ (fix : Fix). fix.offset < length_of object segment) fixes
+unfolding fixes_in
+fixes_below_end object segment fixes of_these =
+    let long : length (places_of object segment) ≤ length_of object segment = length_in object segment in
+    subst (AllByRecursion (λ (fix : Fix). fix.offset < length_of object segment))
+    (sym (of_these ∙ runs_fixes 0 (places_of object segment)))
+    (places_below 0 (length_of object segment) (places_of object segment) (omega (arith, long)))

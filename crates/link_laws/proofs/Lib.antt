@@ -1,0 +1,11 @@
+pub mod NameLoops
+pub mod StartLoops
+pub mod MainPasses
+pub mod Refusals
+pub mod PublicNames
+pub mod SegmentLaws
+pub mod FixesWithin
+pub mod SegmentsMerged
+pub mod Linkings
+pub mod MainNames
+pub mod Pushed

@@ -1,0 +1,3 @@
+-- What the loops of linking go by.
+pub mod Passes
+pub mod Building

@@ -1,0 +1,2 @@
+-- What proofs of merging files speak of.
+pub mod Causes

@@ -1,0 +1,2 @@
+pub mod FilesWritten
+pub mod FilesPlaced

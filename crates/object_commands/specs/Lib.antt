@@ -1,0 +1,7 @@
+pub use Rattle.answers.specs.Reading
+pub use Rattle.files.specs.Files
+pub use Rattle.hex80.specs.Texts
+pub use Rattle.link_records.specs.Streams
+pub use Rattle.locate.specs.Locating
+pub mod Linking
+pub mod Placing

@@ -1,0 +1,28 @@
+-- What linking makes of files.
+use Rattle.std.specs.Prelude.{◌≡◌, ℕ, false, List, Option, None, Some}
+use Rattle.std.specs.Str.{bytes_eq}
+use Rattle.files.specs.Files.{ChangesFiles, Directory, with_file}
+use Rattle.object_modules.specs.Module.{ObjectModule}
+use Rattle.object_modules.specs.Text.{text_of}
+use Rattle.link_records.specs.Streams.{Merges}
+use Rattle.answers.specs.Reading.{HasFiles}
+
+-- known files other than the one of this name stay as they were
+abbrev pub KeepsOthers : Option Directory → Option Directory → List ℕ → Type 0
+KeepsOthers None new name = Unit {0}
+KeepsOthers (Some old) None name = ⊥
+KeepsOthers (Some old) (Some new) name = (other : List ℕ) → bytes_eq other name ≡ false → new other ≡ old other
+
+-- these bytes are the text of the merge of the modules that files spell
+pub record MergesTo (texts : List (List ℕ)) (bytes : List ℕ) : Type 0 where
+  pub object : ObjectModule
+  pub merges : Merges texts object
+  pub text : bytes ≡ text_of object
+
+-- the file `out` has the text of the merge of the modules that the files of these names spell; the others stay
+pub record LinksFiles (old new : Option Directory) (names : List (List ℕ)) (out : List ℕ) : Type 0 where
+  pub texts : List (List ℕ)
+  pub read : HasFiles old names texts
+  pub object : ObjectModule
+  pub merges : Merges texts object
+  pub written : ChangesFiles old new (with_file out (text_of object))

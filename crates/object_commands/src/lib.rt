@@ -1,0 +1,9 @@
+//! The commands that carry out orders on object files, over files and output streams that are handed in.
+#![tactic(auto)]
+
+mod linking;
+mod placing;
+mod writing_files;
+
+pub use linking::link_files;
+pub use placing::{print_hex, print_places};

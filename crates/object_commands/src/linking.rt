@@ -1,0 +1,104 @@
+//! Object files that are linked.
+
+ghost use Rattle.std.specs.Prelude.{◌≡◌, IfOk, map};
+ghost use Rattle.object_commands.specs.Linking.{KeepsOthers, LinksFiles, MergesTo};
+
+use crate::writing_files::write_file;
+use answers::{Ending, read_files, refuse, refuse_memory};
+use failure::Failure;
+use files::Files;
+use link::LinkFault;
+use link_records::{StreamFault, link_records};
+use std::alloc::{AllocError, Global};
+use std::io::Write;
+
+/// Merges object files, and writes the merge to the file `out`. That file is begun once all others were read and their
+/// modules merged; after a write that failed it may have a beginning of the merge, which is no object file. Memory holds
+/// the files and the merge.
+#[tactic(auto, using(crate::proofs::FilesWritten::kept_others, crate::proofs::FilesWritten::kept_then_others, crate::proofs::FilesWritten::links, crate::proofs::FilesWritten::written_others))]
+pub fn link_files<F: Files, E: Write>(
+    alloc: Global,
+    objects: &[&str],
+    out: &str,
+    files: &mut F,
+    err: &mut E,
+) -> Ending
+    ensures others { KeepsOthers (F.files files.old) (F.files files.new) out.now }
+    ensures linked { result ≡ Ending.Done → LinksFiles (F.files files.old) (F.files files.new)
+        (map (λ name. name.now) objects.now) out.now }
+{
+    let texts = match read_files(alloc, objects, files) {
+        Ok(texts) => texts,
+        Err(Failure::Fault((fault, name))) => return refuse(fault.number(), name, 0, err),
+        Err(Failure::Memory) => return refuse_memory(err),
+    };
+    let merged = match merge(alloc, texts.as_slice()) {
+        Ok(merged) => merged,
+        Err(Failure::Fault(fault)) => return refuse_merge(&fault, objects, err),
+        Err(Failure::Memory) => return refuse_memory(err),
+    };
+    match write_file(out, merged.as_slice(), files) {
+        Ok(()) => Ending::Done,
+        Err(Failure::Fault(fault)) => refuse(fault.number(), out, 0, err),
+        Err(Failure::Memory) => refuse_memory(err),
+    }
+}
+
+// The bytes of texts.
+fn slices_of(alloc: Global, texts: &[Vec<u8>]) -> Result<Vec<&[u8]>, AllocError>
+    ensures { IfOk result (λ slices.
+        map (λ slice. slice.now) slices.items ≡ map (λ text. text.items) texts.now) }
+{
+    let mut slices = Vec::new(alloc);
+    for text in texts {
+        slices.push(text.as_slice())?;
+    }
+    Ok(slices)
+}
+
+// The text of the merge of the modules that files spell. Only memory can fail its writing.
+#[tactic(auto, using(crate::proofs::FilesWritten::merges_to))]
+fn merge(alloc: Global, texts: &[Vec<u8>]) -> Result<Vec<u8>, Failure<StreamFault>>
+    ensures { IfOk result (λ bytes. MergesTo (map (λ text. text.items) texts.now) bytes.items) }
+{
+    let slices = slices_of(alloc, texts)?;
+    let mut merged: Vec<u8> = Vec::new(alloc);
+    match link_records(alloc, slices.as_slice(), &mut merged) {
+        Ok(()) => Ok(merged),
+        Err(Failure::Fault(StreamFault::Write)) => Err(Failure::Memory),
+        Err(failure) => Err(failure),
+    }
+}
+
+// Prints why object files have no merge: the file that is no object file, the name that is there twice or not at all, or
+// a dash.
+fn refuse_merge<E: Write>(fault: &StreamFault, objects: &[&str], err: &mut E) -> Ending
+    ensures { result ≡ Ending.Refused }
+{
+    match fault {
+        StreamFault::Object { file, fault } => {
+            let name = match objects.get(*file) {
+                Some(name) => *name,
+                None => "-",
+            };
+            refuse(fault.number(), name, 0, err)
+        }
+        StreamFault::Link(fault) => refuse_link(fault, err),
+        StreamFault::Write => refuse("U3", "-", 0, err),
+    }
+}
+
+// Prints why modules have no merge.
+fn refuse_link<E: Write>(fault: &LinkFault, err: &mut E) -> Ending
+    ensures { result ≡ Ending.Refused }
+{
+    match fault {
+        LinkFault::DuplicatePublic { name } | LinkFault::UnresolvedExternal { name } => {
+            let _ = writeln!(err, "{} {name} 0", fault.number());
+            Ending::Refused
+        }
+        LinkFault::SegmentTooLong | LinkFault::NotOneMain | LinkFault::HighByteMoves => {
+            refuse(fault.number(), "-", 0, err)
+        }
+    }
+}

@@ -1,0 +1,115 @@
+//! Object files that are placed in memory.
+
+ghost use Rattle.std.specs.Prelude.{◌≡◌, IfErr, IfOk};
+ghost use Rattle.files.specs.Files.{KeepsFiles};
+ghost use Rattle.object_commands.specs.Placing.{PlacesFile, PrintsHex};
+
+use answers::{Ending, refuse, refuse_memory, refuse_output, refuse_write};
+use failure::Failure;
+use files::Files;
+use hex80::write_hex;
+use locate::{Absolute, Plan, locate};
+use object_modules::{ObjectModule, Segment};
+use objmod::read;
+use std::alloc::Global;
+use std::io;
+use std::io::Write;
+
+// An object file that was placed.
+#[derive(Drop)]
+struct Placed {
+    object: ObjectModule,
+    absolute: Absolute,
+}
+
+// Reads an object file and places it, or prints why it can't.
+#[tactic(auto, using(crate::proofs::FilesPlaced::placed))]
+fn place_file<F: Files, E: Write>(
+    alloc: Global,
+    file: &str,
+    plan: &Plan,
+    files: &mut F,
+    err: &mut E,
+) -> Result<Placed, Ending>
+    ensures kept { KeepsFiles (F.files files.old) (F.files files.new) }
+    ensures placed { IfOk result (λ placed.
+        PlacesFile (F.files files.old) file.now plan.now placed.object placed.absolute) }
+    ensures refused { IfErr result (λ ending. ending ≡ Ending.Refused) }
+{
+    let bytes = match files.read_file(file) {
+        Ok(bytes) => bytes,
+        Err(Failure::Fault(fault)) => return Err(refuse(fault.number(), file, 0, err)),
+        Err(Failure::Memory) => return Err(refuse_memory(err)),
+    };
+    let object = match read(alloc, bytes.as_slice()) {
+        Ok(object) => object,
+        Err(Failure::Fault(fault)) => return Err(refuse(fault.number(), file, 0, err)),
+        Err(Failure::Memory) => return Err(refuse_memory(err)),
+    };
+    match locate(alloc, &object, plan) {
+        Ok(absolute) => Ok(Placed { object, absolute }),
+        Err(Failure::Fault(fault)) => Err(refuse(fault.number(), "-", 0, err)),
+        Err(Failure::Memory) => Err(refuse_memory(err)),
+    }
+}
+
+// Prints the lines of a placed object.
+fn print_lines<O: Write>(placed: &Placed, plan: &Plan, out: &mut O) -> io::Result<()> {
+    let code = placed.object.length(Segment::Code);
+    let data_length = placed.object.length(Segment::Data);
+    writeln!(out, "CODE {:04X} {code}", plan.code)?;
+    writeln!(out, "DATA {:04X} {data_length}", plan.data_base)?;
+    writeln!(out, "STACK {:04X} {}", plan.stack, plan.stack_size)?;
+    writeln!(out, "START {:04X}", placed.absolute.start())?;
+    for symbol in placed.absolute.symbols() {
+        writeln!(out, "PUBLIC {} {:04X}", symbol.name, symbol.address)?;
+    }
+    Ok(())
+}
+
+/// Places an object file by a plan, and prints where its code, its data and the stack lie and how many bytes they have,
+/// where it starts, and where its public names lie, in their order.
+pub fn print_places<F: Files, O: Write, E: Write>(
+    alloc: Global,
+    file: &str,
+    plan: &Plan,
+    files: &mut F,
+    out: &mut O,
+    err: &mut E,
+) -> Ending
+    ensures kept { KeepsFiles (F.files files.old) (F.files files.new) }
+{
+    let placed = match place_file(alloc, file, plan, files, err) {
+        Ok(placed) => placed,
+        Err(ending) => return ending,
+    };
+    match print_lines(&placed, plan, out) {
+        Ok(()) => Ending::Done,
+        Err(error) => refuse_write(&error, err),
+    }
+}
+
+/// Places an object file by a plan, and prints its bytes as Intel HEX.
+#[tactic(auto, using(crate::proofs::FilesPlaced::prints_hex))]
+pub fn print_hex<F: Files, O: Write, E: Write>(
+    alloc: Global,
+    file: &str,
+    plan: &Plan,
+    files: &mut F,
+    out: &mut O,
+    err: &mut E,
+) -> Ending
+    ensures kept { KeepsFiles (F.files files.old) (F.files files.new) }
+    ensures printed { result ≡ Ending.Done → PrintsHex (F.files files.old) file.now plan.now
+        (O.contents out.old) (O.contents out.new) }
+{
+    let placed = match place_file(alloc, file, plan, files, err) {
+        Ok(placed) => placed,
+        Err(ending) => return ending,
+    };
+    match write_hex(alloc, placed.absolute.pieces(), out) {
+        Ok(()) => Ending::Done,
+        Err(Failure::Fault(_)) => refuse_output(err),
+        Err(Failure::Memory) => refuse_memory(err),
+    }
+}

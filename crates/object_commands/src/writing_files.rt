@@ -1,0 +1,27 @@
+//! Files that are written whole.
+
+ghost use Rattle.std.specs.Prelude.{◌<◌, length, OnOk, OnErr};
+ghost use Rattle.files.specs.Files.{ChangesFiles, with_file};
+ghost use Rattle.object_commands.specs.Linking.{KeepsOthers};
+
+use failure::Failure;
+use files::{FileFault, Files};
+
+/// Writes a file from its beginning. After a failure it may have a beginning of the bytes, and the others are as before.
+#[tactic(auto, using(crate::proofs::FilesWritten::begun, crate::proofs::FilesWritten::kept_others, crate::proofs::FilesWritten::others_kept_on, crate::proofs::FilesWritten::written_whole))]
+pub(crate) fn write_file<F: Files>(
+    name: &str,
+    bytes: &[u8],
+    files: &mut F,
+) -> Result<(), Failure<FileFault>>
+    ensures ok { OnOk result
+        (ChangesFiles (F.files files.old) (F.files files.new) (with_file name.now bytes.now)) }
+    ensures err { OnErr result (KeepsOthers (F.files files.old) (F.files files.new) name.now) }
+{
+    files.begin(name)?;
+    let mut sent = 0;
+    while sent < bytes.len() {
+        sent += files.append(name, &bytes[sent..])?;
+    }
+    Ok(())
+}

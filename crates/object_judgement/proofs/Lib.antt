@@ -1,0 +1,16 @@
+pub mod NewNames
+pub mod FixMarks
+pub mod FixReferences
+pub mod HeaderLaws
+pub mod Accepting
+pub mod JudgeSteps
+pub mod Knowing
+pub mod KnownAfter
+pub mod ExtentsSaid
+pub mod HeaderVerdict
+pub mod EndVerdict
+pub mod NamesVerdict
+pub mod ContentVerdict
+pub mod FixesVerdict
+pub mod RecordVerdict
+pub mod WholeFile

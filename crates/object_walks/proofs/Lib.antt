@@ -1,0 +1,3 @@
+pub mod NextParts
+pub mod NextFixes
+pub mod AtFront

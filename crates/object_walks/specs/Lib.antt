@@ -1,0 +1,3 @@
+pub use Rattle.object_modules.specs.Walking
+pub use Rattle.object_entries.specs.Views
+pub mod internal

@@ -1,0 +1,2 @@
+-- What proofs of walks speak of.
+pub mod Cursors

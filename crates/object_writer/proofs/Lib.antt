@@ -1,0 +1,4 @@
+pub mod Fixes
+pub mod Cutting
+pub mod Texts
+pub mod RunsLeft

@@ -1,0 +1,8 @@
+//! The one text of an object module, written.
+#![tactic(auto)]
+
+mod cuts;
+mod run;
+mod text;
+
+pub use text::write;

@@ -1,0 +1,11 @@
+-- One more public name after others.
+use Rattle.std.proofs.Common.{◌≡◌, List, [], ◌∷◌, ◌++◌, map, refl, ap}
+use Rattle.object_modules.specs.declared.public.OwnedPublic.{OwnedPublic}
+use Rattle.object_modules.specs.Module.{Public}
+use Rattle.object_modules.specs.Views.{owned_public_view}
+
+pub publics_more :
+    (done : List OwnedPublic) (made : OwnedPublic) (left : List Public)
+    → map owned_public_view (done ++ made ∷ []) ++ left ≡ map owned_public_view done ++ owned_public_view made ∷ left
+publics_more [] made left = refl
+publics_more (first ∷ done) made left = ap (λ rest. owned_public_view first ∷ rest) (publics_more done made left)

@@ -1,0 +1,3 @@
+-- What proofs of reading speak of.
+pub mod Keeping
+pub mod Told
