@@ -127,7 +127,7 @@ impl Code {
         Ok(label)
     }
 
-    /// Whether a label has its place.
+    /// Whether a label has its place. Looks at each item.
     pub fn is_bound(&self, label: Label) -> bool
         ensures { result ≡ is_bound label self.now.items }
     {
