@@ -95,4 +95,3 @@ below_power count byte h small =
 
 pub none_right : (count byte : ℕ) → 8 ≤ count → byte < 256 → byte / 2 ^ count ≡ 0
 none_right count byte h small = div-eq_of_lt (below_power count byte h small)
-

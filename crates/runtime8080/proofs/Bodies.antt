@@ -143,8 +143,8 @@ has_returned script routine from to level s memory may quiet same body =
           (record {
             size = outer ∙ inner;
             bytes = λ address out.
-            pushed_elsewhere level word s.memory address may.room
-            (λ low high. out (in_spare level address may.room may.stack.limit low high));
+                pushed_elsewhere level word s.memory address may.room
+                (λ low high. out (in_spare level address may.room may.stack.limit low high));
           });
     }
 

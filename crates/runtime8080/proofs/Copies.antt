@@ -67,6 +67,9 @@ abbrev pub DifferIn : Range → (memory other : List ℕ) → Type 0
 DifferIn range memory other =
     (address : ℕ) → (IsIn address range → ⊥) → byte_at other address ≡ byte_at memory address
 
+differ_by : (a b : ℕ) → (a == b) ≡ false → a ≢ b
+differ_by a b h e = let bad : true ≡ false = sym (eq-eqb a b e) ∙ h in cc
+
 put_both :
     (range : Range) (memory other : List ℕ) (place value value' : ℕ)
     → place < length memory
@@ -83,12 +86,9 @@ put_both range memory other place value value' fits fits' differ same address ou
         ∙ (byte_put other place value' fits' ∙ (same ∙ (sym (byte_put memory place value fits)
         ∙ ap (byte_at (slice_set memory place value)) (sym e))))
     go false h =
-        let other_place : address ≢ place = λ e. differs e h in
+        let other_place = differ_by address place h in
         byte_kept other place address value' other_place
         ∙ (differ address out ∙ sym (byte_kept memory place address value other_place))
-      where
-        differs : address ≡ place → (address == place) ≡ false → ⊥
-        differs e g = let bad : true ≡ false = sym (eq-eqb address place e) ∙ g in cc
 
 -- memories that differ in a range alone do so after a block from outside it was copied
 pub copied_differ :

@@ -60,11 +60,10 @@ none_after_mark :
     → NoneBound items labels
     → NoneBound (items ++ Mark mark ∷ []) labels
 none_after_mark items mark [] differs none = tt
-none_after_mark items mark (label ∷ others) differs none =
-    (
-      bound_more label items (Mark mark) none.0 (not_equal label mark (λ e. differs.0 (sym e))),
-      none_after_mark items mark others differs.1 none.1,
-    )
+none_after_mark items mark (label ∷ others) differs none = (
+  bound_more label items (Mark mark) none.0 (not_equal label mark (λ e. differs.0 (sym e))),
+  none_after_mark items mark others differs.1 none.1,
+)
 
 no_mark : (label : ℕ) (items : List Item) → false ≡ true → is_bound label items ≡ false
 no_mark label items h = let bad : false ≡ true = h in cc
@@ -77,25 +76,32 @@ pub fit_items :
     → NoneBound items (bound_by more)
     → FitItems labels items more
 fit_items labels items [] known differ none = tt
-fit_items labels items (Mark label ∷ others) known differ none =
-    (
-      known.0,
-      (λ other m. subst (λ n. is_bound n items ≡ false) (sym (eqb-true other label m)) none.0),
-      fit_items labels (items ++ Mark label ∷ []) others known.1 differ.1
+fit_items labels items (Mark label ∷ others) known differ none = (
+  known.0,
+  (λ other m. subst (λ n. is_bound n items ≡ false) (sym (eqb-true other label m)) none.0),
+  fit_items labels (items ++ Mark label ∷ []) others known.1 differ.1
       (none_after_mark items label (bound_by others) differ.0 none.1),
-    )
-fit_items labels items (Plain i ∷ others) known differ none =
-    (known.0, (λ label m. no_mark label items m),
-    fit_items labels (items ++ Plain i ∷ []) others known.1 differ (still_none items (Plain i) (bound_by others) (λ label. refl) none))
-fit_items labels items (WithWord form reference ∷ others) known differ none =
-    (known.0, (λ label m. no_mark label items m),
-    fit_items labels (items ++ WithWord form reference ∷ []) others known.1 differ (still_none items (WithWord form reference) (bound_by others) (λ label. refl) none))
-fit_items labels items (Byte value ∷ others) known differ none =
-    (known.0, (λ label m. no_mark label items m),
-    fit_items labels (items ++ Byte value ∷ []) others known.1 differ (still_none items (Byte value) (bound_by others) (λ label. refl) none))
-fit_items labels items (Address reference ∷ others) known differ none =
-    (known.0, (λ label m. no_mark label items m),
-    fit_items labels (items ++ Address reference ∷ []) others known.1 differ (still_none items (Address reference) (bound_by others) (λ label. refl) none))
+)
+fit_items labels items (Plain i ∷ others) known differ none = (
+  known.0,
+  (λ label m. no_mark label items m),
+  fit_items labels (items ++ Plain i ∷ []) others known.1 differ (still_none items (Plain i) (bound_by others) (λ label. refl) none),
+)
+fit_items labels items (WithWord form reference ∷ others) known differ none = (
+  known.0,
+  (λ label m. no_mark label items m),
+  fit_items labels (items ++ WithWord form reference ∷ []) others known.1 differ (still_none items (WithWord form reference) (bound_by others) (λ label. refl) none),
+)
+fit_items labels items (Byte value ∷ others) known differ none = (
+  known.0,
+  (λ label m. no_mark label items m),
+  fit_items labels (items ++ Byte value ∷ []) others known.1 differ (still_none items (Byte value) (bound_by others) (λ label. refl) none),
+)
+fit_items labels items (Address reference ∷ others) known differ none = (
+  known.0,
+  (λ label m. no_mark label items m),
+  fit_items labels (items ++ Address reference ∷ []) others known.1 differ (still_none items (Address reference) (bound_by others) (λ label. refl) none),
+)
 
 either_false : (here others : Bool) → here ≡ false → others ≡ false → (here || others) ≡ false
 either_false false others h g = g
@@ -127,11 +133,10 @@ differs_by label other h e = let bad : true ≡ false = sym (eq-eqb label other 
 pub unbound_differs :
     (label : ℕ) (items : List Item) → is_bound label items ≡ false → Differs label (bound_by items)
 unbound_differs label [] h = tt
-unbound_differs label (Mark other ∷ others) h =
-    (
-      differs_by label other (first_false (label == other) (is_bound label others) h),
-      unbound_differs label others (second_false (label == other) (is_bound label others) h),
-    )
+unbound_differs label (Mark other ∷ others) h = (
+  differs_by label other (first_false (label == other) (is_bound label others) h),
+  unbound_differs label others (second_false (label == other) (is_bound label others) h),
+)
 unbound_differs label (Plain i ∷ others) h = unbound_differs label others h
 unbound_differs label (WithWord form reference ∷ others) h = unbound_differs label others h
 unbound_differs label (Byte value ∷ others) h = unbound_differs label others h

@@ -10,5 +10,7 @@ pub mod MoveReturns
 pub mod Turns
 pub mod Products
 pub mod RightShift
+pub mod Quotients
+pub mod Narrow
 pub mod Labels
 pub mod Added

@@ -61,14 +61,14 @@ pub record Moved
   pub sp : after.sp ≡ r.sp
 
 -- the registers once A has the byte
-abbrev loaded : Registers → (memory : List ℕ) → Registers
+abbrev pub loaded : Registers → (memory : List ℕ) → Registers
 loaded r memory = record r { a = byte_at memory (word r.d r.e) }
 
 -- the memory once it is put
-abbrev put : Registers → (memory : List ℕ) → List ℕ
+abbrev pub put : Registers → (memory : List ℕ) → List ℕ
 put r memory = slice_set memory (word r.h r.l) (byte_at memory (word r.d r.e))
 
-abbrev next : Registers → (memory : List ℕ) → Registers
+abbrev pub next : Registers → (memory : List ℕ) → Registers
 next r memory = effect forward (loaded r memory)
 
 word_small : (high low : ℕ) → high < 256 → low < 256 → word high low < MEMORY_SIZE
@@ -87,6 +87,7 @@ next_bytes r memory is are = record {
   where
     high_small : (n : ℕ) → wrap n / 256 < 256
     high_small n = omega arith
+
     low_small : (n : ℕ) → n % 256 < 256
     low_small n = omega arith
 
@@ -97,6 +98,7 @@ counts_on high low place h =
   where
     of_bytes : (w : ℕ) → word (w / 256) (w % 256) ≡ w
     of_bytes w = omega arith
+
     wrapped_again : (place : ℕ) → wrap (wrap place + 1) ≡ wrap (place + 1)
     wrapped_again place = omega arith
 
@@ -158,9 +160,11 @@ none page left h = omega arith
 none_left : (page left : ℕ) → 0 ≡ 256 * page + left → left ≡ 0
 none_left page left h = omega arith
 
-abbrev Loop : (script : List (List ℕ)) (layout : Layout) (first top to : ℕ) (events : List Event) (count : ℕ) → Type 0
-Loop script layout first top to events count =
-    (page left source destination : ℕ) (r : Registers) (memory : List ℕ)
+abbrev pub Loop :
+    (script : List (List ℕ)) (layout : Layout) (first top to : ℕ) (events : List Event)
+    (count page left : ℕ) → Type 0
+Loop script layout first top to events count page left =
+    (source destination : ℕ) (r : Registers) (memory : List ℕ)
     → count ≡ 256 * page + left
     → page < 256
     → left < 256
@@ -177,7 +181,8 @@ Loop script layout first top to events count =
 last_byte :
     (script : List (List ℕ)) (layout : Layout) (first top to : ℕ) (events : List Event)
     → to ≤ MEMORY_SIZE
-    → Loop script layout first top to events zero
+    → (page left : ℕ)
+    → Loop script layout first top to events zero page left
 last_byte script layout first top to events limit page left source destination r memory all few_pages few_left b c de hl is are misses stands =
     let still = code_stands layout first top to r memory 0 destination limit hl misses stands in
     let size = stands_size layout memory (one_byte first) top to stands in
@@ -224,8 +229,8 @@ pub loop :
     (script : List (List ℕ)) (layout : Layout) (first top to : ℕ) (events : List Event)
     → to ≤ MEMORY_SIZE
     → layout.place_of first ≡ top
-    → (count : ℕ)
-    → Loop script layout first top to events count
+    → (count page left : ℕ)
+    → Loop script layout first top to events count page left
 loop script layout first top to events limit bound zero page left source destination r memory all few_pages few_left b c de hl is are misses stands =
     last_byte script layout first top to events limit page left source destination r memory all few_pages few_left b c de hl is are misses stands
 loop script layout first top to events limit bound (suc count) zero zero source destination r memory all few_pages few_left b c de hl is are misses stands =
@@ -292,4 +297,3 @@ loop script layout first top to events limit bound (suc count) page (suc left) s
       bytes = more.bytes;
       sp = more.sp;
     }
-

@@ -2,7 +2,7 @@
 -- and the higher 16 of them are the value.
 use Rattle.std.proofs.Common.{◌≡◌, ℕ, zero, suc, ◌+◌, ◌-◌, ◌*◌, ◌/◌, ◌%◌, ◌^◌, ◌<◌, ◌≤◌, ◌==◌, Bool, true, false, nat_le, nat_lt, List, [], ◌∷◌, refl, sym, ap, ◌∙◌, arith, pow-add}
 use Rattle.std.proofs.Math.Nat.{div-div-eq-div-mul, div-eq_of_lt, mod-eq_of_lt, mul-div-mul_right, pow-le-pow_right, pow-suc}
-use Rattle.std.proofs.lemmas.Nat.{mul-lt, mul-mod_first, pow_pos}
+use Rattle.std.proofs.lemmas.Nat.{mul-mod_first, pow_pos}
 use Rattle.std.proofs.lemmas.Bool.{eqb-true, leb-false, leb-true}
 use Rattle.mem80.specs.declared.memory.TheConstants.{MEMORY_SIZE}
 use Rattle.ports.specs.declared.event.Event.{Event}
@@ -160,9 +160,6 @@ doubled (suc n) r a h l =
 
 power_small : (k : ℕ) → k ≤ 8 → 2 ^ k < 257
 power_small k h = let more : 2 ^ k ≤ 2 ^ 8 = pow-le-pow_right (omega arith) h in omega arith
-
-product_small : (x k : ℕ) → x < 65536 → k ≤ 8 → x * 2 ^ k < 16842752
-product_small x k small few = mul-lt x (2 ^ k) 65536 257 small (power_small k few)
 
 -- bits moved to the left by 8 less a count, without the lowest byte, are those moved to the right by it
 to_the_right :

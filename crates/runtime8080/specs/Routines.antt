@@ -58,12 +58,12 @@ Computes routines.Multiply before after =
     result_of Address Multiply (pair_of Hl before) (pair_of De before) ≡ Some (pair_of Hl after)
 Computes routines.Divide before after =
     (
-      (quotient : ℕ) → result_of Address Divide (pair_of Hl before) (pair_of De before) ≡ Some quotient
-      → pair_of Hl after ≡ quotient
+    (quotient : ℕ) → result_of Address Divide (pair_of Hl before) (pair_of De before) ≡ Some quotient
+    → pair_of Hl after ≡ quotient
     )
     × (
-      (remainder : ℕ) → result_of Address Modulo (pair_of Hl before) (pair_of De before) ≡ Some remainder
-      → pair_of De after ≡ remainder
+    (remainder : ℕ) → result_of Address Modulo (pair_of Hl before) (pair_of De before) ≡ Some remainder
+    → pair_of De after ≡ remainder
     )
 Computes routines.ShiftLeftByte before after = after.a ≡ shifted Byte ShiftLeft before.a before.e
 Computes routines.ShiftRightByte before after = after.a ≡ shifted Byte ShiftRight before.a before.e

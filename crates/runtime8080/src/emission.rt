@@ -7,7 +7,7 @@ ghost use Rattle.runtime8080.specs.Routines.{AddsRoutine, IsFresh};
 ghost use Rattle.runtime8080.specs.internal.Emission.{with_routine};
 
 use crate::moves::move_bytes;
-use crate::parts::{emit_parts, two_labels, Part};
+use crate::parts::{Part, emit_parts, two_labels};
 use crate::product::multiply;
 use crate::routine::Routine;
 use asm8080::{Code, WordForm};

@@ -5,7 +5,7 @@ ghost use Rattle.runtime8080.specs.declared.routine.Routine.TheVariants.{Multipl
 ghost use Rattle.runtime8080.specs.Routines.{IsFresh};
 ghost use Rattle.runtime8080.specs.internal.Emission.{with_routine};
 
-use crate::parts::{emit_parts, Part};
+use crate::parts::{Part, emit_parts};
 use asm8080::{Code, Label, WordForm};
 use isa8080::{Condition, Instr, Operand, Operation, Pair, Register};
 use std::alloc::AllocError;
