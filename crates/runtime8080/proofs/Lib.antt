@@ -12,5 +12,7 @@ pub mod Products
 pub mod RightShift
 pub mod Quotients
 pub mod Narrow
+pub mod Wide
+pub mod DivideBody
 pub mod Labels
 pub mod Added

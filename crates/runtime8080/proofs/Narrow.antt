@@ -327,7 +327,7 @@ pub record Bits (count : ℕ) (r after : Registers) : Type 0 where
   pub a : after.a < 256
   pub b : after.b ≡ r.b
   pub c : after.c ≡ r.c
-  pub d : after.d < 256
+  pub d : after.d ≡ 0
   pub e : after.e ≡ r.e
   pub h : after.h < 256
   pub l : after.l < 256
@@ -343,9 +343,6 @@ pub record TakesBits
   pub run : Comes script steps (at top r memory events) (at exit after memory events)
   pub few : steps ≤ 9 * count
   pub bits : Bits count r after
-
-small_is : (n m : ℕ) → n ≡ m % 256 → n < 256
-small_is n m h = omega arith
 
 small_by : (n m : ℕ) → n ≡ m → m < 256 → n < 256
 small_by n m e h = omega arith
@@ -390,7 +387,7 @@ takes_bits script layout first second third top to others memory events stands l
         a = bit.a;
         b = bit.b;
         c = bit.c;
-        d = small_is taken.after.d (r.d + 254 + 1) bit.d;
+        d = bit.d ∙ one_less_is r.d 0 counter (omega arith);
         e = bit.e;
         h = bit.h;
         l = bit.l;

@@ -83,3 +83,26 @@ sixteen_bits e rest low v small less is =
     let low_is = split_low rest low (q * e) v q small is.small sum in
     let all = split_high rest low (q * e) v q small is.small sum in
     (quotient_is e q rest v less all ∙ sym low_is, remainder_is e q rest v less all)
+
+split_low_byte : (rest low x v q : ℕ) → low < 256 → q < 256 → 256 * rest + low + 256 * x ≡ 256 * v + q → low ≡ q
+split_low_byte rest low x v q small_low small_q h = omega arith
+
+split_high_byte : (rest low x v q : ℕ) → low < 256 → q < 256 → 256 * rest + low + 256 * x ≡ 256 * v + q → x + rest ≡ v
+split_high_byte rest low x v q small_low small_q h = omega arith
+
+regrouped_byte : (rest low e q : ℕ) → 256 * rest + low + e * 256 * q ≡ 256 * rest + low + 256 * (q * e)
+regrouped_byte rest low e q = omega arith
+
+-- after eight bits of a dividend the lower byte is the quotient, and what is higher the remainder
+pub eight_bits :
+    (e rest low v : ℕ)
+    → low < 256
+    → rest < e
+    → Quotient (e * 256) 8 v (256 * rest + low)
+    → (v / e ≡ low) × (v % e ≡ rest)
+eight_bits e rest low v small less is =
+    let q = is.bits in
+    let sum = sym (regrouped_byte rest low e q) ∙ is.same in
+    let low_is = split_low_byte rest low (q * e) v q small is.small sum in
+    let all = split_high_byte rest low (q * e) v q small is.small sum in
+    (quotient_is e q rest v less all ∙ sym low_is, remainder_is e q rest v less all)

@@ -352,7 +352,7 @@ more_body :
     → ((r.e + 247 + 1) % 256 == 0) ≡ false
     → nat_lt ((r.e + 247 + 1) % 256 + 247 + 1) 256 ≡ test
     → BodyOf script layout first from to r memory events
-more_body script layout first from to r memory events true below zero again_below stands limit are =
+more_body script layout first from to r memory events true below eight_test again_below stands limit are =
     let size = stands_size layout memory (shift_right_address first) from to stands in
     let r1 = effect head r in
     let r2 = effect by_byte r1 in
@@ -371,11 +371,11 @@ more_body script layout first from to r memory events true below zero again_belo
           straight script layout head (after_head first) from to r memory events (suc (steps_of by_byte (suc (steps_of again (suc end.steps))))) u refl stands (omega arith)
           (goes_past script (steps_of by_byte (suc (steps_of again (suc end.steps)))) Carry (wrap (layout.place_of first)) (past from head) r1 memory events u more.0 (omega arith) below
           (straight script layout by_byte (Plain (ReturnIf Zero) ∷ plain again (after_again first)) (past from head + 3) to r1 memory events (suc (steps_of again (suc end.steps))) u refl more.1 (omega arith)
-          (stays_here script (steps_of again (suc end.steps)) Zero (past from head + 3 + 1 + 2 + 2) r2 memory events u more.1.1.1.1.0 (omega arith) zero
+          (stays_here script (steps_of again (suc end.steps)) Zero (past from head + 3 + 1 + 2 + 2) r2 memory events u more.1.1.1.1.0 (omega arith) eight_test
           (straight script layout again (after_again first) (past from head + 3 + 1 + 2 + 2 + 1) to r2 memory events (suc end.steps) u refl more.1.1.1.1.1 (omega arith)
           (jumps_where script end.steps Carry (wrap (layout.place_of first)) (past from head + 3 + 1 + 2 + 2 + 1 + 1 + 2) place r3 memory events u more.1.1.1.1.1.1.1.0 (omega arith) again_below
           (word_is (layout.place_of first) place last.0 (omega arith)) end.run)))));
-      few = let count = end.few in let one = some ((r.e + 247 + 1) % 256) zero in omega arith;
+      few = let count = end.few in let one = some ((r.e + 247 + 1) % 256) eight_test in omega arith;
       sp = end.sp;
       bytes = record {
         a = end.a;
@@ -392,7 +392,7 @@ more_body script layout first from to r memory events true below zero again_belo
           ∙ (ap (λ n. word r.h r.l / 256 / 2 ^ n) taken ∙ by_eight (word r.h r.l) r.e (r.e - 8) (eight_and r.e large)));
       leaves = record { b = end.b; c = end.c; d = end.d };
     }
-more_body script layout first from to r memory events false below zero again_below stands limit are =
+more_body script layout first from to r memory events false below eight_test again_below stands limit are =
     let size = stands_size layout memory (shift_right_address first) from to stands in
     let r1 = effect head r in
     let r2 = effect by_byte r1 in
@@ -411,7 +411,7 @@ more_body script layout first from to r memory events false below zero again_bel
           straight script layout head (after_head first) from to r memory events (suc (steps_of by_byte (suc (steps_of again 3)))) u refl stands (omega arith)
           (goes_past script (steps_of by_byte (suc (steps_of again 3))) Carry (wrap (layout.place_of first)) (past from head) r1 memory events u more.0 (omega arith) below
           (straight script layout by_byte (Plain (ReturnIf Zero) ∷ plain again (after_again first)) (past from head + 3) to r1 memory events (suc (steps_of again 3)) u refl more.1 (omega arith)
-          (stays_here script (steps_of again 3) Zero (past from head + 3 + 1 + 2 + 2) r2 memory events u more.1.1.1.1.0 (omega arith) zero
+          (stays_here script (steps_of again 3) Zero (past from head + 3 + 1 + 2 + 2) r2 memory events u more.1.1.1.1.0 (omega arith) eight_test
           (straight script layout again (after_again first) (past from head + 3 + 1 + 2 + 2 + 1) to r2 memory events 3 u refl more.1.1.1.1.1 (omega arith)
           (goes_past script 2 Carry (wrap (layout.place_of first)) place r3 memory events u more.1.1.1.1.1.1.1.0 (omega arith) again_below
           (straight script layout (Mvi (Of L) 0 ∷ []) (Plain Ret ∷ Mark first ∷ few_items (first + 1)) (place + 3) to r3 memory events 1 u refl more.1.1.1.1.1.1.1.1 (omega arith)
@@ -438,14 +438,14 @@ eight_body :
     → nat_lt (r.e + 247 + 1) 256 ≡ false
     → ((r.e + 247 + 1) % 256 == 0) ≡ true
     → BodyOf script layout first from to r memory events
-eight_body script layout first from to r memory events below zero stands limit are =
+eight_body script layout first from to r memory events below eight_test stands limit are =
     let size = stands_size layout memory (shift_right_address first) from to stands in
     let r1 = effect head r in
     let after = effect by_byte r1 in
     let more : Stands layout memory (after_head first) (past from head) to = stands.1.1 in
     let u = returned after memory events in
     let large = is_not_below r.e below in
-    let none = eqb-true ((r.e + 247 + 1) % 256) 0 zero in
+    let none = eqb-true ((r.e + 247 + 1) % 256) 0 eight_test in
     let eight : 8 ≡ r.e = omega arith in
     record {
       count = steps_of head (suc (steps_of by_byte 1));
@@ -454,7 +454,7 @@ eight_body script layout first from to r memory events below zero stands limit a
           straight script layout head (after_head first) from to r memory events (suc (steps_of by_byte 1)) u refl stands (omega arith)
           (goes_past script (steps_of by_byte 1) Carry (wrap (layout.place_of first)) (past from head) r1 memory events u more.0 (omega arith) below
           (straight script layout by_byte (Plain (ReturnIf Zero) ∷ plain again (after_again first)) (past from head + 3) to r1 memory events 1 u refl more.1 (omega arith)
-          (returns_where script Zero (past from head + 3 + 1 + 2 + 2) after memory events more.1.1.1.1.0 (omega arith) zero)));
+          (returns_where script Zero (past from head + 3 + 1 + 2 + 2) after memory events more.1.1.1.1.0 (omega arith) eight_test)));
       few = omega arith;
       sp = refl;
       bytes = record {
@@ -476,10 +476,10 @@ large_body :
     → nat_lt (r.e + 247 + 1) 256 ≡ false
     → ((r.e + 247 + 1) % 256 == 0) ≡ is_eight
     → BodyOf script layout first from to r memory events
-large_body script layout first from to r memory events true below zero =
-    eight_body script layout first from to r memory events below zero
-large_body script layout first from to r memory events false below zero =
-    more_body script layout first from to r memory events (nat_lt ((r.e + 247 + 1) % 256 + 247 + 1) 256) below zero refl
+large_body script layout first from to r memory events true below eight_test =
+    eight_body script layout first from to r memory events below eight_test
+large_body script layout first from to r memory events false below eight_test =
+    more_body script layout first from to r memory events (nat_lt ((r.e + 247 + 1) % 256 + 247 + 1) 256) below eight_test refl
 
 right_body :
     (script : List (List ℕ)) (layout : Layout) (first from to : ℕ) (r : Registers) (memory : List ℕ)
