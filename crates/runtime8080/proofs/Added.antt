@@ -3,14 +3,15 @@ use Rattle.std.proofs.Common.{◌≡◌, ◌≢◌, ℕ, ◌+◌, ◌<◌, ◌�
 use Rattle.asm8080.specs.declared.item.Item.{Item}
 use Rattle.asm8080.specs.Items.{Assembly, is_bound, size_of_items}
 use Rattle.runtime8080.specs.declared.routine.Routine.{Routine}
-use Rattle.runtime8080.specs.declared.routine.Routine.TheVariants.{Multiply, Move, RotateLeft, RotateRight, ShiftLeftAddress, ShiftRightAddress, ShiftLeftByte, ShiftRightByte}
+use Rattle.runtime8080.specs.declared.routine.Routine.TheVariants.{Divide, Multiply, Move, RotateLeft, RotateRight, ShiftLeftAddress, ShiftRightAddress, ShiftLeftByte, ShiftRightByte}
 use Rattle.runtime8080.specs.Routines.{AddsRoutine, IsFresh, IsRoutine, size_of_routine}
-use Rattle.runtime8080.specs.internal.Listings.{labels_of, listing, move_bytes_with, multiply_with, shift_right_address_with, shift_left_address, rotate_left, rotate_right, shift_left_byte, shift_right_byte}
+use Rattle.runtime8080.specs.internal.Listings.{divide_with, labels_of, listing, move_bytes_with, multiply_with, shift_right_address_with, shift_left_address, rotate_left, rotate_right, shift_left_byte, shift_right_byte}
 use Rattle.runtime8080.specs.internal.Emission.{Fits, with_routine}
 use Rattle.runtime8080.proofs.Labels.{AllDiffer, AllFrom, AllKnown, Differs, bound_by, fit_items, none_bound, not_bound, not_true, true_unless, unbound_differs}
 use Rattle.runtime8080.proofs.Rotations.{rotates_left, rotates_right}
 use Rattle.runtime8080.proofs.LeftShift.{shifts_address_left}
 use Rattle.runtime8080.proofs.RightShift.{shifts_address_right}
+use Rattle.runtime8080.proofs.DivideBody.{divides}
 use Rattle.runtime8080.proofs.Products.{multiplies}
 use Rattle.runtime8080.proofs.MoveReturns.{moves}
 use Rattle.runtime8080.proofs.ByteShifts.{shifts_left, shifts_right}
@@ -388,3 +389,89 @@ five_more before one two three four five a b c d e =
   where
     five_ones : (labels : ℕ) → labels + 1 + 1 + 1 + 1 + 1 ≡ labels + 5
     five_ones labels = omega arith
+
+labels_of_divide : (first : ℕ) → HasLabels Divide first
+labels_of_divide first =
+    record { known = omega arith; differ = omega arith; from = omega arith; all = omega arith; new = omega arith }
+
+pub adds_divide :
+    (before after : Assembly) → after ≡ with_routine Divide before → AddsRoutine Divide before after
+adds_divide before after same =
+    adds Divide before after (labels_of_divide before.labels) refl (divides before.labels) same
+
+items_of_divide :
+    (before : Assembly) (first second third fourth fifth sixth seventh : ℕ)
+    → first ≡ before.labels
+    → second ≡ before.labels + 1
+    → third ≡ before.labels + 2
+    → fourth ≡ before.labels + 3
+    → fifth ≡ before.labels + 4
+    → sixth ≡ before.labels + 5
+    → seventh ≡ before.labels + 6
+    → divide_with first second third fourth fifth sixth seventh ≡ listing Divide before.labels
+items_of_divide before first second third fourth fifth sixth seventh is_first is_second is_third is_fourth is_fifth is_sixth is_seventh =
+    ap (λ n. divide_with n second third fourth fifth sixth seventh) is_first
+    ∙ (ap (λ n. divide_with before.labels n third fourth fifth sixth seventh) is_second
+    ∙ (ap (λ n. divide_with before.labels (before.labels + 1) n fourth fifth sixth seventh) is_third
+    ∙ (ap (λ n. divide_with before.labels (before.labels + 1) (before.labels + 2) n fifth sixth seventh) is_fourth
+    ∙ (ap (λ n. divide_with before.labels (before.labels + 1) (before.labels + 2) (before.labels + 3) n sixth seventh) is_fifth
+    ∙ (ap (λ n. divide_with before.labels (before.labels + 1) (before.labels + 2) (before.labels + 3) (before.labels + 4) n seventh) is_sixth
+    ∙ (ap (λ n. divide_with before.labels (before.labels + 1) (before.labels + 2) (before.labels + 3) (before.labels + 4) (before.labels + 5) n) is_seventh))))))
+
+seven_labels : (labels : ℕ) → labels + 5 + 2 ≡ labels + 7
+seven_labels labels = omega arith
+
+sixth_label : (before with_five : Assembly) (label : ℕ) → with_five ≡ record before { labels = before.labels + 5 } → label ≡ with_five.labels → label ≡ before.labels + 5
+sixth_label before with_five label five is = is ∙ ap (λ (a : Assembly). a.labels) five
+
+seventh_label : (before with_five : Assembly) (label : ℕ) → with_five ≡ record before { labels = before.labels + 5 } → label ≡ with_five.labels + 1 → label ≡ before.labels + 6
+seventh_label before with_five label five is =
+    let same : with_five.labels ≡ before.labels + 5 = ap (λ (a : Assembly). a.labels) five in omega arith
+
+with_seven :
+    (before with_five with_labels : Assembly)
+    → with_five ≡ record before { labels = before.labels + 5 }
+    → with_labels ≡ record with_five { labels = with_five.labels + 2 }
+    → with_labels ≡ record before { labels = before.labels + 7 }
+with_seven before with_five with_labels five two =
+    two ∙ (ap (λ (a : Assembly). record a { labels = a.labels + 2 }) five
+    ∙ ap (λ n. record before { labels = n }) (seven_labels before.labels))
+
+pub fits_divide :
+    (before with_five with_labels : Assembly) (first second third fourth fifth sixth seventh : ℕ)
+    → IsFresh before
+    → first ≡ before.labels
+    → second ≡ before.labels + 1
+    → third ≡ before.labels + 2
+    → fourth ≡ before.labels + 3
+    → fifth ≡ before.labels + 4
+    → with_five ≡ record before { labels = before.labels + 5 }
+    → sixth ≡ with_five.labels
+    → seventh ≡ with_five.labels + 1
+    → with_labels ≡ record with_five { labels = with_five.labels + 2 }
+    → Fits with_labels (divide_with first second third fourth fifth sixth seventh)
+fits_divide before with_five with_labels first second third fourth fifth sixth seventh fresh is_first is_second is_third is_fourth is_fifth five is_sixth is_seventh two =
+    subst (λ (items : List Item). Fits with_labels items)
+    (sym (items_of_divide before first second third fourth fifth sixth seventh is_first is_second is_third is_fourth is_fifth
+    (sixth_label before with_five sixth five is_sixth) (seventh_label before with_five seventh five is_seventh)))
+    (fits Divide before with_labels (labels_of_divide before.labels) fresh (with_seven before with_five with_labels five two))
+
+pub done_divide :
+    (before with_five with_labels after : Assembly) (first second third fourth fifth sixth seventh : ℕ)
+    → first ≡ before.labels
+    → second ≡ before.labels + 1
+    → third ≡ before.labels + 2
+    → fourth ≡ before.labels + 3
+    → fifth ≡ before.labels + 4
+    → with_five ≡ record before { labels = before.labels + 5 }
+    → sixth ≡ with_five.labels
+    → seventh ≡ with_five.labels + 1
+    → with_labels ≡ record with_five { labels = with_five.labels + 2 }
+    → after ≡ record with_labels { items = with_labels.items ++ divide_with first second third fourth fifth sixth seventh }
+    → after ≡ with_routine Divide before
+done_divide before with_five with_labels after first second third fourth fifth sixth seventh is_first is_second is_third is_fourth is_fifth five is_sixth is_seventh two is =
+    is
+    ∙ (ap (λ (a : Assembly). record a { items = a.items ++ divide_with first second third fourth fifth sixth seventh }) (with_seven before with_five with_labels five two)
+    ∙ ap (λ (items : List Item). record before { items = before.items ++ items; labels = before.labels + 7 })
+    (items_of_divide before first second third fourth fifth sixth seventh is_first is_second is_third is_fourth is_fifth
+    (sixth_label before with_five sixth five is_sixth) (seventh_label before with_five seventh five is_seventh)))

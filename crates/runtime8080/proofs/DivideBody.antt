@@ -28,9 +28,9 @@ use Rattle.runtime8080.specs.internal.Listings.{divide}
 use Rattle.runtime8080.proofs.Bodies.{Body, held, returns_quietly}
 use Rattle.runtime8080.proofs.ByteLoops.{small_by}
 use Rattle.runtime8080.proofs.Quotients.{Quotient, eight_bits, sixteen_bits}
-use Rattle.runtime8080.proofs.Narrow as n
+use Rattle.runtime8080.proofs.Narrow
 use Rattle.runtime8080.proofs.Narrow.{narrow}
-use Rattle.runtime8080.proofs.Wide as w
+use Rattle.runtime8080.proofs.Wide
 use Rattle.runtime8080.proofs.Wide.{wide}
 
 abbrev head : List Instr
@@ -58,16 +58,16 @@ after_head first =
     WithWord (JumpWhere NotZero) (AtLabel (first + 3)) ∷ Plain (Mvi (Of D) 16) ∷ Mark first
     ∷ narrow first (first + 1) (first + 2) (after_narrow first)
 
+not_both : (right : ℕ) → (right == 0) ≡ false → right ≡ 0 → ⊥
+not_both right e z = let bad : true ≡ false = sym (eq-eqb right 0 z) ∙ e in cc
+
 -- a quotient is given where the divisor is not 0
 given : (left right result : ℕ) → (if right == 0 then None else Some result) ≡ Some left → (right ≢ 0) × (result ≡ left)
 given left right result h = go (right == 0) refl h
   where
     go : (test : Bool) → (right == 0) ≡ test → (if test then None else Some result) ≡ Some left → (right ≢ 0) × (result ≡ left)
     go true e h = let bad : None {A = ℕ} ≡ Some left = h in cc
-    go false e h = ((λ z. differ z e), cc)
-      where
-        differ : right ≡ 0 → (right == 0) ≡ false → ⊥
-        differ z e = let bad : true ≡ false = sym (eq-eqb right 0 z) ∙ e in cc
+    go false e h = ((λ z. not_both right e z), cc)
 
 -- what is computed, from the two laws of division
 computed :
@@ -120,7 +120,7 @@ narrow_body script layout first from to r memory events stands limit are none =
     let top = from + 1 + 1 + 3 + 2 in
     let exit = top + 1 + 1 + 3 + 1 + 3 + 1 + 1 + 1 + 3 in
     let taken =
-    n.takes_bits script layout first (first + 1) (first + 2) top to (after_narrow first) memory events more.1.1.1 limit (omega arith) more.1.1.0 15 r2 refl (omega arith)
+    NarroWide.takes_bits script layout first (first + 1) (first + 2) top to (after_narrow first) memory events more.1.1.1 limit (omega arith) more.1.1.0 15 r2 refl (omega arith)
     (or_small r.d are.d) are.e are.h are.l in
     let r3 = taken.after in
     let bits = taken.bits in
@@ -202,7 +202,7 @@ wide_body script layout first from to r memory events stands limit are some =
     let end = top + 1 + 1 + 1 + 1 + 3 + 1 + 1 + 1 + 1 + 1 + 3 + 1 + 1 + 1 + 1 + 1 + 1 + 3 in
     let items : Stands layout memory (wide_items first) place to = last.1.1.1 in
     let taken =
-    w.takes_bits script layout (first + 4) (first + 5) (first + 6) top to (plain settled (Plain Ret ∷ [])) memory events items.1.1.1.1.1 limit (omega arith) items.1.1.1.1.0 7 r2 refl (omega arith)
+    Wide.takes_bits script layout (first + 4) (first + 5) (first + 6) top to (plain settled (Plain Ret ∷ [])) memory events items.1.1.1.1.1 limit (omega arith) items.1.1.1.1.0 7 r2 refl (omega arith)
     (record {
       b = are.l;
       d = are.d;
