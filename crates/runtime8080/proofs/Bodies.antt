@@ -1,9 +1,8 @@
 -- From what a routine does between its entry and its return to what a call of it does.
-use Rattle.std.proofs.Common.{◌≡◌, ◌≢◌, ℕ, zero, suc, ◌+◌, ◌-◌, ◌<◌, ◌≤◌, List, length, refl, sym, ap, ◌∙◌, subst, arith, slice_set}
+use Rattle.std.proofs.Common.{◌≡◌, ℕ, suc, ◌+◌, ◌-◌, ◌<◌, ◌≤◌, List, refl, sym, ◌∙◌, subst, arith, slice_set}
 use Rattle.std.proofs.lemmas.List.{length-set}
 use Rattle.mem80.specs.declared.memory.TheConstants.{MEMORY_SIZE}
-use Rattle.mem80.specs.declared.range.Range.{Range}
-use Rattle.mem80.specs.Memory.{IsMemory, byte_at}
+use Rattle.mem80.specs.Memory.{byte_at}
 use Rattle.mem80.specs.Range.{IsIn, Meets}
 use Rattle.ports.specs.declared.event.Event.{Event}
 use Rattle.isa8080.specs.State.{State, Registers, high_byte, wrap}

@@ -1,5 +1,5 @@
 -- Blocks of bytes that are copied, and what stays of a memory.
-use Rattle.std.proofs.Common.{◌≡◌, ◌≢◌, ℕ, zero, suc, ◌+◌, ◌-◌, ◌<◌, ◌≤◌, ◌==◌, Bool, true, false, List, length, refl, sym, ap, ◌∙◌, arith, slice_set}
+use Rattle.std.proofs.Common.{◌≡◌, ◌≢◌, ℕ, zero, suc, ◌+◌, ◌<◌, ◌==◌, Bool, true, false, List, length, refl, sym, ap, ◌∙◌, arith, slice_set}
 use Rattle.std.proofs.lemmas.Bool.{eqb-true, eq-eqb}
 use Rattle.std.proofs.lemmas.List.{length-set}
 use Rattle.std.proofs.lemmas.List.Elements.{All-get_or}
@@ -9,7 +9,7 @@ use Rattle.mem80.specs.Memory.{IsMemory, byte_at}
 use Rattle.mem80.specs.Range.{IsIn}
 use Rattle.isa8080.specs.State.{wrap}
 use Rattle.machine_runs.proofs.Kept.{byte_kept, byte_put, memory_put}
-use Rattle.runtime8080.specs.Routines.{BlockMisses, IsInBlock, copied}
+use Rattle.runtime8080.specs.Routines.{BlockMisses, copied}
 
 wrapped_small : (n : ℕ) → wrap n < MEMORY_SIZE
 wrapped_small n = omega arith

@@ -1,5 +1,5 @@
 -- Divide: by a byte where D is 0, else by a word.
-use Rattle.std.proofs.Common.{◌≡◌, ◌≢◌, ℕ, zero, suc, ◌+◌, ◌-◌, ◌*◌, ◌/◌, ◌%◌, ◌^◌, ◌<◌, ◌≤◌, ◌==◌, Bool, true, false, not, if◌then◌else◌, Option, None, Some, List, [], ◌∷◌, refl, sym, ap, subst, ◌∙◌, arith}
+use Rattle.std.proofs.Common.{◌≡◌, ◌≢◌, ℕ, zero, suc, ◌+◌, ◌-◌, ◌*◌, ◌/◌, ◌%◌, ◌<◌, ◌≤◌, ◌==◌, Bool, true, false, not, if◌then◌else◌, None, Some, List, [], ◌∷◌, refl, sym, ap, subst, ◌∙◌, arith}
 use Rattle.std.specs.Prelude.{bit_or}
 use Rattle.std.specs.Int.Bits.{or_self}
 use Rattle.std.proofs.lemmas.Bool.{eqb-true, eq-eqb}
@@ -76,15 +76,14 @@ computed :
     → (word before.h before.l / word before.d before.e ≡ word after.h after.l)
     × (word before.h before.l % word before.d before.e ≡ word after.d after.e))
     → Computes routines.Divide before after
-computed before after is =
-    (
-      (λ quotient h.
+computed before after is = (
+  (λ quotient h.
       let g = given quotient (word before.d before.e) (word before.h before.l / word before.d before.e) h in
       sym ((is g.0).0) ∙ g.1),
-      (λ remainder h.
+  (λ remainder h.
       let g = given remainder (word before.d before.e) (word before.h before.l % word before.d before.e) h in
       sym ((is g.0).1) ∙ g.1),
-    )
+)
 
 or_small : (d : ℕ) → d < 256 → bit_or d d < 256
 or_small d h = small_by (bit_or d d) d (or_self d) h

@@ -1,8 +1,7 @@
 -- MOVE: a loop that copies a byte, with C counting the bytes of a page and B the pages.
-use Rattle.std.proofs.Common.{◌≡◌, ◌≢◌, ℕ, zero, suc, ◌+◌, ◌-◌, ◌*◌, ◌/◌, ◌%◌, ◌<◌, ◌≤◌, ◌==◌, Bool, true, false, not, List, [], ◌∷◌, length, refl, sym, ap, subst, ◌∙◌, arith, slice_set}
+use Rattle.std.proofs.Common.{◌≡◌, ℕ, zero, suc, ◌+◌, ◌-◌, ◌*◌, ◌/◌, ◌%◌, ◌<◌, ◌≤◌, ◌==◌, true, false, not, List, [], ◌∷◌, refl, sym, ap, subst, ◌∙◌, arith, slice_set}
 use Rattle.std.proofs.lemmas.Bool.{eq-eqb}
 use Rattle.mem80.specs.declared.memory.TheConstants.{MEMORY_SIZE}
-use Rattle.mem80.specs.declared.range.Range.{Range}
 use Rattle.mem80.specs.Memory.{IsMemory, byte_at}
 use Rattle.mem80.specs.Range.{IsIn}
 use Rattle.ports.specs.declared.event.Event.{Event}
@@ -13,7 +12,7 @@ use Rattle.isa8080.specs.declared.instr.IndexPair.TheVariants.{IndexDe}
 use Rattle.isa8080.specs.declared.instr.Condition.TheVariants.{NotZero}
 use Rattle.isa8080.specs.declared.instr.Instr.{Instr}
 use Rattle.isa8080.specs.declared.instr.Instr.TheVariants.{Dcr, Inr, Inx, Ldax, MovToMemory, Ret}
-use Rattle.isa8080.specs.State.{State, Registers, pair_of, word, wrap}
+use Rattle.isa8080.specs.State.{State, Registers, word, wrap}
 use Rattle.asm8080.specs.declared.item.WordForm.TheVariants.{JumpWhere}
 use Rattle.asm8080.specs.declared.item.Reference.TheVariants.{AtLabel}
 use Rattle.asm8080.specs.declared.item.Item.{Item}
@@ -22,8 +21,8 @@ use Rattle.asm8080.specs.Items.{Layout, Stands}
 use Rattle.asm8080.specs.Runs.{Comes}
 use Rattle.machine_runs.proofs.Steps.{at, does, goes_past, jumps_where, returned, returns}
 use Rattle.machine_runs.proofs.Straight.{effect, straight}
-use Rattle.machine_runs.proofs.Loops.{not_zero, one_less_is, word_is}
-use Rattle.machine_runs.proofs.Kept.{Alike, byte_kept, memory_put, stands_size, stands_still}
+use Rattle.machine_runs.proofs.Loops.{not_zero, word_is}
+use Rattle.machine_runs.proofs.Kept.{byte_kept, memory_put, stands_size, stands_still}
 use Rattle.runtime8080.specs.Routines.{BlockMisses, HoldBytes, copied}
 use Rattle.runtime8080.proofs.Copies.{byte_small, first_missed, others_missed}
 

@@ -1,11 +1,11 @@
 -- The quotient by a byte: HL is doubled into A, and where E fits into A it is taken away and L gains a bit; D
 -- counts the bits.
-use Rattle.std.proofs.Common.{◌≡◌, ℕ, zero, suc, ◌+◌, ◌-◌, ◌*◌, ◌/◌, ◌%◌, ◌^◌, ◌<◌, ◌≤◌, ◌==◌, Bool, true, false, not, nat_le, nat_lt, List, [], ◌∷◌, refl, sym, ap, subst, ◌∙◌, arith}
+use Rattle.std.proofs.Common.{◌≡◌, ℕ, zero, suc, ◌+◌, ◌-◌, ◌*◌, ◌/◌, ◌%◌, ◌<◌, ◌≤◌, ◌==◌, Bool, true, false, not, nat_le, nat_lt, List, [], ◌∷◌, refl, ap, subst, ◌∙◌, arith}
 use Rattle.std.proofs.lemmas.Bool.{leb-false, leb-true}
 use Rattle.mem80.specs.declared.memory.TheConstants.{MEMORY_SIZE}
 use Rattle.ports.specs.declared.event.Event.{Event}
 use Rattle.isa8080.specs.Flags.{bit}
-use Rattle.isa8080.specs.declared.instr.Register.TheVariants.{A, D, E, L}
+use Rattle.isa8080.specs.declared.instr.Register.TheVariants.{D, E, L}
 use Rattle.isa8080.specs.declared.instr.Operand.TheVariants.{Of}
 use Rattle.isa8080.specs.declared.instr.Pair.TheVariants.{Hl}
 use Rattle.isa8080.specs.declared.instr.Condition.TheVariants.{Carry, NotZero}
@@ -23,7 +23,6 @@ use Rattle.asm8080.proofs.RunLaws.{comes_on}
 use Rattle.machine_runs.proofs.Steps.{at, goes_past, jumps_where}
 use Rattle.machine_runs.proofs.Straight.{effect, straight}
 use Rattle.machine_runs.proofs.Loops.{counted_out, counts_on, one_less_is, word_is}
-use Rattle.machine_runs.proofs.Kept.{stands_size}
 use Rattle.runtime8080.proofs.Quotients.{Quotient, QuotientBit, no_bits, one_bit_more}
 use Rattle.runtime8080.proofs.Turns.{no_steps}
 

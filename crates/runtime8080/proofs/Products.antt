@@ -1,5 +1,5 @@
 -- Multiply: the bits of D, where it has any, and then those of E.
-use Rattle.std.proofs.Common.{◌≡◌, ℕ, zero, suc, ◌+◌, ◌-◌, ◌*◌, ◌/◌, ◌%◌, ◌^◌, ◌<◌, ◌≤◌, ◌==◌, Bool, true, false, List, [], ◌∷◌, Some, refl, sym, ap, ◌∙◌, arith}
+use Rattle.std.proofs.Common.{◌≡◌, ℕ, suc, ◌+◌, ◌-◌, ◌*◌, ◌%◌, ◌<◌, ◌≤◌, ◌==◌, Bool, true, false, List, [], ◌∷◌, Some, refl, sym, ap, ◌∙◌, arith}
 use Rattle.std.specs.Prelude.{bit_or}
 use Rattle.std.specs.Int.Bits.{or_self}
 use Rattle.std.proofs.lemmas.Bool.{eqb-true}
@@ -21,7 +21,7 @@ use Rattle.asm8080.specs.Items.{Layout, Stands}
 use Rattle.asm8080.specs.Runs.{Comes}
 use Rattle.asm8080.proofs.RunLaws.{comes_on}
 use Rattle.machine_runs.proofs.Steps.{at, goes_past, jumps_where, returned, returns}
-use Rattle.machine_runs.proofs.Straight.{effect, past, plain, steps_of, straight}
+use Rattle.machine_runs.proofs.Straight.{effect, past, steps_of, straight}
 use Rattle.machine_runs.proofs.Loops.{word_is}
 use Rattle.machine_runs.proofs.Kept.{stands_size, stands_still}
 use Rattle.runtime8080.specs.declared.routine.Routine.TheVariants as routines

@@ -1,5 +1,5 @@
 -- The rotations: a byte is turned once for each that the lowest three bits of E count.
-use Rattle.std.proofs.Common.{◌≡◌, ℕ, zero, suc, ◌+◌, ◌-◌, ◌*◌, ◌%◌, ◌<◌, ◌≤◌, ◌==◌, Bool, true, List, [], ◌∷◌, refl, sym, ap, ◌∙◌, arith}
+use Rattle.std.proofs.Common.{◌≡◌, ℕ, zero, suc, ◌+◌, ◌-◌, ◌*◌, ◌%◌, ◌<◌, ◌≤◌, true, List, [], ◌∷◌, refl, sym, ap, ◌∙◌, arith}
 use Rattle.std.specs.Prelude.{bit_and}
 use Rattle.std.proofs.lemmas.Bool.{eq-eqb}
 use Rattle.mem80.specs.declared.memory.TheConstants.{MEMORY_SIZE}
@@ -26,7 +26,7 @@ use Rattle.runtime8080.specs.Routines.{Computes, HoldBytes, IsRoutine, Leaves, L
 use Rattle.runtime8080.specs.internal.Listings.{rotate_left, rotate_right}
 use Rattle.runtime8080.proofs.Bits.{low_three, times, turn_left, turn_right, turned_left, turned_right}
 use Rattle.runtime8080.proofs.Bodies.{Body, held, returns_quietly}
-use Rattle.runtime8080.proofs.ByteLoops.{ChangedA, ChangesA, after_turns, changed_bytes}
+use Rattle.runtime8080.proofs.ByteLoops.{ChangesA, after_turns, changed_bytes}
 
 -- the lowest three bits of E are put into E, and A is kept in D meanwhile
 abbrev head : List Instr

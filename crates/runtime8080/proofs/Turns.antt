@@ -1,5 +1,5 @@
 -- A product, bit by bit: HL is doubled, and gains BC where the next bit of A is 1; D counts the bits.
-use Rattle.std.proofs.Common.{◌≡◌, ℕ, zero, suc, ◌+◌, ◌-◌, ◌*◌, ◌/◌, ◌%◌, ◌^◌, ◌<◌, ◌≤◌, ◌==◌, Bool, true, false, not, nat_le, List, [], ◌∷◌, refl, sym, ap, ◌∙◌, arith}
+use Rattle.std.proofs.Common.{◌≡◌, ℕ, zero, suc, ◌+◌, ◌*◌, ◌/◌, ◌%◌, ◌^◌, ◌<◌, ◌≤◌, ◌==◌, Bool, true, false, not, nat_le, List, [], ◌∷◌, refl, sym, ap, ◌∙◌, arith}
 use Rattle.std.proofs.Math.Nat.{add-mod, pow-suc}
 use Rattle.std.proofs.lemmas.Nat.{mul-mod_first}
 use Rattle.std.proofs.lemmas.Bool.{leb-false, leb-true}
@@ -22,9 +22,8 @@ use Rattle.asm8080.specs.Items.{Layout, Stands}
 use Rattle.asm8080.specs.Runs.{Comes}
 use Rattle.asm8080.proofs.RunLaws.{comes_on}
 use Rattle.machine_runs.proofs.Steps.{at, goes_past, jumps_where}
-use Rattle.machine_runs.proofs.Straight.{effect, plain, straight}
+use Rattle.machine_runs.proofs.Straight.{effect, straight}
 use Rattle.machine_runs.proofs.Loops.{counted_out, counts_on, one_less_is, word_is}
-use Rattle.machine_runs.proofs.Kept.{stands_size}
 
 pub no_steps : (script : List (List ℕ)) (s : State) → Comes script 0 s s
 unfolding state_after

@@ -511,6 +511,7 @@ room_before w n h =
   where
     turned : (w p : ℕ) → (w + 1) * (p * 2) ≡ p * (2 * w + 2)
     turned w p = omega arith
+
     le_by : (x y z : ℕ) → 1 * x ≤ y → z ≡ y → z ≤ 65536 → x ≤ 65536
     le_by x y z a b c = omega arith
 

@@ -1,8 +1,7 @@
 -- What each routine promises to who calls it.
-use Rattle.std.specs.Prelude.{◌≡◌, ◌≢◌, ℕ, zero, suc, ◌+◌, ◌-◌, ◌*◌, ◌%◌, ◌<◌, ◌≤◌, List, [], ◌∷◌, ◌++◌, length, All, Some, slice_set, false, not, IsTrue}
+use Rattle.std.specs.Prelude.{◌≡◌, ℕ, zero, suc, ◌+◌, ◌-◌, ◌*◌, ◌<◌, ◌≤◌, List, ◌++◌, Some, slice_set, false, not, IsTrue}
 use Rattle.trees.specs.declared.declaration.ScalarType.TheVariants.{Byte, Address}
 use Rattle.trees.specs.declared.expression.BinaryOperator.TheVariants.{Multiply, Divide, Modulo}
-use Rattle.typed_trees.specs.declared.parts.ShiftFunction.{ShiftFunction}
 use Rattle.typed_trees.specs.declared.parts.ShiftFunction.TheVariants.{ShiftLeft, ShiftRight, RotateLeft, RotateRight}
 use Rattle.meaning.specs.Values.{result_of, shifted}
 use Rattle.mem80.specs.declared.memory.TheConstants.{MEMORY_SIZE}
@@ -13,7 +12,6 @@ use Rattle.isa8080.specs.declared.instr.Pair.TheVariants.{Bc, De, Hl}
 use Rattle.isa8080.specs.declared.instr.Instr.TheVariants.{Call}
 use Rattle.isa8080.specs.declared.registers.Status.TheVariants.{Running}
 use Rattle.isa8080.specs.State.{State, Registers, pair_of, wrap}
-use Rattle.isa8080.specs.Step.{state_after}
 use Rattle.asm8080.specs.declared.item.Item.{Item}
 use Rattle.asm8080.specs.Items.{Assembly, Layout, Stands, is_bound, size_of_items}
 use Rattle.asm8080.specs.Runs.{Comes}

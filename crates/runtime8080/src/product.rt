@@ -12,7 +12,9 @@ use std::alloc::AllocError;
 
 /// The next five labels.
 #[tactic(auto, using(crate::proofs::Added::five_more))]
-pub(crate) fn five_labels(code: &mut Code) -> Result<(Label, Label, Label, Label, Label), AllocError>
+pub(crate) fn five_labels(
+    code: &mut Code,
+) -> Result<(Label, Label, Label, Label, Label), AllocError>
     ensures first { IfOk result (λ labels. labels.0 ≡ code.old.labels) }
     ensures second { IfOk result (λ labels. labels.1 ≡ code.old.labels + 1) }
     ensures third { IfOk result (λ labels. labels.2 ≡ code.old.labels + 2) }

@@ -5,7 +5,7 @@ ghost use Rattle.runtime8080.specs.declared.routine.Routine.TheVariants.{Divide}
 ghost use Rattle.runtime8080.specs.Routines.{IsFresh};
 ghost use Rattle.runtime8080.specs.internal.Emission.{with_routine};
 
-use crate::parts::{emit_parts, two_labels, Part};
+use crate::parts::{Part, emit_parts, two_labels};
 use crate::product::five_labels;
 use asm8080::{Code, WordForm};
 use isa8080::{Condition, Instr, Operand, Operation, Pair, Register};
