@@ -66,7 +66,7 @@ given : (left right result : ℕ) → (if right == 0 then None else Some result)
 given left right result h = go (right == 0) refl h
   where
     go : (test : Bool) → (right == 0) ≡ test → (if test then None else Some result) ≡ Some left → (right ≢ 0) × (result ≡ left)
-    go true e h = let bad : None {A = ℕ} ≡ Some left = h in cc
+    go true e h = let bad : None ≡ Some left = h in cc
     go false e h = ((λ z. not_both right e z), cc)
 
 -- what is computed, from the two laws of division
@@ -119,7 +119,7 @@ narrow_body script layout first from to r memory events stands limit are none =
     let top = from + 1 + 1 + 3 + 2 in
     let exit = top + 1 + 1 + 3 + 1 + 3 + 1 + 1 + 1 + 3 in
     let taken =
-    NarroWide.takes_bits script layout first (first + 1) (first + 2) top to (after_narrow first) memory events more.1.1.1 limit (omega arith) more.1.1.0 15 r2 refl (omega arith)
+    Narrow.takes_bits script layout first (first + 1) (first + 2) top to (after_narrow first) memory events more.1.1.1 limit (omega arith) more.1.1.0 15 r2 refl (omega arith)
     (or_small r.d are.d) are.e are.h are.l in
     let r3 = taken.after in
     let bits = taken.bits in

@@ -5,7 +5,6 @@ mod emission;
 mod moves;
 mod parts;
 mod product;
-mod quotient;
 mod routine;
 
 pub use emission::emit_routine;
