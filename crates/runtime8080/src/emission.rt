@@ -9,6 +9,7 @@ ghost use Rattle.runtime8080.specs.internal.Emission.{with_routine};
 use crate::moves::move_bytes;
 use crate::parts::{Part, emit_parts, two_labels};
 use crate::product::multiply;
+use crate::quotient::divide;
 use crate::routine::Routine;
 use asm8080::{Code, WordForm};
 use isa8080::{Condition, Instr, Operand, Operation, Pair, Register};
@@ -16,7 +17,7 @@ use std::alloc::AllocError;
 
 /// Adds a routine to code, with labels of its own. It is to be called at its first byte. Where there is no
 /// memory for it, the code is dropped.
-#[tactic(auto, using(crate::proofs::Added::adds_rotate_left, crate::proofs::Added::adds_rotate_right, crate::proofs::Added::adds_shift_left_byte, crate::proofs::Added::adds_shift_right_byte, crate::proofs::Added::adds_shift_left_address, crate::proofs::Added::adds_shift_right_address, crate::proofs::Added::adds_multiply, crate::proofs::Added::adds_move))]
+#[tactic(auto, using(crate::proofs::Added::adds_rotate_left, crate::proofs::Added::adds_rotate_right, crate::proofs::Added::adds_shift_left_byte, crate::proofs::Added::adds_shift_right_byte, crate::proofs::Added::adds_shift_left_address, crate::proofs::Added::adds_shift_right_address, crate::proofs::Added::adds_multiply, crate::proofs::Added::adds_divide, crate::proofs::Added::adds_move))]
 pub fn emit_routine(code: Code, routine: Routine) -> Result<Code, AllocError>
     requires fresh { IsFresh code }
     ensures ok { IfOk result (λ after. AddsRoutine routine code after) }
@@ -26,7 +27,7 @@ pub fn emit_routine(code: Code, routine: Routine) -> Result<Code, AllocError>
         Routine::RotateLeft => rotate_left(&mut code)?,
         Routine::RotateRight => rotate_right(&mut code)?,
         Routine::Multiply => multiply(&mut code)?,
-        Routine::Divide => return Err(AllocError),
+        Routine::Divide => divide(&mut code)?,
         Routine::ShiftLeftByte => shift_left_byte(&mut code)?,
         Routine::ShiftRightByte => shift_right_byte(&mut code)?,
         Routine::ShiftLeftAddress => shift_left_address(&mut code)?,

@@ -5,6 +5,7 @@ mod emission;
 mod moves;
 mod parts;
 mod product;
+mod quotient;
 mod routine;
 
 pub use emission::emit_routine;
