@@ -87,7 +87,7 @@ pub range_written : {E : Type 0} (result : Result (Unit {0}) E) (d : _) (spec : 
     → OnOk result (new ≡ old ++ range_line word n size)
 range_written result d spec n size old new word shown is small wrote =
     let grouped : word ++ (32 ∷ (address_digits n ++ (32 ∷ (decimal size ++ 10 ∷ [])))) ≡ range_line word n size =
-            sym (append_assoc (word ++ 32 ∷ address_digits n) (32 ∷ decimal size) (10 ∷ []) ∙ append_assoc word (32 ∷ address_digits n) (32 ∷ (decimal size ++ 10 ∷ []))) in
+    sym (append_assoc (word ++ 32 ∷ address_digits n) (32 ∷ decimal size) (10 ∷ []) ∙ append_assoc word (32 ∷ address_digits n) (32 ∷ (decimal size ++ 10 ∷ []))) in
     subst (λ (line : List ℕ). OnOk result (new ≡ old ++ line)) grouped
     (subst (λ (o : Option (List ℕ)). OnOk result (IfSome (Some word ++? Some (32 ∷ []) ++? o ++? Some (32 ∷ (decimal size ++ 10 ∷ []))) (Appends (Some old) (Some new))))
     (hole_is d spec n shown is small) wrote)
@@ -107,7 +107,7 @@ pub symbol_written : {E : Type 0} (result : Result (Unit {0}) E) (d : _) (spec :
 symbol_written result d spec symbol old new shown is small wrote =
     let address : List ℕ = address_digits symbol.address in
     let grouped : codes "PUBLIC " ++ (symbol.name ++ (32 ∷ (address ++ 10 ∷ []))) ≡ symbol_line symbol =
-            ap (λ (l : List ℕ). codes "PUBLIC " ++ l) (sym (append_assoc symbol.name (32 ∷ address) (10 ∷ []))) in
+    ap (λ (l : List ℕ). codes "PUBLIC " ++ l) (sym (append_assoc symbol.name (32 ∷ address) (10 ∷ []))) in
     subst (λ (line : List ℕ). OnOk result (new ≡ old ++ line)) grouped
     (subst (λ (o : Option (List ℕ)). OnOk result (IfSome (Some (codes "PUBLIC ") ++? Some symbol.name ++? Some (32 ∷ []) ++? o ++? Some (10 ∷ [])) (Appends (Some old) (Some new))))
     (hole_is d spec symbol.address shown is small) wrote)

@@ -57,7 +57,12 @@ pub(crate) fn lines_of(
 {
     let mut lines = Vec::new(alloc);
     put_range(&mut lines, "CODE", plan.code, object.length(Segment::Code))?;
-    put_range(&mut lines, "DATA", plan.data_base, object.length(Segment::Data))?;
+    put_range(
+        &mut lines,
+        "DATA",
+        plan.data_base,
+        object.length(Segment::Data),
+    )?;
     put_range(&mut lines, "STACK", plan.stack, plan.stack_size)?;
     put_start(&mut lines, absolute.start())?;
     put_symbols(&mut lines, absolute.symbols())?;
