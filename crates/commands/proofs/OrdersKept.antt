@@ -1,5 +1,5 @@
 -- Files after a command line was carried out.
-use Rattle.std.proofs.Common.{◌≡◌, ◌≤◌, [], ◌∷◌, Option, None, Some, refl, arith}
+use Rattle.std.proofs.Common.{◌≡◌, ◌≤◌, [], ◌∷◌, Option, None, Some, inl, refl, arith}
 use Rattle.clap.specs.Words.{Kinds}
 use Rattle.files.specs.Files.{Directory, KeepsFiles}
 use Rattle.answers.specs.Endings.{status_of}
@@ -9,7 +9,7 @@ use Rattle.command_line.specs.declared.reading.LineFault.{LineFault}
 use Rattle.command_line.specs.declared.reading.LineFault.TheVariants.{Help, Wrong}
 use Rattle.command_line.specs.Command.{IsFaultOf, Wanted, wants_link, wants_place, wants_program}
 use Rattle.object_commands.proofs.FilesWritten.{kept_others}
-use Rattle.commands.specs.Orders.{ChangesAsWanted, ChangesByWords, LinksAsWanted, LinksByWords}
+use Rattle.commands.specs.Orders.{ChangesAsWanted, ChangesByWords, LinksAsWanted, LinksByWords, StopsAsWanted, StopsByWords}
 
 -- where no file changed, none changed but what was wanted
 pub kept_as_wanted : (wanted : Wanted) (old new : Option Directory) → KeepsFiles old new → ChangesAsWanted wanted old new
@@ -33,6 +33,22 @@ pub faulty_links : (kinds : Kinds) (fault : LineFault) (found : Option Wanted) (
 faulty_links [] (Help error) found old new (is, among) none = absurd among
 faulty_links [] (Wrong error) found old new (is, among) none = absurd among
 faulty_links (k ∷ kinds) fault found old new is none = cc
+
+-- where no file changed, and where the words give the order that was not carried out
+pub stops_as_wanted : (wanted : Wanted) (old new : Option Directory) → KeepsFiles old new → StopsAsWanted wanted old new
+stops_as_wanted (wants_program program) old new kept = kept
+stops_as_wanted (wants_link link) old new kept = inl kept
+stops_as_wanted (wants_place place) old new kept = kept
+
+pub kept_stops : (found : Option Wanted) (old new : Option Directory) → KeepsFiles old new → StopsByWords found old new
+kept_stops None old new kept = kept
+kept_stops (Some wanted) old new kept = stops_as_wanted wanted old new kept
+
+pub stops_by_words : (found : Option Wanted) (wanted : Wanted) (old new : Option Directory) → found ≡ Some wanted → StopsAsWanted wanted old new → StopsByWords found old new
+stops_by_words found wanted old new e stops = rw e stops
+
+pub not_done : (ending : Ending) → (status_of ending ≡ 0 → ⊥) → ending ≡ Done → ⊥
+not_done ending other done = other (rw done refl)
 
 pub status_bound : (ending : Ending) → status_of ending ≤ 5
 status_bound Done = omega arith

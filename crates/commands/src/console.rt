@@ -5,7 +5,7 @@ ghost use Rattle.clap.specs.Walk.{texts};
 ghost use Rattle.clap.specs.Words.{fault_of};
 ghost use Rattle.files.specs.Files.{KeepsFiles};
 ghost use Rattle.command_line.specs.Command.{plm_app, wanted_by, wanted_in};
-ghost use Rattle.commands.specs.Orders.{ChangesAsWanted, ChangesByWords, LinksAsWanted, LinksByWords};
+ghost use Rattle.commands.specs.Orders.{ChangesAsWanted, ChangesByWords, LinksAsWanted, LinksByWords, StopsAsWanted, StopsByWords};
 
 use crate::interpreting::interpret_sources;
 use crate::loading::sources_of;
@@ -25,8 +25,8 @@ use tool::Source;
 
 /// Carries out the words of a command line, the first of which is the program's name, and answers the exit status. What
 /// it prints goes to `out`, and faults go to `err`; a failure of `err` changes no status. It changes no file but that of
-/// `link --out`, which has the merge of the objects where the status is 0.
-#[tactic(auto, using(crate::proofs::OrdersKept::status_bound, crate::proofs::OrdersKept::done_is))]
+/// `link --out`, which has the merge of the objects where the status is 0, and may have a beginning of it otherwise.
+#[tactic(auto, using(crate::proofs::OrdersKept::status_bound, crate::proofs::OrdersKept::done_is, crate::proofs::OrdersKept::not_done))]
 pub fn run_command<F: Files, O: Write, E: Write>(
     alloc: Global,
     words: &[&str],
@@ -38,13 +38,15 @@ pub fn run_command<F: Files, O: Write, E: Write>(
     ensures kept { ChangesByWords (wanted_by (texts words.now)) (F.files files.old) (F.files files.new) }
     ensures linked { fault_of plm_app (texts words.now) ≡ [] → result ≡ 0 →
         LinksByWords (wanted_by (texts words.now)) (F.files files.old) (F.files files.new) }
+    ensures stopped { (result ≡ 0 → ⊥) →
+        StopsByWords (wanted_by (texts words.now)) (F.files files.old) (F.files files.new) }
 {
     let ending = end_words(alloc, words, files, out, err);
     ending.status()
 }
 
 // Carries out the words of a command line.
-#[tactic(auto, using(crate::proofs::OrdersKept::by_words, crate::proofs::OrdersKept::kept_by_words, crate::proofs::OrdersKept::linked_by_words, crate::proofs::OrdersKept::faulty_links))]
+#[tactic(auto, using(crate::proofs::OrdersKept::by_words, crate::proofs::OrdersKept::kept_by_words, crate::proofs::OrdersKept::linked_by_words, crate::proofs::OrdersKept::faulty_links, crate::proofs::OrdersKept::kept_stops, crate::proofs::OrdersKept::stops_by_words))]
 fn end_words<F: Files, O: Write, E: Write>(
     alloc: Global,
     words: &[&str],
@@ -55,6 +57,8 @@ fn end_words<F: Files, O: Write, E: Write>(
     ensures kept { ChangesByWords (wanted_by (texts words.now)) (F.files files.old) (F.files files.new) }
     ensures linked { fault_of plm_app (texts words.now) ≡ [] → result ≡ Ending.Done →
         LinksByWords (wanted_by (texts words.now)) (F.files files.old) (F.files files.new) }
+    ensures stopped { (result ≡ Ending.Done → ⊥) →
+        StopsByWords (wanted_by (texts words.now)) (F.files files.old) (F.files files.new) }
 {
     match command(alloc, words) {
         Ok(order) => carry_out(alloc, &order, files, out, err),
@@ -78,7 +82,7 @@ fn end_line<O: Write, E: Write>(fault: &LineFault, out: &mut O, err: &mut E) -> 
 }
 
 // Carries out an order.
-#[tactic(auto, using(crate::proofs::OrdersKept::kept_as_wanted))]
+#[tactic(auto, using(crate::proofs::OrdersKept::kept_as_wanted, crate::proofs::OrdersKept::stops_as_wanted))]
 fn carry_out<F: Files, O: Write, E: Write>(
     alloc: Global,
     order: &Order,
@@ -89,6 +93,8 @@ fn carry_out<F: Files, O: Write, E: Write>(
     ensures kept { ChangesAsWanted (wanted_in order.now) (F.files files.old) (F.files files.new) }
     ensures linked { result ≡ Ending.Done →
         LinksAsWanted (wanted_in order.now) (F.files files.old) (F.files files.new) }
+    ensures stopped { (result ≡ Ending.Done → ⊥) →
+        StopsAsWanted (wanted_in order.now) (F.files files.old) (F.files files.new) }
 {
     match order {
         Order::Program(program) => carry_out_program(alloc, program, files, out, err),
