@@ -1,6 +1,7 @@
 //! A command line with its files, what is said of its answer, and what it answers.
 
 use crate::memory_files::{File, MemoryFiles};
+use crate::readers::Output;
 use crate::texts::{add_line, add_often};
 use anyhow::Result;
 use commands::run_command;
@@ -75,11 +76,12 @@ impl Block {
     }
 }
 
-// What is said of an output: its text, or only that there is some.
+// What is said of an output: its text, or only that there is some; and how many bytes it takes.
 #[derive(Drop)]
 struct Said {
     text: String,
     is_any: bool,
+    room: usize,
 }
 
 impl Said {
@@ -88,14 +90,17 @@ impl Said {
         Said {
             text: String::new(alloc),
             is_any: false,
+            room: usize::MAX,
         }
     }
 
     // Takes in what stands after the mark of an output: `?` where any text will do, or a line after a blank, or how often
-    // it stands and the line after two.
+    // it stands and the line after a star, or how many bytes the output takes after `#`.
     fn read(&mut self, said: &str) -> Result<()> {
         if said == "?" {
             self.is_any = true;
+        } else if let Some(count) = said.strip_prefix("# ") {
+            self.room = count.parse::<usize>()?;
         } else if let Some(line) = said.strip_prefix("* ") {
             add_often(&mut self.text, line, "\n")?;
         } else if let Some(line) = said.strip_prefix(" ") {
@@ -129,15 +134,15 @@ impl Answer {
     pub fn of(alloc: Global, block: &Block) -> Result<Answer> {
         let words: Vec<&str> = block.words.as_str().split(' ').collect(alloc)?;
         let mut files = MemoryFiles::new(alloc, block.files.as_slice());
-        let mut out: Vec<u8> = Vec::new(alloc);
-        let mut err: Vec<u8> = Vec::new(alloc);
+        let mut out = Output::new(alloc, block.out.room);
+        let mut err = Output::new(alloc, block.err.room);
         let status = run_command(alloc, words.as_slice(), &mut files, &mut out, &mut err);
         Ok(Answer {
             status,
             failed: files.failed(),
             written: files.into_written(),
-            out,
-            err,
+            out: out.taken,
+            err: err.taken,
         })
     }
 

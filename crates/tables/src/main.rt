@@ -4,10 +4,11 @@
 //! then its files that are written, after `& ` in place of `@ `; then what is printed, a line after `> `, and as
 //! faults, a line after `! `; then how many calls of files failed, after `% `, where some did; then the exit status after
 //! `= `; and at last a line `====`. A line `* COUNT PIECE` of a text stands for so many pieces without an end, and `>* COUNT
-//! LINE` for so many lines of what is printed; `>?` and `!?` say only that something is printed. So no line of a text begins
-//! with `$ `, `@ `, `& `, `x `, `% `, `= `, `* `, `>` or `!`. Of the carriage returns that end a line the last one is no part of it.
+//! LINE` for so many lines of what is printed; `>?` and `!?` say only that something is printed; `># COUNT` and `!# COUNT` that
+//! the output takes so many bytes, and then fails. So no line of a text begins with `$ `, `@ `, `& `, `x `, `% `, `= `, `* `,
+//! `>` or `!`. Of the carriage returns that end a line the last one is no part of it.
 //! A file `closed.obj` can't be begun, and `broken.obj` takes three bytes.
-//! Then it prints what the machine, its parts and the interpreter do, as the manuals say it.
+//! Then it prints what the machine, its parts and the interpreter do, and the readers of objects and HEX, as the manuals say it.
 //!
 //! What is said was written by hand from the rules of the language in `docs/language.md`, of object files in
 //! `docs/object-format.md` and of the commands in `docs/commands.md`, or computed from them by other programs that share
@@ -21,7 +22,9 @@ mod events;
 mod faulty;
 mod interpreting;
 mod memory_files;
+mod objects;
 mod operations;
+mod readers;
 mod runs;
 mod scripts;
 mod texts;
@@ -31,6 +34,7 @@ use anyhow::Result;
 use block::{Answer, Block};
 use codes::print_codes;
 use interpreting::print_programs;
+use objects::print_objects;
 use operations::print_operations;
 use runs::print_runs;
 use scripts::print_scripts;
@@ -87,7 +91,8 @@ fn print_parts<W: Write>(alloc: Global, out: &mut W) -> Result<()> {
     print_runs(alloc, out)?;
     print_scripts(alloc, out)?;
     print_programs(alloc, out)?;
-    print_adjusting(alloc, out)
+    print_adjusting(alloc, out)?;
+    print_objects(alloc, out)
 }
 
 fn main(rt: HostRuntime) -> Result<()> {
