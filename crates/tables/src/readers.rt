@@ -5,6 +5,7 @@ use std::io;
 use std::io::{ErrorKind, Read, Write};
 
 /// A reader of bytes that fails after so many of them.
+#[derive(Drop)]
 pub struct BrokenReader<'a> {
     bytes: &'a [u8],
     room: usize,
