@@ -7,3 +7,6 @@ pub mod AllGrown
 pub mod ContentsFitAt
 pub mod NameWalks
 pub mod PublicWalks
+pub mod PublicNamed
+pub mod BareMerges
+pub mod MergedTexts

@@ -1,2 +1,3 @@
--- What the loops over the contents of files go by.
+-- What the loops over the contents of files go by, and how the merge is written.
 pub mod Growing
+pub mod Bare

@@ -20,7 +20,7 @@ fn add_contents(
     code: &mut GrowingSegment,
     data_bytes: &mut GrowingSegment,
     fixes: &mut ContentFixes,
-    resolved: &Resolved,
+    resolved: &Resolved<'_>,
     walk: &mut Walk<'_>,
 ) -> Result<(), AllocError>
     requires code { AllFitAt resolved.now Code walk.old.contents }

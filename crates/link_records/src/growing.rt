@@ -56,7 +56,7 @@ fn fix_bytes(bytes: &mut [u8], kind: FixKind, index: usize, gain: u16)
 }
 
 // Bytes from a place on after fixes of some of them.
-fn fix_all(bytes: &mut [u8], offset: u16, fixes: &[Fix], resolved: &Resolved)
+fn fix_all(bytes: &mut [u8], offset: u16, fixes: &[Fix], resolved: &Resolved<'_>)
     requires { AreWithin offset (length bytes.old) fixes.now }
     ensures { bytes.new ≡ bytes_after (gain_by resolved.now) offset fixes.now bytes.old }
 {
@@ -71,7 +71,7 @@ fn moved_run(
     alloc: Global,
     content: &Content<'_>,
     fixes: &[Fix],
-    resolved: &Resolved,
+    resolved: &Resolved<'_>,
 ) -> Result<Run, AllocError>
     requires room { start_of resolved.now.start content.now.segment + content.now.offset < 65536 }
     requires within { AreWithin content.now.offset (length content.now.bytes.now) fixes.now }
@@ -118,7 +118,7 @@ fn add_fixes(
     fixes: &mut Vec<Fix>,
     content: &Content<'_>,
     own: &[Fix],
-    resolved: &Resolved,
+    resolved: &Resolved<'_>,
 ) -> Result<(), AllocError>
     requires room { start_of resolved.now.start content.now.segment + content.now.offset
         + length content.now.bytes.now ≤ 65535 }
@@ -158,7 +158,7 @@ impl GrowingSegment {
         alloc: Global,
         content: &Content<'_>,
         fixes: &[Fix],
-        resolved: &Resolved,
+        resolved: &Resolved<'_>,
     ) -> Result<(), AllocError>
         requires room { start_of resolved.now.start content.now.segment + content.now.offset < 65536 }
         requires within { AreWithin content.now.offset (length content.now.bytes.now) fixes.now }
@@ -180,7 +180,7 @@ impl GrowingSegment {
         alloc: Global,
         content: &Content<'_>,
         fixes: &[Fix],
-        resolved: &Resolved,
+        resolved: &Resolved<'_>,
     ) -> Result<(), AllocError>
         requires room { start_of resolved.now.start content.now.segment + content.now.offset
             + length content.now.bytes.now ≤ 65535 }

@@ -6,6 +6,7 @@ mod files;
 mod fixes;
 mod growing;
 mod mains;
+mod merged;
 mod merging;
 mod names;
 mod pieces;
@@ -22,11 +23,11 @@ ghost use Rattle.link_records.specs.Streams.{HasStreamFault, Merges, WritesMerge
 ghost use Rattle.link_records.specs.internal.Causes.{HasNoMerge, IsFaultyAt};
 
 use crate::files::ObjectFile;
+use crate::merged::MergedFiles;
 use crate::merging::merge_files;
 use failure::Failure;
 use link::LinkFault;
-use object_modules::{Fault, ObjectModule};
-use object_writer::write;
+use object_modules::Fault;
 use objmod::walk;
 use std::alloc::Global;
 use std::io::Write;
@@ -81,7 +82,7 @@ fn judged_files<'a>(
 }
 
 // The merge of the modules that files spell.
-fn merge(alloc: Global, files: &[&[u8]]) -> Result<ObjectModule, Failure<StreamFault>>
+fn merge<'a>(alloc: Global, files: &[&'a [u8]]) -> Result<MergedFiles<'a>, Failure<StreamFault>>
     ensures merges { IfOk result (λ merged. Merges (map (λ file. file.now) files.now) merged) }
     ensures fault { IfFault result (λ fault. HasNoMerge (map (λ file. file.now) files.now) fault) }
 {
@@ -112,7 +113,7 @@ pub fn link_records<W: Write>(
     ensures memory { result ≡ Err Failure.Memory → Keeps (W.contents out.old) (W.contents out.new) }
 {
     let merged = merge(alloc, files)?;
-    match write(&merged, out) {
+    match merged.write(out) {
         Ok(()) => Ok(()),
         Err(_) => Err(Failure::Fault(StreamFault::Write)),
     }

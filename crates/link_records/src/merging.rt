@@ -7,8 +7,9 @@ ghost use Rattle.object_modules.specs.Displacements.{linked_modules};
 ghost use Rattle.object_modules.specs.Merge.{main_modules, merge_of, public_names, some_segment_is_too_long};
 ghost use Rattle.object_modules.specs.Module.{IsObjectModule};
 ghost use Rattle.link.specs.Merging.{refusal_of};
-ghost use Rattle.link_laws.specs.internal.Building.{AreJoined, alignment_joined, end_in, end_joined};
+ghost use Rattle.link_laws.specs.internal.Building.{alignment_joined, end_in, end_joined};
 ghost use Rattle.link_laws.specs.internal.Passes.{externals_of, gathered, missing_in};
+ghost use Rattle.file_merges.specs.internal.Bare.{AreBare};
 ghost use Rattle.file_merges.specs.internal.Growing.{all_grown, nothing_grown};
 ghost use Rattle.link_records.specs.internal.Views.{main_view};
 
@@ -16,6 +17,7 @@ use crate::contents::segments_of;
 use crate::files::ObjectFile;
 use crate::growing::GrowingSegment;
 use crate::mains::{MainModule, first_main, has_one_main};
+use crate::merged::MergedFiles;
 use crate::names::{NameTable, public_names_of, unresolved_in};
 use crate::pieces::{Pieces, pieces_of};
 use crate::placed::PlacedFile;
@@ -55,18 +57,18 @@ fn high_byte_moves(code: &GrowingSegment, data_bytes: &GrowingSegment) -> bool
     code.moves() || data_bytes.moves()
 }
 
-// The parts of a merge whose segments are made.
+// The parts of a merge whose segments are made, without its publics.
 fn parts_of(
     alloc: Global,
     pieces: &Pieces<'_>,
-    publics: Publics<'_>,
+    publics: &Publics<'_>,
     main: MainModule,
     code: GrowingSegment,
     data_bytes: GrowingSegment,
 ) -> ModuleParts
-    requires code { code ≡ all_grown publics Code nothing_grown pieces.now.placed.items }
-    requires data_bytes { data_bytes ≡ all_grown publics Data nothing_grown pieces.now.placed.items }
-    ensures { AreJoined publics.entry pieces.now.placed.items pieces.now.stack_length (main_view main) result }
+    requires code { code ≡ all_grown publics.now Code nothing_grown pieces.now.placed.items }
+    requires data_bytes { data_bytes ≡ all_grown publics.now Data nothing_grown pieces.now.placed.items }
+    ensures { AreBare publics.now pieces.now.placed.items pieces.now.stack_length (main_view main) result }
 {
     let placed = pieces.placed.as_slice();
     let code_end = merged_end(Segment::Code, placed);
@@ -76,7 +78,7 @@ fn parts_of(
         code: code.into_segment(code_end, merged_alignment(Segment::Code, placed)),
         data_bytes: data_bytes.into_segment(data_end, merged_alignment(Segment::Data, placed)),
         stack_length: pieces.stack_length,
-        publics: publics.into_publics(),
+        publics: Vec::new(alloc),
         externals: Vec::new(alloc),
         start: Some(main.start),
     }
@@ -89,7 +91,7 @@ fn merge_placed<'a>(
     names: NameTable<'a>,
     pieces: &Pieces<'a>,
     main: MainModule,
-) -> Result<ObjectModule, Failure<LinkFault>>
+) -> Result<MergedFiles<'a>, Failure<LinkFault>>
     requires known { gathered [] (public_names files.now) ≡ Ok names }
     requires resolved { None ≡ missing_in names (externals_of files.now) }
     requires fits { some_segment_is_too_long files.now (linked_modules files.now) ≡ false }
@@ -102,14 +104,15 @@ fn merge_placed<'a>(
     ensures refused { IfFault result (λ fault. merge_of files.now ≡ Err (refusal_of fault)) }
 {
     let placed = pieces.placed.as_slice();
-    let owned = publics_of(alloc, names.count(), placed)?;
-    let publics = Publics::new(names, owned);
+    let moved = publics_of(alloc, names.count(), placed)?;
+    let publics = Publics::new(names, moved);
     let (code, data_bytes) = segments_of(alloc, &publics, placed)?;
     if high_byte_moves(&code, &data_bytes) {
         return Err(Failure::Fault(LinkFault::HighByteMoves));
     }
-    let parts = parts_of(alloc, pieces, publics, main, code, data_bytes);
-    Ok(ObjectModule::from_parts(parts))
+    let parts = parts_of(alloc, pieces, &publics, main, code, data_bytes);
+    let object = ObjectModule::from_parts(parts);
+    Ok(MergedFiles::new(object, publics.into_publics()))
 }
 
 // The merge of files with all of their names found, and pieces that fit.
@@ -119,7 +122,7 @@ fn merge_pieces<'a>(
     files: &[ObjectFile<'a>],
     names: NameTable<'a>,
     pieces: &Pieces<'a>,
-) -> Result<ObjectModule, Failure<LinkFault>>
+) -> Result<MergedFiles<'a>, Failure<LinkFault>>
     requires known { gathered [] (public_names files.now) ≡ Ok names }
     requires resolved { None ≡ missing_in names (externals_of files.now) }
     requires fits { some_segment_is_too_long files.now (linked_modules files.now) ≡ false }
@@ -144,7 +147,7 @@ fn merge_resolved<'a>(
     alloc: Global,
     files: &[ObjectFile<'a>],
     names: NameTable<'a>,
-) -> Result<ObjectModule, Failure<LinkFault>>
+) -> Result<MergedFiles<'a>, Failure<LinkFault>>
     requires known { gathered [] (public_names files.now) ≡ Ok names }
     requires resolved { None ≡ missing_in names (externals_of files.now) }
     ensures merged { IfOk result (λ object. merge_of files.now ≡ Ok object) }
@@ -156,10 +159,10 @@ fn merge_resolved<'a>(
 
 /// The merge of the modules that files spell, in this order. Where there is none, the first cause in the order
 /// of the faults is answered.
-pub(crate) fn merge_files(
+pub(crate) fn merge_files<'a>(
     alloc: Global,
-    files: &[ObjectFile<'_>],
-) -> Result<ObjectModule, Failure<LinkFault>>
+    files: &[ObjectFile<'a>],
+) -> Result<MergedFiles<'a>, Failure<LinkFault>>
     ensures merged { IfOk result (λ object. merge_of files.now ≡ Ok object) }
     ensures refused { IfFault result (λ fault. merge_of files.now ≡ Err (refusal_of fault)) }
 {

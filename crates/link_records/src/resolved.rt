@@ -4,27 +4,27 @@ ghost use Rattle.std.specs.Prelude.{◌≡◌, ◌++◌, map, IfOk};
 ghost use Rattle.std.specs.List.{list_any};
 ghost use Rattle.std.specs.Option.{option_map};
 ghost use Rattle.object_modules.specs.Displacements.{public_named, start_of, target_of_public};
-ghost use Rattle.object_modules.specs.Views.{owned_public_view};
+ghost use Rattle.object_modules.specs.Views.{public_view};
 ghost use Rattle.file_merges.specs.internal.Growing.{gain_by, kept_by, meant_at, moves_by, resolved_in};
 
 use crate::placed::{ModuleStart, PlacedFile};
 use crate::publics::Publics;
-use object_modules::{Fix, FixKind, OwnedPublic, Segment, Target};
+use object_modules::{Fix, FixKind, PublicName, Segment, Target};
 use objmod::Walk;
 use std::alloc::{AllocError, Global};
 use std::marker::Model;
 
 /// Where the pieces of a file begin, and the publics that its external names stand for, by their numbers.
 #[derive(Drop)]
-pub(crate) struct Resolved {
+pub(crate) struct Resolved<'a> {
     start: ModuleStart,
-    meant: Vec<Option<OwnedPublic>>,
+    meant: Vec<Option<PublicName<'a>>>,
 }
 
-impl Model for Resolved {
+impl<'a> Model for Resolved<'a> {
     ghost use Rattle.std.specs.Prelude.{map};
     ghost use Rattle.std.specs.Option.{option_map};
-    ghost use Rattle.object_modules.specs.Views.{owned_public_view};
+    ghost use Rattle.object_modules.specs.Views.{public_view};
     ghost use Rattle.file_merges.specs.internal.Growing.{Resolved as ResolvedValue};
     ghost use Rattle.link_records.specs.internal.Views.{start_view};
 
@@ -32,7 +32,7 @@ impl Model for Resolved {
 
     ghost view = { λ resolved. record {
       start = start_view resolved.start;
-      meant = map (option_map owned_public_view) resolved.meant.items;
+      meant = map (option_map public_view) resolved.meant.items;
     } };
 }
 
@@ -42,8 +42,8 @@ fn meant_by<'a>(
     alloc: Global,
     publics: &Publics<'a>,
     walk: &mut Walk<'a>,
-) -> Result<Vec<Option<OwnedPublic>>, AllocError>
-    ensures { IfOk result (λ meant. map (option_map owned_public_view) meant.items
+) -> Result<Vec<Option<PublicName<'a>>>, AllocError>
+    ensures { IfOk result (λ meant. map (option_map public_view) meant.items
         ≡ map (public_named publics.now) walk.old.externals) }
 {
     let mut meant = Vec::new(alloc);
@@ -54,8 +54,8 @@ fn meant_by<'a>(
 }
 
 // What a place stays fixed to that is fixed to a public.
-fn target_of(public: &OwnedPublic) -> Option<Target>
-    ensures { result ≡ target_of_public (owned_public_view public.now) }
+fn target_of(public: &PublicName<'_>) -> Option<Target>
+    ensures { result ≡ target_of_public (public_view public.now) }
 {
     match public.segment {
         Segment::Absolute => None,
@@ -65,13 +65,13 @@ fn target_of(public: &OwnedPublic) -> Option<Target>
     }
 }
 
-impl Resolved {
+impl<'a> Resolved<'a> {
     /// What the targets of a file become in a merge with these publics.
-    pub(crate) fn new<'a>(
+    pub(crate) fn new(
         alloc: Global,
         publics: &Publics<'a>,
         placed: &PlacedFile<'a>,
-    ) -> Result<Resolved, AllocError>
+    ) -> Result<Resolved<'a>, AllocError>
         ensures { IfOk result (λ resolved. resolved ≡ resolved_in publics.now placed.now) }
     {
         let start = placed.starts();
@@ -87,8 +87,8 @@ impl Resolved {
     }
 
     // The public that an external name stands for.
-    fn meant(&self, number: u16) -> Option<OwnedPublic>
-        ensures { option_map owned_public_view result ≡ meant_at self.now number }
+    fn meant(&self, number: u16) -> Option<PublicName<'a>>
+        ensures { option_map public_view result ≡ meant_at self.now number }
     {
         match self.meant.get(number as usize) {
             Some(found) => *found,

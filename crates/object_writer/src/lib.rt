@@ -5,4 +5,4 @@ mod cuts;
 mod run;
 mod text;
 
-pub use text::write;
+pub use text::{write, write_front, write_rest};

@@ -32,9 +32,13 @@ fn entry_of(object: &ObjectModule, segment: Segment) -> SegmentEntry
     }
 }
 
-// Writes the header.
+/// Writes the header, with which the text of a module begins. Takes no memory. After a failure the writer has a
+/// beginning of it.
 #[tactic(auto, using(object_records::proofs::Entries::name_short, crate::proofs::Texts::header_is))]
-fn write_front<W: Write>(object: &ObjectModule, out: &mut W) -> Result<(), Failure<WriteFault>>
+pub fn write_front<W: Write>(
+    object: &ObjectModule,
+    out: &mut W,
+) -> Result<(), Failure<WriteFault>>
     ensures ok { OnOk result (Appends (W.contents out.old) (W.contents out.new)
         (part_bytes (header_for object.now))) }
     ensures err { OnErr result
@@ -100,8 +104,12 @@ fn write_segment<W: Write>(
     Ok(())
 }
 
-// Writes the contents and the end.
-fn write_rest<W: Write>(object: &ObjectModule, out: &mut W) -> Result<(), Failure<WriteFault>>
+/// Writes what comes after the names in the text of a module: the contents with their fixes, and the end. Takes
+/// no memory. After a failure the writer has a beginning of it.
+pub fn write_rest<W: Write>(
+    object: &ObjectModule,
+    out: &mut W,
+) -> Result<(), Failure<WriteFault>>
     requires { IsObjectModule object.now }
     ensures ok { OnOk result (Appends (W.contents out.old) (W.contents out.new) (rest_text object.now)) }
     ensures err { OnErr result

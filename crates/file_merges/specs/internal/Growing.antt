@@ -2,6 +2,7 @@
 use Rattle.std.specs.Prelude.{◌≡◌, ℕ, ◌+◌, ◌%◌, ◌≤◌, ◌==◌, Bool, true, false, not, ◌||◌, if◌then◌else◌, List, [], ◌∷◌, ◌++◌, map, filter_map, slice_get, Option, Some}
 use Rattle.std.specs.List.{list_all, list_any}
 use Rattle.std.specs.Option.{option_map_or, option_and_then, option_flatten}
+use Rattle.object_modules.specs.declared.public.PublicName.{PublicName}
 use Rattle.object_modules.specs.declared.segment.Fix.{Fix}
 use Rattle.object_modules.specs.declared.segment.FixKind.{FixKind}
 use Rattle.object_modules.specs.declared.segment.FixKind.TheVariants.{Low, High, Both}
@@ -22,6 +23,9 @@ use Rattle.objmod.specs.internal.Keeping.{fixes_by_place, is_in}
 
 abbrev pub public_name : Public → List ℕ
 public_name public = public.name
+
+abbrev pub name_shown : PublicName → List ℕ
+name_shown public = public.name.now
 
 -- where the pieces of a module begin, and the publics that its external names stand for
 pub record Resolved : Type 0 where
