@@ -7,7 +7,8 @@
 //! LINE` for so many lines of what is printed; `>?` and `!?` say only that something is printed. So no line of a text begins
 //! with `$ `, `@ `, `& `, `x `, `% `, `= `, `* `, `>` or `!`. Of the carriage returns that end a line the last one is no part of it.
 //! A file `closed.obj` can't be begun, and `broken.obj` takes three bytes.
-//! Then it prints what the machine, its parts and the interpreter do, as the manuals say it.
+//! Then it prints what the machine, its parts and the interpreter do, as the manuals say it, and what merges of object files
+//! are, made of modules and of files.
 //!
 //! What is said was written by hand from the rules of the language in `docs/language.md`, of object files in
 //! `docs/object-format.md` and of the commands in `docs/commands.md`, or computed from them by other programs that share
@@ -21,6 +22,7 @@ mod events;
 mod faulty;
 mod interpreting;
 mod memory_files;
+mod merging;
 mod operations;
 mod runs;
 mod scripts;
@@ -31,6 +33,7 @@ use anyhow::Result;
 use block::{Answer, Block};
 use codes::print_codes;
 use interpreting::print_programs;
+use merging::print_merges;
 use operations::print_operations;
 use runs::print_runs;
 use scripts::print_scripts;
@@ -87,6 +90,7 @@ fn print_parts<W: Write>(alloc: Global, out: &mut W) -> Result<()> {
     print_runs(alloc, out)?;
     print_scripts(alloc, out)?;
     print_programs(alloc, out)?;
+    print_merges(alloc, out)?;
     print_adjusting(alloc, out)
 }
 
