@@ -2,6 +2,10 @@
 #![tactic(auto)]
 
 mod emission;
+mod moves;
+mod parts;
+mod product;
+mod quotient;
 mod routine;
 
 pub use emission::emit_routine;
