@@ -7,8 +7,9 @@
 //! LINE` for so many lines of what is printed; `>?` and `!?` say only that something is printed. So no line of a text begins
 //! with `$ `, `@ `, `& `, `x `, `% `, `= `, `* `, `>` or `!`. Of the carriage returns that end a line the last one is no part of it.
 //! A file `closed.obj` can't be begun, and `broken.obj` takes three bytes.
-//! Then it prints what the machine, its parts and the interpreter do, as the manuals say it, and what merges of object files
-//! are, made of modules and of files.
+//! Then it prints what the machine, its parts and the interpreter do, as the manuals say it; what merges of object files
+//! are, made of modules and of files; objects that are read, placed and loaded, texts of Intel HEX that are read, and how
+//! commands end whose output fails part way.
 //!
 //! What is said was written by hand from the rules of the language in `docs/language.md`, of object files in
 //! `docs/object-format.md` and of the commands in `docs/commands.md`, or computed from them by other programs that share
@@ -23,9 +24,12 @@ mod faulty;
 mod interpreting;
 mod memory_files;
 mod merging;
+mod objects;
 mod operations;
+mod readers;
 mod runs;
 mod scripts;
+mod shorter;
 mod texts;
 
 use adjusting::print_adjusting;
@@ -34,9 +38,11 @@ use block::{Answer, Block};
 use codes::print_codes;
 use interpreting::print_programs;
 use merging::print_merges;
+use objects::print_objects;
 use operations::print_operations;
 use runs::print_runs;
 use scripts::print_scripts;
+use shorter::print_shorter;
 use std::alloc::Global;
 use std::io::{Write, read_to_string};
 
@@ -83,7 +89,7 @@ fn print_command_lines(rt: &HostRuntime) -> Result<()> {
     Ok(())
 }
 
-// Prints what the parts of the machine do, and the interpreter.
+// Prints what the parts of the machine do, the interpreter, and what reads and places objects.
 fn print_parts<W: Write>(alloc: Global, out: &mut W) -> Result<()> {
     print_codes(out)?;
     print_operations(out)?;
@@ -91,7 +97,9 @@ fn print_parts<W: Write>(alloc: Global, out: &mut W) -> Result<()> {
     print_scripts(alloc, out)?;
     print_programs(alloc, out)?;
     print_merges(alloc, out)?;
-    print_adjusting(alloc, out)
+    print_adjusting(alloc, out)?;
+    print_objects(alloc, out)?;
+    print_shorter(alloc, out)
 }
 
 fn main(rt: HostRuntime) -> Result<()> {
