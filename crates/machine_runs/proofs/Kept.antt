@@ -48,12 +48,11 @@ bytes_stay :
     → BytesStand memory from bytes
     → BytesStand other from bytes
 bytes_stay memory other [] from to limit fits alike stands = tt
-bytes_stay memory other (byte ∷ others) from to limit fits alike stands =
-    (
-      alike (wrap from) (omega arith) (omega arith) ∙ stands.0,
-      bytes_stay memory other others (from + 1) to limit (omega arith)
+bytes_stay memory other (byte ∷ others) from to limit fits alike stands = (
+  alike (wrap from) (omega arith) (omega arith) ∙ stands.0,
+  bytes_stay memory other others (from + 1) to limit (omega arith)
       (λ address low high. alike address (omega arith) high) stands.1,
-    )
+)
 
 size_with : (form : WordForm) (word : ℕ) → size_of_instruction (instruction_with form word) ≡ 3
 size_with (LoadPair pair) word = refl
@@ -99,35 +98,31 @@ stands_still layout memory other (Mark label ∷ others) from to limit alike h =
     (h.0, stands_still layout memory other others from to limit alike h.1)
 stands_still layout memory other (Plain i ∷ others) from to limit alike h =
     let e : to ≡ from + size_of (Plain i) + size_of_items others =
-    stands_size layout memory others (from + size_of (Plain i)) to h.1 in
-    (
+    stands_size layout memory others (from + size_of (Plain i)) to h.1 in (
       bytes_stay memory other (bytes_of_item layout (Plain i)) from to limit (omega arith) alike h.0,
       stands_still layout memory other others (from + size_of (Plain i)) to limit
-      (λ address low high. alike address (omega arith) high) h.1,
+          (λ address low high. alike address (omega arith) high) h.1,
     )
 stands_still layout memory other (WithWord form reference ∷ others) from to limit alike h =
     let e : to ≡ from + 3 + size_of_items others =
     stands_size layout memory others (from + 3) to h.1 in
-    let size = size_with form (Rattle.asm8080.specs.Items.word_of layout reference) in
-    (
+    let size = size_with form (Rattle.asm8080.specs.Items.word_of layout reference) in (
       bytes_stay memory other (bytes_of_item layout (WithWord form reference)) from to limit
-      (omega arith) alike h.0,
+          (omega arith) alike h.0,
       stands_still layout memory other others (from + 3) to limit
-      (λ address low high. alike address (omega arith) high) h.1,
+          (λ address low high. alike address (omega arith) high) h.1,
     )
 stands_still layout memory other (Byte value ∷ others) from to limit alike h =
     let e : to ≡ from + 1 + size_of_items others =
-    stands_size layout memory others (from + 1) to h.1 in
-    (
+    stands_size layout memory others (from + 1) to h.1 in (
       bytes_stay memory other (bytes_of_item layout (Byte value)) from to limit (omega arith) alike h.0,
       stands_still layout memory other others (from + 1) to limit
-      (λ address low high. alike address (omega arith) high) h.1,
+          (λ address low high. alike address (omega arith) high) h.1,
     )
 stands_still layout memory other (Address reference ∷ others) from to limit alike h =
     let e : to ≡ from + 2 + size_of_items others =
-    stands_size layout memory others (from + 2) to h.1 in
-    (
+    stands_size layout memory others (from + 2) to h.1 in (
       bytes_stay memory other (bytes_of_item layout (Address reference)) from to limit (omega arith) alike h.0,
       stands_still layout memory other others (from + 2) to limit
-      (λ address low high. alike address (omega arith) high) h.1,
+          (λ address low high. alike address (omega arith) high) h.1,
     )
