@@ -99,7 +99,7 @@ fn merge(alloc: Global, files: &[&[u8]]) -> Result<ObjectModule, Failure<StreamF
 ///
 /// It looks at one content at a time, and leaves the files' bytes where they are. Memory grows with the number of files
 /// and with their names. Beside these it holds the code and the data of the merge, however long the files are: of each at
-/// most 65535 bytes and as many fixes, which is less than 4 MiB.
+/// most 65535 bytes, with as many runs and fixes, which is some 5 MB.
 pub fn link_records<W: Write>(
     alloc: Global,
     files: &[&[u8]],
