@@ -14,12 +14,12 @@ use Rattle.command_line.proofs.reading.command.Goals.{In-Ok}
 
 no_fault : (c : In-Ok) → fault_of plm_app (texts c.args.words.now) ≡ []
 no_fault c =
-    let plm_is = c.in_ok-plm.ensures in
+    let plm_is = c.in_ok-plm.ensures.0 in
     subst (λ (a : App). fault_of a (texts c.args.words.now) ≡ []) plm_is (c.in-Ok.ensures.kinds (ap is_simple_and_free plm_is ∙ plm_is_free))
 
 found : (c : In-Ok) → option_and_then wanted_of_match (subcommand_rows_of c.in-Ok.matches) ≡ wanted_by (texts c.args.words.now)
 found c =
-    let plm_is = c.in_ok-plm.ensures in
+    let plm_is = c.in_ok-plm.ensures.0 in
     ap (option_and_then wanted_of_match) ((c.in-Ok.ensures.matches (ap is_simple plm_is ∙ plm_is_simple)).1 ∙ ap (λ (a : App). subcommand_of a (texts c.args.words.now)) plm_is)
 
 pub unreachable-requires : goal.unreachable-requires
@@ -46,7 +46,7 @@ returns c =
 
 has_kind : (c : goal.After-failure_of) → HasKind (fault_of plm_app (texts c.args.words.now)) c.in-Err.error
 has_kind c =
-    let plm_is = c.in_ok-plm.ensures in
+    let plm_is = c.in_ok-plm.ensures.0 in
     subst (λ (a : App). HasKind (fault_of a (texts c.args.words.now)) c.in-Err.error) plm_is (c.in-Err.ensures.kinds (ap is_simple_and_free plm_is ∙ plm_is_free))
 
 pub returns-in-Err : goal.returns-in-Err
