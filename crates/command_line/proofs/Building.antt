@@ -1,5 +1,5 @@
 -- What an argument or a command more makes of a command that is being built.
-use Rattle.std.proofs.Common.{◌≡◌, ◌∙◌, ap, ap₂, subst, false, Ok, Err, refl}
+use Rattle.std.proofs.Common.{◌≡◌, ◌∙◌, ap₂, subst, false, Ok, Err, refl}
 use Rattle.std.specs.Prelude.{IfOk, Result}
 use Rattle.clap.specs.Words.{AddsArg, AddsSubcommand, App, Rule, rule_of, with_rule, with_subcommand}
 use Rattle.clap.specs.declared.builder.arg.Arg.{Arg}

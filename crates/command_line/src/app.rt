@@ -167,23 +167,23 @@ fn files<'a>(alloc: Global, value: &'a str, help: &'a str) -> Arg<'a>
 fn named<'a>(alloc: Global, name: &'a str, teaching: Teaching) -> Built<'a>
     ensures { Builds (new_app name.entry.now) result }
 {
-    Ok(Command::new(alloc, name)
-        .about(teaching.about)
-        .after_help(teaching.printed))
+    Ok(
+        Command::new(alloc, name)
+            .about(teaching.about)
+            .after_help(teaching.printed),
+    )
 }
 
 // A command that builds sources.
-fn program<'a>(
-    alloc: Global,
-    name: &'a str,
-    teaching: Teaching,
-    limit_help: &'a str,
-) -> Built<'a>
+fn program<'a>(alloc: Global, name: &'a str, teaching: Teaching, limit_help: &'a str) -> Built<'a>
     ensures { Builds (program_app name.entry.now) result }
 {
     let planned = add_plan(alloc, named(alloc, name, teaching));
     let limited = add_run(alloc, planned, limit_help);
-    add(limited, files(alloc, "SOURCE", "The files with the sources"))
+    add(
+        limited,
+        files(alloc, "SOURCE", "The files with the sources"),
+    )
 }
 
 // The command that links object files.
@@ -191,7 +191,10 @@ fn link<'a>(alloc: Global) -> Built<'a>
     ensures { Builds (link_app (codes "link")) result }
 {
     let with_out = add(named(alloc, "link", LINK), out(alloc));
-    add(with_out, files(alloc, "OBJECT", "The object files, in their order"))
+    add(
+        with_out,
+        files(alloc, "OBJECT", "The object files, in their order"),
+    )
 }
 
 // A command that places an object file.
