@@ -16,10 +16,10 @@ arguments-returns t c =
     c.loop-tree-test.false c.loop-tree.invariant
 
 pub expression-returns-in-Reference : goal.expression-returns-in-Reference
-expression-returns-in-Reference t c = search (rules, given_is)
+expression-returns-in-Reference t c = rw c.in-Reference.is (rw (given_is c.args.self.now c.in-Reference.reference.value) (search rules))
 
 pub expression-returns-in-Location : goal.expression-returns-in-Location
-expression-returns-in-Location t c = search (rules, given_is)
+expression-returns-in-Location t c = rw c.in-Location.is (rw (given_is c.args.self.now c.in-Location.reference.value) (search rules))
 
 pub expression-returns-in_err-destination-in-Assignment : goal.expression-returns-in_err-destination-in-Assignment
 expression-returns-in_err-destination-in-Assignment t c = search (rules, given_is)
