@@ -1,6 +1,6 @@
 //! Which pieces a HEX text spells.
 
-ghost use Rattle.std.specs.Prelude.{◌≡◌, ◌≢◌, ℕ, ◌+◌, ◌*◌, ◌<◌, ◌≤◌, ◌==◌, List, ◌∷◌, length, take, drop, slice_index, Bool, false, Some, None, Ok, Err, option_map, IfSome, MatchOption, IfOk, OnOk};
+ghost use Rattle.std.specs.Prelude.{◌≡◌, ◌≢◌, ℕ, ◌+◌, ◌*◌, ◌<◌, ◌≤◌, ◌==◌, List, [], ◌∷◌, length, take, drop, slice_index, Bool, false, Some, None, Ok, Err, option_map, IfSome, MatchOption, IfOk, OnOk};
 ghost use Rattle.std.specs.List.{list_any};
 ghost use Rattle.std.specs.Str.{bytes_eq};
 ghost use Rattle.std.specs.Str.Lines.{lines, strip_carriage_return};
@@ -113,16 +113,17 @@ fn read_line(line: &[u8], buffer: &mut [u8; MOST_BYTES]) -> Option<Place>
 }
 
 // Whether an address is marked that a line has.
-#[tactic(auto, using(crate::proofs::ReadLemmas::any_hit, crate::proofs::ReadLemmas::any_miss, crate::proofs::ReadLemmas::any_end))]
 fn is_used(used: &[bool], place: Place) -> bool
     requires { place.start + place.count ≤ length used.now }
     ensures { result ≡ list_any (λ mark. mark) (take place.count (drop place.start used.now)) }
 {
     let start = place.start as usize;
-    for mark in &used[start..start + place.count as usize] {
+    let mut rest = &used[start..start + place.count as usize];
+    while let [mark, more @ ..] = rest {
         if *mark {
             return true;
         }
+        rest = more;
     }
     false
 }
@@ -241,14 +242,19 @@ fn unmarked() -> [bool; MEMORY_SIZE]
     [false; MEMORY_SIZE]
 }
 
-// The pieces that a text spells, or its first fault.
-#[tactic(auto, using(crate::proofs::ReadLemmas::judge_end, crate::proofs::ReadLemmas::judge_more, crate::proofs::ReadLemmas::judge_none, crate::proofs::ReadLemmas::judge_fault))]
-fn judge(alloc: Global, text: &[u8]) -> Result<Vec<Piece>, Failure<Fault>>
-    ensures pieces { IfOk result (λ pieces. judgement_of text.now ≡ Ok pieces.items) }
+// Takes the pieces that a text spells, up to its first fault.
+#[tactic(auto, using(crate::proofs::ReadLemmas::judge_end, crate::proofs::ReadLemmas::judge_more, crate::proofs::ReadLemmas::judge_none))]
+fn judge_lines(
+    alloc: Global,
+    text: &[u8],
+    pieces: &mut Vec<Piece>,
+    used: &mut [bool],
+) -> Result<(), Failure<Fault>>
+    requires none { pieces.old.items ≡ [] }
+    requires marks { Marks used.old pieces.old.items }
+    ensures ok { OnOk result (judgement_of text.now ≡ Ok pieces.new.items) }
     ensures fault { IfFault result (λ fault. judgement_of text.now ≡ Err fault) }
 {
-    let mut pieces = Vec::new(alloc);
-    let mut used = unmarked();
     let mut at = 0;
     while at < text.len() {
         let line = first_line(&text[at..]);
@@ -257,16 +263,27 @@ fn judge(alloc: Global, text: &[u8]) -> Result<Vec<Piece>, Failure<Fault>>
             return if at < text.len() {
                 Err(Failure::Fault(Fault::BadLine))
             } else {
-                Ok(pieces)
+                Ok(())
             };
         }
-        match take_line(alloc, line.characters, &mut pieces, &mut used) {
+        match take_line(alloc, line.characters, pieces, used) {
             Ok(()) => {}
             Err(Failure::Fault(fault)) => return Err(Failure::Fault(fault)),
             Err(Failure::Memory) => return Err(Failure::Memory),
         }
     }
     Err(Failure::Fault(Fault::NoEnd))
+}
+
+// The pieces that a text spells, or its first fault.
+fn judge(alloc: Global, text: &[u8]) -> Result<Vec<Piece>, Failure<Fault>>
+    ensures pieces { IfOk result (λ pieces. judgement_of text.now ≡ Ok pieces.items) }
+    ensures fault { IfFault result (λ fault. judgement_of text.now ≡ Err fault) }
+{
+    let mut pieces = Vec::new(alloc);
+    let mut used = unmarked();
+    judge_lines(alloc, text, &mut pieces, &mut used)?;
+    Ok(pieces)
 }
 
 /// The pieces that a text spells, one for each data line in the order of the text, also for one without
