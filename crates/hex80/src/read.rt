@@ -1,6 +1,6 @@
 //! Which pieces a HEX text spells.
 
-ghost use Rattle.std.specs.Prelude.{◌≡◌, ◌≢◌, ℕ, ◌+◌, ◌*◌, ◌<◌, ◌≤◌, ◌==◌, List, [], ◌∷◌, length, take, drop, slice_index, Bool, false, Some, None, Ok, Err, option_map, IfSome, MatchOption, IfOk, OnOk};
+ghost use Rattle.std.specs.Prelude.{◌≡◌, ◌≢◌, ℕ, ◌+◌, ◌*◌, ◌<◌, ◌≤◌, ◌==◌, List, ◌∷◌, length, take, drop, slice_index, Bool, false, Some, None, Ok, Err, option_map, IfSome, MatchOption, IfOk, OnOk};
 ghost use Rattle.std.specs.List.{list_any};
 ghost use Rattle.std.specs.Str.{bytes_eq};
 ghost use Rattle.std.specs.Str.Lines.{lines, strip_carriage_return};
@@ -50,7 +50,6 @@ fn byte_of(high: u8, low: u8) -> Option<u8>
 }
 
 // Puts the bytes of digits at the front of a buffer, and tells how many there are.
-#[tactic(auto, using(crate::proofs::ReadLemmas::nothing_in_front, crate::proofs::ReadLemmas::byte_more, crate::proofs::ReadLemmas::no_byte, crate::proofs::ReadLemmas::all_read, crate::proofs::ReadLemmas::odd_digits))]
 fn put_bytes(digits: &[u8], buffer: &mut [u8]) -> Option<usize>
     requires { length digits.now ≤ 2 * length buffer.old }
     ensures bytes { bytes_in digits.now ≡ option_map (λ count. take count buffer.new) result }
@@ -113,17 +112,16 @@ fn read_line(line: &[u8], buffer: &mut [u8; MOST_BYTES]) -> Option<Place>
 }
 
 // Whether an address is marked that a line has.
+#[tactic(auto, using(crate::proofs::ReadLemmas::any_hit, crate::proofs::ReadLemmas::any_miss, crate::proofs::ReadLemmas::any_end))]
 fn is_used(used: &[bool], place: Place) -> bool
     requires { place.start + place.count ≤ length used.now }
     ensures { result ≡ list_any (λ mark. mark) (take place.count (drop place.start used.now)) }
 {
     let start = place.start as usize;
-    let mut rest = &used[start..start + place.count as usize];
-    while let [mark, more @ ..] = rest {
+    for mark in &used[start..start + place.count as usize] {
         if *mark {
             return true;
         }
-        rest = more;
     }
     false
 }
@@ -141,7 +139,7 @@ fn mark(used: &mut [bool], place: Place)
 }
 
 // Takes the piece of a line, if it has no fault.
-#[tactic(auto, using(crate::proofs::ReadLemmas::bad_line, crate::proofs::ReadLemmas::wrong_sum, crate::proofs::ReadLemmas::overlaps, crate::proofs::ReadLemmas::takes_line, crate::proofs::ReadLemmas::marks_taken))]
+#[tactic(auto, using(crate::proofs::ReadLemmas::bad_line, crate::proofs::ReadLemmas::wrong_sum, crate::proofs::ReadLemmas::overlaps))]
 fn take_line(
     alloc: Global,
     line: &[u8],
@@ -242,19 +240,14 @@ fn unmarked() -> [bool; MEMORY_SIZE]
     [false; MEMORY_SIZE]
 }
 
-// Takes the pieces that a text spells, up to its first fault.
-#[tactic(auto, using(crate::proofs::ReadLemmas::judge_end, crate::proofs::ReadLemmas::judge_more, crate::proofs::ReadLemmas::judge_none))]
-fn judge_lines(
-    alloc: Global,
-    text: &[u8],
-    pieces: &mut Vec<Piece>,
-    used: &mut [bool],
-) -> Result<(), Failure<Fault>>
-    requires none { pieces.old.items ≡ [] }
-    requires marks { Marks used.old pieces.old.items }
-    ensures ok { OnOk result (judgement_of text.now ≡ Ok pieces.new.items) }
+// The pieces that a text spells, or its first fault.
+#[tactic(auto, using(crate::proofs::ReadLemmas::judge_end, crate::proofs::ReadLemmas::judge_more, crate::proofs::ReadLemmas::judge_none, crate::proofs::ReadLemmas::judge_fault))]
+fn judge(alloc: Global, text: &[u8]) -> Result<Vec<Piece>, Failure<Fault>>
+    ensures pieces { IfOk result (λ pieces. judgement_of text.now ≡ Ok pieces.items) }
     ensures fault { IfFault result (λ fault. judgement_of text.now ≡ Err fault) }
 {
+    let mut pieces = Vec::new(alloc);
+    let mut used = unmarked();
     let mut at = 0;
     while at < text.len() {
         let line = first_line(&text[at..]);
@@ -263,27 +256,16 @@ fn judge_lines(
             return if at < text.len() {
                 Err(Failure::Fault(Fault::BadLine))
             } else {
-                Ok(())
+                Ok(pieces)
             };
         }
-        match take_line(alloc, line.characters, pieces, used) {
+        match take_line(alloc, line.characters, &mut pieces, &mut used) {
             Ok(()) => {}
             Err(Failure::Fault(fault)) => return Err(Failure::Fault(fault)),
             Err(Failure::Memory) => return Err(Failure::Memory),
         }
     }
     Err(Failure::Fault(Fault::NoEnd))
-}
-
-// The pieces that a text spells, or its first fault.
-fn judge(alloc: Global, text: &[u8]) -> Result<Vec<Piece>, Failure<Fault>>
-    ensures pieces { IfOk result (λ pieces. judgement_of text.now ≡ Ok pieces.items) }
-    ensures fault { IfFault result (λ fault. judgement_of text.now ≡ Err fault) }
-{
-    let mut pieces = Vec::new(alloc);
-    let mut used = unmarked();
-    judge_lines(alloc, text, &mut pieces, &mut used)?;
-    Ok(pieces)
 }
 
 /// The pieces that a text spells, one for each data line in the order of the text, also for one without

@@ -1,9 +1,6 @@
-use Rattle.std.proofs.Common.{◌≡◌, length}
+use Rattle.std.proofs.Common.{◌≡◌, drop}
 use Rattle.std.specs.List.{list_any}
 use Rattle.hex80.proofs.read.is_used.Given as goal
 
-abbrev pub invariant-loop-rest : goal.invariant-loop-rest
-invariant-loop-rest l = list_any (λ mark. mark) l.rest ≡ list_any (λ mark. mark) l.initial.rest
-
-abbrev pub decreases-loop-rest : goal.decreases-loop-rest
-decreases-loop-rest l = length l.rest
+abbrev pub invariant-loop-mark : goal.invariant-loop-mark
+invariant-loop-mark l = list_any (λ mark. mark) (drop l.mark-index l.mark-items) ≡ list_any (λ mark. mark) l.mark-items
