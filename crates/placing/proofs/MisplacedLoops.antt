@@ -1,5 +1,5 @@
 -- The first misplaced object: among those of a module, and of all modules.
-use Rattle.std.proofs.Common.{◌≡◌, ℕ, ◌+◌, ◌<◌, ◌≤◌, Bool, true, false, List, ◌∷◌, ◌++◌, length, drop, get_or, map, Option, None, Some, option_map, if◌then◌else◌, refl, ap, sym, ◌∙◌}
+use Rattle.std.proofs.Common.{◌≡◌, ℕ, ◌+◌, ◌<◌, ◌≤◌, List, ◌++◌, length, drop, get_or, map, Option, None, Some, option_map, refl, ap, sym, ◌∙◌}
 use Rattle.std.specs.Prelude.{flat_map, slice_get, zip}
 use Rattle.std.specs.List.{find}
 use Rattle.std.specs.Option.{option_or}
@@ -8,7 +8,6 @@ use Rattle.std.proofs.lemmas.List.Concat.{flat_map-cons}
 use Rattle.std.proofs.lemmas.List.Folds.{find-append}
 use Rattle.mem80.specs.declared.range.Range.{Range}
 use Rattle.typed_trees.specs.declared.module.Typed.{Typed}
-use Rattle.typed_trees.specs.declared.module.TypedObject.{TypedObject as Object}
 use Rattle.typed_trees.specs.TypedTrees.{TypedObject, TypedModule}
 use Rattle.typed_trees.specs.Views.{module_view, object_view}
 use Rattle.layout.specs.Placement.{ModulePlacement}

@@ -1,8 +1,21 @@
--- What is left of a list that is looked at by a number.
-use Rattle.std.proofs.Common.{◌≡◌, ℕ, zero, suc, ◌+◌, List, [], ◌∷◌, drop, Option, None, Some, refl, ap, sym, ◌∙◌, add-one}
-use Rattle.std.specs.Prelude.{slice_get, zip}
+-- What is left of a list that is looked at by a number, and one pass over the modules.
+use Rattle.std.proofs.Common.{◌≡◌, ℕ, zero, suc, ◌+◌, ◌-◌, ◌≤◌, List, [], ◌∷◌, ◌++◌, length, take, drop, get_or, map, None, Some, refl, ap, sym, ◌∙◌, add-one, append_assoc, arith}
+use Rattle.std.specs.Prelude.{slice_get, sum, zip}
 use Rattle.std.proofs.Math.Seq.{drop-cons}
+use Rattle.std.proofs.lemmas.List.{take_all, map-append}
+use Rattle.std.proofs.lemmas.List.Sums.{sum_by-cons}
 use Rattle.std.proofs.lemmas.Option.{slice_get_within, get_or_from_slice_get, none-some}
+use Rattle.typed_trees.specs.declared.module.Typed.{Typed}
+use Rattle.typed_trees.specs.Views.{module_view}
+use Rattle.layout.specs.declared.slot.Layout.{Layout}
+use Rattle.layout.specs.Following.{Bases}
+use Rattle.layout.specs.Placement.{ModulePlacement}
+use Rattle.layout.specs.Placing.{module_placement_by}
+use Rattle.layout.specs.Storage.{Storage}
+use Rattle.layout.specs.Views.{layout_view}
+use Rattle.placing.specs.declared.placement.ModulePlacement.{ModulePlacement as CodeModulePlacement}
+use Rattle.placing.specs.Views.{module_placement_view}
+use Rattle.placing.specs.internal.Placings.{bases_after, placements_from, layout_sizes}
 
 -- where there is an item, and where there is none
 pub found_first :
@@ -29,3 +42,70 @@ nothing = []
 pub zip_nothing : {A B : Type 0} (items : List A) → zip items (nothing {B = B}) ≡ []
 zip_nothing [] = refl
 zip_nothing (item ∷ others) = refl
+
+-- the others of items, of which the first is known
+abbrev others_of : {A : Type 0} → List A → List A
+others_of items = take (length items - 1) (drop 1 items)
+
+first_is : {A : Type 0} (items : List A) (first : A) → 1 ≤ length items → first ≡ get_or items 0 first → items ≡ first ∷ others_of items
+first_is [] first some is = absurd (omega arith)
+first_is (item ∷ others) first some is =
+    ap (λ front. front ∷ others) (sym is)
+    ∙ ap (λ rest. first ∷ rest) (sym (take_all (length (item ∷ others) - 1) others (omega arith)))
+
+first_number : (numbers : List ℕ) → get_or numbers 0 0 ≡ get_or numbers 0 (get_or numbers 0 0)
+first_number [] = refl
+first_number (number ∷ others) = refl
+
+-- one module more is placed
+pub module_placed :
+    (bases after : Bases) (made new : List CodeModulePlacement) (total : List ModulePlacement)
+    (modules : List Typed) (layouts : List Layout) (lengths : List ℕ)
+    (typed : Typed) (layout : Layout) (placed : CodeModulePlacement)
+    → map module_placement_view made ++ placements_from bases (map module_view modules) (map layout_view layouts) lengths ≡ total
+    → 1 ≤ length modules → typed ≡ get_or modules 0 typed
+    → 1 ≤ length layouts → layout ≡ get_or layouts 0 layout
+    → 1 ≤ length lengths
+    → module_placement_view placed ≡ module_placement_by bases (module_view typed) (layout_view layout)
+    → new ≡ made ++ placed ∷ []
+    → after ≡ bases_after bases (layout_view layout) (get_or lengths 0 0)
+    → map module_placement_view new
+    ++ placements_from after (map module_view (others_of modules)) (map layout_view (others_of layouts)) (others_of lengths)
+    ≡ total
+module_placed bases after made new total modules layouts lengths typed layout placed rest some is found there counted given pushed next =
+    ap (λ items. map module_placement_view items
+    ++ placements_from after (map module_view (others_of modules)) (map layout_view (others_of layouts)) (others_of lengths)) pushed
+    ∙ ap (λ items. items
+    ++ placements_from after (map module_view (others_of modules)) (map layout_view (others_of layouts)) (others_of lengths))
+    (map-append module_placement_view made (placed ∷ []))
+    ∙ append_assoc (map module_placement_view made) (module_placement_view placed ∷ [])
+    (placements_from after (map module_view (others_of modules)) (map layout_view (others_of layouts)) (others_of lengths))
+    ∙ (λ i. map module_placement_view made
+    ++ given i
+    ∷ placements_from (next i) (map module_view (others_of modules)) (map layout_view (others_of layouts)) (others_of lengths))
+    ∙ sym (λ i. map module_placement_view made
+    ++ placements_from bases (map module_view (first_is modules typed some is i)) (map layout_view (first_is layouts layout found there i))
+    (first_is lengths (get_or lengths 0 0) counted (first_number lengths) i))
+    ∙ rest
+
+-- the segments that are left end in memory
+pub code_left :
+    (lengths : List ℕ) (base next : ℕ) → 1 ≤ length lengths → base + sum lengths ≤ 65536
+    → next ≡ base + get_or lengths 0 0
+    → next + sum (others_of lengths) ≤ 65536
+code_left lengths base next some within is =
+    let split : sum lengths ≡ get_or lengths 0 0 + sum (others_of lengths) =
+    ap sum (first_is lengths (get_or lengths 0 0) some (first_number lengths))
+    ∙ sum_by-cons (λ (n : ℕ). n) (get_or lengths 0 0) (others_of lengths) in
+    omega (arith, split, within, is)
+
+pub data_left :
+    (layouts : List Layout) (first : Layout) (base next : ℕ) → 1 ≤ length layouts → first ≡ get_or layouts 0 first
+    → base + layout_sizes layouts ≤ 65536
+    → next ≡ base + first.data_size
+    → next + layout_sizes (others_of layouts) ≤ 65536
+data_left layouts first base next some there within is =
+    let split : layout_sizes layouts ≡ first.data_size + layout_sizes (others_of layouts) =
+    ap layout_sizes (first_is layouts first some there)
+    ∙ sum_by-cons (λ (storage : Storage). storage.data_size) (layout_view first) (map layout_view (others_of layouts)) in
+    omega (arith, split, within, is)

@@ -2,7 +2,7 @@ use Rattle.std.proofs.Common.{◌≡◌, ◌+◌, ◌≤◌, ◌++◌, length, m
 use Rattle.std.specs.Prelude.{sum}
 use Rattle.mem80.specs.declared.memory.TheConstants.{MEMORY_SIZE}
 use Rattle.placing.specs.Views.{module_placement_view}
-use Rattle.placing.specs.internal.Placings.{bases_view, code_placements, layout_sizes}
+use Rattle.placing.specs.internal.Placings.{code_placements, layout_sizes}
 use Rattle.placing.proofs.addresses.module_placements.Given as goal
 
 abbrev pub invariant-loop-rest : goal.invariant-loop-rest
