@@ -1,7 +1,7 @@
-use Rattle.std.proofs.Common.{◌≡◌, ℕ, ◌+◌, ◌-◌, List, [], ◌∷◌, ◌++◌, take, drop, ap, ◌∙◌, arith}
+use Rattle.std.proofs.Common.{◌≡◌, ℕ, ◌+◌, ◌-◌, List, [], ◌∷◌, ◌++◌, take, drop, ap, sym, ◌∙◌, arith}
 use Rattle.std.proofs.lemmas.Grind.{common_steps}
 use Rattle.mem80.specs.declared.range.Piece.{Piece}
-use Rattle.hex80.proofs.ReadLemmas.{marks_taken}
+use Rattle.hex80.proofs.ReadLemmas.{marks_taken, takes_line}
 use Rattle.hex80.proofs.read.take_line.Goals as goal
 
 pub returns-clause-marks : goal.returns-clause-marks
@@ -11,6 +11,19 @@ returns-clause-marks c =
     λ bytes. c.args.pieces.now.items ++ (record { start = c.in-Some.place.start; bytes = bytes }) ∷ [] in
     marks_taken c.args.used.now c.mark.new.used c.args.pieces.now.items c.push.new.self.items c.read_line.new.buffer
     c.in-Some.place c.requires c.in-Some.ensures.fits (grind (arith, common_steps)) c.mark.ensures
+    (c.in_ok-push.ensures.items
+    ∙ ap added
+    (c.from_vec.ensures.same ∙ c.in_ok-bytes.ensures.items
+    ∙ ap (λ n. take n (drop 4 c.read_line.new.buffer)) size))
+
+pub returns-clause-ok : goal.returns-clause-ok
+returns-clause-ok c =
+    let size : 4 + c.in-Some.place.count - 4 ≡ c.in-Some.place.count = omega arith in
+    let added : List ℕ → List Piece =
+    λ bytes. c.args.pieces.now.items ++ (record { start = c.in-Some.place.start; bytes = bytes }) ∷ [] in
+    takes_line c.args.used.now c.args.pieces.now.items c.push.new.self.items c.args.line.now c.read_line.new.buffer
+    c.in-Some.place c.byte_sum.result c.requires c.in-Some.ensures.fits (grind (arith, common_steps))
+    c.in-Some.ensures.read c.byte_sum.ensures (omega arith) (sym c.is_used.ensures ∙ c.if-is_used.false)
     (c.in_ok-push.ensures.items
     ∙ ap added
     (c.from_vec.ensures.same ∙ c.in_ok-bytes.ensures.items
