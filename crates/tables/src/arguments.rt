@@ -20,7 +20,8 @@ pub enum Kind {
 }
 
 const EDGES: [u16; 20] = [
-    0, 1, 2, 3, 7, 8, 9, 15, 16, 17, 127, 128, 255, 256, 257, 0x7FFF, 0x8000, 0xAAAA, 0xFF00, 0xFFFF,
+    0, 1, 2, 3, 7, 8, 9, 15, 16, 17, 127, 128, 255, 256, 257, 0x7FFF, 0x8000, 0xAAAA, 0xFF00,
+    0xFFFF,
 ];
 
 // Where the blocks begin that MOVE is tried on: from here over 65535 to 4FFH.

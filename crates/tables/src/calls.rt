@@ -12,7 +12,9 @@ use std::alloc::Global;
 
 // Where the program stands that calls the routine, the routine, and the arguments of all calls, six bytes each.
 const DRIVER: u16 = 0x800;
+
 const ROUTINE: u16 = 0x840;
+
 const TABLE: u16 = 0x900;
 
 // The end of 10,000 of them.
@@ -33,6 +35,7 @@ const MOVES: [u8; 18] = [
 
 // Where the first call is got ready, and where the machine is after a call.
 const AGAIN: u16 = 0x803;
+
 const AFTER: u16 = 0x809;
 
 // No routine takes as many steps.

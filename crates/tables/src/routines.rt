@@ -213,14 +213,13 @@ fn print_steps_by_bytes<W: Write>(out: &mut W, tally: &Tally) -> Result<()> {
 }
 
 // What calls with some arguments give.
-fn tally_with(
-    alloc: Global,
-    row: &Row,
-    code: &CodeBytes,
-    kind: Kind,
-    mask: u16,
-) -> Result<Tally> {
-    tally_of(alloc, row.routine, code, Arguments::of(row.routine, kind, mask))
+fn tally_with(alloc: Global, row: &Row, code: &CodeBytes, kind: Kind, mask: u16) -> Result<Tally> {
+    tally_of(
+        alloc,
+        row.routine,
+        code,
+        Arguments::of(row.routine, kind, mask),
+    )
 }
 
 // Prints what calls give.
@@ -268,11 +267,7 @@ fn print_document<W: Write>(alloc: Global, out: &mut W) -> Result<()> {
 }
 
 /// Prints that the document is kept as a file, or else the document.
-pub fn print_routines<F: Files, W: Write>(
-    alloc: Global,
-    files: &mut F,
-    out: &mut W,
-) -> Result<()> {
+pub fn print_routines<F: Files, W: Write>(alloc: Global, files: &mut F, out: &mut W) -> Result<()> {
     let mut document = Vec::new(alloc);
     print_document(alloc, &mut document)?;
     match files.read_file(DOCUMENT) {
