@@ -1,5 +1,8 @@
 //! Code that is assembled: as long as a segment and longer, and with many labels.
 
+ghost use Rattle.std.specs.Prelude.{OnOk};
+ghost use Rattle.runtime8080.specs.Routines.{IsFresh};
+
 use crate::events::word_of;
 use crate::runs::put_bytes;
 use anyhow::Result as AnyResult;
@@ -27,17 +30,20 @@ fn long_code(alloc: Global, count: usize, is_bound: bool) -> Result<CodeBytes, F
 }
 
 // Adds a jump over HLT to a label of its own.
-fn jump_over(code: &mut Code) -> Result<(), Failure<Fault>> {
+#[tactic(auto, using(crate::proofs::Fresh::unbound_here, crate::proofs::Fresh::fresh_after))]
+fn jump_over(code: &mut Code) -> Result<(), Failure<Fault>>
+    requires fresh { IsFresh code.old }
+    ensures fresh { OnOk result (IsFresh code.new) }
+{
     let label = code.label()?;
     code.jump(WordForm::Jump, label)?;
     code.emit(Instr::Hlt)?;
-    if !code.is_bound(label) {
-        code.bind(label)?;
-    }
+    code.bind(label)?;
     Ok(())
 }
 
 // Code with so many labels.
+#[tactic(auto, using(crate::proofs::Fresh::none_fresh))]
 fn code_with_labels(alloc: Global, count: usize) -> Result<CodeBytes, Failure<Fault>> {
     let mut code = Code::new(alloc);
     for _ in 0..count {
