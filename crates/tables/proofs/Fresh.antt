@@ -1,5 +1,5 @@
 -- Code of which no label is bound that is still to come.
-use Rattle.std.proofs.Common.{◌≡◌, ℕ, ◌+◌, ◌≤◌, ◌==◌, ◌≢◌, Bool, true, false, List, [], ◌∷◌, ◌++◌, refl, sym, subst, absurd, arith}
+use Rattle.std.proofs.Common.{◌≡◌, ℕ, ◌+◌, ◌≤◌, ◌==◌, ◌≢◌, Bool, true, false, List, [], ◌∷◌, ◌++◌, refl, sym, subst, arith}
 use Rattle.std.proofs.lemmas.Bool.{eqb-true}
 use Rattle.isa8080.specs.declared.instr.Instr.TheVariants.{Hlt}
 use Rattle.asm8080.specs.declared.item.WordForm.TheVariants.{Jump}
@@ -22,7 +22,7 @@ not_equal a b differ = go (a == b) refl
     go true is = absurd (differ (eqb-true a b is))
 
 -- items with a jump over HLT to a label
-jumping : (label : ℕ) → List Item → List Item
+abbrev jumping : (label : ℕ) → List Item → List Item
 jumping label items = (items ++ WithWord Jump (AtLabel label) ∷ []) ++ Plain Hlt ∷ []
 
 jump_binds_none :
@@ -41,7 +41,7 @@ above_fresh items labels unbound other more =
     (not_equal other labels (λ same. omega arith))
 
 -- the code after a jump over HLT to a new label
-jumped : Assembly → Assembly
+abbrev jumped : Assembly → Assembly
 jumped before = record { items = jumping before.labels before.items; labels = before.labels + 1 }
 
 is_jumped :

@@ -113,8 +113,8 @@ const DOCUMENT: &str = "runtime.md";
 const HEAD: &str = "\
 # Routines
 
-What the 8080 cannot do in one instruction, as code that a program calls. This document is printed by the program
-`tables`, and the merge gate compares them.
+What the 8080 cannot do in one instruction, as code that a program calls. This document is made by the program
+`tables` (`bench/runtime --document`); the merge gate compares it with its copy in `crates/tables/data`.
 
 Each routine is called at its first byte. It pushes nothing: its stack is the return address alone, two bytes, and SP is
 after the call what it was before. Registers that are not named as changed stay as they were. Steps are instructions
