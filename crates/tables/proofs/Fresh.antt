@@ -78,6 +78,6 @@ pub fresh_after :
     → IsFresh after
 fresh_after before with_label with_jump with_halt after label fresh is_label is_labelled is_jump is_halt is_after =
     let code : with_halt ≡ jumped before =
-        is_jumped before with_label with_jump with_halt label is_label is_labelled is_jump is_halt in
+    is_jumped before with_label with_jump with_halt label is_label is_labelled is_jump is_halt in
     let same : after ≡ record (jumped before) { items = (jumped before).items ++ Mark before.labels ∷ [] } = cc in
     subst IsFresh (sym same) (record { unbound = above_fresh before.items before.labels fresh.unbound })
