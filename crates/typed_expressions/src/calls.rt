@@ -84,7 +84,11 @@ impl Known {
             }) (constants_view constants.old)) }
     {
         let scalars = procedure.parameter_types.as_slice();
-        require(number_of_arguments(trees) == scalars.len(), Cause::WrongUse, line)?;
+        require(
+            number_of_arguments(trees) == scalars.len(),
+            Cause::WrongUse,
+            line,
+        )?;
         let typed = self.arguments(trees, constants)?;
         Ok(arguments_as(self.alloc, scalars, typed)?)
     }

@@ -29,5 +29,5 @@ returns-in_err-place c =
 pub returns-in_err-place-2 : goal.returns-in_err-place-2
 returns-in_err-place-2 c =
     let failed = fails c.args.self.now c.args.others.now c.loop-target.target-index c.target-item.result c.loop-target.made.items (constants_view c.loop-target.constants) _
-        (fault_in c.in_err-place-2.field-0.0) c.loop-target-test.true c.target-item.is c.loop-target.invariant c.in_err-place-2.ensures in
+    (fault_in c.in_err-place-2.field-0.0) c.loop-target-test.true c.target-item.is c.loop-target.invariant c.in_err-place-2.ensures in
     search rules

@@ -19,8 +19,8 @@ pub returns-in_err-fill_value : goal.returns-in_err-fill_value
 returns-in_err-fill_value c =
     let object_type = type_view c.args.object_type.now in
     let failed = some_fails (known_view c.args.self.now) c.args.values.now c.loop-value.value-index (scalars_of_elements c.args.elements object_type)
-        (filled_view object_type c.new-filling.result) (filled_view object_type c.loop-value.filling) c.new-filling.ensures c.loop-value.invariant
-        c.value-item.result (fault_in c.in_err-fill_value.field-0.0) c.loop-value-test.true c.value-item.is c.in_err-fill_value.ensures in
+    (filled_view object_type c.new-filling.result) (filled_view object_type c.loop-value.filling) c.new-filling.ensures c.loop-value.invariant
+    c.value-item.result (fault_in c.in_err-fill_value.field-0.0) c.loop-value-test.true c.value-item.is c.in_err-fill_value.ensures in
     search rules
 
 pub returns : goal.returns
