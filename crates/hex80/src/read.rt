@@ -139,7 +139,7 @@ fn mark(used: &mut [bool], place: Place)
 }
 
 // Takes the piece of a line, if it has no fault.
-#[tactic(auto, using(crate::proofs::ReadLemmas::bad_line, crate::proofs::ReadLemmas::wrong_sum, crate::proofs::ReadLemmas::overlaps))]
+#[tactic(auto, using(crate::proofs::ReadLemmas::wrong_sum))]
 fn take_line(
     alloc: Global,
     line: &[u8],

@@ -88,16 +88,34 @@ module_placed bases after made new total modules layouts lengths typed layout pl
     (first_is lengths (get_or lengths 0 0) counted (first_number lengths) i))
     ∙ rest
 
--- the segments that are left end in memory
+-- the segments of the next module end in memory, and so do those that are left
+code_split : (lengths : List ℕ) → 1 ≤ length lengths → sum lengths ≡ get_or lengths 0 0 + sum (others_of lengths)
+code_split lengths some =
+    ap sum (first_is lengths (get_or lengths 0 0) some (first_number lengths))
+    ∙ sum_by-cons (λ (n : ℕ). n) (get_or lengths 0 0) (others_of lengths)
+
+pub code_within :
+    (lengths : List ℕ) (base : ℕ) → 1 ≤ length lengths → base + sum lengths ≤ 65536 → base + get_or lengths 0 0 ≤ 65536
+code_within lengths base some within = omega (arith, code_split lengths some, within)
+
 pub code_left :
     (lengths : List ℕ) (base next : ℕ) → 1 ≤ length lengths → base + sum lengths ≤ 65536
     → next ≡ base + get_or lengths 0 0
     → next + sum (others_of lengths) ≤ 65536
-code_left lengths base next some within is =
-    let split : sum lengths ≡ get_or lengths 0 0 + sum (others_of lengths) =
-    ap sum (first_is lengths (get_or lengths 0 0) some (first_number lengths))
-    ∙ sum_by-cons (λ (n : ℕ). n) (get_or lengths 0 0) (others_of lengths) in
-    omega (arith, split, within, is)
+code_left lengths base next some within is = omega (arith, code_split lengths some, within, is)
+
+data_split :
+    (layouts : List Layout) (first : Layout) → 1 ≤ length layouts → first ≡ get_or layouts 0 first
+    → layout_sizes layouts ≡ first.data_size + layout_sizes (others_of layouts)
+data_split layouts first some there =
+    ap layout_sizes (first_is layouts first some there)
+    ∙ sum_by-cons (λ (storage : Storage). storage.data_size) (layout_view first) (map layout_view (others_of layouts))
+
+pub data_within :
+    (layouts : List Layout) (first : Layout) (base : ℕ) → 1 ≤ length layouts → first ≡ get_or layouts 0 first
+    → base + layout_sizes layouts ≤ 65536
+    → base + first.data_size ≤ 65536
+data_within layouts first base some there within = omega (arith, data_split layouts first some there, within)
 
 pub data_left :
     (layouts : List Layout) (first : Layout) (base next : ℕ) → 1 ≤ length layouts → first ≡ get_or layouts 0 first
@@ -105,7 +123,4 @@ pub data_left :
     → next ≡ base + first.data_size
     → next + layout_sizes (others_of layouts) ≤ 65536
 data_left layouts first base next some there within is =
-    let split : layout_sizes layouts ≡ first.data_size + layout_sizes (others_of layouts) =
-    ap layout_sizes (first_is layouts first some there)
-    ∙ sum_by-cons (λ (storage : Storage). storage.data_size) (layout_view first) (map layout_view (others_of layouts)) in
-    omega (arith, split, within, is)
+    omega (arith, data_split layouts first some there, within, is)

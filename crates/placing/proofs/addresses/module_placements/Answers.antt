@@ -2,8 +2,18 @@
 use Rattle.std.proofs.Common.{ap}
 use Rattle.layout.specs.Following.{Bases}
 use Rattle.placing.specs.internal.Placings.{bases_view, code_placements}
-use Rattle.placing.proofs.Passes.{module_placed, code_left, data_left}
+use Rattle.placing.proofs.Passes.{module_placed, code_within, code_left, data_within, data_left}
 use Rattle.placing.proofs.addresses.module_placements.Goals as goal
+
+pub bases_after-bases-requires-clause-code : goal.bases_after-bases-requires-clause-code
+bases_after-bases-requires-clause-code c =
+    code_within c.loop-rest.lengths.now c.loop-rest.bases.code_base c.in-len1-up-lengths.len_at_least
+    c.loop-rest.invariant.1
+
+pub bases_after-bases-requires-clause-variables : goal.bases_after-bases-requires-clause-variables
+bases_after-bases-requires-clause-variables c =
+    data_within c.loop-rest.storages.now c.layout-item.result c.loop-rest.bases.data_base
+    c.in-len1-up-storages.len_at_least c.layout-item.is c.loop-rest.invariant.2
 
 pub loop-rest-preserved : goal.loop-rest-preserved
 loop-rest-preserved c = (
