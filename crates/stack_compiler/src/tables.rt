@@ -183,7 +183,7 @@ fn note(
 }
 
 // Notes what the code tells.
-#[tactic(auto, using(crate::proofs::RowLoops::instruction_noted, crate::proofs::RowLoops::code_noted))]
+#[tactic(auto, using(crate::proofs::RowLoops::instruction_noted))]
 fn note_all(
     alloc: Global,
     tables: &mut Vec<ModuleTable>,
