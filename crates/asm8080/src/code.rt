@@ -4,7 +4,7 @@ ghost use Rattle.std.specs.Prelude.{◌≡◌, ◌+◌, ◌^◌, ◌<◌, false,
 ghost use Rattle.failure.specs.Failure.{IfFault};
 ghost use Rattle.asm8080.specs.declared.item.Item.TheVariants.{Plain, WithWord, Byte, Address, Mark};
 ghost use Rattle.asm8080.specs.declared.item.Reference.TheVariants.{AtLabel, AtTarget};
-ghost use Rattle.asm8080.specs.Items.{is_bound};
+ghost use Rattle.asm8080.specs.Items.{IsAssembly, is_bound};
 ghost use Rattle.asm8080.specs.Assembled.{IsFinished};
 
 use crate::assembling::{all_placed, assemble, code_size, label_places};
@@ -110,9 +110,19 @@ impl Code {
         Ok(())
     }
 
+    /// How many labels there are. Their numbers are those below, and no label is bound but these, each once.
+    pub fn label_count(&self) -> usize
+        ensures count { result ≡ self.now.labels }
+        ensures valid { IsAssembly self.now }
+    {
+        self.labels
+    }
+
     /// A label that is not bound yet. Fails where there are as many as can be counted.
     pub fn label(&mut self) -> Result<Label, AllocError>
         ensures ok { IfOk result (λ label. label ≡ self.old.labels) }
+        ensures unbound { IfOk result (λ label. is_bound label self.old.items ≡ false) }
+        ensures valid { IsAssembly self.old }
         ensures more { OnOk result (self.new ≡ record self.old { labels = self.old.labels + 1 }) }
         ensures err { OnErr result (self.new ≡ self.old) }
         ensures full { OnErr result (self.old.labels + 1 ≡ 2 ^ 64) }
