@@ -1,5 +1,5 @@
 -- The code of items is what their assembly is to be: it stands wherever it is resolved.
-use Rattle.std.proofs.Common.{◌≡◌, ℕ, ◌+◌, ◌<◌, ◌≤◌, Bool, true, false, cond, ◌&&◌, ◌||◌, nat_le, nat_lt, List, [], ◌∷◌, ◌++◌, length, map, Option, Some, None, option_map, unwrap_or, refl, sym, subst, ap, ◌∙◌, arith}
+use Rattle.std.proofs.Common.{◌≡◌, ℕ, ◌+◌, ◌≤◌, Bool, true, false, cond, ◌&&◌, ◌||◌, nat_le, nat_lt, List, [], ◌∷◌, ◌++◌, length, map, Option, Some, None, option_map, unwrap_or, refl, sym, subst, ap, ◌∙◌, arith}
 use Rattle.std.specs.Prelude.{All}
 use Rattle.std.specs.List.{list_all}
 use Rattle.std.proofs.lemmas.Bool.{eq-eqb, le-leb, lt-ltb}
@@ -274,6 +274,7 @@ bound_has label (item ∷ others) h = by_mark (λ e. bound_has label others e) (
   where
     place : Bool → Option ℕ → Option ℕ
     place here later = cond here (Some 0) (option_map (λ n. size_of item + n) later)
+
     by_mark :
         (is_bound label others ≡ true → HasPlace label others)
         → (here : Bool) → marks label item ≡ here → HasPlace label (item ∷ others)

@@ -369,7 +369,7 @@ finished view slice places placed size code t test holds sum small made =
       bound,
       fits,
       subst (Assembles view) (sym same) (assembles view (places_of view.labels view.items) t.is bound fits
-      (λ label. place_same view label t.is)),
+          (λ label. place_same view label t.is)),
     )
 
 pub unbound :

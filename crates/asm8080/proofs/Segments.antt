@@ -1,6 +1,6 @@
 -- Code as the code segment of an object module: its places, what such a segment keeps to, and its bytes where it is
 -- placed.
-use Rattle.std.proofs.Common.{◌≡◌, ℕ, zero, suc, ◌+◌, ◌-◌, ◌<◌, ◌≤◌, Bool, true, false, cond, ◌==◌, ◌&&◌, ◌||◌, nat_lt, nat_le, List, [], ◌∷◌, length, map, filter_map, find, Option, Some, None, option_map, slice_index, refl, sym, ap, ◌∙◌, arith}
+use Rattle.std.proofs.Common.{◌≡◌, ℕ, suc, ◌+◌, ◌-◌, ◌<◌, ◌≤◌, Bool, true, false, cond, ◌==◌, ◌&&◌, ◌||◌, nat_lt, nat_le, List, [], ◌∷◌, length, map, filter_map, find, Option, Some, None, option_map, slice_index, refl, sym, ap, ◌∙◌, arith}
 use Rattle.std.specs.Prelude.{All}
 use Rattle.std.specs.List.{list_all, range_with_len}
 use Rattle.std.specs.Option.{option_map_or}
@@ -152,6 +152,7 @@ segment_stored assembly code is = record {
     longest [] = refl
     longest (first ∷ others) =
         le-leb (0 + length (first ∷ others)) (length (first ∷ others)) (omega arith)
+
     in_runs :
         (bytes : List ℕ)
         → list_all (λ (fix : Fix). nat_le (fix_end fix) (length bytes)) code.fixes ≡ true
@@ -173,6 +174,7 @@ target_at count (fix ∷ others) x h =
   where
     shown : Option Fix → Option Fixup
     shown found = option_map (λ (fix : Fix). record { kind = fix.kind; target = fix.target }) found
+
     go :
         (here : Bool)
         → is_target count fix.target ≡ true
@@ -229,6 +231,7 @@ segment_valid assembly code count is few small targets =
   where
     set_well : List (Option SetByte) → Bool
     set_well places = list_all (λ place. option_map_or (is_valid_byte count) place true) places
+
     valid : List (Option SetByte) → Bool
     valid places =
         ((nat_le (length places) SEGMENT_LIMIT && set_well places) && words_are_whole places) && true
