@@ -4,7 +4,7 @@ use Rattle.asm8080.specs.declared.item.Item.{Item}
 use Rattle.asm8080.specs.Items.{Assembly, IsAssembly, is_bound, size_of_items}
 use Rattle.runtime8080.specs.declared.routine.Routine.{Routine}
 use Rattle.runtime8080.specs.declared.routine.Routine.TheVariants.{Divide, Multiply, Move, RotateLeft, RotateRight, ShiftLeftAddress, ShiftRightAddress, ShiftLeftByte, ShiftRightByte}
-use Rattle.runtime8080.specs.Routines.{AddsRoutine, HasOwnLabels, IsRoutine, size_of_routine}
+use Rattle.runtime8080.specs.Routines.{AddsRoutine, IsRoutine, size_of_routine}
 use Rattle.runtime8080.specs.internal.Listings.{divide_with, labels_of, listing, move_bytes_with, multiply_with, shift_right_address_with, shift_left_address, rotate_left, rotate_right, shift_left_byte, shift_right_byte}
 use Rattle.runtime8080.specs.internal.Emission.{Fits, with_routine}
 use Rattle.asm8080.proofs.ItemLemmas.{unbound_from}

@@ -6,7 +6,6 @@ use Rattle.mem80.specs.Memory.{byte_at}
 use Rattle.mem80.specs.Range.{IsIn, Meets}
 use Rattle.ports.specs.declared.event.Event.{Event}
 use Rattle.isa8080.specs.State.{State, Registers, high_byte, wrap}
-use Rattle.isa8080.specs.Step.{running}
 use Rattle.asm8080.specs.Runs.{Comes}
 use Rattle.asm8080.specs.Standing.{Keeps, below}
 use Rattle.machine_runs.proofs.Steps.{at, returned, step_then}
