@@ -1,19 +1,25 @@
 -- The code of items is what their assembly is to be: it stands wherever it is resolved.
-use Rattle.std.proofs.Common.{◌≡◌, ℕ, ◌+◌, ◌≤◌, Bool, true, false, cond, ◌&&◌, ◌||◌, nat_le, List, [], ◌∷◌, ◌++◌, length, map, Option, Some, None, option_map, unwrap_or, refl, sym, subst, ap, ◌∙◌, arith}
+use Rattle.std.proofs.Common.{◌≡◌, ℕ, ◌+◌, ◌≤◌, Bool, true, false, cond, ◌&&◌, ◌||◌, nat_le, nat_lt, List, [], ◌∷◌, ◌++◌, length, map, Option, Some, None, option_map, unwrap_or, refl, sym, subst, ap, ◌∙◌, arith}
+use Rattle.std.specs.Prelude.{All}
 use Rattle.std.specs.List.{list_all}
-use Rattle.std.proofs.lemmas.Bool.{eq-eqb, le-leb}
+use Rattle.std.proofs.lemmas.Bool.{eq-eqb, le-leb, lt-ltb}
 use Rattle.std.proofs.lemmas.List.{length-append}
+use Rattle.std.proofs.lemmas.List.Elements.{All-head, All-tail}
 use Rattle.object_modules.specs.declared.segment.Fix.{Fix}
-use Rattle.object_modules.specs.declared.segment.Target.TheVariants.{InSegment}
+use Rattle.object_modules.specs.declared.segment.Target.TheVariants.{InSegment, External}
 use Rattle.object_modules.specs.declared.segment.Segment.TheVariants.{Code}
-use Rattle.object_modules.specs.Module.{SetByte, words_are_whole}
+use Rattle.object_modules.specs.Module.{SetByte, is_target, words_are_whole}
 use Rattle.object_modules.specs.Rules.{fix_end}
 use Rattle.object_modules.specs.Stored.{fixes_ascend}
+use Rattle.object_modules.specs.declared.segment.TheConstants.{SEGMENT_LIMIT}
+use Rattle.isa8080.specs.State.{wrap}
+use Rattle.asm8080.specs.declared.item.Reference.{Reference}
+use Rattle.asm8080.specs.declared.item.Reference.TheVariants.{AtLabel, AtTarget}
 use Rattle.asm8080.specs.declared.item.Item.{Item}
 use Rattle.asm8080.specs.declared.item.Item.TheVariants.{Plain, WithWord, Byte, Address, Mark}
 use Rattle.asm8080.specs.Standing.{BytesStand}
-use Rattle.asm8080.specs.Items.{Assembly, BoundOnce, IsAssembly, Layout, Stands, bytes_of_item, is_bound, marks, offset_of, size_of, size_of_items}
-use Rattle.asm8080.specs.Assembled.{Assembles, fix_at, fixes_of_items, layout_at}
+use Rattle.asm8080.specs.Items.{Assembly, BoundOnce, IsAssembly, IsKnown, IsListed, KnowsLabels, Layout, ListsExternals, Stands, bytes_of_item, is_bound, marks, offset_of, size_of, size_of_items}
+use Rattle.asm8080.specs.Assembled.{AllBound, Assembles, fix_at, fixes_of_items, layout_at, place_in, target_of}
 use Rattle.asm8080.specs.internal.Assembling.{bytes_of_items, code_of, layout_from, offset_in}
 use Rattle.asm8080.proofs.Words.{item_length}
 use Rattle.asm8080.proofs.Fixing.{fixed_items, whole_items}
@@ -206,9 +212,111 @@ items_within offset end (Address reference ∷ others) h =
     (le-leb (offset + 2) end (omega (arith, h))) (items_within (offset + 2) end others (omega (arith, h)))
 items_within offset end (Mark label ∷ others) h = items_within (offset + 0) end others (omega (arith, h))
 
+-- and what it counts from is a target that an object module may have
+target_fits :
+    (labels count : ℕ) (reference : Reference)
+    → IsKnown labels reference
+    → IsListed count reference
+    → is_target count (target_of reference) ≡ true
+target_fits labels count (AtLabel label) known listed = refl
+target_fits labels count (AtTarget (InSegment segment) offset) known listed = known
+target_fits labels count (AtTarget (External number) offset) known listed =
+    and_true (nat_lt number count) (nat_lt number 65536) (lt-ltb number count listed.0)
+    (lt-ltb number 65536 listed.1)
+
+abbrev fits_module : (count : ℕ) → Fix → Bool
+fits_module count fix = is_target count fix.target
+
+pub items_fit :
+    (labels count offset : ℕ) (items : List Item)
+    → All (KnowsLabels labels) items
+    → All (ListsExternals count) items
+    → list_all (λ (fix : Fix). is_target count fix.target) (fixes_of_items offset items) ≡ true
+items_fit labels count offset [] known listed = refl
+items_fit labels count offset (Plain instruction ∷ others) known listed =
+    items_fit labels count (offset + size_of (Plain instruction)) others
+    (All-tail (KnowsLabels labels) (Plain instruction) others known)
+    (All-tail (ListsExternals count) (Plain instruction) others listed)
+items_fit labels count offset (WithWord form reference ∷ others) known listed =
+    and_true (is_target count (target_of reference))
+    (list_all (fits_module count) (fixes_of_items (offset + 3) others))
+    (target_fits labels count reference (All-head (KnowsLabels labels) (WithWord form reference) others known)
+    (All-head (ListsExternals count) (WithWord form reference) others listed))
+    (items_fit labels count (offset + 3) others
+    (All-tail (KnowsLabels labels) (WithWord form reference) others known)
+    (All-tail (ListsExternals count) (WithWord form reference) others listed))
+items_fit labels count offset (Byte value ∷ others) known listed =
+    items_fit labels count (offset + 1) others
+    (All-tail (KnowsLabels labels) (Byte value) others known)
+    (All-tail (ListsExternals count) (Byte value) others listed)
+items_fit labels count offset (Address reference ∷ others) known listed =
+    and_true (is_target count (target_of reference))
+    (list_all (fits_module count) (fixes_of_items (offset + 2) others))
+    (target_fits labels count reference (All-head (KnowsLabels labels) (Address reference) others known)
+    (All-head (ListsExternals count) (Address reference) others listed))
+    (items_fit labels count (offset + 2) others
+    (All-tail (KnowsLabels labels) (Address reference) others known)
+    (All-tail (ListsExternals count) (Address reference) others listed))
+items_fit labels count offset (Mark label ∷ others) known listed =
+    items_fit labels count (offset + 0) others
+    (All-tail (KnowsLabels labels) (Mark label) others known)
+    (All-tail (ListsExternals count) (Mark label) others listed)
+
+-- a label that is bound has a place within the items
+record HasPlace (label : ℕ) (items : List Item) : Type 0 where
+  offset : ℕ
+  is : offset_of label items ≡ Some offset
+  within : offset ≤ size_of_items items
+
+bound_has : (label : ℕ) (items : List Item) → is_bound label items ≡ true → HasPlace label items
+bound_has label [] h = absurd (let bad : false ≡ true = h in cc)
+bound_has label (item ∷ others) h = by_mark (λ e. bound_has label others e) (marks label item) refl
+  where
+    place : Bool → Option ℕ → Option ℕ
+    place here later = cond here (Some 0) (option_map (λ n. size_of item + n) later)
+
+    by_mark :
+        (is_bound label others ≡ true → HasPlace label others)
+        → (here : Bool) → marks label item ≡ here → HasPlace label (item ∷ others)
+    by_mark again true e = record {
+      offset = 0;
+      is = ap (λ here. place here (offset_of label others)) e;
+      within = omega arith;
+    }
+    by_mark again false e =
+        let later : HasPlace label others
+        = again (sym (ap (λ here. here || is_bound label others) e) ∙ h) in
+        let within : later.offset ≤ size_of_items others = later.within in
+        record {
+          offset = size_of item + later.offset;
+          is = ap (λ here. place here (offset_of label others)) e ∙ ap (place false) later.is;
+          within = omega (arith, within);
+        }
+
+wrap_small : (n : ℕ) → n ≤ SEGMENT_LIMIT → n ≡ wrap n
+wrap_small n h = omega arith
+
+label_placed :
+    (label : ℕ) (items : List Item)
+    → is_bound label items ≡ true
+    → size_of_items items ≤ SEGMENT_LIMIT
+    → offset_of label items ≡ Some (wrap (offset_in items label))
+label_placed label items h fits =
+    let has : HasPlace label items = bound_has label items h in
+    let within : has.offset ≤ size_of_items items = has.within in
+    let some : ℕ → Option ℕ = λ n. Some n in
+    has.is ∙ ap some (wrap_small has.offset (omega (arith, within, fits)))
+    ∙ ap (λ (place : Option ℕ). Some (wrap (unwrap_or place 0))) (sym has.is)
+
 -- the code of an assembly
-pub assembles : (assembly : Assembly) → IsAssembly assembly → Assembles assembly (code_of assembly.items)
-assembles assembly is =
+pub assembles :
+    (assembly : Assembly) (places : List (Option ℕ))
+    → IsAssembly assembly
+    → AllBound assembly
+    → size_of_items assembly.items ≤ SEGMENT_LIMIT
+    → ((label : ℕ) → place_in places label ≡ offset_in assembly.items label)
+    → Assembles assembly (code_of places assembly.items)
+assembles assembly places is bound fits placed =
     let items : List Item = assembly.items in
     let layout : Layout = layout_from (offset_in items) in
     let size : length (bytes_of_items layout items) ≡ size_of_items items = items_length layout items in
@@ -220,10 +328,14 @@ assembles assembly is =
       whole =
           ap (λ (set : List SetByte). words_are_whole (map Some set)) (fixed_items layout 0 items)
           ∙ whole_items layout items;
+      targets = λ count listed. items_fit assembly.labels count 0 items is.known listed;
+      places = λ label known.
+          label_placed label items (bound label (lt-ltb label assembly.labels known)) fits
+          ∙ ap (λ n. Some (wrap n)) (sym (placed label));
       stands = λ address_of memory room h.
           items_stand (layout_at address_of assembly) memory (address_of (InSegment Code))
           (address_of (InSegment Code) + length (bytes_of_items layout items)) items is.once
           (labels_moved (address_of (InSegment Code)) items)
-          (subst (BytesStand memory (address_of (InSegment Code))) (resolved_items address_of items) h)
+          (subst (BytesStand memory (address_of (InSegment Code))) (resolved_items address_of places items) h)
           (ap (λ n. address_of (InSegment Code) + n) (sym size));
     }

@@ -1,9 +1,9 @@
 -- What one item more at the end does.
-use Rattle.std.proofs.Common.{◌≡◌, ℕ, ◌<◌, Bool, true, false, ◌||◌, List, [], ◌∷◌, ◌++◌, refl, sym, subst, ◌∙◌}
-use Rattle.std.proofs.lemmas.List.Elements.{All-push}
-use Rattle.std.proofs.lemmas.Bool.{eqb-true}
+use Rattle.std.proofs.Common.{◌≡◌, ℕ, ◌<◌, ◌≤◌, Bool, true, false, ◌||◌, List, [], ◌∷◌, ◌++◌, All, refl, sym, subst, ◌∙◌, arith}
+use Rattle.std.proofs.lemmas.List.Elements.{All-head, All-tail, All-push}
+use Rattle.std.proofs.lemmas.Bool.{eqb-true, ne_eqb}
 use Rattle.asm8080.specs.declared.item.Item.{Item}
-use Rattle.asm8080.specs.declared.item.Item.TheVariants.{Mark}
+use Rattle.asm8080.specs.declared.item.Item.TheVariants.{Plain, WithWord, Byte, Address, Mark}
 use Rattle.asm8080.specs.Items.{Assembly, BindsNew, BoundOnce, IsAssembly, KnowsLabels, is_bound, marks}
 
 neither : (here more : Bool) → here ≡ false → more ≡ false → (here || more) ≡ false
@@ -88,6 +88,39 @@ pub mark_more :
 mark_more items after labels label is known unbound same =
     assembly_more items after labels (Mark label) is known
     (λ other m. subst (λ n. is_bound n items ≡ false) (sym (eqb-true other label m)) unbound) same
+
+-- no label is bound that there isn't yet
+pub unbound_from :
+    (assembly : Assembly) (label : ℕ)
+    → IsAssembly assembly
+    → assembly.labels ≤ label
+    → is_bound label assembly.items ≡ false
+unbound_from assembly label is from = none_of assembly.items is.known
+  where
+    unmarked : (item : Item) → KnowsLabels assembly.labels item → marks label item ≡ false
+    unmarked (Plain instruction) known = refl
+    unmarked (WithWord form reference) known = refl
+    unmarked (Byte value) known = refl
+    unmarked (Address reference) known = refl
+    unmarked (Mark other) known =
+        let within : other < assembly.labels = known in ne_eqb label other (λ e. absurd (omega (arith, e, within, from)))
+
+    none_of : (items : List Item) → All (KnowsLabels assembly.labels) items → is_bound label items ≡ false
+    none_of [] known = refl
+    none_of (item ∷ others) known =
+        neither (marks label item) (is_bound label others)
+        (unmarked item (All-head (KnowsLabels assembly.labels) item others known))
+        (none_of others (All-tail (KnowsLabels assembly.labels) item others known))
+
+-- the next label, where a view is of these fields
+pub label_unbound :
+    (now inside : Assembly)
+    → inside ≡ now
+    → IsAssembly inside
+    → is_bound inside.labels now.items ≡ false
+label_unbound now inside same is =
+    subst (λ (view : Assembly). is_bound inside.labels view.items ≡ false) same
+    (unbound_from inside inside.labels is (omega arith))
 
 -- what is said of a view is so of the fields that it is of
 pub of_fields :

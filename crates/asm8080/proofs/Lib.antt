@@ -4,6 +4,7 @@ pub mod Words
 pub mod Fixing
 pub mod Moving
 pub mod Assemblies
+pub mod Segments
 pub mod Places
 pub mod Parts
 pub mod Worked

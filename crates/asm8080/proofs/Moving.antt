@@ -130,9 +130,9 @@ values_back value_of is (value ∷ others) =
 
 -- code of items, resolved: the bytes of the items there
 pub resolved_items :
-    (address_of : Target → ℕ) (items : List Item)
-    → resolved address_of (code_of items) ≡ bytes_of_items (layout_moved address_of (offset_in items)) items
-resolved_items address_of items =
+    (address_of : Target → ℕ) (places : List (Option ℕ)) (items : List Item)
+    → resolved address_of (code_of places items) ≡ bytes_of_items (layout_moved address_of (offset_in items)) items
+resolved_items address_of places items =
     let there : List ℕ = bytes_of_items (layout_moved address_of (offset_in items)) items in
     ap (λ (set : List SetByte).
     filter_map (λ (value : Option ℕ). value)

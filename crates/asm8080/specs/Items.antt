@@ -1,7 +1,9 @@
 -- Code before it has a place: instructions with words that depend on where something will lie.
-use Rattle.std.specs.Prelude.{◌≡◌, ℕ, ◌+◌, ◌<◌, ◌==◌, Bool, true, false, if◌then◌else◌, List, [], ◌∷◌, All, Option, Some, None, option_map}
+use Rattle.std.specs.Prelude.{◌≡◌, ℕ, ◌+◌, ◌<◌, ◌==◌, Bool, true, false, if◌then◌else◌, IsTrue, List, [], ◌∷◌, All, Option, Some, None, option_map}
 use Rattle.std.specs.List.{list_any}
 use Rattle.object_modules.specs.declared.segment.Target.{Target}
+use Rattle.object_modules.specs.declared.segment.Target.TheVariants.{InSegment, External}
+use Rattle.object_modules.specs.Module.{is_movable}
 use Rattle.isa8080.specs.declared.instr.Instr.{Instr}
 use Rattle.isa8080.specs.declared.instr.Instr.TheVariants.{Lxi, Shld, Lhld, Sta, Lda, Jmp, JumpIf, Call, CallIf}
 use Rattle.isa8080.specs.State.{high_byte, low_byte, wrap}
@@ -58,16 +60,31 @@ offset_of label (item ∷ others) =
     if marks label item then Some 0
     else option_map (λ offset. size_of item + offset) (offset_of label others)
 
--- a label that an item refers to is one of so many
+-- what an object module may refer to: what has a place that isn't known before linking and placing
+abbrev pub may_be_target : Target → Bool
+may_be_target (InSegment segment) = is_movable segment
+may_be_target (External number) = true
+
+-- a label that an item refers to is one of so many, and a target is one that an object module may have
 abbrev pub IsKnown : (labels : ℕ) → Reference → Type 0
 IsKnown labels (AtLabel label) = label < labels
-IsKnown labels (AtTarget target offset) = Unit {0}
+IsKnown labels (AtTarget target offset) = IsTrue (may_be_target target)
 
 abbrev pub KnowsLabels : (labels : ℕ) → Item → Type 0
 KnowsLabels labels (WithWord form reference) = IsKnown labels reference
 KnowsLabels labels (Address reference) = IsKnown labels reference
 KnowsLabels labels (Mark label) = label < labels
 KnowsLabels labels item = Unit {0}
+
+-- an external name that an item refers to is one of so many, with a number that stands in two bytes
+abbrev pub IsListed : (external_count : ℕ) → Reference → Type 0
+IsListed external_count (AtTarget (External number) offset) = (number < external_count) × (number < 65536)
+IsListed external_count reference = Unit {0}
+
+abbrev pub ListsExternals : (external_count : ℕ) → Item → Type 0
+ListsExternals external_count (WithWord form reference) = IsListed external_count reference
+ListsExternals external_count (Address reference) = IsListed external_count reference
+ListsExternals external_count item = Unit {0}
 
 -- none of the labels that an item binds is bound by items
 abbrev pub BindsNew : Item → List Item → Type 0

@@ -36,6 +36,6 @@ pub record StackIsAt (level : ℕ) (s : State) : Type 0 where
   pub limit : level ≤ MEMORY_SIZE
   pub pointer : s.registers.sp ≡ wrap level
 
--- so many bytes below a level
+-- so many bytes below a level, which is no less
 abbrev pub below : (level room : ℕ) → Range
 below level room = record { start = level - room; len = room }

@@ -5,8 +5,8 @@ ghost use Rattle.object_modules.specs.declared.segment.TheConstants.{SEGMENT_LIM
 ghost use Rattle.isa8080.specs.State.{high_byte, low_byte, wrap};
 ghost use Rattle.isa8080.specs.Code.{bytes_of};
 ghost use Rattle.asm8080.specs.Items.{instruction_with, size_of, size_of_items, word_of};
-ghost use Rattle.asm8080.specs.Assembled.{fix_at, target_of};
-ghost use Rattle.asm8080.specs.internal.Assembling.{all_placed, layout_from, no_code, place_in, places_of, with_item, with_items, with_mark};
+ghost use Rattle.asm8080.specs.Assembled.{fix_at, place_in, target_of};
+ghost use Rattle.asm8080.specs.internal.Assembling.{all_placed, layout_from, no_code, places_of, with_item, with_items, with_mark};
 
 use crate::bytes::CodeBytes;
 use crate::item::{Item, Reference, WordForm};
@@ -85,8 +85,8 @@ pub(crate) fn all_placed(places: &[Option<usize>]) -> bool
     places.iter().all(|place| place.is_some())
 }
 
-// The place of a label by a table, modulo 65536.
-fn place_word(places: &[Option<usize>], label: usize) -> u16
+/// The place of a label by a table, modulo 65536; 0 where it is not bound.
+pub(crate) fn place_word(places: &[Option<usize>], label: usize) -> u16
     ensures { result ≡ wrap (place_in places.now label) }
 {
     match places.get(label) {

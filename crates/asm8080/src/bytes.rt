@@ -1,18 +1,22 @@
 //! Assembled code.
 
 ghost use Rattle.std.specs.Prelude.{◌≡◌};
-ghost use Rattle.asm8080.specs.internal.Assembling.{no_code};
+ghost use Rattle.asm8080.specs.Assembled.{place_of};
+ghost use Rattle.asm8080.specs.internal.Assembling.{no_code, with_places};
 
+use crate::assembling::place_word;
+use crate::code::Label;
 use object_modules::Fix;
 use std::alloc::Global;
 use std::marker::Model;
 
-/// The bytes of a code segment, 65535 at most, and its fixes in the order of their offsets. The words that are
-/// fixed to a segment are offsets in it.
+/// The bytes of a code segment, 65535 at most, its fixes in the order of their offsets, and where its labels
+/// lie. The words that are fixed to a segment are offsets in it.
 #[derive(Drop)]
 pub struct CodeBytes {
     pub(crate) bytes: Vec<u8>,
     pub(crate) fixes: Vec<Fix>,
+    places: Vec<Option<usize>>,
 }
 
 impl Model for CodeBytes {
@@ -20,7 +24,11 @@ impl Model for CodeBytes {
 
     ghost Value = { Assembled };
 
-    ghost view = { λ code. record { bytes = code.bytes.items; fixes = code.fixes.items } };
+    ghost view = { λ code. record {
+      bytes = code.bytes.items;
+      fixes = code.fixes.items;
+      places = code.places.items;
+    } };
 }
 
 impl CodeBytes {
@@ -31,7 +39,24 @@ impl CodeBytes {
         CodeBytes {
             bytes: Vec::new(alloc),
             fixes: Vec::new(alloc),
+            places: Vec::new(alloc),
         }
+    }
+
+    // Its labels are where a table has them.
+    pub(crate) fn with_places(self, places: Vec<Option<usize>>) -> CodeBytes
+        ensures { result ≡ with_places places.items self }
+    {
+        let mut code = self;
+        code.places = places;
+        code
+    }
+
+    /// How far a label is from the start of the bytes. The label is of the code that they were made of.
+    pub fn place(&self, label: Label) -> u16
+        ensures { result ≡ place_of self.now label }
+    {
+        place_word(self.places.as_slice(), label.number)
     }
 
     /// The bytes, with nothing added to the words that are fixed.
@@ -53,7 +78,7 @@ impl CodeBytes {
         ensures bytes { result.0.items ≡ self.bytes }
         ensures fixes { result.1.items ≡ self.fixes }
     {
-        let CodeBytes { bytes, fixes } = self;
+        let CodeBytes { bytes, fixes, .. } = self;
         (bytes, fixes)
     }
 }

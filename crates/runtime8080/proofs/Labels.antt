@@ -1,11 +1,13 @@
 -- The labels of a routine: items that may be added, by the labels that they bind.
-use Rattle.std.proofs.Common.{◌≡◌, ◌≢◌, ℕ, ◌+◌, ◌≤◌, ◌==◌, Bool, true, false, not, ◌||◌, List, [], ◌∷◌, ◌++◌, IsTrue, refl, sym, subst, ◌∙◌}
+use Rattle.std.proofs.Common.{◌≡◌, ◌≢◌, ℕ, ◌≤◌, ◌==◌, Bool, true, false, not, ◌||◌, List, [], ◌∷◌, ◌++◌, All, IsTrue, refl, sym, subst, ◌∙◌}
 use Rattle.std.proofs.lemmas.Bool.{eqb-true, eq-eqb}
+use Rattle.std.proofs.lemmas.List.Elements.{All-nil, All-cons}
 use Rattle.asm8080.specs.declared.item.Item.{Item}
 use Rattle.asm8080.specs.declared.item.Item.TheVariants.{Plain, WithWord, Byte, Address, Mark}
 use Rattle.asm8080.specs.Items.{BindsNew, KnowsLabels, is_bound, marks}
 use Rattle.asm8080.proofs.ItemLemmas.{bound_more}
 use Rattle.machine_runs.proofs.Loops.{not_equal}
+use Rattle.runtime8080.specs.Routines.{HasOwnLabels}
 use Rattle.runtime8080.specs.declared.parts.Part.{Part}
 use Rattle.runtime8080.specs.declared.parts.Part.TheVariants.{Here}
 use Rattle.runtime8080.specs.internal.Emission.{FitItems, item_of}
@@ -31,6 +33,15 @@ AllFrom first (label ∷ others) = (first ≤ label) × AllFrom first others
 abbrev pub AllKnown : ℕ → List Item → Type 0
 AllKnown labels [] = Unit {0}
 AllKnown labels (item ∷ others) = KnowsLabels labels item × AllKnown labels others
+
+abbrev pub AllOwn : (first past : ℕ) → List Item → Type 0
+AllOwn first past [] = Unit {0}
+AllOwn first past (item ∷ others) = HasOwnLabels first past item × AllOwn first past others
+
+pub all_own : (first past : ℕ) (items : List Item) → AllOwn first past items → All (HasOwnLabels first past) items
+all_own first past [] own = All-nil (HasOwnLabels first past)
+all_own first past (item ∷ others) own =
+    All-cons (HasOwnLabels first past) item others own.0 (all_own first past others own.1)
 
 abbrev pub NoneBound : List Item → List ℕ → Type 0
 NoneBound items [] = Unit {0}

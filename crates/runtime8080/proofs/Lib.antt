@@ -16,3 +16,4 @@ pub mod Wide
 pub mod DivideBody
 pub mod Labels
 pub mod Added
+pub mod Several

@@ -1,5 +1,5 @@
 -- Code as it is assembled: labels count from the start of the code, and the words of targets from 0.
-use Rattle.std.specs.Prelude.{ℕ, ◌+◌, Bool, List, [], ◌∷◌, ◌++◌, length, replicate, Option, Some, None, is_some, unwrap_or, slice_get, slice_set}
+use Rattle.std.specs.Prelude.{ℕ, ◌+◌, Bool, List, [], ◌∷◌, ◌++◌, length, replicate, Option, Some, None, is_some, unwrap_or, slice_set}
 use Rattle.std.specs.List.{list_all}
 use Rattle.object_modules.specs.declared.segment.Fix.{Fix}
 use Rattle.asm8080.specs.declared.item.Item.{Item}
@@ -20,11 +20,12 @@ abbrev pub bytes_of_items : Layout → List Item → List ℕ
 bytes_of_items layout [] = []
 bytes_of_items layout (item ∷ others) = bytes_of_item layout item ++ bytes_of_items layout others
 
--- the code of items
-abbrev pub code_of : List Item → Assembled
-code_of items = record {
+-- the code of items whose labels lie at places
+abbrev pub code_of : (places : List (Option ℕ)) → List Item → Assembled
+code_of places items = record {
   bytes = bytes_of_items (layout_from (offset_in items)) items;
   fixes = fixes_of_items 0 items;
+  places = places;
 }
 
 -- A table of places, by the numbers of labels: none where a label is not bound.
@@ -41,15 +42,6 @@ places_after offset (item ∷ others) places =
 abbrev pub places_of : (labels : ℕ) → List Item → List (Option ℕ)
 places_of labels items = places_after 0 items (replicate labels None)
 
-abbrev pub place_or_start : Option (Option ℕ) → ℕ
-place_or_start None = 0
-place_or_start (Some None) = 0
-place_or_start (Some (Some place)) = place
-
--- where a label is by a table
-abbrev pub place_in : List (Option ℕ) → (label : ℕ) → ℕ
-place_in places label = place_or_start (slice_get places label)
-
 abbrev pub all_placed : List (Option ℕ) → Bool
 all_placed places = list_all is_some places
 
@@ -63,7 +55,7 @@ fixes_of_item offset (Mark label) = []
 
 -- code with an item more
 abbrev pub with_item : Layout → Assembled → Item → Assembled
-with_item layout code item = record {
+with_item layout code item = record code {
   bytes = code.bytes ++ bytes_of_item layout item;
   fixes = code.fixes ++ fixes_of_item (length code.bytes) item;
 }
@@ -74,4 +66,8 @@ with_items layout code [] = code
 with_items layout code (item ∷ others) = with_items layout (with_item layout code item) others
 
 abbrev pub no_code : Assembled
-no_code = record { bytes = []; fixes = [] }
+no_code = record { bytes = []; fixes = []; places = [] }
+
+-- code with its labels where a table has them
+abbrev pub with_places : List (Option ℕ) → Assembled → Assembled
+with_places places code = record code { places = places }
