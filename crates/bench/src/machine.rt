@@ -5,6 +5,7 @@ use anyhow::{Context, Result, bail};
 use cpu8080::{End, Machine};
 use mem80::Memory;
 use ports::Script;
+use std::alloc::Global;
 
 // LXI B,0; then DCX B; MOV A,B; ORA C; JNZ 103H; JMP 100H.
 const TIGHT: [u8; 12] = [
@@ -39,21 +40,47 @@ fn word_of(end: End) -> &'static str {
     }
 }
 
+// Puts bytes into memory, from an address on.
+fn put_bytes(memory: &mut Memory, start: u16, bytes: &[u8]) {
+    let mut address = start;
+    for byte in bytes {
+        memory.set(address, *byte);
+        address = address.wrapping_add(1);
+    }
+}
+
+// Puts a program into memory.
+fn put_program(memory: &mut Memory, program: &str) -> Result<()> {
+    if program == "tight" {
+        put_bytes(memory, 0x100, &TIGHT);
+    } else if program == "mixed" {
+        put_bytes(memory, 0x100, &MIXED);
+        put_bytes(memory, 0x130, &MULTIPLY);
+        put_bytes(memory, 0x150, &MOVE);
+    } else {
+        bail!("the programs are tight and mixed");
+    }
+    Ok(())
+}
+
+// A memory with a program.
+fn memory_with(alloc: Global, program: &str) -> Result<Memory> {
+    let mut memory = Memory::new(alloc)?;
+    put_program(&mut memory, program)?;
+    Ok(memory)
+}
+
+// Prints how a run ended, and where.
+fn print_end(rt: &HostRuntime, end: &str, place: u16) -> Result<()> {
+    println!(rt; "{end} {place:04X}")?;
+    Ok(())
+}
+
 /// Runs a program for a number of steps, and prints how it ended and where.
 pub fn measure(rt: &HostRuntime, program: &str, steps: &str) -> Result<()> {
     let steps = steps.parse::<u64>().context("the number of steps")?;
-    let mut memory = Memory::new(rt.alloc())?;
-    match program {
-        "tight" => memory.load(0x100, &TIGHT),
-        "mixed" => {
-            memory.load(0x100, &MIXED);
-            memory.load(0x130, &MULTIPLY);
-            memory.load(0x150, &MOVE);
-        }
-        _ => bail!("the programs are tight and mixed"),
-    }
+    let memory = memory_with(rt.alloc(), program)?;
     let mut machine = Machine::new(memory, Script::new(rt.alloc()), 0x100);
     let end = word_of(machine.run(steps));
-    println!(rt; "{end} {:04X}", machine.registers().pc)?;
-    Ok(())
+    print_end(rt, end, machine.registers().pc)
 }

@@ -4,7 +4,7 @@
 ghost use Rattle.mem80.specs.Pieces.{AreWritable};
 
 use crate::made_objects::files_of;
-use crate::text::{greatest_memory, report};
+use crate::text::{print_count, print_memory, report, report_count};
 use anyhow::{Context, Result, bail};
 use locate::Plan;
 use mem80::{MEMORY_SIZE, Memory, Piece};
@@ -37,9 +37,7 @@ fn merge_files(rt: &HostRuntime, files: &[&[u8]], bytes: usize) -> Result<()> {
     if link_records::link_records(rt.alloc(), files, &mut merged).is_err() {
         bail!("the files are not merged");
     }
-    report(rt, "link_records", begun)?;
-    println!(rt; "merged {}", merged.len())?;
-    Ok(())
+    report_count(rt, "link_records", begun, "merged", merged.len())
 }
 
 // The modules of files.
@@ -51,36 +49,64 @@ fn modules_of(alloc: Global, files: &[&[u8]]) -> Result<Vec<ObjectModule>> {
     Ok(modules)
 }
 
+// Writes modules into a list.
+fn write_all(modules: &[ObjectModule], written: &mut Vec<u8>) -> Result<()> {
+    for module in modules {
+        object_writer::write(module, written)?;
+    }
+    Ok(())
+}
+
 // Writes modules.
 fn write_modules(rt: &HostRuntime, modules: &[ObjectModule], bytes: usize) -> Result<()> {
     let mut written = room(rt.alloc(), bytes)?;
     let begun = Instant::now(rt)?;
-    for module in modules {
-        object_writer::write(module, &mut written)?;
-    }
-    report(rt, "write", begun)?;
-    println!(rt; "written {}", written.len())?;
-    Ok(())
+    write_all(modules, &mut written)?;
+    report_count(rt, "write", begun, "written", written.len())
 }
 
 // Reads files, and goes on up to a phase.
 fn read_up_to(rt: &HostRuntime, files: &[&[u8]], bytes: usize, phase: &str) -> Result<()> {
     let begun = Instant::now(rt)?;
     let modules = modules_of(rt.alloc(), files)?;
+    go_on_from_modules(rt, begun, modules.as_slice(), bytes, phase)
+}
+
+// What follows once files were read.
+fn go_on_from_modules(
+    rt: &HostRuntime,
+    begun: Instant,
+    modules: &[ObjectModule],
+    bytes: usize,
+    phase: &str,
+) -> Result<()> {
     report(rt, "read", begun)?;
-    if phase == "read" {
-        return Ok(());
+    match phase {
+        "read" => Ok(()),
+        "write" => write_modules(rt, modules, bytes),
+        _ => link_up_to(rt, modules, phase),
     }
-    if phase == "write" {
-        return write_modules(rt, modules.as_slice(), bytes);
-    }
+}
+
+// Links modules, and goes on up to a phase.
+fn link_up_to(rt: &HostRuntime, modules: &[ObjectModule], phase: &str) -> Result<()> {
     let begun = Instant::now(rt)?;
-    let merged = link::link(rt.alloc(), modules.as_slice())?;
+    let merged = link::link(rt.alloc(), modules)?;
+    go_on_from_merge(rt, begun, merged.module(), phase)
+}
+
+// What follows once modules were linked.
+fn go_on_from_merge(
+    rt: &HostRuntime,
+    begun: Instant,
+    module: &ObjectModule,
+    phase: &str,
+) -> Result<()> {
     report(rt, "link", begun)?;
     if phase == "link" {
         return Ok(());
     }
-    place_up_to(rt, merged.module(), phase)
+    place_up_to(rt, module, phase)
 }
 
 // Places a module with its data after its code, and goes on up to a phase.
@@ -95,12 +121,25 @@ fn place_up_to(rt: &HostRuntime, module: &ObjectModule, phase: &str) -> Result<(
     let begun = Instant::now(rt)?;
     let absolute = locate::locate(rt.alloc(), module, &plan)?;
     absolute.load(&mut memory);
-    report(rt, "locate", begun)?;
-    println!(rt; "first {}", memory.get(0))?;
+    let first = usize::from(memory.get(0));
+    go_on_from_pieces(rt, begun, first, absolute.pieces(), phase)
+}
+
+// What follows once a module was placed.
+fn go_on_from_pieces(
+    rt: &HostRuntime,
+    begun: Instant,
+    first: usize,
+    pieces: &[Piece],
+    phase: &str,
+) -> Result<()>
+    requires { AreWritable pieces.now }
+{
+    report_count(rt, "locate", begun, "first", first)?;
     if phase == "locate" {
         return Ok(());
     }
-    hex_up_to(rt, absolute.pieces(), phase)
+    hex_up_to(rt, pieces, phase)
 }
 
 // Writes pieces as HEX, and goes on up to a phase.
@@ -110,39 +149,55 @@ fn hex_up_to(rt: &HostRuntime, pieces: &[Piece], phase: &str) -> Result<()>
     let mut text = room(rt.alloc(), 3 * MEMORY_SIZE)?;
     let begun = Instant::now(rt)?;
     hex80::write_hex(rt.alloc(), pieces, &mut text)?;
-    report(rt, "write_hex", begun)?;
-    println!(rt; "characters {}", text.len())?;
-    if phase == "write_hex" {
-        return Ok(());
+    go_on_from_hex(rt, begun, text.as_slice(), phase)
+}
+
+// What follows once pieces were written.
+fn go_on_from_hex(rt: &HostRuntime, begun: Instant, text: &[u8], phase: &str) -> Result<()> {
+    report_count(rt, "write_hex", begun, "characters", text.len())?;
+    match phase {
+        "write_hex" => {}
+        "hex_file" => rt.stdout().write_all(text)?,
+        _ => read_hex(rt, text)?,
     }
-    if phase == "hex_file" {
-        rt.stdout().write_all(text.as_slice())?;
-        return Ok(());
-    }
-    let begun = Instant::now(rt)?;
-    let pieces = hex80::read_hex(rt.alloc(), text.as_slice())?;
-    report(rt, "read_hex", begun)?;
-    println!(rt; "pieces {}", pieces.len())?;
     Ok(())
+}
+
+// Reads a HEX text.
+fn read_hex(rt: &HostRuntime, text: &[u8]) -> Result<()> {
+    let begun = Instant::now(rt)?;
+    let pieces = hex80::read_hex(rt.alloc(), text)?;
+    report_count(rt, "read_hex", begun, "pieces", pieces.len())
+}
+
+// Works on files up to a phase.
+fn work_up_to(rt: &HostRuntime, files: &[&[u8]], phase: &str) -> Result<()> {
+    let mut bytes: usize = 0;
+    for file in files {
+        bytes = bytes.saturating_add(file.len());
+    }
+    print_count(rt, "bytes", bytes)?;
+    match phase {
+        "make" => Ok(()),
+        "copy" => copy_files(rt, files, bytes),
+        "link_records" => merge_files(rt, files, bytes),
+        _ => read_up_to(rt, files, bytes, phase),
+    }
+}
+
+// The same of files that are lists.
+fn work_on(rt: &HostRuntime, made: &[Vec<u8>], phase: &str) -> Result<()> {
+    let mut files: Vec<&[u8]> = Vec::new(rt.alloc());
+    for file in made {
+        files.push(file.as_slice())?;
+    }
+    work_up_to(rt, files.as_slice(), phase)
 }
 
 /// Works on object files of a kind up to a phase, and prints what that took.
 pub fn measure(rt: &HostRuntime, kind: &str, length: &str, phase: &str) -> Result<()> {
     let length = length.parse::<usize>()?;
     let made = files_of(rt.alloc(), kind, length)?.context("no such kind of object files")?;
-    let mut files: Vec<&[u8]> = Vec::new(rt.alloc());
-    let mut bytes: usize = 0;
-    for file in &made {
-        files.push(file.as_slice())?;
-        bytes = bytes.saturating_add(file.len());
-    }
-    println!(rt; "bytes {bytes}")?;
-    match phase {
-        "make" => {}
-        "copy" => copy_files(rt, files.as_slice(), bytes)?,
-        "link_records" => merge_files(rt, files.as_slice(), bytes)?,
-        _ => read_up_to(rt, files.as_slice(), bytes, phase)?,
-    }
-    println!(rt; "{}", greatest_memory(rt)?)?;
-    Ok(())
+    work_on(rt, made.as_slice(), phase)?;
+    print_memory(rt)
 }

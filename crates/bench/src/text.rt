@@ -26,15 +26,33 @@ fn plain_reading(source: &[u8]) -> (usize, u32) {
     (lines, sum)
 }
 
-/// The line of the system's status of this program with its greatest memory so far.
-pub fn greatest_memory(rt: &HostRuntime) -> Result<String> {
-    let status = fs::read_to_string(rt, "/proc/self/status")?;
+// The line of the system's status of this program with its greatest memory so far.
+fn line_of_memory(status: &str) -> Option<&str> {
     for line in status.lines() {
         if line.starts_with("VmHWM:") {
-            return Ok(String::from_str(rt.alloc(), line)?);
+            return Some(line);
         }
     }
-    bail!("the system does not tell")
+    None
+}
+
+// Prints that line.
+fn print_line_of_memory(rt: &HostRuntime, status: &str) -> Result<()> {
+    let line = line_of_memory(status).context("the system does not tell")?;
+    println!(rt; "{line}")?;
+    Ok(())
+}
+
+/// Prints how much memory this program had at most so far.
+pub fn print_memory(rt: &HostRuntime) -> Result<()> {
+    let status = fs::read_to_string(rt, "/proc/self/status")?;
+    print_line_of_memory(rt, status.as_str())
+}
+
+/// Prints a count after what is counted.
+pub fn print_count(rt: &HostRuntime, what: &str, count: usize) -> Result<()> {
+    println!(rt; "{what} {count}")?;
+    Ok(())
 }
 
 /// Prints how many microseconds a phase took.
@@ -43,12 +61,30 @@ pub fn report(rt: &HostRuntime, phase: &str, begun: Instant) -> Result<()> {
     Ok(())
 }
 
-// Reads a source up to a phase.
-fn read_up_to(rt: &HostRuntime, source: &[u8], expands: bool, phase: &str) -> Result<()> {
+/// The same, and then a count.
+pub fn report_count(
+    rt: &HostRuntime,
+    phase: &str,
+    begun: Instant,
+    what: &str,
+    count: usize,
+) -> Result<()> {
+    report(rt, phase, begun)?;
+    print_count(rt, what, count)
+}
+
+// Reads a source plainly.
+fn read_plainly(rt: &HostRuntime, source: &[u8]) -> Result<()> {
     let begun = Instant::now(rt)?;
     let (lines, sum) = plain_reading(source);
     report(rt, "read", begun)?;
     println!(rt; "bytes {} lines {lines} sum {sum}", source.len())?;
+    Ok(())
+}
+
+// Reads a source up to a phase.
+fn read_up_to(rt: &HostRuntime, source: &[u8], expands: bool, phase: &str) -> Result<()> {
+    read_plainly(rt, source)?;
     if phase == "read" {
         return Ok(());
     }
@@ -58,54 +94,87 @@ fn read_up_to(rt: &HostRuntime, source: &[u8], expands: bool, phase: &str) -> Re
     if phase == "keep" {
         return keep(rt, source);
     }
+    scan_up_to(rt, source, expands, phase)
+}
+
+// Scans a source, and goes on up to a phase.
+fn scan_up_to(rt: &HostRuntime, source: &[u8], expands: bool, phase: &str) -> Result<()>
+    requires { length source.now ≤ LONGEST_SOURCE }
+{
     let begun = Instant::now(rt)?;
     let words = words::scan(rt.alloc(), source)?;
     report(rt, "scan", begun)?;
-    if phase == "scan" {
-        return Ok(());
+    match phase {
+        "scan" => Ok(()),
+        "expand" => expand_up_to(rt, words.as_slice(), phase),
+        _ if expands => expand_up_to(rt, words.as_slice(), phase),
+        _ => parse_up_to(rt, words.as_slice(), phase),
     }
-    if phase != "expand" && !expands {
-        return parse_up_to(rt, words.as_slice(), phase);
-    }
+}
+
+// Expands words, and goes on up to a phase.
+fn expand_up_to(rt: &HostRuntime, words: &[Word], phase: &str) -> Result<()> {
     let begun = Instant::now(rt)?;
-    let output = literally::expand(rt.alloc(), words.as_slice())?;
+    let output = literally::expand(rt.alloc(), words)?;
+    go_on_from_expansion(rt, begun, words.len(), output.as_slice(), phase)
+}
+
+// What follows once words were expanded, of which there were so many before.
+fn go_on_from_expansion(
+    rt: &HostRuntime,
+    begun: Instant,
+    before: usize,
+    words: &[Word],
+    phase: &str,
+) -> Result<()> {
     report(rt, "expand", begun)?;
-    println!(rt; "words {} to {}", words.len(), output.len())?;
+    println!(rt; "words {before} to {}", words.len())?;
     if phase == "expand" {
         return Ok(());
     }
-    parse_up_to(rt, output.as_slice(), phase)
+    parse_up_to(rt, words, phase)
 }
 
-// Parses words, and goes on up to a phase.
-fn parse_up_to(rt: &HostRuntime, words: &[Word], phase: &str) -> Result<()> {
+// Parses words.
+fn parse(rt: &HostRuntime, words: &[Word]) -> Result<Module> {
     let begun = Instant::now(rt)?;
     let module = syntax::parse(rt.alloc(), words)?;
     report(rt, "parse", begun)?;
     println!(rt; "module {}", module.name.name)?;
-    if phase == "parse" {
-        return Ok(());
+    Ok(module)
+}
+
+// Parses words, and goes on up to a phase.
+fn parse_up_to(rt: &HostRuntime, words: &[Word], phase: &str) -> Result<()> {
+    let module = parse(rt, words)?;
+    match phase {
+        "parse" => Ok(()),
+        "bind" => bind(rt, module),
+        _ => check_up_to(rt, module, phase),
     }
-    if phase == "bind" {
-        return bind(rt, module);
-    }
+}
+
+// Checks a module, and goes on up to a phase.
+fn check_up_to(rt: &HostRuntime, module: Module, phase: &str) -> Result<()> {
     let begun = Instant::now(rt)?;
     let typed = types::check(rt.alloc(), module)?;
-    report(rt, "check", begun)?;
-    println!(rt; "objects {}", typed.objects.len())?;
+    go_on_from_check(rt, begun, &typed, phase)
+}
+
+// What follows once a module was checked.
+fn go_on_from_check(rt: &HostRuntime, begun: Instant, typed: &Typed, phase: &str) -> Result<()> {
+    report_count(rt, "check", begun, "objects", typed.objects.len())?;
     if phase == "check" {
         return Ok(());
     }
-    lay_out(rt, &typed)
+    lay_out(rt, typed)
 }
 
 // Binds the names of a module.
 fn bind(rt: &HostRuntime, module: Module) -> Result<()> {
     let begun = Instant::now(rt)?;
     let bound = binding::bind(rt.alloc(), module)?;
-    report(rt, "bind", begun)?;
-    println!(rt; "uses {}", bound.bindings.len())?;
-    Ok(())
+    report_count(rt, "bind", begun, "uses", bound.bindings.len())
 }
 
 // Gives the objects of a module their places.
@@ -137,8 +206,7 @@ fn keep(rt: &HostRuntime, source: &[u8]) -> Result<()>
     for _ in 0..KEPT {
         kept.push(typed(rt, source)?)?;
     }
-    println!(rt; "kept {}", kept.len())?;
-    Ok(())
+    print_count(rt, "kept", kept.len())
 }
 
 /// Reads a source up to a phase, and prints what that took.
@@ -146,6 +214,5 @@ pub fn measure(rt: &HostRuntime, kind: &str, length: &str, phase: &str) -> Resul
     let length = length.parse::<usize>()?;
     let source = source_of(rt.alloc(), kind, length)?.context("no such kind of source")?;
     read_up_to(rt, source.as_slice(), kind == "literally", phase)?;
-    println!(rt; "{}", greatest_memory(rt)?)?;
-    Ok(())
+    print_memory(rt)
 }

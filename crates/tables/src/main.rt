@@ -30,6 +30,7 @@ mod memory_files;
 mod merging;
 mod objects;
 mod operations;
+mod page;
 mod readers;
 mod routines;
 mod runs;
@@ -47,12 +48,13 @@ use interpreting::print_programs;
 use merging::print_merges;
 use objects::print_objects;
 use operations::print_operations;
+use page::Page;
 use routines::print_routines;
 use runs::print_runs;
 use scripts::print_scripts;
 use shorter::print_shorter;
 use std::alloc::Global;
-use std::io::{Write, read_to_string};
+use std::io::read_to_string;
 
 // The line after a block.
 const END_OF_BLOCK: &str = "====";
@@ -64,57 +66,87 @@ struct Counts {
     differ: u64,
 }
 
-// Whether a command line has the answer that is said of it; where not, prints both.
-fn is_as_said(rt: &HostRuntime, block: &Block) -> Result<bool> {
-    let answer = Answer::of(rt.alloc(), block)?;
+impl Counts {
+    // Counts a block.
+    fn add(&mut self, is_as_said: bool) {
+        self.blocks = self.blocks.saturating_add(1);
+        if !is_as_said {
+            self.differ = self.differ.saturating_add(1);
+        }
+    }
+
+    // Prints both.
+    fn print(&self, page: &mut Page) {
+        page.number("", self.blocks);
+        page.number(" command lines, ", self.differ);
+        page.text(" differ\n");
+    }
+}
+
+// Whether a command line has the answer that is said of it; where not, prints what it has.
+fn is_as_said(alloc: Global, page: &mut Page, block: &Block) -> Result<bool> {
+    let answer = Answer::of(alloc, block)?;
     let is_as_said = answer.is_as_said(block);
     if !is_as_said {
-        println!(rt; "line {}: {answer}", block.place())?;
+        page.number("line ", block.place() as u64);
+        page.text(": ");
+        answer.print(page);
+        page.text("\n");
     }
     Ok(is_as_said)
 }
 
-// Carries out the command lines of standard input.
-fn print_command_lines(rt: &HostRuntime) -> Result<()> {
+// Carries out the command lines of rows.
+fn print_blocks(alloc: Global, page: &mut Page, rows: &str) -> Result<()> {
     let mut counts = Counts {
         blocks: 0,
         differ: 0,
     };
-    let mut block = Block::new(rt.alloc());
-    let rows = read_to_string(rt.alloc(), rt.reader())?;
+    let mut block = Block::new(alloc);
     for (before, line) in rows.lines().enumerate() {
         if line == END_OF_BLOCK {
-            counts.blocks = counts.blocks.saturating_add(1);
-            if !is_as_said(rt, &block)? {
-                counts.differ = counts.differ.saturating_add(1);
-            }
-            block = Block::new(rt.alloc());
+            counts.add(is_as_said(alloc, page, &block)?);
+            block = Block::new(alloc);
         } else {
-            block.read(rt.alloc(), before.saturating_add(1), line)?;
+            block.read(alloc, before.saturating_add(1), line)?;
         }
     }
-    println!(rt; "{} command lines, {} differ", counts.blocks, counts.differ)?;
+    counts.print(page);
     Ok(())
 }
 
 // Prints what the parts of the machine do, the interpreter, and what reads and places objects.
-fn print_parts<W: Write>(alloc: Global, out: &mut W) -> Result<()> {
-    print_codes(out)?;
-    print_operations(out)?;
-    print_runs(alloc, out)?;
-    print_scripts(alloc, out)?;
-    print_programs(alloc, out)?;
-    print_merges(alloc, out)?;
-    print_adjusting(alloc, out)?;
-    print_objects(alloc, out)?;
-    print_shorter(alloc, out)
+fn print_parts(alloc: Global, page: &mut Page) -> Result<()> {
+    print_codes(page);
+    print_operations(page);
+    print_runs(alloc, page)?;
+    print_scripts(alloc, page)?;
+    print_programs(alloc, page)?;
+    print_merges(alloc, page)?;
+    print_adjusting(alloc, page)?;
+    print_objects(alloc, page)?;
+    print_shorter(alloc, page)
+}
+
+// Prints the answers to the command lines of standard input, and what the parts do.
+fn print_all(rt: &HostRuntime, page: &mut Page) -> Result<()> {
+    let rows = read_to_string(rt.alloc(), rt.reader())?;
+    print_blocks(rt.alloc(), page, rows.as_str())?;
+    print_parts(rt.alloc(), page)
 }
 
 fn main(rt: HostRuntime) -> Result<()> {
+<<<<<<< HEAD
     print_command_lines(&rt)?;
     let mut out = rt.stdout();
     print_parts(rt.alloc(), &mut out)?;
     print_assemblies(rt.alloc(), &mut out)?;
     let mut files = HostFiles::new(&rt);
     print_routines(rt.alloc(), &mut files, &mut out)
+=======
+    let mut page = Page::new(rt.alloc());
+    let ended = print_all(&rt, &mut page);
+    let written = page.write(&mut rt.stdout());
+    if ended.is_ok() { written } else { ended }
+>>>>>>> 2a3007ae5368722dc70f1e4cbb5db674ae6a1883
 }
