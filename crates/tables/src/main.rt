@@ -128,25 +128,19 @@ fn print_parts(alloc: Global, page: &mut Page) -> Result<()> {
     print_shorter(alloc, page)
 }
 
-// Prints the answers to the command lines of standard input, and what the parts do.
+// Prints the answers to the command lines of standard input, what the parts do, what code is, and the routines.
 fn print_all(rt: &HostRuntime, page: &mut Page) -> Result<()> {
     let rows = read_to_string(rt.alloc(), rt.reader())?;
     print_blocks(rt.alloc(), page, rows.as_str())?;
-    print_parts(rt.alloc(), page)
+    print_parts(rt.alloc(), page)?;
+    print_assemblies(rt.alloc(), page)?;
+    let mut files = HostFiles::new(rt);
+    print_routines(rt.alloc(), &mut files, page)
 }
 
 fn main(rt: HostRuntime) -> Result<()> {
-<<<<<<< HEAD
-    print_command_lines(&rt)?;
-    let mut out = rt.stdout();
-    print_parts(rt.alloc(), &mut out)?;
-    print_assemblies(rt.alloc(), &mut out)?;
-    let mut files = HostFiles::new(&rt);
-    print_routines(rt.alloc(), &mut files, &mut out)
-=======
     let mut page = Page::new(rt.alloc());
     let ended = print_all(&rt, &mut page);
     let written = page.write(&mut rt.stdout());
     if ended.is_ok() { written } else { ended }
->>>>>>> 2a3007ae5368722dc70f1e4cbb5db674ae6a1883
 }

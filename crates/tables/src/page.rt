@@ -2,9 +2,8 @@
 
 use anyhow::{Result, bail};
 use std::alloc::Global;
-use std::fmt;
 use std::fmt::Write;
-use std::io;
+use std::{fmt, io};
 
 /// A text that is put together piece by piece. No piece fails: where memory runs out, that is told when the page is written. So a
 /// function that prints is a row of calls with one way out, which is quickly proved.
@@ -53,6 +52,17 @@ impl Page {
         let [high, low] = word.to_be_bytes();
         self.byte(before, high);
         self.byte("", low);
+    }
+
+    /// Adds what another page has. Where something is missing there, it is missing here.
+    pub fn page(&mut self, other: &Page) {
+        self.text(other.text.as_str());
+        self.is_whole = self.is_whole && other.is_whole;
+    }
+
+    /// Whether these bytes are what was added, and nothing is missing.
+    pub fn has(&self, bytes: &[u8]) -> bool {
+        self.is_whole && self.text.as_bytes() == bytes
     }
 
     /// Writes what was added, and fails where something is missing.
