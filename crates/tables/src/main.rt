@@ -11,6 +11,7 @@
 //! are, made of modules and of files; objects that are read, placed and loaded, texts of Intel HEX that are read, and how
 //! commands end whose output fails part way; what long code and code with many labels is; and at last whether the document
 //! of the routines, the file `runtime.md` where the program runs, is as it is made here, or else that document.
+//! With words it reads no standard input: it does what the words order, and prints how long that took. `measures` says which there are.
 //!
 //! What is said was written by hand from the rules of the language in `docs/language.md`, of object files in
 //! `docs/object-format.md` and of the commands in `docs/commands.md`, or computed from them by other programs that share
@@ -26,6 +27,12 @@ mod codes;
 mod events;
 mod faulty;
 mod interpreting;
+mod made_objects;
+mod made_sources;
+mod measured_machine;
+mod measured_objects;
+mod measured_text;
+mod measures;
 mod memory_files;
 mod merging;
 mod objects;
@@ -45,6 +52,7 @@ use block::{Answer, Block};
 use codes::print_codes;
 use files::HostFiles;
 use interpreting::print_programs;
+use measures::measure;
 use merging::print_merges;
 use objects::print_objects;
 use operations::print_operations;
@@ -54,6 +62,7 @@ use runs::print_runs;
 use scripts::print_scripts;
 use shorter::print_shorter;
 use std::alloc::Global;
+use std::env;
 use std::io::read_to_string;
 
 // The line after a block.
@@ -138,9 +147,33 @@ fn print_all(rt: &HostRuntime, page: &mut Page) -> Result<()> {
     print_routines(rt.alloc(), &mut files, page)
 }
 
-fn main(rt: HostRuntime) -> Result<()> {
+// Prints all that, as far as it comes.
+fn print_rows(rt: &HostRuntime) -> Result<()> {
     let mut page = Page::new(rt.alloc());
-    let ended = print_all(&rt, &mut page);
+    let ended = print_all(rt, &mut page);
     let written = page.write(&mut rt.stdout());
     if ended.is_ok() { written } else { ended }
+}
+
+// Measures what words order, or prints the rows where only the program's name is given.
+fn measure_or_print(rt: &HostRuntime, words: &[&str]) -> Result<()> {
+    if words.len() > 1 {
+        measure(rt, words)
+    } else {
+        print_rows(rt)
+    }
+}
+
+// Does what the words order that the program was given.
+fn carry_out(rt: &HostRuntime, given: &[String]) -> Result<()> {
+    let mut words = Vec::new(rt.alloc());
+    for word in given {
+        words.push(word.as_str())?;
+    }
+    measure_or_print(rt, words.as_slice())
+}
+
+fn main(rt: HostRuntime) -> Result<()> {
+    let given: Vec<String> = env::args(&rt)?.collect(rt.alloc())?;
+    carry_out(&rt, given.as_slice())
 }

@@ -1,6 +1,7 @@
-//! Runs a program of 8080 instructions for a number of steps: `bench machine PROGRAM STEPS`. The programs are `tight` and
+//! Runs a program of 8080 instructions for a number of steps: `tables machine PROGRAM STEPS`. The programs are `tight` and
 //! `mixed`. `bench/machine` times it beside another machine.
 
+use crate::runs::put_bytes;
 use anyhow::{Context, Result, bail};
 use cpu8080::{End, Machine};
 use mem80::Memory;
@@ -40,15 +41,6 @@ fn word_of(end: End) -> &'static str {
     }
 }
 
-// Puts bytes into memory, from an address on.
-fn put_bytes(memory: &mut Memory, start: u16, bytes: &[u8]) {
-    let mut address = start;
-    for byte in bytes {
-        memory.set(address, *byte);
-        address = address.wrapping_add(1);
-    }
-}
-
 // Puts a program into memory.
 fn put_program(memory: &mut Memory, program: &str) -> Result<()> {
     if program == "tight" {
@@ -77,7 +69,7 @@ fn print_end(rt: &HostRuntime, end: &str, place: u16) -> Result<()> {
 }
 
 /// Runs a program for a number of steps, and prints how it ended and where.
-pub fn measure(rt: &HostRuntime, program: &str, steps: &str) -> Result<()> {
+pub fn measure_machine(rt: &HostRuntime, program: &str, steps: &str) -> Result<()> {
     let steps = steps.parse::<u64>().context("the number of steps")?;
     let memory = memory_with(rt.alloc(), program)?;
     let mut machine = Machine::new(memory, Script::new(rt.alloc()), 0x100);

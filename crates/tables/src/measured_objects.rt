@@ -1,10 +1,10 @@
 //! Works on object files of a kind up to a phase, and prints how many microseconds each phase took and how much memory the program
-//! had at most: `bench objects KIND LENGTH PHASE`. The phases are `make`, `copy`, `link_records`, and `read`, `write` or `link`,
+//! had at most: `tables objects KIND LENGTH PHASE`. The phases are `make`, `copy`, `link_records`, and `read`, `write` or `link`,
 //! `locate`, `write_hex`, `read_hex` and `hex_file`, which prints the HEX text. `bench/objects` prints ratios of these.
 ghost use Rattle.mem80.specs.Pieces.{AreWritable};
 
 use crate::made_objects::files_of;
-use crate::text::{print_count, print_memory, report, report_count};
+use crate::measured_text::{print_count, print_memory, report, report_count};
 use anyhow::{Context, Result, bail};
 use locate::Plan;
 use mem80::{MEMORY_SIZE, Memory, Piece};
@@ -195,7 +195,7 @@ fn work_on(rt: &HostRuntime, made: &[Vec<u8>], phase: &str) -> Result<()> {
 }
 
 /// Works on object files of a kind up to a phase, and prints what that took.
-pub fn measure(rt: &HostRuntime, kind: &str, length: &str, phase: &str) -> Result<()> {
+pub fn measure_objects(rt: &HostRuntime, kind: &str, length: &str, phase: &str) -> Result<()> {
     let length = length.parse::<usize>()?;
     let made = files_of(rt.alloc(), kind, length)?.context("no such kind of object files")?;
     work_on(rt, made.as_slice(), phase)?;

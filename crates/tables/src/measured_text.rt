@@ -1,11 +1,11 @@
 //! Reads a source of a kind up to a phase, and prints how many microseconds each phase took and how much memory the program had at
-//! most: `bench text KIND LENGTH PHASE`. The phases are `read`, `scan`, `expand`, `parse`, `bind`, `check` and `layout`; those after
+//! most: `tables text KIND LENGTH PHASE`. The phases are `read`, `scan`, `expand`, `parse`, `bind`, `check` and `layout`; those after
 //! `expand` leave expansion out, but for the kind `literally`. `keep` makes the typed module several times and keeps all.
 //! `bench/text` prints ratios of these.
 ghost use Rattle.std.specs.Prelude.{◌≤◌, length};
 ghost use Rattle.words.specs.declared.limits.TheConstants.{LONGEST_SOURCE};
 
-use crate::sources::source_of;
+use crate::made_sources::source_of;
 use anyhow::{Context, Result, bail};
 use std::fs;
 use std::time::Instant;
@@ -210,7 +210,7 @@ fn keep(rt: &HostRuntime, source: &[u8]) -> Result<()>
 }
 
 /// Reads a source up to a phase, and prints what that took.
-pub fn measure(rt: &HostRuntime, kind: &str, length: &str, phase: &str) -> Result<()> {
+pub fn measure_text(rt: &HostRuntime, kind: &str, length: &str, phase: &str) -> Result<()> {
     let length = length.parse::<usize>()?;
     let source = source_of(rt.alloc(), kind, length)?.context("no such kind of source")?;
     read_up_to(rt, source.as_slice(), kind == "literally", phase)?;
