@@ -27,7 +27,7 @@ fn long_code(alloc: Global, count: usize, is_bound: bool) -> Result<CodeBytes, F
 }
 
 // Adds a jump over HLT to a label of its own.
-#[tactic(auto, using(asm8080::proofs::ItemLemmas::bound_more))]
+#[tactic(auto, using(crate::proofs::Labels::still_unbound))]
 fn jump_over(code: &mut Code) -> Result<(), Failure<Fault>> {
     let label = code.label()?;
     code.jump(WordForm::Jump, label)?;
