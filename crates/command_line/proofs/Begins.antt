@@ -1,5 +1,5 @@
 -- What may come before the files: nothing, an option with its text, or the flag for a map.
-use Rattle.std.proofs.Common.{◌≡◌, ◌∙◌, List, [], ◌∷◌, ◌++◌, Some, None, true, false, refl, ap, codes}
+use Rattle.std.proofs.Common.{◌≡◌, ◌∙◌, List, [], ◌∷◌, ◌++◌, Some, None, false, refl, ap, codes}
 use Rattle.std.specs.Prelude.{fold}
 use Rattle.std.specs.List.{AllByRecursion}
 use Rattle.clap.proofs.OnLiterals.{clap_on_literals}

@@ -1,6 +1,6 @@
 -- From the matches of the subcommand to the order, and from an error to a failure.
-use Rattle.std.proofs.Common.{◌≡◌, ℕ, List, [], ◌∷◌, Option, Some, None, Bool, true, inl, inr, refl, sym, ap, subst, ◌∙◌, arith, Err}
-use Rattle.std.specs.Prelude.{option_map}
+use Rattle.std.proofs.Common.{◌≡◌, ℕ, List, [], ◌∷◌, Option, Some, None, Bool, true, inl, inr, refl, sym, ap, subst, ◌∙◌, arith, Ok, Err}
+use Rattle.std.specs.Prelude.{IfOk, IsErrAnd, Result, option_map}
 use Rattle.std.specs.Str.{bytes_eq}
 use Rattle.std.specs.Bool.{Decides}
 use Rattle.std.proofs.lemmas.Grind.{common_steps}
@@ -16,7 +16,8 @@ use Rattle.failure.specs.declared.Failure.TheVariants.{Fault, Memory}
 use Rattle.command_line.specs.declared.reading.LineFault.{LineFault}
 use Rattle.command_line.specs.declared.reading.LineFault.TheVariants.{Help, Wrong}
 use Rattle.failure.specs.Failure.{IfFault}
-use Rattle.command_line.specs.Command.{IsFaultOf}
+use Rattle.command_line.specs.Command.{IsFaultOf, IsOrderOf, Wanted}
+use Rattle.command_line.specs.declared.orders.Order.{Order}
 use Rattle.command_line.specs.internal.Errors.{IsFailureFor}
 use Rattle.command_line.proofs.Levels.{never}
 
@@ -72,3 +73,17 @@ fault_among A error (Fault (Wrong held)) kinds (inl out) (same, no_help, no_want
 fault_among A error (Fault (Wrong held)) kinds (inr among) (same, no_help, no_want) =
     (λ e. no_help (sym (ap kind_of same) ∙ e), subst (λ (k : ErrorKind). IsAmong k kinds) (sym (ap kind_of same)) among)
 fault_among A error Memory kinds has is = tt
+
+-- an answer that only memory failed gives any order that is wanted, for it gives none, and tells no fault
+pub out_of_memory : (answer : Result Order (Failure LineFault)) → IsErrAnd answer (λ failure. failure ≡ Memory) → answer ≡ Err Memory
+out_of_memory (Ok order) is = absurd is
+out_of_memory (Err failure) is = ap Err is
+
+pub wants_any : (wanted : Wanted) (answer : Result Order (Failure LineFault)) → answer ≡ Err Memory → IsOrderOf wanted answer
+wants_any wanted answer is = subst (λ (a : Result Order (Failure LineFault)). IsOrderOf wanted a) (sym is) refl
+
+pub gives_none : (P : Order → Type 0) (answer : Result Order (Failure LineFault)) → answer ≡ Err Memory → IfOk answer P
+gives_none P answer is = subst (λ (a : Result Order (Failure LineFault)). IfOk a P) (sym is) tt
+
+pub tells_none : (P : LineFault → Type 0) (answer : Result Order (Failure LineFault)) → answer ≡ Err Memory → IfFault answer P
+tells_none P answer is = subst (λ (a : Result Order (Failure LineFault)). IfFault a P) (sym is) tt

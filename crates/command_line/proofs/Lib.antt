@@ -1,5 +1,6 @@
 pub mod Levels
 pub mod CommandLemmas
+pub mod Building
 pub mod Verbs
 pub mod Files
 pub mod Begins

@@ -1,10 +1,8 @@
 //! What `clap` reads: the program `plm` with its commands and their arguments.
 
-ghost use Rattle.std.specs.Prelude.{◌≡◌, IfOk, codes, false};
-ghost use Rattle.clap.specs.Words.{app_of, rule_of, with_rule, with_subcommand};
-ghost use Rattle.clap.specs.declared.builder.command.Command.TheViews.{out-Command};
-ghost use Rattle.command_line.specs.internal.Building.{KeepsGlobals};
-ghost use Rattle.clap.specs.Words.{new_app};
+ghost use Rattle.std.specs.Prelude.{◌≡◌, codes, false};
+ghost use Rattle.clap.specs.Words.{App, Rule, new_app, rule_of, with_rule, with_subcommand};
+ghost use Rattle.command_line.specs.internal.Building.{Builds};
 ghost use Rattle.command_line.specs.Command.{bare_app, default_rule, files_rule, link_app, map_rule};
 ghost use Rattle.command_line.specs.Command.{option_rule, out_rule, place_app, plm_app, program_app};
 ghost use Rattle.command_line.specs.Command.{programs_app, with_plan, with_run};
@@ -14,6 +12,10 @@ use crate::help::{
 };
 use clap::{Arg, ArgAction, Command};
 use std::alloc::{AllocError, Global};
+
+// A command that is being built, unless memory ran out. The functions below take one and give the next, so that where
+// memory ran out is asked in `add` and `add_leaf` alone.
+type Built<'a> = Result<Command<'a>, AllocError>;
 
 // The option `--name VALUE`, by the name of its value in help and its line there.
 fn option<'a>(alloc: Global, name: &'a str, value: &'a str, help: &'a str) -> Arg<'a>
@@ -41,85 +43,93 @@ fn option_or<'a>(
 }
 
 // The command with one more argument.
-fn add<'a>(command: Command<'a>, arg: Arg<'a>) -> Result<Command<'a>, AllocError>
+fn add<'a>(command: Built<'a>, arg: Arg<'a>) -> Built<'a>
     requires { arg.global ≡ false }
-    ensures app { IfOk result (λ more. app_of more ≡ with_rule (app_of command.entry) (rule_of arg.entry)) }
-    ensures globals { IfOk result (KeepsGlobals command.entry) }
+    ensures { (app : App) (rule : Rule) → Builds app command.entry → rule_of arg.entry ≡ rule
+        → Builds (with_rule app rule) result }
 {
-    let more = command.arg(arg)?;
-    Ok(more)
+    match command {
+        Ok(command) => command.arg(arg),
+        Err(error) => Err(error),
+    }
 }
 
 // The program with one more command.
-fn add_leaf<'a>(plm: Command<'a>, leaf: Command<'a>) -> Result<Command<'a>, AllocError>
-    requires { (out-Command leaf).has_globals ≡ false }
-    ensures { IfOk result (λ more.
-        app_of more ≡ with_subcommand (app_of plm.entry) (app_of leaf.entry).top) }
+fn add_leaf<'a>(plm: Built<'a>, leaf: Built<'a>) -> Built<'a>
+    ensures { (app sub : App) → Builds app plm.entry → Builds sub leaf.entry
+        → Builds (with_subcommand app sub.top) result }
 {
-    let more = plm.subcommand(leaf)?;
-    Ok(more)
+    let whole = plm?;
+    let added = leaf?;
+    whole.subcommand(added)
+}
+
+// The command with one more option, and the text that stands for it where it is left out.
+fn add_option<'a>(
+    alloc: Global,
+    command: Built<'a>,
+    name: &'a str,
+    text: &'a str,
+    value: &'a str,
+    help: &'a str,
+) -> Built<'a>
+    ensures { (app : App) → Builds app command.entry
+        → Builds (with_rule app (default_rule name.entry.now text.entry.now)) result }
+{
+    add(command, option_or(alloc, name, text, value, help))
 }
 
 // The command with the options of a plan.
-fn add_plan<'a>(alloc: Global, command: Command<'a>) -> Result<Command<'a>, AllocError>
-    ensures app { IfOk result (λ planned. app_of planned ≡ with_plan (app_of command.entry)) }
-    ensures globals { IfOk result (KeepsGlobals command.entry) }
+fn add_plan<'a>(alloc: Global, command: Built<'a>) -> Built<'a>
+    ensures { (app : App) → Builds app command.entry → Builds (with_plan app) result }
 {
-    let code = option_or(
+    let with_code = add_option(
         alloc,
+        command,
         "code",
         "256",
         "ADDRESS",
         "Where the code begins, to 65535",
     );
-    let data_base = option_or(
+    let with_data = add_option(
         alloc,
+        with_code,
         "data",
         "16384",
         "ADDRESS",
         "Where the data begins, to 65535",
     );
-    let stack = option_or(
+    let with_stack = add_option(
         alloc,
+        with_data,
         "stack",
         "61440",
         "ADDRESS",
         "Where the stack begins, to 65535",
     );
-    let stack_size = option_or(
+    add_option(
         alloc,
+        with_stack,
         "stack-size",
         "1024",
         "BYTES",
         "How many bytes the stack has, to 65535",
-    );
-    let with_code = add(command, code)?;
-    let with_data = add(with_code, data_base)?;
-    let with_stack = add(with_data, stack)?;
-    let planned = add(with_stack, stack_size)?;
-    Ok(planned)
+    )
 }
 
 // The command with the options of a run.
-fn add_run<'a>(
-    alloc: Global,
-    command: Command<'a>,
-    limit_help: &'a str,
-) -> Result<Command<'a>, AllocError>
-    ensures app { IfOk result (λ whole. app_of whole ≡ with_run (app_of command.entry)) }
-    ensures globals { IfOk result (KeepsGlobals command.entry) }
+fn add_run<'a>(alloc: Global, command: Built<'a>, limit_help: &'a str) -> Built<'a>
+    ensures { (app : App) → Builds app command.entry → Builds (with_run app) result }
 {
-    let limit = option_or(alloc, "limit", "10000000", "N", limit_help);
+    let with_limit = add_option(alloc, command, "limit", "10000000", "N", limit_help);
     let input = option(
         alloc,
         "input",
         "GROUPS",
         "What the ports give, as 01:0904/02:FF",
     );
-    let with_limit = add(command, limit)?;
-    let with_input = add(with_limit, input)?;
-    let whole = add(with_input, map(alloc))?;
-    Ok(whole)
+    let with_input = add(with_limit, input);
+    add(with_input, map(alloc))
 }
 
 // The flag `--map`.
@@ -154,85 +164,73 @@ fn files<'a>(alloc: Global, value: &'a str, help: &'a str) -> Arg<'a>
 }
 
 // A command by its name and what help says of it, before any argument.
-fn named<'a>(alloc: Global, name: &'a str, teaching: Teaching) -> Command<'a>
-    ensures app { app_of result ≡ new_app name.entry.now }
-    ensures globals { (out-Command result).has_globals ≡ false }
+fn named<'a>(alloc: Global, name: &'a str, teaching: Teaching) -> Built<'a>
+    ensures { Builds (new_app name.entry.now) result }
 {
-    Command::new(alloc, name)
-        .about(teaching.about)
-        .after_help(teaching.printed)
+    Ok(
+        Command::new(alloc, name)
+            .about(teaching.about)
+            .after_help(teaching.printed),
+    )
 }
 
 // A command that builds sources.
-fn program<'a>(
-    alloc: Global,
-    name: &'a str,
-    teaching: Teaching,
-    limit_help: &'a str,
-) -> Result<Command<'a>, AllocError>
-    ensures app { IfOk result (λ command. app_of command ≡ program_app name.entry.now) }
-    ensures globals { IfOk result (λ command. (out-Command command).has_globals ≡ false) }
+fn program<'a>(alloc: Global, name: &'a str, teaching: Teaching, limit_help: &'a str) -> Built<'a>
+    ensures { Builds (program_app name.entry.now) result }
 {
-    let planned = add_plan(alloc, named(alloc, name, teaching))?;
-    let limited = add_run(alloc, planned, limit_help)?;
-    let sources = files(alloc, "SOURCE", "The files with the sources");
-    let whole = add(limited, sources)?;
-    Ok(whole)
+    let planned = add_plan(alloc, named(alloc, name, teaching));
+    let limited = add_run(alloc, planned, limit_help);
+    add(
+        limited,
+        files(alloc, "SOURCE", "The files with the sources"),
+    )
 }
 
 // The command that links object files.
-fn link<'a>(alloc: Global) -> Result<Command<'a>, AllocError>
-    ensures app { IfOk result (λ command. app_of command ≡ link_app (codes "link")) }
-    ensures globals { IfOk result (λ command. (out-Command command).has_globals ≡ false) }
+fn link<'a>(alloc: Global) -> Built<'a>
+    ensures { Builds (link_app (codes "link")) result }
 {
-    let objects = files(alloc, "OBJECT", "The object files, in their order");
-    let with_out = add(named(alloc, "link", LINK), out(alloc))?;
-    let whole = add(with_out, objects)?;
-    Ok(whole)
+    let with_out = add(named(alloc, "link", LINK), out(alloc));
+    add(
+        with_out,
+        files(alloc, "OBJECT", "The object files, in their order"),
+    )
 }
 
 // A command that places an object file.
-fn place<'a>(alloc: Global, name: &'a str, teaching: Teaching) -> Result<Command<'a>, AllocError>
-    ensures app { IfOk result (λ command. app_of command ≡ place_app name.entry.now) }
-    ensures globals { IfOk result (λ command. (out-Command command).has_globals ≡ false) }
+fn place<'a>(alloc: Global, name: &'a str, teaching: Teaching) -> Built<'a>
+    ensures { Builds (place_app name.entry.now) result }
 {
-    let planned = add_plan(alloc, named(alloc, name, teaching))?;
-    let file = files(alloc, "FILE", "The object file");
-    let whole = add(planned, file)?;
-    Ok(whole)
+    let planned = add_plan(alloc, named(alloc, name, teaching));
+    add(planned, files(alloc, "FILE", "The object file"))
 }
 
 // The program `plm`, which has to have a command.
-fn bare_command<'a>(alloc: Global) -> Result<Command<'a>, AllocError>
-    ensures { IfOk result (λ command. app_of command ≡ bare_app) }
+fn bare_command<'a>(alloc: Global) -> Built<'a>
+    ensures { Builds bare_app result }
 {
-    let named = Command::new(alloc, "plm").bin_name("plm")?;
-    let taught = named.about(ABOUT).after_help(EXAMPLE);
-    Ok(taught.subcommand_required(true))
+    Command::new(alloc, "plm")
+        .about(ABOUT)
+        .after_help(EXAMPLE)
+        .subcommand_required(true)
+        .bin_name("plm")
 }
 
 // The program with the commands that build sources.
-fn with_programs<'a>(alloc: Global) -> Result<Command<'a>, AllocError>
-    ensures { IfOk result (λ command. app_of command ≡ programs_app) }
+fn with_programs<'a>(alloc: Global) -> Built<'a>
+    ensures { Builds programs_app result }
 {
-    let run = program(alloc, "run", RUN, RUN_LIMIT)?;
-    let interpret = program(alloc, "interpret", INTERPRET, INTERPRET_LIMIT)?;
-    let bare = bare_command(alloc)?;
-    let with_run = add_leaf(bare, run)?;
-    let whole = add_leaf(with_run, interpret)?;
-    Ok(whole)
+    let run = program(alloc, "run", RUN, RUN_LIMIT);
+    let with_run = add_leaf(bare_command(alloc), run);
+    let interpret = program(alloc, "interpret", INTERPRET, INTERPRET_LIMIT);
+    add_leaf(with_run, interpret)
 }
 
 /// The program `plm` with its commands.
 pub(crate) fn plm_command<'a>(alloc: Global) -> Result<Command<'a>, AllocError>
-    ensures { IfOk result (λ command. app_of command ≡ plm_app) }
+    ensures { Builds plm_app result }
 {
-    let link = link(alloc)?;
-    let locate = place(alloc, "locate", LOCATE)?;
-    let hex = place(alloc, "hex", HEX)?;
-    let programs = with_programs(alloc)?;
-    let with_link = add_leaf(programs, link)?;
-    let with_locate = add_leaf(with_link, locate)?;
-    let plm = add_leaf(with_locate, hex)?;
-    Ok(plm)
+    let with_link = add_leaf(with_programs(alloc), link(alloc));
+    let with_locate = add_leaf(with_link, place(alloc, "locate", LOCATE));
+    add_leaf(with_locate, place(alloc, "hex", HEX))
 }

@@ -1,7 +1,7 @@
 //! The order that the words of a command line give.
 
 ghost use Rattle.std.specs.Prelude.{◌≡◌, ◌<◌, [], IfOk, OnOk, length, codes};
-ghost use Rattle.std.specs.Prelude.{option_and_then, option_map, unwrap_or};
+ghost use Rattle.std.specs.Prelude.{Some, option_and_then, option_map, unwrap_or};
 ghost use Rattle.clap.specs.Walk.{texts};
 ghost use Rattle.clap.specs.Words.{all_of, fault_of, first_of, found_of, rows_of, subcommand_rows_of};
 ghost use Rattle.failure.specs.Failure.{IfFault};
@@ -96,36 +96,37 @@ fn plan<'a>(matches: &ArgMatches<'a>) -> PlanTexts<'a>
     }
 }
 
-// The order for a command that builds sources, from the matches of its arguments.
+// The order for a command that builds sources, from the matches of its arguments. It is there in each answer, so that
+// `order_named` hands it on as it is.
 fn program<'a>(
     alloc: Global,
     action: Action,
     matches: &ArgMatches<'a>,
-) -> Result<Order<'a>, AllocError>
-    ensures { IfOk result (λ order.
-        wanted_in order ≡ wants_program (program_of action (rows_of (found_of matches.now)))) }
+) -> Result<Option<Order<'a>>, AllocError>
+    ensures { IfOk result (λ order. option_map wanted_in order
+        ≡ Some (wants_program (program_of action (rows_of (found_of matches.now))))) }
 {
     let files = files(alloc, matches)?;
-    Ok(Order::Program(ProgramOrder {
+    Ok(Some(Order::Program(ProgramOrder {
         action,
         files,
         plan: plan(matches),
         limit: text(matches, "limit"),
         input: first(matches, "input"),
         map: flag(matches, "map"),
-    }))
+    })))
 }
 
 // The order to link, from the matches of its arguments.
-fn link<'a>(alloc: Global, matches: &ArgMatches<'a>) -> Result<Order<'a>, AllocError>
-    ensures { IfOk result (λ order.
-        wanted_in order ≡ wants_link (link_of (rows_of (found_of matches.now)))) }
+fn link<'a>(alloc: Global, matches: &ArgMatches<'a>) -> Result<Option<Order<'a>>, AllocError>
+    ensures { IfOk result (λ order. option_map wanted_in order
+        ≡ Some (wants_link (link_of (rows_of (found_of matches.now))))) }
 {
     let objects = files(alloc, matches)?;
-    Ok(Order::Link(LinkOrder {
+    Ok(Some(Order::Link(LinkOrder {
         out: text(matches, "out"),
         objects,
-    }))
+    })))
 }
 
 // The order for a command that places an object file, from the matches of its arguments.
@@ -133,16 +134,16 @@ fn place<'a>(
     alloc: Global,
     action: PlaceAction,
     matches: &ArgMatches<'a>,
-) -> Result<Order<'a>, AllocError>
-    ensures { IfOk result (λ order.
-        wanted_in order ≡ wants_place (place_of action (rows_of (found_of matches.now)))) }
+) -> Result<Option<Order<'a>>, AllocError>
+    ensures { IfOk result (λ order. option_map wanted_in order
+        ≡ Some (wants_place (place_of action (rows_of (found_of matches.now))))) }
 {
     let files = files(alloc, matches)?;
-    Ok(Order::Place(PlaceOrder {
+    Ok(Some(Order::Place(PlaceOrder {
         action,
         files,
         plan: plan(matches),
-    }))
+    })))
 }
 
 // The order for the command of a name, from the matches of its arguments.
@@ -155,15 +156,15 @@ fn order_named<'a>(
         option_map wanted_in order ≡ wanted_of_match (name.now, rows_of (found_of matches.now))) }
 {
     if name == "run" {
-        Ok(Some(program(alloc, Action::Run, matches)?))
+        program(alloc, Action::Run, matches)
     } else if name == "interpret" {
-        Ok(Some(program(alloc, Action::Interpret, matches)?))
+        program(alloc, Action::Interpret, matches)
     } else if name == "link" {
-        Ok(Some(link(alloc, matches)?))
+        link(alloc, matches)
     } else if name == "locate" {
-        Ok(Some(place(alloc, PlaceAction::Locate, matches)?))
+        place(alloc, PlaceAction::Locate, matches)
     } else if name == "hex" {
-        Ok(Some(place(alloc, PlaceAction::Hex, matches)?))
+        place(alloc, PlaceAction::Hex, matches)
     } else {
         Ok(None)
     }

@@ -50,7 +50,6 @@ fn byte_of(high: u8, low: u8) -> Option<u8>
 }
 
 // Puts the bytes of digits at the front of a buffer, and tells how many there are.
-#[tactic(auto, using(crate::proofs::ReadLemmas::nothing_in_front, crate::proofs::ReadLemmas::byte_more, crate::proofs::ReadLemmas::no_byte, crate::proofs::ReadLemmas::all_read, crate::proofs::ReadLemmas::odd_digits))]
 fn put_bytes(digits: &[u8], buffer: &mut [u8]) -> Option<usize>
     requires { length digits.now ≤ 2 * length buffer.old }
     ensures bytes { bytes_in digits.now ≡ option_map (λ count. take count buffer.new) result }
@@ -140,7 +139,7 @@ fn mark(used: &mut [bool], place: Place)
 }
 
 // Takes the piece of a line, if it has no fault.
-#[tactic(auto, using(crate::proofs::ReadLemmas::bad_line, crate::proofs::ReadLemmas::wrong_sum, crate::proofs::ReadLemmas::overlaps, crate::proofs::ReadLemmas::takes_line, crate::proofs::ReadLemmas::marks_taken))]
+#[tactic(auto, using(crate::proofs::ReadLemmas::wrong_sum))]
 fn take_line(
     alloc: Global,
     line: &[u8],

@@ -1,18 +1,15 @@
--- Loops over modules, over what they share, and over the numbers of that.
-use Rattle.std.proofs.Common.{◌≡◌, ℕ, suc, ◌+◌, ◌<◌, ◌≤◌, Bool, true, false, List, [], ◌∷◌, ◌++◌, map, length, drop, get_or, Option, None, Some, option_map, if◌then◌else◌, refl, ap, sym, ◌∙◌, add-one, arith}
-use Rattle.std.specs.List.{filter_map, cons_option}
+-- Loops over modules, and over what they share.
+use Rattle.std.proofs.Common.{◌≡◌, ℕ, suc, ◌+◌, ◌<◌, ◌≤◌, Bool, true, false, List, [], ◌∷◌, ◌++◌, map, length, drop, get_or, Option, None, Some, if◌then◌else◌, refl, ap, sym, ◌∙◌, add-one, arith}
+use Rattle.std.specs.List.{filter_map}
 use Rattle.std.proofs.Math.ListN.{drop_of_length-le}
 use Rattle.std.proofs.Math.Seq.{drop-cons}
 use Rattle.std.proofs.lemmas.Grind.{common_steps}
-use Rattle.std.proofs.lemmas.List.{append_assoc, append-nil, map-append}
+use Rattle.std.proofs.lemmas.List.{append_assoc, append-nil}
 use Rattle.typed_trees.specs.declared.module.Typed.{Typed}
-use Rattle.typed_trees.specs.declared.parts.GlobalItem.{GlobalItem}
-use Rattle.typed_trees.specs.TypedTrees.{TypedModule}
 use Rattle.typed_trees.specs.Views.{module_view}
 use Rattle.layout.specs.Joined.{Global, global_of, globals_of}
 use Rattle.join.specs.declared.shared.Shared.{Shared}
 use Rattle.join.specs.internal.Shared.{global_view, globals_view, first_external}
-use Rattle.join.specs.internal.PublicTables.{PublicTable, with_public, with_publics}
 
 -- what is left of a list, item by item
 module _ {A Y : Type 0} (of : List A → Y) (items : List A) (i : ℕ) where
@@ -50,55 +47,6 @@ module _ (test : Global → Bool) (items : List Shared) (i : ℕ) (total : Optio
 
   pub no_external : length items ≤ i → None ≡ total
   no_external past = sym (sym rest ∙ at_end externals items i past)
-
--- the table of the PUBLICs
-module _ (publics total : PublicTable) (items : List Shared) (i : ℕ) (rest : with_publics publics (globals_view (drop i items)) ≡ total) where
-  table_step : (public : Bool) (item : Shared) → i < length items → item ≡ get_or items i item → (global_view item).is_public ≡ public
-      → with_publics (if public then with_public publics (global_view item) else publics) (globals_view (drop (i + 1) items)) ≡ total
-  table_step public item within is same =
-      ap (λ taken. with_publics (if taken then with_public publics (global_view item) else publics) (globals_view (drop (i + 1) items))) (sym same)
-      ∙ sym (at_item (λ left. with_publics publics (globals_view left)) items i item within is)
-      ∙ rest
-
-  pub public_taken : (item : Shared) (after : PublicTable) → i < length items → item ≡ get_or items i item → (global_view item).is_public ≡ true → after ≡ with_public publics (global_view item)
-      → with_publics after (globals_view (drop (i + 1) items)) ≡ total
-  public_taken item after within is public given =
-      ap (λ table. with_publics table (globals_view (drop (i + 1) items))) given ∙ table_step true item within is public
-
-  pub external_left : (item : Shared) → i < length items → item ≡ get_or items i item → (global_view item).is_public ≡ false
-      → with_publics publics (globals_view (drop (i + 1) items)) ≡ total
-  external_left item within is public = table_step false item within is public
-
-  pub table_ended : length items ≤ i → publics ≡ total
-  table_ended past = sym (at_end (λ left. with_publics publics (globals_view left)) items i past) ∙ rest
-
--- what a module shares, after what others do
-module _ (typed : TypedModule) (total : List Global) (made : List Shared) (items : List GlobalItem) (i : ℕ)
-    (rest : globals_view made ++ filter_map (global_of typed) (drop i items) ≡ total) where
-  item_step : (found : Option Global) (item : GlobalItem) → i < length items → item ≡ get_or items i item → found ≡ global_of typed item
-      → globals_view made ++ cons_option found (filter_map (global_of typed) (drop (i + 1) items)) ≡ total
-  item_step found item within is given =
-      ap (λ global. globals_view made ++ cons_option global (filter_map (global_of typed) (drop (i + 1) items))) given
-      ∙ sym (at_item (λ left. globals_view made ++ filter_map (global_of typed) left) items i item within is)
-      ∙ rest
-
-  pub item_missing : (item : GlobalItem) (found : Option Shared) → i < length items → item ≡ get_or items i item → option_map global_view found ≡ global_of typed item → found ≡ None
-      → globals_view made ++ filter_map (global_of typed) (drop (i + 1) items) ≡ total
-  item_missing item found within is given none =
-      item_step None item within is (sym (ap (option_map global_view) none) ∙ given)
-
-  pub item_pushed : (item : GlobalItem) (found : Option Shared) (global : Shared) → i < length items → item ≡ get_or items i item → option_map global_view found ≡ global_of typed item → found ≡ Some global
-      → globals_view (made ++ global ∷ []) ++ filter_map (global_of typed) (drop (i + 1) items) ≡ total
-  item_pushed item found global within is given some =
-      ap (λ globals. globals ++ filter_map (global_of typed) (drop (i + 1) items)) (map-append global_view made (global ∷ []))
-      ∙ append_assoc (globals_view made) (global_view global ∷ []) (filter_map (global_of typed) (drop (i + 1) items))
-      ∙ item_step (Some (global_view global)) item within is (sym (ap (option_map global_view) some) ∙ given)
-
-  pub items_ended : length items ≤ i → globals_view made ≡ total
-  items_ended past =
-      sym (append-nil (globals_view made))
-      ∙ sym (at_end (λ left. globals_view made ++ filter_map (global_of typed) left) items i past)
-      ∙ rest
 
 -- what modules share
 module _ (total : List Global) (made : List Global) (modules : List Typed) (i : ℕ)

@@ -47,39 +47,36 @@ unfolding join_refusal
 refusal_is modules =
     (λ i. option_or (without_is modules i) (option_or (twice_is modules i) (option_or (otherwise_is modules i) (not_one_main modules))))
 
-module _ (modules : List TypedModule) (globals slice : List Shared) (publics : Publics) (globals_are : globals_view globals ≡ globals_of modules) (slice_is : slice ≡ globals)
-    (publics_are : publics_view publics ≡ with_publics no_publics (globals_view slice)) where
-  slice_are : globals_view slice ≡ globals_of modules
-  slice_are = ap globals_view slice_is ∙ globals_are
-
+module _ (modules : List TypedModule) (globals : List Shared) (publics : Publics) (globals_are : globals_view globals ≡ globals_of modules)
+    (publics_are : publics_view publics ≡ with_publics no_publics (globals_view globals)) where
   table_is : publics_view publics ≡ table_of modules
-  table_is = publics_are ∙ ap (with_publics no_publics) slice_are
+  table_is = publics_are ∙ ap (with_publics no_publics) globals_are
 
-  refusal_by : join_refusal modules ≡ in_turn (first_external (lacks_in (publics_view publics)) (globals_view slice)) publics.repeated
-      (first_external (differs_in (publics_view publics)) (globals_view slice)) (count_by is_main modules == 1)
+  refusal_by : join_refusal modules ≡ in_turn (first_external (lacks_in (publics_view publics)) (globals_view globals)) publics.repeated
+      (first_external (differs_in (publics_view publics)) (globals_view globals)) (count_by is_main modules == 1)
   refusal_by =
       refusal_is modules
-      ∙ (λ i. in_turn (first_external (lacks_in (sym table_is i)) (sym slice_are i)) ((sym table_is i).repeated) (first_external (differs_in (sym table_is i)) (sym slice_are i)) (count_by is_main modules == 1))
+      ∙ (λ i. in_turn (first_external (lacks_in (sym table_is i)) (sym globals_are i)) ((sym table_is i).repeated) (first_external (differs_in (sym table_is i)) (sym globals_are i)) (count_by is_main modules == 1))
 
   -- what was found in turn
-  pub refused : (without twice otherwise : Option (List ℕ)) (one : Bool) → without ≡ first_external (lacks_in (publics_view publics)) (globals_view slice) → publics.repeated ≡ twice
-      → otherwise ≡ first_external (differs_in (publics_view publics)) (globals_view slice) → one ≡ (count_by is_main modules == 1)
+  pub refused : (without twice otherwise : Option (List ℕ)) (one : Bool) → without ≡ first_external (lacks_in (publics_view publics)) (globals_view globals) → publics.repeated ≡ twice
+      → otherwise ≡ first_external (differs_in (publics_view publics)) (globals_view globals) → one ≡ (count_by is_main modules == 1)
       → join_refusal modules ≡ in_turn without twice otherwise one
   refused without twice otherwise one w t o m = refusal_by ∙ (λ i. in_turn (sym w i) (t i) (sym o i) (sym m i))
 
-  pub without_found : (name : List ℕ) (found : Option (List ℕ)) → found ≡ first_external (lacks_in (publics_view publics)) (globals_view slice) → found ≡ Some name → join_refusal modules ≡ Some (NoPublic name)
+  pub without_found : (name : List ℕ) (found : Option (List ℕ)) → found ≡ first_external (lacks_in (publics_view publics)) (globals_view globals) → found ≡ Some name → join_refusal modules ≡ Some (NoPublic name)
   without_found name found is some = refused (Some name) publics.repeated _ _ (sym some ∙ is) refl refl refl
 
-  pub twice_found : (name : List ℕ) (without : Option (List ℕ)) → without ≡ first_external (lacks_in (publics_view publics)) (globals_view slice) → without ≡ None → publics.repeated ≡ Some name
+  pub twice_found : (name : List ℕ) (without : Option (List ℕ)) → without ≡ first_external (lacks_in (publics_view publics)) (globals_view globals) → without ≡ None → publics.repeated ≡ Some name
       → join_refusal modules ≡ Some (PublicTwice name)
   twice_found name without is none some = refused None (Some name) _ _ (sym none ∙ is) some refl refl
 
-  pub otherwise_found : (name : List ℕ) (without otherwise : Option (List ℕ)) → without ≡ first_external (lacks_in (publics_view publics)) (globals_view slice) → without ≡ None → publics.repeated ≡ None
-      → otherwise ≡ first_external (differs_in (publics_view publics)) (globals_view slice) → otherwise ≡ Some name
+  pub otherwise_found : (name : List ℕ) (without otherwise : Option (List ℕ)) → without ≡ first_external (lacks_in (publics_view publics)) (globals_view globals) → without ≡ None → publics.repeated ≡ None
+      → otherwise ≡ first_external (differs_in (publics_view publics)) (globals_view globals) → otherwise ≡ Some name
       → join_refusal modules ≡ Some (DeclarationsDiffer name)
   otherwise_found name without otherwise is none once differs some = refused None None (Some name) _ (sym none ∙ is) once (sym some ∙ differs) refl
 
-  pub nothing_found : (without otherwise : Option (List ℕ)) (one : Bool) → without ≡ first_external (lacks_in (publics_view publics)) (globals_view slice) → without ≡ None → publics.repeated ≡ None
-      → otherwise ≡ first_external (differs_in (publics_view publics)) (globals_view slice) → otherwise ≡ None → one ≡ (count_by is_main modules == 1)
+  pub nothing_found : (without otherwise : Option (List ℕ)) (one : Bool) → without ≡ first_external (lacks_in (publics_view publics)) (globals_view globals) → without ≡ None → publics.repeated ≡ None
+      → otherwise ≡ first_external (differs_in (publics_view publics)) (globals_view globals) → otherwise ≡ None → one ≡ (count_by is_main modules == 1)
       → join_refusal modules ≡ (if one then None else Some NotOneMain)
   nothing_found without otherwise one is none once differs alike main = refused None None None one (sym none ∙ is) once (sym alike ∙ differs) main

@@ -72,6 +72,22 @@ impl<'a> Publics<'a> {
         Ok(())
     }
 
+    // Takes in the PUBLICs among more globals.
+    fn put_all(&mut self, globals: &[Shared<'a>]) -> Result<(), Failure<Fault>>
+        ensures ok { OnOk result
+            (publics_view self.new ≡ with_publics (publics_view self.old) (globals_view globals.now)) }
+        ensures err { IfFault result (λ _. ⊥) }
+    {
+        let mut rest = globals;
+        while let [global, more @ ..] = rest {
+            if global.is_public() {
+                self.put(*global)?;
+            }
+            rest = more;
+        }
+        Ok(())
+    }
+
     // Whether an EXTERNAL has no PUBLIC.
     fn lacks(&self, external: Shared<'_>) -> bool
         ensures { result ≡ lacks_in (publics_view self.now) (global_view external.entry) }
@@ -117,7 +133,6 @@ impl<'a> Publics<'a> {
 }
 
 /// The PUBLICs among globals.
-#[tactic(auto, using(crate::proofs::GlobalLoops::public_taken, crate::proofs::GlobalLoops::external_left, crate::proofs::GlobalLoops::table_ended))]
 pub(crate) fn publics_among<'a>(
     alloc: Global,
     globals: &[Shared<'a>],
@@ -127,10 +142,6 @@ pub(crate) fn publics_among<'a>(
     ensures err { IfFault result (λ _. ⊥) }
 {
     let mut publics = Publics::new(alloc);
-    for global in globals {
-        if global.is_public() {
-            publics.put(*global)?;
-        }
-    }
+    publics.put_all(globals)?;
     Ok(publics)
 }

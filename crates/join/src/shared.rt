@@ -68,35 +68,36 @@ fn global_at(typed: &Typed, item: GlobalItem) -> Option<Shared<'_>>
     ensures { option_map global_view result ≡ global_of (module_view typed.now) item }
 {
     match item {
-        GlobalItem::GlobalObject(object) => {
-            let object = typed.objects.get(object as usize)?;
-            Some(Shared::Object(object))
-        }
-        GlobalItem::GlobalProcedure(procedure) => {
-            let procedure = typed.procedures.get(procedure as usize)?;
-            Some(Shared::Procedure(procedure))
-        }
+        GlobalItem::GlobalObject(number) => match typed.objects.get(number as usize) {
+            Some(object) => Some(Shared::Object(object)),
+            None => None,
+        },
+        GlobalItem::GlobalProcedure(number) => match typed.procedures.get(number as usize) {
+            Some(procedure) => Some(Shared::Procedure(procedure)),
+            None => None,
+        },
     }
 }
 
 // Adds what a module shares.
-#[tactic(auto, using(crate::proofs::GlobalLoops::item_missing, crate::proofs::GlobalLoops::item_pushed, crate::proofs::GlobalLoops::items_ended))]
 fn push_shared<'a>(globals: &mut Vec<Shared<'a>>, typed: &'a Typed) -> Result<(), Failure<Fault>>
     ensures ok { OnOk result (globals_view globals.new.items
         ≡ globals_view globals.old.items
         ++ filter_map (global_of (module_view typed.now)) typed.now.globals.items) }
     ensures err { IfFault result (λ _. ⊥) }
 {
-    for item in typed.globals.as_slice() {
+    let mut rest = typed.globals.as_slice();
+    while let [item, more @ ..] = rest {
         if let Some(found) = global_at(typed, *item) {
             globals.push(found)?;
         }
+        rest = more;
     }
     Ok(())
 }
 
 /// What modules share, in the order of the modules and in that of each text.
-#[tactic(auto, using(crate::proofs::GlobalLoops::module_pushed, crate::proofs::GlobalLoops::modules_ended))]
+#[tactic(auto, using(crate::proofs::GlobalLoops::modules_ended))]
 pub(crate) fn shared_by(alloc: Global, modules: &[Typed]) -> Result<Vec<Shared<'_>>, Failure<Fault>>
     ensures ok { IfOk result (λ globals.
         globals_view globals.items ≡ globals_of (map module_view modules.now)) }

@@ -33,7 +33,6 @@ fn start_at(end: u32, alignment: Alignment) -> u32
 }
 
 /// Where the pieces of modules begin, module by module; a segment of the merge that is too long is a fault.
-#[tactic(auto, using(link_laws::proofs::StartLoops::code_too_long, link_laws::proofs::StartLoops::data_too_long, link_laws::proofs::StartLoops::stack_too_long, link_laws::proofs::StartLoops::one_more, link_laws::proofs::StartLoops::all_placed, link_laws::proofs::StartLoops::all_valid, link_laws::proofs::StartLoops::all_stacks, link_laws::proofs::StartLoops::all_fit))]
 pub(crate) fn pieces_of<'a>(
     alloc: Global,
     modules: &'a [ObjectModule],
@@ -84,8 +83,10 @@ pub(crate) fn starts_of(alloc: Global, placed: &[Placed]) -> Result<Vec<ModuleSt
     ensures { IfOk result (λ starts. map start_view starts.items ≡ starts_in placed.now) }
 {
     let mut starts = Vec::new(alloc);
-    for one in placed {
+    let mut rest = placed;
+    while let [one, more @ ..] = rest {
         starts.push(one.starts())?;
+        rest = more;
     }
     Ok(starts)
 }

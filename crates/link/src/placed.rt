@@ -10,7 +10,7 @@ use object_modules::{ObjectModule, Segment};
 use std::marker::Model;
 
 /// Where the pieces of a module begin in those of a merge.
-#[derive(Clone, Copy, Debug, PartialEq, Eq)]
+#[derive(Clone, Copy)]
 pub(crate) struct ModuleStart {
     pub(crate) code: u16,
     pub(crate) data_start: u16,

@@ -44,8 +44,8 @@ fn fix_all(bytes: &mut [u8], offset: u16, fixes: &[Fix], publics: &Publics, plac
     }
 }
 
-/// A run of a module from a place of a merge on, with its bytes after these fixes, which are within it.
-pub(crate) fn moved_run(
+// A run of a module from a place of a merge on, with its bytes after these fixes, which are within it.
+fn moved_run(
     alloc: Global,
     run: &Run,
     start: u16,
@@ -93,9 +93,9 @@ fn add_after(runs: &mut Vec<Run>, last: Run, run: Run) -> Result<(), AllocError>
     Ok(())
 }
 
-/// Adds a run after others, to the last of them where it begins at its end.
+// Adds a run after others, to the last of them where it begins at its end.
 #[tactic(auto, using(object_merges::proofs::RunsJoined::with_run_last))]
-pub(crate) fn add_run(runs: &mut Vec<Run>, run: Run) -> Result<(), AllocError>
+fn add_run(runs: &mut Vec<Run>, run: Run) -> Result<(), AllocError>
     ensures { OnOk result (runs.new.items ≡ with_run runs.old.items run) }
 {
     match runs.pop() {
@@ -105,4 +105,23 @@ pub(crate) fn add_run(runs: &mut Vec<Run>, run: Run) -> Result<(), AllocError>
             Ok(())
         }
     }
+}
+
+/// Adds a run of a module after others, from a place of a merge on, with its bytes after these fixes, which are within it.
+pub(crate) fn add_moved(
+    alloc: Global,
+    runs: &mut Vec<Run>,
+    run: &Run,
+    start: u16,
+    fixes: &[Fix],
+    publics: &Publics,
+    placed: &Placed,
+) -> Result<(), AllocError>
+    requires room { start + run.now.offset < 65536 }
+    requires within { AreWithin run.now.offset (length run.now.items) fixes.now }
+    ensures { OnOk result (runs.new.items
+        ≡ with_run runs.old.items (run_fixed start (gain_in publics.now placed.now) fixes.now run.now)) }
+{
+    let moved = moved_run(alloc, run, start, fixes, publics, placed)?;
+    add_run(runs, moved)
 }

@@ -6,7 +6,7 @@ ghost use Rattle.link_laws.specs.internal.Building.{alignment_joined, end_in, en
 
 use crate::placed::Placed;
 use crate::publics::Publics;
-use crate::runs::{add_run, moved_run, split_below};
+use crate::runs::{add_moved, split_below};
 use crate::targets::kept;
 use object_modules::{Alignment, Fix, Run, Segment, SegmentBytes};
 use std::alloc::{AllocError, Global};
@@ -24,11 +24,12 @@ fn add_runs(
 {
     let start = placed.start(segment);
     let mut left = placed.module().fixes(segment);
-    for run in placed.module().runs(segment) {
+    let mut rest = placed.module().runs(segment);
+    while let [run, more @ ..] = rest {
         let (own, later) = split_below(left, run.offset() as u32 + run.bytes().len() as u32);
-        let moved = moved_run(alloc, run, start, own, publics, placed)?;
-        add_run(runs, moved)?;
+        add_moved(alloc, runs, run, start, own, publics, placed)?;
         left = later;
+        rest = more;
     }
     Ok(())
 }
@@ -66,8 +67,10 @@ fn merged_runs(
     ensures { IfOk result (λ runs. runs.items ≡ runs_joined publics.now segment [] placed.now) }
 {
     let mut runs = Vec::new(alloc);
-    for one in placed {
+    let mut rest = placed;
+    while let [one, more @ ..] = rest {
         add_runs(alloc, &mut runs, segment, publics, one)?;
+        rest = more;
     }
     Ok(runs)
 }

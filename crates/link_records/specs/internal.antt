@@ -1,2 +1,3 @@
 -- What proofs of merging files speak of.
 pub mod Causes
+pub mod Views

@@ -1,6 +1,18 @@
 //! Object files merged into one.
 #![tactic(auto)]
 
+mod contents;
+mod files;
+mod fixes;
+mod growing;
+mod mains;
+mod merging;
+mod names;
+mod pieces;
+mod placed;
+mod publics;
+mod resolved;
+
 ghost use Rattle.std.specs.Prelude.{◌≡◌, map, IfOk, OnOk, Err};
 ghost use Rattle.std.specs.List.{AllZip};
 ghost use Rattle.std.specs.Io.KnownBytes.{Keeps};
@@ -9,11 +21,13 @@ ghost use Rattle.object_modules.specs.Spelling.{Spells};
 ghost use Rattle.link_records.specs.Streams.{HasStreamFault, Merges, WritesMerge};
 ghost use Rattle.link_records.specs.internal.Causes.{HasNoMerge, IsFaultyAt};
 
+use crate::files::ObjectFile;
+use crate::merging::merge_files;
 use failure::Failure;
-use link::{LinkFault, Merged, link};
+use link::LinkFault;
 use object_modules::{Fault, ObjectModule};
 use object_writer::write;
-use objmod::read;
+use objmod::walk;
 use std::alloc::Global;
 use std::io::Write;
 
@@ -28,17 +42,18 @@ pub enum StreamFault {
     Write,
 }
 
-// The module that a file spells, which is the one of this number.
-fn read_file(
+// The file of this number, which spells a module.
+#[tactic(auto, using(objmod::proofs::ReadFiles::walk_valid, objmod::proofs::ReadFiles::walk_fits, objmod::proofs::ReadFiles::told_spells))]
+fn judged_file<'a>(
     alloc: Global,
     number: usize,
-    file: &[u8],
-) -> Result<ObjectModule, Failure<StreamFault>>
+    file: &'a [u8],
+) -> Result<ObjectFile<'a>, Failure<StreamFault>>
     ensures spelled { IfOk result (λ object. Spells file.now object) }
     ensures fault { IfFault result (λ fault. IsFaultyAt number file.now fault) }
 {
-    match read(alloc, file) {
-        Ok(object) => Ok(object),
+    match walk(alloc, file) {
+        Ok(front) => Ok(ObjectFile::new(front)),
         Err(Failure::Fault(fault)) => Err(Failure::Fault(StreamFault::Object {
             file: number,
             fault,
@@ -47,28 +62,31 @@ fn read_file(
     }
 }
 
-// The modules that files spell, in their order.
+// The files in their order, each of which spells a module.
 #[tactic(auto, using(crate::proofs::Reading::one_more, crate::proofs::Reading::first_faulty))]
-fn read_all(alloc: Global, files: &[&[u8]]) -> Result<Vec<ObjectModule>, Failure<StreamFault>>
+fn judged_files<'a>(
+    alloc: Global,
+    files: &[&'a [u8]],
+) -> Result<Vec<ObjectFile<'a>>, Failure<StreamFault>>
     ensures spelled { IfOk result (λ objects.
         AllZip Spells (map (λ file. file.now) files.now) objects.items) }
     ensures fault { IfFault result (λ fault. HasNoMerge (map (λ file. file.now) files.now) fault) }
 {
     let mut objects = Vec::new(alloc);
     for file in files {
-        let object = read_file(alloc, objects.len(), file)?;
+        let object = judged_file(alloc, objects.len(), file)?;
         objects.push(object)?;
     }
     Ok(objects)
 }
 
 // The merge of the modules that files spell.
-fn merge(alloc: Global, files: &[&[u8]]) -> Result<Merged, Failure<StreamFault>>
-    ensures merges { IfOk result (λ merged. Merges (map (λ file. file.now) files.now) merged.object) }
+fn merge(alloc: Global, files: &[&[u8]]) -> Result<ObjectModule, Failure<StreamFault>>
+    ensures merges { IfOk result (λ merged. Merges (map (λ file. file.now) files.now) merged) }
     ensures fault { IfFault result (λ fault. HasNoMerge (map (λ file. file.now) files.now) fault) }
 {
-    let objects = read_all(alloc, files)?;
-    match link(alloc, objects.as_slice()) {
+    let objects = judged_files(alloc, files)?;
+    match merge_files(alloc, objects.as_slice()) {
         Ok(merged) => Ok(merged),
         Err(Failure::Fault(fault)) => Err(Failure::Fault(StreamFault::Link(fault))),
         Err(Failure::Memory) => Err(Failure::Memory),
@@ -76,8 +94,12 @@ fn merge(alloc: Global, files: &[&[u8]]) -> Result<Merged, Failure<StreamFault>>
 }
 
 /// Writes the text of the merge of the modules that files spell, in their order. The first file that is no object file,
-/// and why there is no merge, is answered before the first byte is written, and so is out of memory: memory holds the
-/// modules and their merge. After that each failure is one of the writer, which then has a beginning of the text.
+/// and why there is no merge, is answered before the first byte is written, and so is out of memory. After that each
+/// failure is one of the writer, which then has a beginning of the text.
+///
+/// It looks at one content at a time, and leaves the files' bytes where they are. Memory grows with the number of files
+/// and with their names. Beside these it holds the code and the data of the merge, however long the files are: of each at
+/// most 65535 bytes, with as many runs and fixes, which is some 5 MB.
 pub fn link_records<W: Write>(
     alloc: Global,
     files: &[&[u8]],
@@ -90,7 +112,7 @@ pub fn link_records<W: Write>(
     ensures memory { result ≡ Err Failure.Memory → Keeps (W.contents out.old) (W.contents out.new) }
 {
     let merged = merge(alloc, files)?;
-    match write(merged.module(), out) {
+    match write(&merged, out) {
         Ok(()) => Ok(()),
         Err(_) => Err(Failure::Fault(StreamFault::Write)),
     }

@@ -37,7 +37,6 @@ fn find(tables: &[Names], name: Name) -> Option<Entity>
 }
 
 // What a text has declared so far in one body.
-#[derive(Drop)]
 struct BodyNames {
     block: Names,
     outer_blocks: Vec<Names>,
@@ -166,6 +165,19 @@ impl BodyNames {
             return Err(declared_twice(name));
         }
         self.labelled.insert(name.name)
+    }
+}
+
+// Written out, so that who lets a body's names go calls this.
+impl Drop for BodyNames {
+    fn drop(self) {
+        let BodyNames {
+            block: _,
+            outer_blocks: _,
+            lists: _,
+            declared: _,
+            labelled: _,
+        } = self;
     }
 }
 

@@ -1,12 +1,14 @@
 -- Object files that are read and placed.
-use Rattle.std.proofs.Common.{ℕ, List, Option}
+use Rattle.std.proofs.Common.{◌≡◌, ℕ, List, Option, None, Some, inl, inr, refl, subst}
+use Rattle.std.specs.Io.KnownBytes.{Appends, Keeps}
+use Rattle.writing.specs.Writing.{AppendsBeginning}
 use Rattle.files.specs.Files.{Directory, HasFile}
-use Rattle.hex80.specs.Texts.{WritesText}
+use Rattle.hex80.specs.Texts.{BeginsText, WritesText}
 use Rattle.locate.specs.Locating.{Absolute, IsPlaced, plan_view}
 use Rattle.locate.specs.declared.plan.Plan.{Plan}
 use Rattle.object_modules.specs.Module.{ObjectModule}
 use Rattle.object_modules.specs.Spelling.{Spells}
-use Rattle.object_commands.specs.Placing.{PlacesFile, PrintsHex}
+use Rattle.object_commands.specs.Placing.{PlacesFile, PrintsHex, PrintsPlaces, StopsHex, StopsPlaces, places_text}
 
 pub placed : (files : Option Directory) (name bytes : List ℕ) (plan : Plan) (object : ObjectModule) (absolute : Absolute) → HasFile files name bytes → Spells bytes object
     → IsPlaced (plan_view plan) object absolute → PlacesFile files name plan object absolute
@@ -15,3 +17,28 @@ placed files name bytes plan object absolute read spelled is = record { bytes = 
 pub prints_hex : (files : Option Directory) (name : List ℕ) (plan : Plan) (object : ObjectModule) (absolute : Absolute) (old new : Option (List ℕ))
     → PlacesFile files name plan object absolute → WritesText absolute.pieces old new → PrintsHex files name plan old new
 prints_hex files name plan object absolute old new of_file printed = record { object = object; absolute = absolute; of_file = of_file; printed = printed }
+
+-- a writer that nothing was sent to
+stays_written : (known : Option (List ℕ)) → Keeps known known
+stays_written None = tt
+stays_written (Some bytes) = refl
+
+pub no_places : (files : Option Directory) (name : List ℕ) (plan : Plan) (known : Option (List ℕ)) → StopsPlaces files name plan known known
+no_places files name plan known = inl (stays_written known)
+
+pub no_hex : (files : Option Directory) (name : List ℕ) (plan : Plan) (known : Option (List ℕ)) → StopsHex files name plan known known
+no_hex files name plan known = inl (stays_written known)
+
+pub begins_hex : (files : Option Directory) (name : List ℕ) (plan : Plan) (object : ObjectModule) (absolute : Absolute) (old new : Option (List ℕ))
+    → PlacesFile files name plan object absolute → BeginsText absolute.pieces old new → StopsHex files name plan old new
+begins_hex files name plan object absolute old new of_file printed = inr (record { object = object; absolute = absolute; of_file = of_file; printed = printed })
+
+pub prints_places : (files : Option Directory) (name : List ℕ) (plan : Plan) (object : ObjectModule) (absolute : Absolute) (lines : List ℕ) (old new : Option (List ℕ))
+    → PlacesFile files name plan object absolute → lines ≡ places_text plan object absolute → Appends old new lines → PrintsPlaces files name plan old new
+prints_places files name plan object absolute lines old new of_file are printed =
+    record { object = object; absolute = absolute; of_file = of_file; printed = subst (λ (l : List ℕ). Appends old new l) are printed }
+
+pub begins_places : (files : Option Directory) (name : List ℕ) (plan : Plan) (object : ObjectModule) (absolute : Absolute) (lines : List ℕ) (old new : Option (List ℕ))
+    → PlacesFile files name plan object absolute → lines ≡ places_text plan object absolute → AppendsBeginning old new lines → StopsPlaces files name plan old new
+begins_places files name plan object absolute lines old new of_file are printed =
+    inr (record { object = object; absolute = absolute; of_file = of_file; printed = subst (λ (l : List ℕ). AppendsBeginning old new l) are printed })

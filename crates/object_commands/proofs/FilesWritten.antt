@@ -1,16 +1,19 @@
 -- Files that are written, and those that stay.
-use Rattle.std.proofs.Common.{◌≡◌, ℕ, ◌+◌, ◌<◌, ◌≤◌, Bool, true, false, List, [], ◌++◌, Option, None, Some, length, take, drop, refl, sym, ap, subst, ◌∙◌, arith}
+use Rattle.std.proofs.Common.{◌≡◌, ℕ, ◌+◌, ◌<◌, ◌≤◌, Bool, true, false, List, [], ◌++◌, Option, None, Some, inl, inr, length, take, drop, refl, sym, ap, subst, ◌∙◌, arith}
 use Rattle.std.specs.Prelude.{unwrap_or, if◌then◌else◌}
 use Rattle.std.specs.Str.{bytes_eq}
 use Rattle.std.specs.Bool.{Decides}
 use Rattle.std.proofs.lemmas.Grind.{common_steps}
 use Rattle.std.proofs.lemmas.Slice.Eq.{bytes_eq-Decides}
 use Rattle.std.proofs.Math.Seq.{take-add, take-length}
+use Rattle.std.proofs.lemmas.List.{take-append-drop}
 use Rattle.files.specs.Files.{BeginsFile, ChangesFiles, Directory, GrowsFile, KeepsFiles, with_file}
 use Rattle.object_modules.specs.Text.{text_of}
 use Rattle.link_records.specs.Streams.{Merges, WritesMerge}
+use Rattle.writing.specs.Writing.{IsBeginning}
 use Rattle.answers.specs.Reading.{HasFiles}
-use Rattle.object_commands.specs.Linking.{KeepsOthers, LinksFiles, MergesTo}
+use Rattle.answers.proofs.FilesRead.{stays_on}
+use Rattle.object_commands.specs.Linking.{KeepsOthers, LinksFiles, MergesTo, StopsLinking, StopsWriting}
 
 decided : (t : Bool) (P : Type 0) → Decides t P → P → t ≡ true
 decided t P h p = grind (arith, common_steps)
@@ -84,9 +87,27 @@ kept_then_written (Some old) (Some now) (Some new) name bytes before after = λ 
     go true other = refl
     go false other = before other
 
--- what was sent in part leaves the others, also where a later call fails
-pub others_kept_on : (old now new : Option Directory) (name bytes : List ℕ) → ChangesFiles old now (with_file name bytes) → KeepsFiles now new → KeepsOthers old new name
-others_kept_on old now new name bytes before after = others_then_kept old now new name (written_others old now name bytes before) after
+-- a file that could not be begun
+pub not_begun : (old new : Option Directory) (name bytes : List ℕ) → KeepsFiles old new → StopsWriting old new name bytes
+not_begun old new name bytes kept = inl kept
+
+written_then_kept : (old now new : Option Directory) (name bytes : List ℕ) → ChangesFiles old now (with_file name bytes) → KeepsFiles now new
+    → ChangesFiles old new (with_file name bytes)
+written_then_kept None now new name bytes before after = tt
+written_then_kept (Some old) None new name bytes before after = absurd before
+written_then_kept (Some old) (Some now) None name bytes before after = absurd after
+written_then_kept (Some old) (Some now) (Some new) name bytes before after = λ other. after other ∙ before other
+
+-- a file of which a beginning was sent when a call failed
+pub stopped_midway : (old now new : Option Directory) (name bytes : List ℕ) (sent : ℕ) → ChangesFiles old now (with_file name (take sent bytes)) → KeepsFiles now new
+    → StopsWriting old new name bytes
+stopped_midway old now new name bytes sent before after =
+    inr (take sent bytes, (drop sent bytes, sym (take-append-drop sent bytes)), written_then_kept old now new name (take sent bytes) before after)
+
+-- what was not written whole leaves the others
+pub kept_then_stopped : (old now new : Option Directory) (name bytes : List ℕ) → KeepsFiles old now → StopsWriting now new name bytes → KeepsOthers old new name
+kept_then_stopped old now new name bytes kept (inl stays) = kept_then_others old now new name kept (kept_others now new name stays)
+kept_then_stopped old now new name bytes kept (inr (sent, is, written)) = kept_then_others old now new name kept (written_others now new name sent written)
 
 -- what a writer has that was empty is the text of the merge
 pub merges_to : (slices texts : List (List ℕ)) (bytes : List ℕ) → slices ≡ texts → WritesMerge slices (Some []) (Some bytes) → MergesTo texts bytes
@@ -102,3 +123,19 @@ links old now new names texts out bytes kept read m written = record {
   merges = m.merges;
   written = kept_then_written old now new out (text_of m.object) kept (subst (λ (l : List ℕ). ChangesFiles now new (with_file out l)) m.text written);
 }
+
+-- files that were not linked
+pub not_linked : (old new : Option Directory) (names : List (List ℕ)) (out : List ℕ) → KeepsFiles old new → StopsLinking old new names out
+not_linked old new names out kept = inl kept
+
+-- files that were read and merged, but not written whole
+pub stops_linking : (old now new : Option Directory) (names texts : List (List ℕ)) (out bytes : List ℕ) → KeepsFiles old now → HasFiles old names texts → MergesTo texts bytes
+    → StopsWriting now new out bytes → StopsLinking old new names out
+stops_linking old now new names texts out bytes kept read m (inl stays) = inl (stays_on old now new kept stays)
+stops_linking old now new names texts out bytes kept read m (inr (sent, is, written)) = inr (record {
+  texts = texts;
+  read = read;
+  object = m.object;
+  merges = m.merges;
+  written = (sent, subst (λ (l : List ℕ). IsBeginning sent l) m.text is, kept_then_written old now new out sent kept written);
+})

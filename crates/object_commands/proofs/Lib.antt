@@ -1,2 +1,3 @@
 pub mod FilesWritten
 pub mod FilesPlaced
+pub mod Lines

@@ -1,11 +1,43 @@
 -- What is printed of an object file that is placed in memory.
-use Rattle.std.specs.Prelude.{ℕ, List, Option}
+use Rattle.std.specs.Prelude.{◌⊎◌, ℕ, ◌/◌, ◌%◌, List, [], ◌∷◌, ◌++◌, codes, Option}
+use Rattle.std.specs.Fmt.{decimal}
+use Rattle.std.specs.Io.KnownBytes.{Appends, Keeps}
+use Rattle.std.specs.List.{flat_map}
+use Rattle.writing.specs.Writing.{AppendsBeginning}
 use Rattle.files.specs.Files.{Directory, HasFile}
-use Rattle.hex80.specs.Texts.{WritesText}
+use Rattle.hex80.specs.Lines.{digits_of}
+use Rattle.hex80.specs.Texts.{BeginsText, WritesText}
 use Rattle.locate.specs.Locating.{Absolute, IsPlaced, plan_view}
 use Rattle.locate.specs.declared.plan.Plan.{Plan}
-use Rattle.object_modules.specs.Module.{ObjectModule}
+use Rattle.object_modules.specs.declared.segment.Segment.TheVariants.{Code, Data}
+use Rattle.object_modules.specs.Image.{Symbol}
+use Rattle.object_modules.specs.Module.{ObjectModule, length_of}
 use Rattle.object_modules.specs.Spelling.{Spells}
+
+-- an address as four upper-case hexadecimal digits
+abbrev pub address_digits : ℕ → List ℕ
+address_digits address = digits_of (address / 256) ++ digits_of (address % 256)
+
+-- the line of a range: a word, the address where it begins and how many bytes it has, with spaces (32) between
+-- them and a line feed (10) at the end
+abbrev pub range_line : List ℕ → (address size : ℕ) → List ℕ
+range_line word address size = word ++ 32 ∷ address_digits address ++ 32 ∷ decimal size ++ 10 ∷ []
+
+abbrev pub start_line : (address : ℕ) → List ℕ
+start_line address = codes "START " ++ address_digits address ++ 10 ∷ []
+
+-- the line of a public name
+abbrev pub symbol_line : Symbol → List ℕ
+symbol_line symbol = codes "PUBLIC " ++ symbol.name ++ 32 ∷ address_digits symbol.address ++ 10 ∷ []
+
+-- where the parts of a module lie that is placed by a plan, where it starts, and where its public names lie
+abbrev pub places_text : Plan → ObjectModule → Absolute → List ℕ
+places_text plan object absolute =
+    range_line (codes "CODE") plan.code (length_of object Code)
+    ++ range_line (codes "DATA") plan.data_base (length_of object Data)
+    ++ range_line (codes "STACK") plan.stack plan.stack_size
+    ++ start_line absolute.start
+    ++ flat_map symbol_line absolute.symbols
 
 -- the file of this name spells a module, which is placed by the plan
 pub record PlacesFile (files : Option Directory) (name : List ℕ) (plan : Plan)
@@ -15,6 +47,22 @@ pub record PlacesFile (files : Option Directory) (name : List ℕ) (plan : Plan)
   pub spelled : Spells bytes object
   pub placed : IsPlaced (plan_view plan) object absolute
 
+-- the lines of the placed module were written
+pub record PrintsPlaces (files : Option Directory) (name : List ℕ) (plan : Plan)
+    (old new : Option (List ℕ)) : Type 0 where
+  pub object : ObjectModule
+  pub absolute : Absolute
+  pub of_file : PlacesFile files name plan object absolute
+  pub printed : Appends old new (places_text plan object absolute)
+
+-- a beginning of the lines of the placed module was written
+pub record BeginsPlaces (files : Option Directory) (name : List ℕ) (plan : Plan)
+    (old new : Option (List ℕ)) : Type 0 where
+  pub object : ObjectModule
+  pub absolute : Absolute
+  pub of_file : PlacesFile files name plan object absolute
+  pub printed : AppendsBeginning old new (places_text plan object absolute)
+
 -- the text of the pieces of the placed module was written
 pub record PrintsHex (files : Option Directory) (name : List ℕ) (plan : Plan)
     (old new : Option (List ℕ)) : Type 0 where
@@ -22,3 +70,20 @@ pub record PrintsHex (files : Option Directory) (name : List ℕ) (plan : Plan)
   pub absolute : Absolute
   pub of_file : PlacesFile files name plan object absolute
   pub printed : WritesText absolute.pieces old new
+
+-- a beginning of the text of the pieces of the placed module was written
+pub record BeginsHex (files : Option Directory) (name : List ℕ) (plan : Plan)
+    (old new : Option (List ℕ)) : Type 0 where
+  pub object : ObjectModule
+  pub absolute : Absolute
+  pub of_file : PlacesFile files name plan object absolute
+  pub printed : BeginsText absolute.pieces old new
+
+-- what was not printed whole: nothing was written, or a beginning of the lines, or of the text
+abbrev pub StopsPlaces :
+    (files : Option Directory) → (name : List ℕ) → Plan → (old new : Option (List ℕ)) → Type 0
+StopsPlaces files name plan old new = Keeps old new ⊎ BeginsPlaces files name plan old new
+
+abbrev pub StopsHex :
+    (files : Option Directory) → (name : List ℕ) → Plan → (old new : Option (List ℕ)) → Type 0
+StopsHex files name plan old new = Keeps old new ⊎ BeginsHex files name plan old new

@@ -2,6 +2,7 @@
 #![tactic(auto)]
 
 mod linking;
+mod places;
 mod placing;
 mod writing_files;
 

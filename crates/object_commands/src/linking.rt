@@ -1,7 +1,7 @@
 //! Object files that are linked.
 
-ghost use Rattle.std.specs.Prelude.{◌≡◌, IfOk, map};
-ghost use Rattle.object_commands.specs.Linking.{KeepsOthers, LinksFiles, MergesTo};
+ghost use Rattle.std.specs.Prelude.{◌≡◌, ◌⊎◌, IfOk, map};
+ghost use Rattle.object_commands.specs.Linking.{KeepsOthers, LinksFiles, MergesTo, StopsLinking};
 
 use crate::writing_files::write_file;
 use answers::{Ending, read_files, refuse, refuse_memory};
@@ -15,7 +15,7 @@ use std::io::Write;
 /// Merges object files, and writes the merge to the file `out`. That file is begun once all others were read and their
 /// modules merged; after a write that failed it may have a beginning of the merge, which is no object file. Memory holds
 /// the files and the merge.
-#[tactic(auto, using(crate::proofs::FilesWritten::kept_others, crate::proofs::FilesWritten::kept_then_others, crate::proofs::FilesWritten::links, crate::proofs::FilesWritten::written_others))]
+#[tactic(auto, using(crate::proofs::FilesWritten::kept_others, crate::proofs::FilesWritten::kept_then_others, crate::proofs::FilesWritten::kept_then_stopped, crate::proofs::FilesWritten::links, crate::proofs::FilesWritten::not_linked, crate::proofs::FilesWritten::stops_linking, crate::proofs::FilesWritten::written_others))]
 pub fn link_files<F: Files, E: Write>(
     alloc: Global,
     objects: &[&str],
@@ -26,6 +26,9 @@ pub fn link_files<F: Files, E: Write>(
     ensures others { KeepsOthers (F.files files.old) (F.files files.new) out.now }
     ensures linked { result ≡ Ending.Done → LinksFiles (F.files files.old) (F.files files.new)
         (map (λ name. name.now) objects.now) out.now }
+    ensures refused { (result ≡ Ending.Done → ⊥) → StopsLinking (F.files files.old) (F.files files.new)
+        (map (λ name. name.now) objects.now) out.now }
+    ensures ending { (result ≡ Ending.Done) ⊎ (result ≡ Ending.Refused) }
 {
     let texts = match read_files(alloc, objects, files) {
         Ok(texts) => texts,

@@ -1,19 +1,20 @@
 //! Object files that are placed in memory.
 
-ghost use Rattle.std.specs.Prelude.{◌≡◌, IfErr, IfOk};
+ghost use Rattle.std.specs.Prelude.{◌≡◌, ◌⊎◌, IfErr, IfOk};
 ghost use Rattle.files.specs.Files.{KeepsFiles};
-ghost use Rattle.object_commands.specs.Placing.{PlacesFile, PrintsHex};
+ghost use Rattle.object_commands.specs.Placing.{PlacesFile, PrintsHex, PrintsPlaces, StopsHex, StopsPlaces};
 
-use answers::{Ending, refuse, refuse_memory, refuse_output, refuse_write};
+use crate::places::lines_of;
+use answers::{Ending, refuse, refuse_memory, refuse_output};
 use failure::Failure;
 use files::Files;
 use hex80::write_hex;
 use locate::{Absolute, Plan, locate};
-use object_modules::{ObjectModule, Segment};
+use object_modules::ObjectModule;
 use objmod::read;
 use std::alloc::Global;
-use std::io;
 use std::io::Write;
+use writing::write_bytes;
 
 // An object file that was placed.
 #[derive(Drop)]
@@ -53,22 +54,10 @@ fn place_file<F: Files, E: Write>(
     }
 }
 
-// Prints the lines of a placed object.
-fn print_lines<O: Write>(placed: &Placed, plan: &Plan, out: &mut O) -> io::Result<()> {
-    let code = placed.object.length(Segment::Code);
-    let data_length = placed.object.length(Segment::Data);
-    writeln!(out, "CODE {:04X} {code}", plan.code)?;
-    writeln!(out, "DATA {:04X} {data_length}", plan.data_base)?;
-    writeln!(out, "STACK {:04X} {}", plan.stack, plan.stack_size)?;
-    writeln!(out, "START {:04X}", placed.absolute.start())?;
-    for symbol in placed.absolute.symbols() {
-        writeln!(out, "PUBLIC {} {:04X}", symbol.name, symbol.address)?;
-    }
-    Ok(())
-}
-
 /// Places an object file by a plan, and prints where its code, its data and the stack lie and how many bytes they have,
-/// where it starts, and where its public names lie, in their order.
+/// where it starts, and where its public names lie, in their order. After a write that failed a beginning of that was
+/// printed, and after any other refusal nothing.
+#[tactic(auto, using(crate::proofs::FilesPlaced::begins_places, crate::proofs::FilesPlaced::no_places, crate::proofs::FilesPlaced::prints_places))]
 pub fn print_places<F: Files, O: Write, E: Write>(
     alloc: Global,
     file: &str,
@@ -78,19 +67,30 @@ pub fn print_places<F: Files, O: Write, E: Write>(
     err: &mut E,
 ) -> Ending
     ensures kept { KeepsFiles (F.files files.old) (F.files files.new) }
+    ensures printed { result ≡ Ending.Done → PrintsPlaces (F.files files.old) file.now plan.now
+        (O.contents out.old) (O.contents out.new) }
+    ensures refused { (result ≡ Ending.Done → ⊥) → StopsPlaces (F.files files.old) file.now plan.now
+        (O.contents out.old) (O.contents out.new) }
+    ensures ending { (result ≡ Ending.Done) ⊎ (result ≡ Ending.Refused) }
 {
     let placed = match place_file(alloc, file, plan, files, err) {
         Ok(placed) => placed,
         Err(ending) => return ending,
     };
-    match print_lines(&placed, plan, out) {
+    let lines = match lines_of(alloc, &placed.object, &placed.absolute, plan) {
+        Ok(lines) => lines,
+        Err(_) => return refuse_memory(err),
+    };
+    match write_bytes(out, lines.as_slice()) {
         Ok(()) => Ending::Done,
-        Err(error) => refuse_write(&error, err),
+        Err(Failure::Fault(_)) => refuse_output(err),
+        Err(Failure::Memory) => refuse_memory(err),
     }
 }
 
-/// Places an object file by a plan, and prints its bytes as Intel HEX.
-#[tactic(auto, using(crate::proofs::FilesPlaced::prints_hex))]
+/// Places an object file by a plan, and prints its bytes as Intel HEX. After a write that failed a beginning of that was
+/// printed, and after any other refusal nothing.
+#[tactic(auto, using(crate::proofs::FilesPlaced::begins_hex, crate::proofs::FilesPlaced::no_hex, crate::proofs::FilesPlaced::prints_hex))]
 pub fn print_hex<F: Files, O: Write, E: Write>(
     alloc: Global,
     file: &str,
@@ -102,6 +102,9 @@ pub fn print_hex<F: Files, O: Write, E: Write>(
     ensures kept { KeepsFiles (F.files files.old) (F.files files.new) }
     ensures printed { result ≡ Ending.Done → PrintsHex (F.files files.old) file.now plan.now
         (O.contents out.old) (O.contents out.new) }
+    ensures refused { (result ≡ Ending.Done → ⊥) → StopsHex (F.files files.old) file.now plan.now
+        (O.contents out.old) (O.contents out.new) }
+    ensures ending { (result ≡ Ending.Done) ⊎ (result ≡ Ending.Refused) }
 {
     let placed = match place_file(alloc, file, plan, files, err) {
         Ok(placed) => placed,

@@ -2,13 +2,14 @@
 
 ghost use Rattle.std.specs.Prelude.{◌<◌, length, OnOk, OnErr};
 ghost use Rattle.files.specs.Files.{ChangesFiles, with_file};
-ghost use Rattle.object_commands.specs.Linking.{KeepsOthers};
+ghost use Rattle.object_commands.specs.Linking.{StopsWriting};
 
 use failure::Failure;
 use files::{FileFault, Files};
 
-/// Writes a file from its beginning. After a failure it may have a beginning of the bytes, and the others are as before.
-#[tactic(auto, using(crate::proofs::FilesWritten::begun, crate::proofs::FilesWritten::kept_others, crate::proofs::FilesWritten::others_kept_on, crate::proofs::FilesWritten::written_whole))]
+/// Writes a file from its beginning. After a failure all files are as before, or it has a beginning of the bytes and the
+/// others are as before.
+#[tactic(auto, using(crate::proofs::FilesWritten::begun, crate::proofs::FilesWritten::not_begun, crate::proofs::FilesWritten::stopped_midway, crate::proofs::FilesWritten::written_whole))]
 pub(crate) fn write_file<F: Files>(
     name: &str,
     bytes: &[u8],
@@ -16,7 +17,8 @@ pub(crate) fn write_file<F: Files>(
 ) -> Result<(), Failure<FileFault>>
     ensures ok { OnOk result
         (ChangesFiles (F.files files.old) (F.files files.new) (with_file name.now bytes.now)) }
-    ensures err { OnErr result (KeepsOthers (F.files files.old) (F.files files.new) name.now) }
+    ensures err { OnErr result
+        (StopsWriting (F.files files.old) (F.files files.new) name.now bytes.now) }
 {
     files.begin(name)?;
     let mut sent = 0;

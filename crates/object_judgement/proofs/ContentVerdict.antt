@@ -1,25 +1,23 @@
 -- Contents are judged as the rules say.
-use Rattle.std.proofs.Common.{◌≡◌, ℕ, zero, suc, ◌+◌, ◌*◌, ◌<◌, ◌≤◌, Bool, true, false, not, ◌&&◌, nat_le, cond, List, [], ◌∷◌, length, flat_map, get_or, replicate, Option, Some, None, option_map, Result, Ok, Err, refl, ap, sym, subst, ◌∙◌, arith}
+use Rattle.std.proofs.Common.{◌≡◌, ℕ, zero, suc, ◌+◌, ◌*◌, ◌≤◌, Bool, true, false, not, ◌&&◌, nat_le, cond, List, [], ◌∷◌, length, get_or, replicate, Option, Some, None, option_map, Ok, Err, refl, ap, sym, ◌∙◌, arith}
 use Rattle.std.specs.Option.{option_map_or}
 use Rattle.std.proofs.lemmas.List.{length-replicate}
 use Rattle.omf80.specs.declared.kind.RecordKind.TheVariants as kinds
 use Rattle.object_modules.specs.declared.fault.Fault.TheVariants.{WrongBody, ContentMisplaced}
-use Rattle.object_modules.specs.declared.segment.Alignment.{Alignment}
 use Rattle.object_modules.specs.declared.segment.Segment.{Segment}
 use Rattle.object_modules.specs.declared.segment.Segment.TheVariants.{Absolute, Code, Data, Stack}
-use Rattle.object_modules.specs.Before.{is_empty, may_follow, same_segment, entries_of, entry_in, length_in, stated_length_of, filled_to, content_end, latest_content}
+use Rattle.object_modules.specs.Before.{is_empty, may_follow, length_in, stated_length_of, latest_content}
 use Rattle.object_modules.specs.Module.{holds_bytes}
-use Rattle.object_modules.specs.Parts.{SegmentEntry, Content, Part, ContentPart}
+use Rattle.object_modules.specs.Parts.{Content, Part, ContentPart}
 use Rattle.object_modules.specs.Reading.{segment_of, content_in}
-use Rattle.object_modules.specs.Rules.{ascend_from, fits_segment, part_fault}
+use Rattle.object_modules.specs.Rules.{fits_segment, part_fault}
 use Rattle.object_modules.specs.Spelling.{start_of_end}
-use Rattle.object_entries.specs.Entries.{content_at, content_where}
-use Rattle.object_judgement.specs.declared.extents.Extents.{Extents}
-use Rattle.object_judgement.specs.internal.Headers.{nothing_said, extents_with, extents_after}
-use Rattle.object_judgement.specs.internal.Marks.{AreMarked, no_marks, unmarked}
-use Rattle.object_judgement.specs.internal.States.{State, extent_of, end_of, with_content, fits, content_taken}
+use Rattle.object_entries.specs.Entries.{content_at}
+use Rattle.object_rules.specs.declared.extents.Extents.{Extents}
+use Rattle.object_rules.specs.Marks.{AreMarked, no_marks, unmarked}
+use Rattle.object_judgement.specs.internal.States.{State, with_content, fits, content_taken}
 use Rattle.object_judgement.proofs.ExtentsSaid.{code_length_said, data_length_said}
-use Rattle.object_judgement.proofs.Knowing.{Knows, SaysHeader, HasContent, Accepted, Verdict, fault_by, is_early, header_stays, start_stays, filtered_as_before, nothing_to_fit}
+use Rattle.object_judgement.proofs.Knowing.{Knows, SaysHeader, HasContent, Verdict, fault_by, is_early, header_stays, start_stays, filtered_as_before, nothing_to_fit}
 use Rattle.object_judgement.proofs.KnownAfter.{never, follows_early}
 
 -- no byte is marked

@@ -1,10 +1,10 @@
 -- The ends of the module and of the file are judged as the rules say.
-use Rattle.std.proofs.Common.{◌≡◌, ℕ, ◌+◌, ◌*◌, ◌==◌, Bool, true, false, ◌&&◌, cond, List, [], ◌∷◌, ◌++◌, flat_map, reverse, Option, Some, None, Result, Ok, Err, refl, ap, sym, ◌∙◌}
+use Rattle.std.proofs.Common.{◌≡◌, ℕ, ◌+◌, ◌*◌, ◌==◌, Bool, true, false, ◌&&◌, cond, List, [], ◌∷◌, ◌++◌, reverse, Option, Some, None, Ok, Err, refl, ap, ◌∙◌}
 use Rattle.std.specs.List.{filter_map}
 use Rattle.std.specs.Option.{option_map_or}
 use Rattle.omf80.specs.declared.kind.RecordKind.TheVariants as kinds
 use Rattle.object_modules.specs.declared.fault.Fault.TheVariants.{WrongBody}
-use Rattle.object_modules.specs.Before.{may_follow, is_header}
+use Rattle.object_modules.specs.Before.{may_follow}
 use Rattle.object_modules.specs.Parts.{Part, ModuleEndPart, EndOfFilePart}
 use Rattle.object_modules.specs.Reading.{module_end_in, end_of_file_in}
 use Rattle.object_modules.specs.Spelling.{first_in, start_of_end, start_in}

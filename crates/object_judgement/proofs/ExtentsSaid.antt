@@ -6,9 +6,9 @@ use Rattle.object_modules.specs.Before.{same_segment, length_in}
 use Rattle.object_modules.specs.Parts.{SegmentEntry}
 use Rattle.object_modules.specs.Rules.{ascend_from}
 use Rattle.object_modules.specs.Spelling.{alignment_with, alignment_in}
-use Rattle.object_judgement.specs.declared.extents.Extents.{Extents}
-use Rattle.object_judgement.specs.internal.Headers.{nothing_said, extents_with, extents_after}
-use Rattle.object_judgement.proofs.HeaderLaws.{said_of}
+use Rattle.object_rules.specs.declared.extents.Extents.{Extents}
+use Rattle.object_rules.specs.Headers.{nothing_said, extents_with, extents_after}
+use Rattle.object_rules.proofs.HeaderLaws.{said_of}
 use Rattle.object_judgement.proofs.KnownAfter.{never}
 
 -- an entry of another segment says nothing of this one

@@ -11,10 +11,10 @@ use Rattle.object_modules.specs.Before.{may_follow}
 use Rattle.object_modules.specs.Parts.{SegmentEntry, Part, HeaderPart}
 use Rattle.object_modules.specs.Reading.{Front, name_in_front, segment_entries_in, header_after_name, header_in}
 use Rattle.object_modules.specs.Rules.{ascend_from, is_served, part_fault}
-use Rattle.object_judgement.specs.declared.extents.Extents.{Extents}
-use Rattle.object_judgement.specs.internal.Headers.{nothing_said, extents_after, extents_in}
+use Rattle.object_rules.specs.declared.extents.Extents.{Extents}
+use Rattle.object_rules.specs.Headers.{nothing_said, extents_after}
 use Rattle.object_judgement.specs.internal.States.{State, with_header, header_named, header_taken}
-use Rattle.object_judgement.proofs.HeaderLaws.{verdict_on, extents_are}
+use Rattle.object_rules.proofs.HeaderLaws.{verdict_on, extents_are}
 use Rattle.object_judgement.proofs.Knowing.{Knows, Verdict, wrong_either_way, fault_by}
 use Rattle.object_judgement.proofs.KnownAfter.{never}
 

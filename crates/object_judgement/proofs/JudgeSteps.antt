@@ -1,7 +1,6 @@
 -- One step of the judgement of a file, for each outcome of the record in front.
-use Rattle.std.proofs.Common.{◌≡◌, ℕ, suc, ◌+◌, ◌<◌, ◌≤◌, true, false, cond, List, [], ◌∷◌, length, drop, reverse, slice_index, Option, Some, None, option_map, option_and_then, Result, Ok, Err, refl, ap, sym, ◌∙◌, arith}
+use Rattle.std.proofs.Common.{◌≡◌, ℕ, suc, ◌<◌, true, false, cond, List, [], ◌∷◌, length, drop, reverse, slice_index, Option, Some, None, option_map, option_and_then, Ok, Err, ap, ◌∙◌, arith}
 use Rattle.std.specs.Option.{option_or}
-use Rattle.std.proofs.lemmas.List.{length-drop}
 use Rattle.omf80.specs.declared.fault.Fault.{Fault as RecordFault}
 use Rattle.omf80.specs.declared.kind.RecordKind.{RecordKind}
 use Rattle.omf80.specs.Records.{kind_of_type, record_end, record_fault, first_body}

@@ -1,5 +1,5 @@
 -- What the state of a judgement knows of the records that were passed, of which the latest stands first.
-use Rattle.std.proofs.Common.{◌≡◌, ℕ, ◌==◌, Bool, true, false, not, ◌&&◌, nat_le, cond, List, [], ◌∷◌, ◌++◌, length, flat_map, reverse, Option, Some, None, Result, Ok, Err, refl, ap, sym, ◌∙◌}
+use Rattle.std.proofs.Common.{◌≡◌, ℕ, ◌==◌, Bool, true, false, not, ◌&&◌, nat_le, cond, List, [], ◌∷◌, ◌++◌, length, flat_map, reverse, Option, Some, None, Result, Ok, Err, refl, ap, ◌∙◌}
 use Rattle.std.specs.List.{list_all, filter_map}
 use Rattle.std.specs.Option.{option_map_or}
 use Rattle.std.proofs.lemmas.List.{reverse-append, append-nil}
@@ -15,11 +15,11 @@ use Rattle.object_modules.specs.Before.{rank_of, entries_of, externals_of, conte
 use Rattle.object_modules.specs.Parts.{SegmentEntry, Content, Part, kind_of_part}
 use Rattle.object_modules.specs.Rules.{is_body, is_served, ascend_from, fits_segment, is_within, are_apart, fit_content, part_fault}
 use Rattle.object_modules.specs.Spelling.{first_in, name_of_header, start_of_end, name_in, start_in}
-use Rattle.object_judgement.specs.declared.extents.Extents.{Extents}
-use Rattle.object_judgement.specs.internal.Headers.{nothing_said, extents_after}
-use Rattle.object_judgement.specs.internal.Marks.{Marked, AreMarked}
+use Rattle.object_rules.specs.declared.extents.Extents.{Extents}
+use Rattle.object_rules.specs.Headers.{nothing_said, extents_after}
+use Rattle.object_rules.specs.Marks.{Marked, AreMarked}
 use Rattle.object_judgement.specs.internal.States.{State}
-use Rattle.object_judgement.proofs.Accepting.{KnowsNames}
+use Rattle.object_rules.proofs.Accepting.{KnowsNames}
 
 -- no record has a greater rank
 abbrev pub is_early : (rank : ℕ) → List Part → Bool

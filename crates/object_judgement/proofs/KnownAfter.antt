@@ -1,5 +1,5 @@
 -- What is known once a part follows that is no header, no content and no end of the module.
-use Rattle.std.proofs.Common.{◌≡◌, ℕ, ◌≤◌, Bool, true, false, ◌&&◌, nat_le, List, ◌∷◌, [], length, flat_map, Option, Some, None, refl, sym, ◌∙◌, arith}
+use Rattle.std.proofs.Common.{◌≡◌, ℕ, ◌≤◌, true, false, nat_le, List, ◌∷◌, [], length, flat_map, Option, Some, None, refl, sym, ◌∙◌, arith}
 use Rattle.std.proofs.lemmas.Bool.{and_parts, leb-true, le-leb}
 use Rattle.omf80.specs.declared.kind.RecordKind.{RecordKind}
 use Rattle.omf80.specs.declared.kind.RecordKind.TheVariants as kinds
@@ -8,9 +8,9 @@ use Rattle.object_modules.specs.declared.segment.Segment.TheVariants.{Code, Data
 use Rattle.object_modules.specs.Before.{rank_of, is_header, is_fix_record, may_follow, entries_of, externals_of, content_of, end_by_content, filled_to}
 use Rattle.object_modules.specs.Parts.{Content, Part, kind_of_part}
 use Rattle.object_modules.specs.Spelling.{name_of_header, start_of_end}
-use Rattle.object_judgement.specs.internal.Marks.{Marked}
+use Rattle.object_rules.specs.Marks.{Marked}
 use Rattle.object_judgement.specs.internal.States.{State}
-use Rattle.object_judgement.proofs.Accepting.{KnowsNames}
+use Rattle.object_rules.proofs.Accepting.{KnowsNames}
 use Rattle.object_judgement.proofs.Knowing.{Knows, HasContent, is_early, in_contents, header_stays, start_stays, filtered_as_before}
 
 pub never : {A : Type 0} → false ≡ true → A

@@ -1,8 +1,3 @@
-pub mod NewNames
-pub mod FixMarks
-pub mod FixReferences
-pub mod HeaderLaws
-pub mod Accepting
 pub mod JudgeSteps
 pub mod Knowing
 pub mod KnownAfter

@@ -1,5 +1,5 @@
 -- Each record is judged as the rules say.
-use Rattle.std.proofs.Common.{◌≡◌, ℕ, ◌≤◌, ◌==◌, Bool, true, false, cond, List, [], ◌∷◌, length, flat_map, Option, Some, None, Result, Ok, Err, refl, ap, sym, ◌∙◌}
+use Rattle.std.proofs.Common.{◌≡◌, ℕ, ◌≤◌, Bool, true, false, cond, List, [], ◌∷◌, length, Option, Some, None, Result, Ok, Err, refl, ap, sym, ◌∙◌}
 use Rattle.std.specs.Option.{option_map_or}
 use Rattle.omf80.specs.declared.kind.RecordKind.{RecordKind}
 use Rattle.omf80.specs.declared.kind.RecordKind.TheVariants as kinds
@@ -9,9 +9,9 @@ use Rattle.object_modules.specs.Before.{may_follow, is_ended}
 use Rattle.object_modules.specs.Parts.{Part, kind_of_part}
 use Rattle.object_modules.specs.Reading.{part_in}
 use Rattle.object_modules.specs.Rules.{part_fault, fault_of_record}
-use Rattle.object_judgement.specs.internal.Order.{may_come, is_over}
+use Rattle.object_rules.specs.Order.{may_come, is_over}
 use Rattle.object_judgement.specs.internal.States.{State, beginning, body_taken, then_latest, record_taken}
-use Rattle.object_judgement.proofs.Knowing.{Knows, Accepted, Verdict}
+use Rattle.object_judgement.proofs.Knowing.{Knows, Verdict}
 use Rattle.object_judgement.proofs.KnownAfter.{never}
 use Rattle.object_judgement.proofs.HeaderVerdict.{header_verdict}
 use Rattle.object_judgement.proofs.NamesVerdict.{externals_verdict, publics_verdict}

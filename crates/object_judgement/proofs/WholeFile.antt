@@ -1,5 +1,5 @@
 -- A file is judged whole, record by record.
-use Rattle.std.proofs.Common.{◌≡◌, ℕ, suc, ◌<◌, ◌≤◌, ◌==◌, true, false, List, [], ◌∷◌, length, drop, reverse, slice_index, Option, Some, None, Result, Ok, Err, refl, ap, sym, subst, ◌∙◌, arith}
+use Rattle.std.proofs.Common.{◌≡◌, ℕ, suc, ◌<◌, ◌≤◌, ◌==◌, true, false, List, [], ◌∷◌, length, drop, reverse, slice_index, Some, None, Result, Ok, Err, refl, ap, sym, subst, ◌∙◌, arith}
 use Rattle.std.proofs.lemmas.Bool.{eqb-true}
 use Rattle.std.proofs.lemmas.List.{length-drop}
 use Rattle.failure.specs.Failure.{IfFault}
@@ -22,10 +22,10 @@ use Rattle.object_modules.specs.Spelling.{Spells, HasFirstFault, IsFileOf, align
 use Rattle.object_modules.specs.internal.Judgement.{judged_after, parts_of}
 use Rattle.object_files.proofs.Judged.{JudgesFile, parts_law}
 use Rattle.object_files.proofs.Unique.{no_fault}
-use Rattle.object_judgement.specs.declared.extents.Extents.{Extents}
+use Rattle.object_rules.specs.declared.extents.Extents.{Extents}
 use Rattle.object_judgement.specs.declared.header.Header.{Header}
 use Rattle.object_judgement.specs.Judging.{IsJudged}
-use Rattle.object_judgement.specs.internal.Order.{is_over}
+use Rattle.object_rules.specs.Order.{is_over}
 use Rattle.object_judgement.specs.internal.States.{State, beginning, record_taken, Tells}
 use Rattle.object_judgement.proofs.JudgeSteps.{no_record, broken_rule, goes_on, at_the_end, past_the_end}
 use Rattle.object_judgement.proofs.Knowing.{SaysHeader}

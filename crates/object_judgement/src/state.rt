@@ -3,18 +3,17 @@
 ghost use Rattle.std.specs.Prelude.{◌≡◌, ◌≤◌, Ok, Err, length, OnOk};
 ghost use Rattle.failure.specs.Failure.{IfFault};
 ghost use Rattle.object_entries.specs.Views.{content_view};
-ghost use Rattle.object_judgement.specs.internal.Order.{is_over};
+ghost use Rattle.object_rules.specs.Order.{is_over};
 ghost use Rattle.object_judgement.specs.internal.States.{beginning, state_view, extent_of, end_of, fits, with_content, header_taken, externals_taken, publics_taken, content_taken, fixes_taken, start_stated, end_taken, body_taken, record_taken, Tells};
 
-use crate::extents::{Extents, extents_of, nothing_said};
 use crate::header::Header;
-use crate::marks::MarkedContent;
-use crate::names::{NameList, NameSet, is_name, take_names};
-use crate::order::may_come;
-use crate::references::{entries_fit, target_fits};
 use failure::Failure;
 use object_entries::{Content, content_of, fix_entries_of, name_in_front, segment_of, word};
 use object_modules::{Fault, Segment};
+use object_rules::{
+    Extents, MarkedContent, NameList, NameSet, entries_fit, extents_of, is_name, may_come,
+    nothing_said, take_names, target_fits,
+};
 use omf80::{Record, RecordKind};
 use std::alloc::Global;
 

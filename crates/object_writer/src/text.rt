@@ -4,7 +4,8 @@ ghost use Rattle.std.specs.Prelude.{◌≡◌, map, flat_map, OnOk, OnErr};
 ghost use Rattle.std.specs.Io.KnownBytes.{Appends};
 ghost use Rattle.object_modules.specs.Module.{IsObjectModule, alignment_of, length_of};
 ghost use Rattle.object_modules.specs.Parts.{part_bytes};
-ghost use Rattle.object_modules.specs.Text.{header_for, segment_parts, text_of};
+ghost use Rattle.object_modules.specs.Spelling.{Spells};
+ghost use Rattle.object_modules.specs.Text.{header_for, segment_parts, text_of, with_publics_in_order};
 ghost use Rattle.object_modules.specs.Views.{owned_public_view};
 ghost use Rattle.writing.specs.Writing.{AppendsBeginning};
 ghost use Rattle.object_writer.specs.internal.Texts.{names_text, publics_text, rest_text};
@@ -113,12 +114,14 @@ fn write_rest<W: Write>(object: &ObjectModule, out: &mut W) -> Result<(), Failur
 }
 
 /// Writes the one text of a module: header, external names, public names by segments, contents with their
-/// fixes, and the end. Takes no memory. After a failure the writer has a beginning of it. The format is
-/// `docs/object-format.md`.
+/// fixes, and the end. It spells the module, with its public names by segments. Takes no memory. After a failure the
+/// writer has a beginning of it. The format is `docs/object-format.md`.
+#[tactic(auto, using(object_texts::proofs::WrittenAgain::text_spells))]
 pub fn write<W: Write>(object: &ObjectModule, out: &mut W) -> Result<(), Failure<WriteFault>>
     ensures ok { OnOk result (Appends (W.contents out.old) (W.contents out.new) (text_of object.now)) }
     ensures err { OnErr result (AppendsBeginning (W.contents out.old) (W.contents out.new)
         (text_of object.now)) }
+    ensures spelled { Spells (text_of object.now) (with_publics_in_order object.now) }
 {
     write_front(object, out)?;
     write_names(object, out)?;

@@ -12,7 +12,6 @@ pub mod RangeTests
 pub mod Passes
 pub mod MisplacedLoops
 pub mod Placings
-pub mod PieceLoops
 pub mod Coverage
 pub mod Claiming
 pub mod ClaimedBytes

@@ -1,5 +1,5 @@
 -- The first misplaced object: among those of a module, and of all modules.
-use Rattle.std.proofs.Common.{◌≡◌, ℕ, ◌+◌, ◌<◌, ◌≤◌, Bool, true, false, List, ◌∷◌, ◌++◌, length, drop, get_or, map, Option, None, Some, option_map, if◌then◌else◌, refl, ap, sym, ◌∙◌}
+use Rattle.std.proofs.Common.{◌≡◌, ℕ, ◌+◌, ◌<◌, ◌≤◌, List, ◌++◌, length, drop, get_or, map, Option, None, Some, option_map, refl, ap, sym, ◌∙◌}
 use Rattle.std.specs.Prelude.{flat_map, slice_get, zip}
 use Rattle.std.specs.List.{find}
 use Rattle.std.specs.Option.{option_or}
@@ -8,7 +8,6 @@ use Rattle.std.proofs.lemmas.List.Concat.{flat_map-cons}
 use Rattle.std.proofs.lemmas.List.Folds.{find-append}
 use Rattle.mem80.specs.declared.range.Range.{Range}
 use Rattle.typed_trees.specs.declared.module.Typed.{Typed}
-use Rattle.typed_trees.specs.declared.module.TypedObject.{TypedObject as Object}
 use Rattle.typed_trees.specs.TypedTrees.{TypedObject, TypedModule}
 use Rattle.typed_trees.specs.Views.{module_view, object_view}
 use Rattle.layout.specs.Placement.{ModulePlacement}
@@ -21,64 +20,6 @@ use Rattle.placing.proofs.Passes.{found_first, found_none, zip_nothing}
 
 abbrev name_of : TypedObject × ℕ → List ℕ
 name_of placed = (placed.0).name
-
-named_first :
-    (code stack : Range) (placed : TypedObject × ℕ) (others : List (TypedObject × ℕ)) (misplaced : Bool)
-    → is_misplaced code stack placed ≡ misplaced
-    → name_of_misplaced code stack (placed ∷ others)
-    ≡ (if misplaced then Some (name_of placed) else name_of_misplaced code stack others)
-named_first code stack placed others true does =
-    ap (λ b. option_map name_of (if b then Some placed else find (is_misplaced code stack) others)) does
-named_first code stack placed others false does =
-    ap (λ b. option_map name_of (if b then Some placed else find (is_misplaced code stack) others)) does
-
-abbrev pub name_left : (code stack : Range) → List Object → (addresses : List ℕ) → (index number : ℕ) → Option (List ℕ)
-name_left code stack objects addresses index number =
-    name_of_misplaced code stack (zip (map object_view (drop index objects)) (drop number addresses))
-
-module _ (code stack : Range) (objects : List Object) (addresses : List ℕ) (index number : ℕ) (total : Option (List ℕ))
-    (rest : name_left code stack objects addresses index number ≡ total) where
-  object_step :
-      (misplaced : Bool) (object : Object) (address : ℕ)
-      → index < length objects
-      → object ≡ get_or objects index object
-      → slice_get addresses number ≡ Some address
-      → is_misplaced code stack (object_view object, address) ≡ misplaced
-      → (if misplaced then Some object.name else name_left code stack objects addresses (index + 1) (number + 1)) ≡ total
-  object_step misplaced object address within is found does =
-      sym (named_first code stack (object_view object, address) (zip (map object_view (drop (index + 1) objects)) (drop (number + 1) addresses)) misplaced does)
-      ∙ sym (λ i. name_of_misplaced code stack (zip (view_first object_view objects index object within is i) (found_first addresses number address found i)))
-      ∙ rest
-
-  pub object_found :
-      (object : Object) (address : ℕ)
-      → index < length objects
-      → object ≡ get_or objects index object
-      → slice_get addresses number ≡ Some address
-      → is_misplaced code stack (object_view object, address) ≡ true
-      → Some object.name ≡ total
-  object_found object address within is found does = object_step true object address within is found does
-
-  pub object_passed :
-      (object : Object) (address : ℕ)
-      → index < length objects
-      → object ≡ get_or objects index object
-      → slice_get addresses number ≡ Some address
-      → is_misplaced code stack (object_view object, address) ≡ false
-      → name_left code stack objects addresses (index + 1) (number + 1) ≡ total
-  object_passed object address within is found does = object_step false object address within is found does
-
-  pub objects_ended : length objects ≤ index → None ≡ total
-  objects_ended past =
-      sym (ap (λ left. name_of_misplaced code stack (zip (map object_view left) (drop number addresses))) (drop_of_length-le objects past))
-      ∙ rest
-
-  pub addresses_ended : slice_get addresses number ≡ None → None ≡ total
-  addresses_ended none =
-      sym (ap (name_of_misplaced code stack)
-      (ap (zip (map object_view (drop index objects))) (found_none addresses number none)
-      ∙ zip_nothing (map object_view (drop index objects))))
-      ∙ rest
 
 -- of objects and others, the first of the objects if there is one
 map_or : {A B : Type 0} (f : A → B) (left right : Option A) → option_map f (option_or left right) ≡ option_or (option_map f left) (option_map f right)

@@ -1,25 +1,23 @@
--- One pass over the objects of a module, over its constant lists, and over the modules.
-use Rattle.std.proofs.Common.{◌≡◌, ℕ, zero, suc, ◌+◌, ◌<◌, ◌≤◌, List, [], ◌∷◌, ◌++◌, length, drop, get_or, map, Option, None, Some, refl, ap, sym, ◌∙◌, add-one, append_assoc, append-nil, arith}
+-- What is left of a list that is looked at by a number, and one pass over the modules.
+use Rattle.std.proofs.Common.{◌≡◌, ℕ, zero, suc, ◌+◌, ◌-◌, ◌≤◌, List, [], ◌∷◌, ◌++◌, length, take, drop, get_or, map, None, Some, refl, ap, sym, ◌∙◌, add-one, append_assoc, arith}
 use Rattle.std.specs.Prelude.{slice_get, sum, zip}
-use Rattle.std.proofs.Math.ListN.{drop_of_length-le}
 use Rattle.std.proofs.Math.Seq.{drop-cons}
+use Rattle.std.proofs.lemmas.List.{take_all, map-append}
+use Rattle.std.proofs.lemmas.List.Sums.{sum_by-cons}
 use Rattle.std.proofs.lemmas.Option.{slice_get_within, get_or_from_slice_get, none-some}
 use Rattle.typed_trees.specs.declared.module.Typed.{Typed}
-use Rattle.typed_trees.specs.declared.module.TypedObject.{TypedObject as Object}
-use Rattle.typed_trees.specs.TypedTrees.{TypedObject, TypedModule}
-use Rattle.typed_trees.specs.Views.{module_view, object_view}
+use Rattle.typed_trees.specs.Views.{module_view}
 use Rattle.layout.specs.declared.slot.Layout.{Layout}
-use Rattle.layout.specs.declared.slot.Slot.{Slot}
 use Rattle.layout.specs.Following.{Bases}
 use Rattle.layout.specs.Placement.{ModulePlacement}
-use Rattle.layout.specs.Placing.{address_by_home, addresses_after, module_placement_by}
+use Rattle.layout.specs.Placing.{module_placement_by}
 use Rattle.layout.specs.Storage.{Storage}
 use Rattle.layout.specs.Views.{layout_view}
-use Rattle.layout.proofs.Sums.{view_first}
+use Rattle.placing.specs.declared.placement.ModulePlacement.{ModulePlacement as CodeModulePlacement}
+use Rattle.placing.specs.Views.{module_placement_view}
 use Rattle.placing.specs.internal.Placings.{bases_after, placements_from, layout_sizes}
-use Rattle.placing.proofs.Sums.{code_first, data_first}
 
--- what is left of a list that is looked at by a number
+-- where there is an item, and where there is none
 pub found_first :
     {A : Type 0} (items : List A) (number : ℕ) (item : A)
     → slice_get items number ≡ Some item
@@ -38,10 +36,6 @@ found_none items number none = past items number none
     past (item ∷ others) zero none = absurd (none-some item (sym none))
     past (item ∷ others) (suc number) none = past others number none
 
--- the objects of a module with their slots, from one on
-abbrev pub objects_left : List Object → List (Option Slot) → (index number : ℕ) → List (TypedObject × Option Slot)
-objects_left objects slots index number = zip (map object_view (drop index objects)) (drop number slots)
-
 abbrev pub nothing : {B : Type 0} → List B
 nothing = []
 
@@ -49,105 +43,84 @@ pub zip_nothing : {A B : Type 0} (items : List A) → zip items (nothing {B = B}
 zip_nothing [] = refl
 zip_nothing (item ∷ others) = refl
 
-module _ (bases : Bases) (before total : List ℕ) (objects : List Object) (slots : List (Option Slot)) (index number : ℕ)
-    (rest : addresses_after bases before (objects_left objects slots index number) ≡ total) where
-  pub object_placed :
-      (object : Object) (slot : Option Slot) (address : ℕ)
-      → index < length objects
-      → object ≡ get_or objects index object
-      → slice_get slots number ≡ Some slot
-      → address ≡ address_by_home bases before slot (object_view object).home
-      → addresses_after bases (before ++ address ∷ []) (objects_left objects slots (index + 1) (number + 1)) ≡ total
-  object_placed object slot address within is found placed =
-      ap (λ one. addresses_after bases (before ++ one ∷ []) (objects_left objects slots (index + 1) (number + 1))) placed
-      ∙ sym (λ i. addresses_after bases before (zip (view_first object_view objects index object within is i) (found_first slots number slot found i)))
-      ∙ rest
+-- the others of items, of which the first is known
+abbrev others_of : {A : Type 0} → List A → List A
+others_of items = take (length items - 1) (drop 1 items)
 
-  pub objects_placed : length objects ≤ index → before ≡ total
-  objects_placed past =
-      sym (ap (λ left. addresses_after bases before (zip (map object_view left) (drop number slots))) (drop_of_length-le objects past))
-      ∙ rest
+first_is : {A : Type 0} (items : List A) (first : A) → 1 ≤ length items → first ≡ get_or items 0 first → items ≡ first ∷ others_of items
+first_is [] first some is = absurd (omega arith)
+first_is (item ∷ others) first some is =
+    ap (λ front. front ∷ others) (sym is)
+    ∙ ap (λ rest. first ∷ rest) (sym (take_all (length (item ∷ others) - 1) others (omega arith)))
 
-  pub slots_placed : slice_get slots number ≡ None → before ≡ total
-  slots_placed none =
-      sym (ap (addresses_after bases before)
-      (ap (zip (map object_view (drop index objects))) (found_none slots number none)
-      ∙ zip_nothing (map object_view (drop index objects))))
-      ∙ rest
+first_number : (numbers : List ℕ) → get_or numbers 0 0 ≡ get_or numbers 0 (get_or numbers 0 0)
+first_number [] = refl
+first_number (number ∷ others) = refl
 
--- the modules with their layouts and the lengths of their code, from one on
-abbrev pub placements_left : Bases → List Typed → List Layout → List ℕ → (index number : ℕ) → List ModulePlacement
-placements_left bases modules layouts lengths index number =
-    placements_from bases (map module_view (drop index modules)) (map layout_view (drop number layouts)) (drop number lengths)
+-- one module more is placed
+pub module_placed :
+    (bases after : Bases) (made new : List CodeModulePlacement) (total : List ModulePlacement)
+    (modules : List Typed) (layouts : List Layout) (lengths : List ℕ)
+    (typed : Typed) (layout : Layout) (placed : CodeModulePlacement)
+    → map module_placement_view made ++ placements_from bases (map module_view modules) (map layout_view layouts) lengths ≡ total
+    → 1 ≤ length modules → typed ≡ get_or modules 0 typed
+    → 1 ≤ length layouts → layout ≡ get_or layouts 0 layout
+    → 1 ≤ length lengths
+    → module_placement_view placed ≡ module_placement_by bases (module_view typed) (layout_view layout)
+    → new ≡ made ++ placed ∷ []
+    → after ≡ bases_after bases (layout_view layout) (get_or lengths 0 0)
+    → map module_placement_view new
+    ++ placements_from after (map module_view (others_of modules)) (map layout_view (others_of layouts)) (others_of lengths)
+    ≡ total
+module_placed bases after made new total modules layouts lengths typed layout placed rest some is found there counted given pushed next =
+    ap (λ items. map module_placement_view items
+    ++ placements_from after (map module_view (others_of modules)) (map layout_view (others_of layouts)) (others_of lengths)) pushed
+    ∙ ap (λ items. items
+    ++ placements_from after (map module_view (others_of modules)) (map layout_view (others_of layouts)) (others_of lengths))
+    (map-append module_placement_view made (placed ∷ []))
+    ∙ append_assoc (map module_placement_view made) (module_placement_view placed ∷ [])
+    (placements_from after (map module_view (others_of modules)) (map layout_view (others_of layouts)) (others_of lengths))
+    ∙ (λ i. map module_placement_view made
+    ++ given i
+    ∷ placements_from (next i) (map module_view (others_of modules)) (map layout_view (others_of layouts)) (others_of lengths))
+    ∙ sym (λ i. map module_placement_view made
+    ++ placements_from bases (map module_view (first_is modules typed some is i)) (map layout_view (first_is layouts layout found there i))
+    (first_is lengths (get_or lengths 0 0) counted (first_number lengths) i))
+    ∙ rest
 
-no_storages : (bases : Bases) (modules : List TypedModule) (lengths : List ℕ) → placements_from bases modules [] lengths ≡ []
-no_storages bases [] lengths = refl
-no_storages bases (typed ∷ others) lengths = refl
+-- the segments of the next module end in memory, and so do those that are left
+code_split : (lengths : List ℕ) → 1 ≤ length lengths → sum lengths ≡ get_or lengths 0 0 + sum (others_of lengths)
+code_split lengths some =
+    ap sum (first_is lengths (get_or lengths 0 0) some (first_number lengths))
+    ∙ sum_by-cons (λ (n : ℕ). n) (get_or lengths 0 0) (others_of lengths)
 
-no_lengths : (bases : Bases) (modules : List TypedModule) (storages : List Storage) → placements_from bases modules storages [] ≡ []
-no_lengths bases [] storages = refl
-no_lengths bases (typed ∷ others) [] = refl
-no_lengths bases (typed ∷ others) (storage ∷ storages) = refl
+pub code_within :
+    (lengths : List ℕ) (base : ℕ) → 1 ≤ length lengths → base + sum lengths ≤ 65536 → base + get_or lengths 0 0 ≤ 65536
+code_within lengths base some within = omega (arith, code_split lengths some, within)
 
-layout_first :
-    (layouts : List Layout) (number : ℕ) (layout : Layout)
-    → slice_get layouts number ≡ Some layout
-    → map layout_view (drop number layouts) ≡ layout_view layout ∷ map layout_view (drop (number + 1) layouts)
-layout_first layouts number layout found = ap (map layout_view) (found_first layouts number layout found)
+pub code_left :
+    (lengths : List ℕ) (base next : ℕ) → 1 ≤ length lengths → base + sum lengths ≤ 65536
+    → next ≡ base + get_or lengths 0 0
+    → next + sum (others_of lengths) ≤ 65536
+code_left lengths base next some within is = omega (arith, code_split lengths some, within, is)
 
-module _ (bases : Bases) (made total : List ModulePlacement) (modules : List Typed) (layouts : List Layout) (lengths : List ℕ) (index number : ℕ)
-    (rest : made ++ placements_left bases modules layouts lengths index number ≡ total) where
-  pub module_placed :
-      (typed : Typed) (layout : Layout) (length' : ℕ) (placed : ModulePlacement) (after : Bases)
-      → index < length modules
-      → typed ≡ get_or modules index typed
-      → slice_get layouts number ≡ Some layout
-      → slice_get lengths number ≡ Some length'
-      → placed ≡ module_placement_by bases (module_view typed) (layout_view layout)
-      → after ≡ bases_after bases (layout_view layout) length'
-      → (made ++ placed ∷ []) ++ placements_left after modules layouts lengths (index + 1) (number + 1) ≡ total
-  module_placed typed layout length' placed after within is found counted given next =
-      append_assoc made (placed ∷ []) (placements_left after modules layouts lengths (index + 1) (number + 1))
-      ∙ (λ i. made ++ given i ∷ placements_left (next i) modules layouts lengths (index + 1) (number + 1))
-      ∙ sym (λ i. made ++ placements_from bases (view_first module_view modules index typed within is i) (layout_first layouts number layout found i) (found_first lengths number length' counted i))
-      ∙ rest
+data_split :
+    (layouts : List Layout) (first : Layout) → 1 ≤ length layouts → first ≡ get_or layouts 0 first
+    → layout_sizes layouts ≡ first.data_size + layout_sizes (others_of layouts)
+data_split layouts first some there =
+    ap layout_sizes (first_is layouts first some there)
+    ∙ sum_by-cons (λ (storage : Storage). storage.data_size) (layout_view first) (map layout_view (others_of layouts))
 
-  at_nothing : placements_left bases modules layouts lengths index number ≡ [] → made ≡ total
-  at_nothing none = sym (append-nil made) ∙ sym (ap (λ left. made ++ left) none) ∙ rest
+pub data_within :
+    (layouts : List Layout) (first : Layout) (base : ℕ) → 1 ≤ length layouts → first ≡ get_or layouts 0 first
+    → base + layout_sizes layouts ≤ 65536
+    → base + first.data_size ≤ 65536
+data_within layouts first base some there within = omega (arith, data_split layouts first some there, within)
 
-  pub modules_placed : length modules ≤ index → made ≡ total
-  modules_placed past =
-      at_nothing (ap (λ left. placements_from bases (map module_view left) (map layout_view (drop number layouts)) (drop number lengths)) (drop_of_length-le modules past))
-
-  pub layouts_placed : slice_get layouts number ≡ None → made ≡ total
-  layouts_placed none =
-      at_nothing (
-      ap (λ left. placements_from bases (map module_view (drop index modules)) (map layout_view left) (drop number lengths)) (found_none layouts number none)
-      ∙ no_storages bases (map module_view (drop index modules)) (drop number lengths))
-
-  pub lengths_placed : slice_get lengths number ≡ None → made ≡ total
-  lengths_placed none =
-      at_nothing (
-      ap (placements_from bases (map module_view (drop index modules)) (map layout_view (drop number layouts))) (found_none lengths number none)
-      ∙ no_lengths bases (map module_view (drop index modules)) (map layout_view (drop number layouts)))
-
--- the segments that are left end in memory
-module _ (lengths : List ℕ) (number base one : ℕ) (within : base + sum (drop number lengths) ≤ 65536) (found : slice_get lengths number ≡ Some one) where
-  code_split : sum (drop number lengths) ≡ one + sum (drop (number + 1) lengths)
-  code_split = code_first lengths number one (slice_get_within lengths number one found) (sym (get_or_from_slice_get lengths number one one found))
-
-  pub code_within : base + one ≤ 65536
-  code_within = let split : sum (drop number lengths) ≡ one + sum (drop (number + 1) lengths) = code_split in omega arith
-
-  pub code_left : base + one + sum (drop (number + 1) lengths) ≤ 65536
-  code_left = let split : sum (drop number lengths) ≡ one + sum (drop (number + 1) lengths) = code_split in omega arith
-
-module _ (layouts : List Layout) (number base : ℕ) (one : Layout) (within : base + layout_sizes (drop number layouts) ≤ 65536) (found : slice_get layouts number ≡ Some one) where
-  data_split : layout_sizes (drop number layouts) ≡ one.data_size + layout_sizes (drop (number + 1) layouts)
-  data_split = data_first layouts number one (slice_get_within layouts number one found) (sym (get_or_from_slice_get layouts number one one found))
-
-  pub data_within : base + one.data_size ≤ 65536
-  data_within = let split : layout_sizes (drop number layouts) ≡ one.data_size + layout_sizes (drop (number + 1) layouts) = data_split in omega arith
-
-  pub data_left : base + one.data_size + layout_sizes (drop (number + 1) layouts) ≤ 65536
-  data_left = let split : layout_sizes (drop number layouts) ≡ one.data_size + layout_sizes (drop (number + 1) layouts) = data_split in omega arith
+pub data_left :
+    (layouts : List Layout) (first : Layout) (base next : ℕ) → 1 ≤ length layouts → first ≡ get_or layouts 0 first
+    → base + layout_sizes layouts ≤ 65536
+    → next ≡ base + first.data_size
+    → next + layout_sizes (others_of layouts) ≤ 65536
+data_left layouts first base next some there within is =
+    omega (arith, data_split layouts first some there, within, is)

@@ -70,7 +70,6 @@ fn address_by_home(bases: Bases, before: &[u16], slot: Option<Slot>, home: &Home
 }
 
 // The addresses of objects that have those slots.
-#[tactic(auto, using(crate::proofs::Passes::object_placed, crate::proofs::Passes::objects_placed, crate::proofs::Passes::slots_placed))]
 fn object_addresses(
     alloc: Global,
     bases: Bases,
@@ -82,14 +81,16 @@ fn object_addresses(
     ensures err { IfFault result (λ _. ⊥) }
 {
     let mut addresses = Vec::with_capacity(alloc, objects.len())?;
-    let mut number: usize = 0;
-    for object in objects {
-        let Some(slot) = slots.get(number) else {
+    let mut rest = objects;
+    let mut places = slots;
+    while let [object, more @ ..] = rest {
+        let [slot, more_places @ ..] = places else {
             break;
         };
         let address = address_by_home(bases, addresses.as_slice(), *slot, &object.home);
         addresses.push(address)?;
-        number += 1;
+        rest = more;
+        places = more_places;
     }
     Ok(addresses)
 }
@@ -101,8 +102,10 @@ fn list_addresses(alloc: Global, bases: Bases, slots: &[Slot]) -> Result<Vec<u16
     ensures err { IfFault result (λ _. ⊥) }
 {
     let mut addresses = Vec::with_capacity(alloc, slots.len())?;
-    for slot in slots {
+    let mut rest = slots;
+    while let [slot, more @ ..] = rest {
         addresses.push(address_of_slot(bases, *slot))?;
+        rest = more;
     }
     Ok(addresses)
 }
@@ -141,7 +144,6 @@ fn bases_after(bases: Bases, layout: &Layout, length: u32) -> Bases
 }
 
 /// Where modules lie, the segments of the first of which begin there.
-#[tactic(auto, using(crate::proofs::Passes::code_within, crate::proofs::Passes::data_within, crate::proofs::Passes::code_left, crate::proofs::Passes::data_left, crate::proofs::Passes::module_placed, crate::proofs::Passes::modules_placed, crate::proofs::Passes::layouts_placed, crate::proofs::Passes::lengths_placed))]
 pub(crate) fn module_placements(
     alloc: Global,
     first: Bases,
@@ -157,18 +159,22 @@ pub(crate) fn module_placements(
 {
     let mut placements = Vec::with_capacity(alloc, modules.len())?;
     let mut bases = first;
-    let mut number: usize = 0;
-    for typed in modules {
-        let Some(layout) = layouts.get(number) else {
+    let mut rest = modules;
+    let mut storages = layouts;
+    let mut lengths = code_lengths;
+    while let [typed, more @ ..] = rest {
+        let [layout, more_storages @ ..] = storages else {
             break;
         };
-        let Some(length) = code_lengths.get(number) else {
+        let [length, more_lengths @ ..] = lengths else {
             break;
         };
         let placed = module_placement(alloc, bases, typed, layout)?;
         placements.push(placed)?;
         bases = bases_after(bases, layout, *length);
-        number += 1;
+        rest = more;
+        storages = more_storages;
+        lengths = more_lengths;
     }
     Ok(placements)
 }

@@ -37,20 +37,21 @@ fn is_misplaced(ranges: Ranges, object: &TypedObject, address: u16) -> bool
 }
 
 // The name of the first misplaced object of a module that lies there.
-#[tactic(auto, using(crate::proofs::MisplacedLoops::object_found, crate::proofs::MisplacedLoops::object_passed, crate::proofs::MisplacedLoops::objects_ended, crate::proofs::MisplacedLoops::addresses_ended))]
 fn misplaced_in(ranges: Ranges, typed: &Typed, placed: &ModulePlacement) -> Option<Name>
     ensures { result ≡ name_of_misplaced ranges.code ranges.stack
         (zip (module_view typed.now).objects (module_placement_view placed.now).objects) }
 {
-    let mut number: usize = 0;
-    for object in &typed.objects {
-        let Some(address) = placed.objects.get(number) else {
+    let mut rest = typed.objects.as_slice();
+    let mut places = placed.objects.as_slice();
+    while let [object, more @ ..] = rest {
+        let [address, more_places @ ..] = places else {
             return None;
         };
         if is_misplaced(ranges, object, *address) {
             return Some(object.name);
         }
-        number += 1;
+        rest = more;
+        places = more_places;
     }
     None
 }

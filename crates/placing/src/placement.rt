@@ -14,10 +14,19 @@ use std::alloc::{AllocError, Global};
 
 /// Where the objects and the constant lists of a module lie, by their numbers. For an object that has no storage and no
 /// AT place the address says nothing.
-#[derive(Drop)]
 pub struct ModulePlacement {
     pub objects: Vec<u16>,
     pub lists: Vec<u16>,
+}
+
+// Written out, so that what it holds is let go here, and each crate that lets one go calls this.
+impl Drop for ModulePlacement {
+    fn drop(self) {
+        let ModulePlacement {
+            objects: _,
+            lists: _,
+        } = self;
+    }
 }
 
 /// What a byte of memory is to a program.
@@ -33,7 +42,6 @@ pub enum ByteKind {
 
 /// Where a program lies: each of its modules, and the ranges of its code and of its stack. A table says of each byte of
 /// memory what it is to the program.
-#[derive(Drop)]
 pub struct Placement {
     modules: Vec<ModulePlacement>,
     code: Range,
@@ -90,5 +98,17 @@ impl Placement {
         ensures { result ≡ slice_index_or (self.now).kinds.value address ByteKind.Undeclared }
     {
         self.kinds[address as usize]
+    }
+}
+
+// Written out, so that what it holds is let go here, and each crate that lets one go calls this.
+impl Drop for Placement {
+    fn drop(self) {
+        let Placement {
+            modules: _,
+            code: _,
+            stack: _,
+            kinds: _,
+        } = self;
     }
 }

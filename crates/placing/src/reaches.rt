@@ -63,7 +63,8 @@ fn end_of_list(start: u16, bytes: &[u8]) -> u32
 // A piece starts at an address.
 fn raise(ends: &mut [u32], start: u16, end: u32)
     requires { length ends.old ≡ MEMORY_SIZE }
-    ensures { ends.new ≡ raised ends.old start end }
+    ensures raised { ends.new ≡ raised ends.old start end }
+    ensures size { length ends.new ≡ MEMORY_SIZE }
 {
     let index = start as usize;
     ends[index] = ends[index].max(end);
@@ -130,8 +131,15 @@ impl Reaches {
         ensures { self.new ≡ with_pieces self.old
             (filter_map object_piece (zip (map object_view objects.now) addresses.now)) }
     {
-        for (object, address) in objects.iter().zip(addresses) {
+        let mut rest = objects;
+        let mut places = addresses;
+        while let [object, more @ ..] = rest {
+            let [address, more_places @ ..] = places else {
+                return;
+            };
             self.add_object(object, *address);
+            rest = more;
+            places = more_places;
         }
     }
 
@@ -140,8 +148,15 @@ impl Reaches {
         ensures { self.new ≡ with_pieces self.old
             (map list_piece (zip (map vec_items lists.now) addresses.now)) }
     {
-        for (bytes, address) in lists.iter().zip(addresses) {
+        let mut rest = lists;
+        let mut places = addresses;
+        while let [bytes, more @ ..] = rest {
+            let [address, more_places @ ..] = places else {
+                return;
+            };
             self.add(*address, end_of_list(*address, bytes.as_slice()), true);
+            rest = more;
+            places = more_places;
         }
     }
 
@@ -159,8 +174,15 @@ impl Reaches {
         ensures { self.new ≡ with_pieces self.old (flat_map pieces_of_module
             (zip (map module_view modules.now) (map module_placement_view placed.now))) }
     {
-        for (typed, place) in modules.iter().zip(placed) {
+        let mut rest = modules;
+        let mut places = placed;
+        while let [typed, more @ ..] = rest {
+            let [place, more_places @ ..] = places else {
+                return;
+            };
             self.add_module(typed, place);
+            rest = more;
+            places = more_places;
         }
     }
 

@@ -1,6 +1,6 @@
 -- The main module: its number, and the code of a program.
-use Rattle.std.proofs.Common.{◌≡◌, ℕ, ◌+◌, ◌<◌, ◌≤◌, Bool, true, false, cond, List, length, map, drop, get_or, None, Some, option_map, ap, sym, ◌∙◌}
-use Rattle.std.specs.Prelude.{slice_get}
+use Rattle.std.proofs.Common.{◌≡◌, ℕ, ◌+◌, ◌<◌, ◌≤◌, Bool, true, false, cond, List, length, map, drop, get_or, None, Some, option_map, Result, ap, subst, sym, ◌∙◌}
+use Rattle.std.specs.Prelude.{slice_get, IfOk}
 use Rattle.std.specs.List.{position_from}
 use Rattle.std.specs.Option.{option_map_or}
 use Rattle.std.proofs.lemmas.Iterator.Adapters.{position_from-zero}
@@ -10,6 +10,7 @@ use Rattle.typed_trees.specs.TypedTrees.{TypedModule}
 use Rattle.typed_trees.specs.Views.{module_view}
 use Rattle.layout.specs.Joined.{is_main}
 use Rattle.layout.specs.Placement.{Placement}
+use Rattle.meaning.specs.Outcomes.{Program}
 use Rattle.meaning.specs.Run.{number_of_main}
 use Rattle.stack_code.specs.declared.instruction.Instruction.{Instruction}
 use Rattle.stack_code.specs.declared.program.StackProgram.{StackProgram}
@@ -72,3 +73,8 @@ code_of_none modules placement number code numbered none main stands =
 pub program_compiled : (modules : List TypedModule) (placement : Placement) (program : StackProgram) → IsCodeOf modules placement program.instructions.items
     → AreTablesOf modules program.instructions.items program.modules.items → IsCompiled modules placement program
 program_compiled modules placement program code tables main stands = record { code = code main stands; tables = tables }
+
+-- what is compiled of a program is compiled of the same program
+pub compiled_there : {E : Type 0} (made : Result StackProgram E) (here there : Program) → here ≡ there
+    → IfOk made (IsCompiled here.modules here.placement) → IfOk made (IsCompiled there.modules there.placement)
+compiled_there made here there is compiled = subst (λ (program : Program). IfOk made (IsCompiled program.modules program.placement)) is compiled

@@ -73,8 +73,35 @@ fn code_of(alloc: Global, program: &Program<'_>) -> Result<Vec<Instruction>, All
     }
 }
 
-/// The stack code of a program at a placement, with its tables.
+// The code of a program with its tables.
 #[tactic(auto, using(crate::proofs::MainModules::program_compiled))]
+fn with_tables(
+    alloc: Global,
+    program: &Program<'_>,
+    instructions: Vec<Instruction>,
+) -> Result<StackProgram, AllocError>
+    requires { IsCodeOf (map module_view program.now.modules.now)
+        (placement_view program.now.placement.now) instructions.items }
+    ensures { IfOk result (IsCompiled (map module_view program.now.modules.now)
+        (placement_view program.now.placement.now)) }
+{
+    let modules = tables_of(alloc, program.modules, instructions.as_slice())?;
+    Ok(StackProgram {
+        instructions,
+        modules,
+    })
+}
+
+// The code of a program, with its tables.
+fn compile_program(alloc: Global, program: &Program<'_>) -> Result<StackProgram, AllocError>
+    ensures { IfOk result (IsCompiled (map module_view program.now.modules.now)
+        (placement_view program.now.placement.now)) }
+{
+    let instructions = code_of(alloc, program)?;
+    with_tables(alloc, program, instructions)
+}
+
+/// The stack code of a program at a placement, with its tables.
 pub fn compile(
     alloc: Global,
     joined: &Joined,
@@ -84,10 +111,5 @@ pub fn compile(
         IsCompiled (map module_view (modules_of joined.now)) (placement_view placement.now) program) }
 {
     let program = Program::new(alloc, joined, placement)?;
-    let instructions = code_of(alloc, &program)?;
-    let modules = tables_of(alloc, program.modules, instructions.as_slice())?;
-    Ok(StackProgram {
-        instructions,
-        modules,
-    })
+    compile_program(alloc, &program)
 }

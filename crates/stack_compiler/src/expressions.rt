@@ -94,7 +94,6 @@ pub(crate) fn emit_expression(
 
 /// The values of arguments, one after another.
 #[cycle(expression)]
-#[tactic(auto, using(crate::proofs::Arguments::argument_emitted, crate::proofs::Arguments::arguments_emitted))]
 pub(crate) fn emit_arguments(
     site: &Site<'_>,
     code: &mut Vec<Instruction>,
@@ -151,7 +150,6 @@ fn emit_drops(code: &mut Vec<Instruction>, count: usize) -> Result<(), AllocErro
 
 // A part of an object.
 #[cycle(expression)]
-#[tactic(auto, using(crate::proofs::Storages::reference_in_frame, crate::proofs::Storages::reference_with_base, crate::proofs::Storages::reference_in_memory))]
 fn emit_reference(
     site: &Site<'_>,
     code: &mut Vec<Instruction>,

@@ -60,7 +60,7 @@ pub(crate) fn holes(alloc: Global, count: usize) -> Result<Vec<Instruction>, All
 }
 
 /// The instructions before some places are jumps past all that there is.
-#[tactic(auto, using(crate::proofs::Cases::end_closed, crate::proofs::Cases::ends_closed))]
+#[tactic(auto, using(crate::proofs::Cases::end_closed))]
 pub(crate) fn close_cases(code: &mut Vec<Instruction>, ends: &[usize])
     ensures { code.new.items ≡ closed ends.now code.old.items }
 {

@@ -24,7 +24,6 @@ use typed_trees::{
 };
 
 // A value goes to targets, one by one.
-#[tactic(auto, using(crate::proofs::StatementLoops::target_emitted, crate::proofs::StatementLoops::targets_emitted))]
 fn emit_targets(
     site: &Site<'_>,
     code: &mut Vec<Instruction>,
@@ -229,7 +228,6 @@ pub(crate) fn emit_statement(
 
 // IF with ELSE, or without.
 #[cycle(statement)]
-#[tactic(auto, using(crate::proofs::JumpsFilled::if_without, crate::proofs::JumpsFilled::if_with))]
 fn emit_if(site: &Site<'_>, code: &mut Vec<Instruction>, branch: &TypedIf) -> Result<(), AllocError>
     ensures { OnOk result (code.new.items ≡ code.old.items
         ++ (expression_code (site_view site.now) (expression_view branch.now.condition)
@@ -268,7 +266,6 @@ pub(crate) fn emit_list(
 
 // Statements one after another.
 #[cycle(statement)]
-#[tactic(auto, using(crate::proofs::StatementLoops::statement_emitted, crate::proofs::StatementLoops::statements_emitted))]
 fn emit_statements(
     site: &Site<'_>,
     code: &mut Vec<Instruction>,
@@ -285,7 +282,6 @@ fn emit_statements(
 
 // DO WHILE: the test stands after the body.
 #[cycle(statement)]
-#[tactic(auto, using(crate::proofs::JumpsFilled::while_made))]
 fn emit_while(
     site: &Site<'_>,
     code: &mut Vec<Instruction>,
@@ -370,7 +366,6 @@ fn cases_of(site: &Site<'_>, statements: &[TypedStatement]) -> Result<Vec<Instru
 
 // The statements of DO CASE, each with a jump after it that is to be filled in; each has its jump among the first ones.
 #[cycle(statement)]
-#[tactic(auto, using(crate::proofs::Cases::case_opened, crate::proofs::Cases::cases_opened))]
 fn open_cases(
     site: &Site<'_>,
     cases: &mut Vec<Instruction>,

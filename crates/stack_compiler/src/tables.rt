@@ -10,7 +10,6 @@ use std::alloc::{AllocError, Global};
 use typed_trees::{Typed, TypedProcedure, charge_of};
 
 // Entries of procedures that are not yet found in the code.
-#[tactic(auto, using(crate::proofs::RowLoops::entry_started, crate::proofs::RowLoops::entries_started))]
 fn started_entries(alloc: Global, procedures: &[TypedProcedure]) -> Result<Vec<Entry>, AllocError>
     ensures { IfOk result (λ entries.
         entries.items ≡ map started_entry (map procedure_view procedures.now)) }
@@ -37,7 +36,6 @@ fn started_table(alloc: Global, typed: &Typed) -> Result<ModuleTable, AllocError
 }
 
 // The tables of modules of which nothing is yet found.
-#[tactic(auto, using(crate::proofs::RowLoops::table_started, crate::proofs::RowLoops::tables_started))]
 fn started_tables(alloc: Global, modules: &[Typed]) -> Result<Vec<ModuleTable>, AllocError>
     ensures { IfOk result (λ tables.
         map row_view tables.items ≡ map started_row (map module_view modules.now)) }
@@ -185,7 +183,7 @@ fn note(
 }
 
 // Notes what the code tells.
-#[tactic(auto, using(crate::proofs::RowLoops::instruction_noted, crate::proofs::RowLoops::code_noted))]
+#[tactic(auto, using(crate::proofs::RowLoops::instruction_noted))]
 fn note_all(
     alloc: Global,
     tables: &mut Vec<ModuleTable>,

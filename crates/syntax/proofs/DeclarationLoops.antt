@@ -43,12 +43,6 @@ pub offsets-end : (before : List OffsetTree) (s : List Symbol)
     → after_items before (all_offsets s) ≡ Ok (before, s)
 offsets-end before s none = ap (after_items before) (all_offsets-step s) ∙ rw none (simp append-nil)
 
-pub after_items-nothing : {A : Type 0} (others : Reading (List A)) → after_items [] others ≡ others
-after_items-nothing (Ok found) = refl
-after_items-nothing (Err cause) = refl
-
-pub ruleset offset_steps = (offsets-more, offsets-fail, offsets-end, after_items-nothing)
-
 -- an item as an element, after what is read of its subject
 as_element : {A : Type 0} → Reading A → (A → SubjectTree) → Reading ElementTree
 as_element {A} found its =
@@ -79,13 +73,19 @@ element-named s own e =
     else k)
     (ap (λ g. whole_element (subject_of g s)) e ∙ whole_element-is (base (drop 1 s)) (SingleSubject own))
 
+-- the same after the name
+pub element-goes_on : (s after : List Symbol) (own : Identifier)
+    → Some own ≡ next_name s
+    → after ≡ drop 1 s
+    → element s ≡ element_after own after
+element-goes_on s after own named skipped =
+    element-named s own (sym named) ∙ ap (element_after own) (sym skipped)
+
 pub element-grouped : (s : List Symbol) → next_name s ≡ None → element s ≡ group_element s
 unfolding element item subject whole_element as_element
 element-grouped s e =
     ap (λ g. element_of g s) e ∙ ap (λ g. whole_element (subject_of g s)) e
     ∙ whole_element-is (names s) GroupSubject
-
-pub ruleset element_is = (element-named, element-grouped)
 
 -- offsets go on by a sign and a constant
 pub offsets_go_on : (whole : Reading (List OffsetTree)) (found more : List Offset) (next : Offset)

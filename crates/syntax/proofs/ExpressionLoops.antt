@@ -7,7 +7,7 @@ use Rattle.grammar.specs.Forms.{level_of}
 use Rattle.grammar.specs.Nesting.{expression_height}
 use Rattle.grammar.specs.Symbols.{Symbol, NameSymbol}
 use Rattle.trees.specs.Trees.{ExpressionTree, ConstantLeaf, ReferenceLeaf, BinaryNode, ReferenceTree}
-use Rattle.syntax.specs.internal.Expressions.{ExpressionParser, expression, operand, primary, parenthesized, location, reference_after, reference, expression_less, all_operators, operator_then, next_operator, goes_on, top_level, operator_on}
+use Rattle.syntax.specs.internal.Expressions.{ExpressionParser, expression, operand, primary, parenthesized, location, constant_leaf, reference_leaf, reference, expression_less, all_operators, operator_then, next_operator, goes_on, top_level, operator_on}
 use Rattle.syntax.specs.internal.Reader.{Parser, Cause, TooDeep, Reading, ◌>>=◌, at_mark, next_name, constant}
 use Rattle.syntax.specs.internal.Results.{FailsBy}
 use Rattle.syntax.proofs.ReaderLemmas.{bind_at, bind_fails}
@@ -113,6 +113,12 @@ unfolding expression
 expression_none zero level s h = refl
 expression_none (suc room) level s h = absurd (omega arith)
 
+pub expression-deep : (cause : Option Cause) (room level : ℕ) (s : List Symbol)
+    → room ≡ 0
+    → cause ≡ Some TooDeep
+    → FailsBy cause (expression room level s)
+expression-deep cause room level s none deep = rw deep (expression_none room level s none)
+
 -- one level less, where there is room
 pub expression_less_at : (room level : ℕ) (s : List Symbol)
     → 0 < room
@@ -121,29 +127,25 @@ unfolding expression_less
 expression_less_at zero level s h = absurd (omega arith)
 expression_less_at (suc room) level s h = let e : suc room - 1 ≡ room = omega arith in rw e refl
 
--- a reference as an expression
-abbrev pub reference_leaf : ReferenceTree × List Symbol → Reading ExpressionTree
-reference_leaf found = Ok (ReferenceLeaf found.0, found.1)
-
 -- a name
 pub primary_name : (inner deeper : ExpressionParser) (s : List Symbol) (base : Identifier)
     → next_name s ≡ Some base
-    → primary inner deeper s ≡ (reference_after inner base (drop 1 s) >>= reference_leaf)
+    → primary inner deeper s ≡ reference_leaf inner base (drop 1 s)
 unfolding primary reference
 primary_name inner deeper [] base e = absurd cc
 primary_name inner deeper (NameSymbol name ∷ s) base e = let same : name ≡ base = cc in
     rw same (go inner base s)
   where
     go : (inner : ExpressionParser) (base : Identifier) (s : List Symbol)
-        → (reference inner (NameSymbol base ∷ s) >>= reference_leaf)
-        ≡ (reference_after inner base s >>= reference_leaf)
+        → (reference inner (NameSymbol base ∷ s) >>= (λ found. Ok (ReferenceLeaf found.0, found.1)))
+        ≡ reference_leaf inner base s
     go inner base s = refl
 primary_name inner deeper (other ∷ s) base e = absurd cc
 
 -- a constant
 pub primary_constant : (inner deeper : ExpressionParser) (s : List Symbol)
     → at_mark LeftParenthesis s ≡ false → at_mark Period s ≡ false → next_name s ≡ None
-    → primary inner deeper s ≡ (constant s >>= (λ found. Ok (ConstantLeaf found.0, found.1)))
+    → primary inner deeper s ≡ constant_leaf s
 unfolding primary
 primary_constant inner deeper s left dot e = rw (left, dot, e) refl
 
@@ -220,32 +222,3 @@ operators_too_deep room level height top whole left operator s cause is on topmo
     ap (λ t. operator_on level t (next_operator s)) (sym topmost) ∙ sym on in
     let more : room < expression_height left = omega arith in
     subst (λ c. FailsBy c whole) (sym told) (is ∙ operators_deep room level left operator s next more)
-
--- a reference
-pub primary_reads : (inner deeper : ExpressionParser) (s after r : List Symbol) (base : Identifier)
-    (found : ReferenceTree) (made : ExpressionTree)
-    → Some base ≡ next_name s
-    → after ≡ drop 1 s
-    → reference_after inner base after ≡ Ok (found, r)
-    → made ≡ ReferenceLeaf found
-    → primary inner deeper s ≡ Ok (made, r)
-primary_reads inner deeper s after r base found made named skipped e leaf =
-    let e' : reference_after inner base (drop 1 s) ≡ Ok (found, r) =
-    ap (reference_after inner base) (sym skipped) ∙ e in
-    primary_name inner deeper s base (sym named)
-    ∙ bind_at (reference_after inner base (drop 1 s)) reference_leaf (found, r) e'
-    ∙ ap (λ t. Ok (t, r)) (sym leaf)
-
--- no reference after a name
-pub primary_fails : (inner deeper : ExpressionParser) (s after : List Symbol) (base : Identifier)
-    (cause : Option Cause)
-    → Some base ≡ next_name s
-    → after ≡ drop 1 s
-    → FailsBy cause (reference_after inner base after)
-    → FailsBy cause (primary inner deeper s)
-primary_fails inner deeper s after base None named skipped e = tt
-primary_fails inner deeper s after base (Some cause) named skipped e =
-    let e' : reference_after inner base (drop 1 s) ≡ Err cause = ap (reference_after inner base) (sym skipped)
-    ∙ e in
-    primary_name inner deeper s base (sym named)
-    ∙ bind_fails (reference_after inner base (drop 1 s)) reference_leaf cause e'

@@ -17,10 +17,10 @@ pub mod DeclarationLoops
 pub mod StatementVerdictRules
 pub mod StatementVerdictLists
 pub mod ExpressionVerdicts
-pub mod StatementLabels
 pub mod StatementBeginnings
 pub mod StatementInsides
 pub mod StatementTargets
+pub mod StatementValues
 pub mod StatementSoundness
 pub mod StatementLengths
 pub mod StatementVerdicts

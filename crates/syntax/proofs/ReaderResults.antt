@@ -10,11 +10,3 @@ pub fails_bind : {A B : Type 0} (cause : Option Cause) (read : Result A Cause) (
     → FailsBy cause (read >>= next)
 fails_bind None read next fails = tt
 fails_bind (Some cause) read next fails = ap (λ r. r >>= next) fails
-
--- something after what must be the end
-pub fails_after : {A : Type 0} (cause : Option Cause) (tree : A) (rest : List Symbol)
-    → rest ≢ []
-    → cause ≡ Some Unexpected
-    → FailsBy cause (at_the_end tree rest)
-fails_after cause tree [] more unexpected = absurd (more refl)
-fails_after cause tree (symbol ∷ rest) more unexpected = rw unexpected refl

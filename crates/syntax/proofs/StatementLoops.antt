@@ -34,11 +34,6 @@ statements_before-none : (made : List Statement)
 statements_before-none [] = refl
 statements_before-none (m ∷ made) = ap (MoreStatements (statement_tree m)) (statements_before-none made)
 
--- nothing before
-pub no_statements_before : (others : Reading StatementTrees) → others ≡ after_statements [] others
-no_statements_before (Ok found) = refl
-no_statements_before (Err cause) = refl
-
 -- what is read as a list, with a first statement, and as trees
 abbrev after_statement : StatementTree → Reading (List StatementTree) → Reading (List StatementTree)
 after_statement first found = do
@@ -161,11 +156,6 @@ declarations_before-none [] = refl
 declarations_before-none (m ∷ made) =
     ap (MoreDeclarations (declaration_tree m)) (declarations_before-none made)
 
--- nothing before
-pub no_declarations_before : (others : Reading DeclarationTrees) → others ≡ after_declarations [] others
-no_declarations_before (Ok found) = refl
-no_declarations_before (Err cause) = refl
-
 -- what is read as a list, with a first declaration, and as trees
 abbrev after_declaration : DeclarationTree → Reading (List DeclarationTree) → Reading (List DeclarationTree)
 after_declaration first found = do
@@ -248,15 +238,3 @@ pub declaration-smaller : (room : ℕ) (s r : List Symbol) (t : DeclarationTree)
     → declaration true room s ≡ Ok (t, r)
     → length r < length s
 declaration-smaller room s r t e = declaration-shrinks true room s r t e
-
-pub ruleset statement_loop = (
-  no_statements_before,
-  statements-more,
-  statements-end,
-  statements-fails,
-  statements-fails_at_end,
-  statement-smaller,
-)
-
-pub ruleset declaration_loop =
-    (no_declarations_before, declarations-more, declarations-end, declarations-fails, declaration-smaller)

@@ -17,11 +17,6 @@ reference-keeps : (room : ℕ) → Keeps (reference (expression room))
 reference-keeps room s r t e =
     let smaller : length r < length s = reference-shrinks room s r t e in omega arith
 
--- nothing before
-pub no_targets_before : (others : Reading (List ReferenceTree)) → others ≡ after_items [] others
-no_targets_before (Ok found) = refl
-no_targets_before (Err cause) = refl
-
 -- a target
 pub targets-more : (room : ℕ) (made : List Reference) (x : Reference) (s r : List Symbol)
     → at_mark Comma s ≡ true
@@ -61,5 +56,3 @@ pub target-smaller : (room : ℕ) (s r : List Symbol) (t : ReferenceTree)
 target-smaller room [] r t comma e = absurd cc
 target-smaller room (x ∷ s) r t comma e =
     let smaller : length r < length s = reference-shrinks room s r t e in omega arith
-
-pub ruleset target_loop = (no_targets_before, targets-more, targets-end, targets-fails, target-smaller)

@@ -3,7 +3,7 @@
 ghost use Rattle.std.specs.Prelude.{◌≡◌, Ok, map};
 ghost use Rattle.std.specs.Option.{option_map};
 ghost use Rattle.trees.specs.Views.{origin_tree, restricted_tree, item_type_tree, at_tree, value_list_tree, subject_tree, item_tree, element_tree, heading_tree, offset_tree};
-ghost use Rattle.syntax.specs.internal.Declarations.{origin, next_sign, all_offsets, restricted, next_scalar, scalar, result_type, count, dimension_inside, dimension, member, item_type, next_linkage, linkage, at, next_storage, value_list, base, names, item_after, element_after, element, parameters, reentrant, heading};
+ghost use Rattle.syntax.specs.internal.Declarations.{origin, next_sign, all_offsets, restricted, next_scalar, scalar, result_type, count, dimension_inside, dimension, member, item_type, next_linkage, linkage, at, next_storage, value_list, base, names, item_after, structure, definition, single_item, group_element, element_after, element, parameters, reentrant, heading};
 ghost use Rattle.syntax.specs.internal.Results.{Gives};
 ghost use Rattle.syntax.specs.internal.Lists.{items};
 ghost use Rattle.syntax.specs.internal.Reader.{name};
@@ -121,7 +121,6 @@ impl<'a> Reader<'a> {
     }
 
     // {(`+` | `-`) constant}
-    #[tactic(auto, using(crate::proofs::DeclarationLoops::offset_steps))]
     fn take_offsets(&mut self) -> Result<Vec<Offset>, Failure<Fault>>
         ensures { Gives (λ found. map offset_tree found.items) result self.new (all_offsets self.old) }
     {
@@ -146,14 +145,23 @@ impl<'a> Reader<'a> {
     }
 
     // BYTE | ADDRESS | STRUCTURE `(` member {`,` member} `)`
-    #[tactic(auto, using(crate::proofs::ListItems::listed), unfolding(crate::specs::internal::Declarations::item_type))]
+    #[tactic(auto, unfolding(crate::specs::internal::Declarations::item_type))]
     fn take_item_type(&mut self) -> Result<ItemType, Failure<Fault>>
         ensures { Gives item_type_tree result self.new (item_type self.old) }
     {
-        if !self.at_word(ReservedWord::Structure) {
-            return Ok(ItemType::Scalar(self.take_scalar()?));
+        if self.at_word(ReservedWord::Structure) {
+            self.skip();
+            return self.take_structure();
         }
-        self.skip();
+        let found = self.take_scalar()?;
+        Ok(ItemType::Scalar(found))
+    }
+
+    // `(` member {`,` member} `)`, after STRUCTURE.
+    #[tactic(auto, using(crate::proofs::ListItems::listed))]
+    fn take_structure(&mut self) -> Result<ItemType, Failure<Fault>>
+        ensures { Gives item_type_tree result self.new (structure self.old) }
+    {
         self.take_mark(Mark::LeftParenthesis)?;
         let members = self.take_list::<Member>()?;
         self.take_mark(Mark::RightParenthesis)?;
@@ -268,16 +276,30 @@ impl<'a> Reader<'a> {
     {
         if self.at_word(ReservedWord::Literally) {
             self.skip();
-            let text = self.take_string()?;
-            return Ok(Element::literally(self.alloc, name, text)?);
+            self.take_definition(name)
+        } else {
+            self.take_single_item(name)
         }
+    }
+
+    // string, after a name and LITERALLY.
+    fn take_definition(&mut self, name: Identifier) -> Result<Element, Failure<Fault>>
+        ensures { Gives element_tree result self.new (definition name self.old) }
+    {
+        let text = self.take_string()?;
+        Ok(Element::literally(self.alloc, name, text)?)
+    }
+
+    // An item after its only name.
+    fn take_single_item(&mut self, name: Identifier) -> Result<Element, Failure<Fault>>
+        ensures { Gives element_tree result self.new (single_item name self.old) }
+    {
         let base = self.take_base()?;
         let found = self.take_item_after(Subject::Single { name, base })?;
         Ok(Element::item(self.alloc, found)?)
     }
 
     // name LITERALLY string | item
-    #[tactic(auto, using(crate::proofs::DeclarationLoops::element_is), unfolding(crate::specs::internal::Declarations::element, crate::specs::internal::Declarations::item, crate::specs::internal::Declarations::subject))]
     pub(crate) fn take_element(&mut self) -> Result<Element, Failure<Fault>>
         ensures { Gives element_tree result self.new (element self.old) }
     {
@@ -285,6 +307,13 @@ impl<'a> Reader<'a> {
             self.skip();
             return self.take_element_after(name);
         }
+        self.take_group()
+    }
+
+    // An item that begins with names in parentheses.
+    fn take_group(&mut self) -> Result<Element, Failure<Fault>>
+        ensures { Gives element_tree result self.new (group_element self.old) }
+    {
         let names = self.take_names()?;
         let found = self.take_item_after(Subject::Group(names))?;
         Ok(Element::item(self.alloc, found)?)

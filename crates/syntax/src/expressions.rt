@@ -2,7 +2,7 @@
 
 ghost use Rattle.std.specs.Prelude.{◌≡◌, ◌<◌, ◌≤◌, ◌+◌, suc, map, IfOk};
 ghost use Rattle.grammar.specs.declared.TheConstants.{NESTING_LIMIT};
-ghost use Rattle.syntax.specs.internal.Expressions.{arguments, reference_after, reference, location, assigned, closed, parenthesized, primary, operand, all_operators, expression, expression_less, next_operator, operator_on};
+ghost use Rattle.syntax.specs.internal.Expressions.{arguments, member_after, constant_leaf, reference_leaf, unary_node, reference_after, reference, location, constant_list, located, assigned, assigned_value, closed, parenthesized, primary, operand, all_operators, expression, expression_less, next_operator, operator_on};
 ghost use Rattle.grammar.specs.Forms.{expression_level};
 ghost use Rattle.trees.specs.Trees.{ReferenceLeaf};
 ghost use Rattle.syntax.specs.internal.Results.{Gives};
@@ -23,7 +23,6 @@ use words::{Mark, ReservedWord};
 impl<'a> Reader<'a> {
     /// An expression at a level, of no more levels than the room.
     #[cycle(expression)]
-    #[tactic(auto, using(crate::proofs::ExpressionLoops::expression_at, crate::proofs::ExpressionLoops::expression_none))]
     pub(crate) fn expression(&mut self, level: u8, room: u8) -> Result<Measured, Failure<Fault>>
         requires { room ≤ NESTING_LIMIT }
         ensures gives { Gives measured_tree result self.new (expression room level self.old) }
@@ -38,7 +37,6 @@ impl<'a> Reader<'a> {
 
     // Operators that may stand at a level, with what stands after them, after a left operand.
     #[cycle(expression)]
-    #[tactic(auto, using(crate::proofs::ExpressionLoops::operators_deep, crate::proofs::ExpressionLoops::operators_end))]
     fn operators(&mut self, level: u8, room: u8, left: Measured) -> Result<Measured, Failure<Fault>>
         requires room { room < NESTING_LIMIT }
         requires left { left.height ≤ room + 1 }
@@ -83,20 +81,34 @@ impl<'a> Reader<'a> {
     {
         if self.at_word(ReservedWord::Not) && level <= NEGATION_LEVEL {
             self.skip();
-            let inner = self.expression(NEGATION_LEVEL, room)?;
-            return Ok(Measured::unary(self.alloc, UnaryOperator::Not, inner)?);
+            return self.unary(UnaryOperator::Not, NEGATION_LEVEL, room);
         }
         if self.at_mark(Mark::MinusSign) && level <= SIGN_LEVEL {
             self.skip();
-            let inner = self.expression(PRIMARY_LEVEL, room)?;
-            return Ok(Measured::unary(self.alloc, UnaryOperator::Negate, inner)?);
+            return self.unary(UnaryOperator::Negate, PRIMARY_LEVEL, room);
         }
         self.primary(room)
     }
 
+    // The operand of an operator that stands before it, at a level.
+    #[cycle(expression)]
+    fn unary(
+        &mut self,
+        operator: UnaryOperator,
+        level: u8,
+        room: u8,
+    ) -> Result<Measured, Failure<Fault>>
+        requires { room < NESTING_LIMIT }
+        ensures gives { Gives measured_tree result self.new
+            (unary_node (expression room) operator level self.old) }
+        ensures fits { IfOk result (λ found. found.height ≤ room + 1) }
+    {
+        let inner = self.expression(level, room)?;
+        Ok(Measured::unary(self.alloc, operator, inner)?)
+    }
+
     // A constant, a reference, a location or an expression in parentheses.
     #[cycle(expression)]
-    #[tactic(auto, using(crate::proofs::ExpressionLoops::primary_constant, crate::proofs::ExpressionLoops::primary_parenthesized, crate::proofs::ExpressionLoops::primary_location))]
     fn primary(&mut self, room: u8) -> Result<Measured, Failure<Fault>>
         requires { room < NESTING_LIMIT }
         ensures gives { Gives measured_tree result self.new
@@ -112,10 +124,29 @@ impl<'a> Reader<'a> {
             return self.location(room);
         }
         let Some(base) = self.next_name() else {
-            let found = self.take_constant()?;
-            return Ok(Measured::constant(found));
+            return self.constant_leaf();
         };
         self.skip();
+        self.reference_leaf(base, room)
+    }
+
+    // A constant as an expression.
+    fn constant_leaf(&mut self) -> Result<Measured, Failure<Fault>>
+        ensures gives { Gives measured_tree result self.new (constant_leaf self.old) }
+        ensures height { IfOk result (λ found. found.height ≡ 1) }
+    {
+        let found = self.take_constant()?;
+        Ok(Measured::constant(found))
+    }
+
+    // A reference as an expression, after its name.
+    #[cycle(expression)]
+    fn reference_leaf(&mut self, base: Identifier, room: u8) -> Result<Measured, Failure<Fault>>
+        requires { room < NESTING_LIMIT }
+        ensures gives { Gives measured_tree result self.new
+            (reference_leaf (expression room) base self.old) }
+        ensures fits { IfOk result (λ found. found.height ≤ room + 1) }
+    {
         let found = self.reference_after(base, room)?;
         Ok(Measured::reference(self.alloc, found)?)
     }
@@ -142,7 +173,6 @@ impl<'a> Reader<'a> {
 
     // What stands after an opening parenthesis and the reference that is assigned to.
     #[cycle(expression)]
-    #[tactic(auto, using(crate::proofs::ExpressionLoops::expression_less_at))]
     fn assigned(&mut self, target: MeasuredReference, room: u8) -> Result<Measured, Failure<Fault>>
         requires room { room < NESTING_LIMIT }
         requires target { target.height < room }
@@ -150,15 +180,28 @@ impl<'a> Reader<'a> {
             (assigned (expression_less room) (ReferenceLeaf (measured_reference target)) self.old) }
         ensures fits { IfOk result (λ found. found.height ≤ room + 1) }
     {
+        let value = self.assigned_value(room)?;
+        Ok(Measured::assignment(self.alloc, target, value)?)
+    }
+
+    // `:=` expression `)`
+    #[cycle(expression)]
+    fn assigned_value(&mut self, room: u8) -> Result<Measured, Failure<Fault>>
+        requires room { room < NESTING_LIMIT }
+        requires more { 0 < room }
+        ensures gives { Gives measured_tree result self.new
+            (assigned_value (expression_less room) self.old) }
+        ensures fits { IfOk result (λ found. found.height < room) }
+    {
         self.take_mark(Mark::AssignSign)?;
         let value = self.expression(EXPRESSION_LEVEL, room - 1)?;
         self.take_mark(Mark::RightParenthesis)?;
-        Ok(Measured::assignment(self.alloc, target, value)?)
+        Ok(value)
     }
 
     // What stands after a period: a reference, or constants in parentheses.
     #[cycle(expression)]
-    #[tactic(auto, using(crate::proofs::ListItems::listed), unfolding(crate::specs::internal::Expressions::location, crate::specs::internal::Expressions::reference))]
+    #[tactic(auto, unfolding(crate::specs::internal::Expressions::location))]
     fn location(&mut self, room: u8) -> Result<Measured, Failure<Fault>>
         requires { room < NESTING_LIMIT }
         ensures gives { Gives measured_tree result self.new (location (expression room) self.old) }
@@ -166,10 +209,30 @@ impl<'a> Reader<'a> {
     {
         if self.at_mark(Mark::LeftParenthesis) {
             self.skip();
-            let constants = self.take_list::<Constant>()?;
-            self.take_mark(Mark::RightParenthesis)?;
-            return Ok(Measured::list(constants));
+            return self.constant_list();
         }
+        self.located(room)
+    }
+
+    // constant {`,` constant} `)`, after the period and an opening parenthesis.
+    #[tactic(auto, using(crate::proofs::ListItems::listed))]
+    fn constant_list(&mut self) -> Result<Measured, Failure<Fault>>
+        ensures gives { Gives measured_tree result self.new (constant_list self.old) }
+        ensures height { IfOk result (λ found. found.height ≡ 1) }
+    {
+        let constants = self.take_list::<Constant>()?;
+        self.take_mark(Mark::RightParenthesis)?;
+        Ok(Measured::list(constants))
+    }
+
+    // The reference after a period.
+    #[cycle(expression)]
+    #[tactic(auto, unfolding(crate::specs::internal::Expressions::reference))]
+    fn located(&mut self, room: u8) -> Result<Measured, Failure<Fault>>
+        requires { room < NESTING_LIMIT }
+        ensures gives { Gives measured_tree result self.new (located (expression room) self.old) }
+        ensures fits { IfOk result (λ found. found.height ≤ room + 1) }
+    {
         let base = self.take_name()?;
         let found = self.reference_after(base, room)?;
         Ok(Measured::location(self.alloc, found)?)
@@ -199,10 +262,27 @@ impl<'a> Reader<'a> {
         ensures fits { IfOk result (λ found. found.height ≤ room) }
     {
         let arguments = self.arguments(room)?;
-        if !self.at_mark(Mark::Period) {
-            return Ok(MeasuredReference::whole(self.alloc, name, arguments)?);
+        if self.at_mark(Mark::Period) {
+            self.skip();
+            return self.member_after(name, arguments, room);
         }
-        self.skip();
+        Ok(MeasuredReference::whole(self.alloc, name, arguments)?)
+    }
+
+    // name [arguments], after the name of a reference, its arguments and a period.
+    #[cycle(expression)]
+    fn member_after(
+        &mut self,
+        name: Identifier,
+        arguments: MeasuredArguments,
+        room: u8,
+    ) -> Result<MeasuredReference, Failure<Fault>>
+        requires room { room ≤ NESTING_LIMIT }
+        requires arguments { arguments.height ≤ room }
+        ensures gives { Gives measured_reference result self.new
+            (member_after (expression room) name (measured_arguments arguments) self.old) }
+        ensures fits { IfOk result (λ found. found.height ≤ room) }
+    {
         let member = self.take_name()?;
         let its_arguments = self.arguments(room)?;
         Ok(MeasuredReference::member(self.alloc, name, arguments, member, its_arguments)?)
@@ -210,7 +290,6 @@ impl<'a> Reader<'a> {
 
     /// Arguments in parentheses that take no more levels than the room, or none.
     #[cycle(expression)]
-    #[tactic(auto, using(crate::proofs::MeasuredHeights::arguments_of_map))]
     pub(crate) fn arguments(&mut self, room: u8) -> Result<MeasuredArguments, Failure<Fault>>
         requires { room ≤ NESTING_LIMIT }
         ensures gives { Gives measured_arguments result self.new (arguments (expression room) self.old) }

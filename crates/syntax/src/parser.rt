@@ -53,7 +53,7 @@ fn module_of(name: Identifier, place: Place, body: Block, end_name: Option<Ident
 
 impl<'a> Reader<'a> {
     // name `:` DO `;` {declaration} {statement} END [name] `;`, and nothing after it.
-    #[tactic(auto, using(crate::proofs::ReaderResults::fails_bind, crate::proofs::ReaderResults::fails_after), unfolding(crate::specs::internal::Statements::whole_module))]
+    #[tactic(auto, unfolding(crate::specs::internal::Statements::whole_module))]
     fn take_module(&mut self, room: u8) -> Result<Module, Failure<Fault>>
         requires { room ≤ NESTING_LIMIT }
         ensures { Makes module_tree result (whole_module true room self.old) }

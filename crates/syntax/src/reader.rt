@@ -266,9 +266,24 @@ impl<'a> Reader<'a> {
         ensures { Gives constant_tree result self.new (constant self.old) }
     {
         if self.at_string() {
-            let literal = self.take_string()?;
-            return Ok(Constant::string(self.alloc, literal)?);
+            self.take_string_constant()
+        } else {
+            self.take_number_constant()
         }
+    }
+
+    // A string as a constant.
+    fn take_string_constant(&mut self) -> Result<Constant, Failure<Fault>>
+        ensures { Gives constant_tree result self.new (string_constant self.old) }
+    {
+        let literal = self.take_string()?;
+        Ok(Constant::string(self.alloc, literal)?)
+    }
+
+    // A number as a constant.
+    fn take_number_constant(&mut self) -> Result<Constant, Failure<Fault>>
+        ensures { Gives constant_tree result self.new (number_constant self.old) }
+    {
         let number = self.take_number()?;
         Ok(Constant::number(number))
     }

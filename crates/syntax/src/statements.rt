@@ -9,10 +9,10 @@ ghost use Rattle.grammar.specs.Symbols.{symbol_of};
 ghost use Rattle.trees.specs.Views.{expression_tree, reference_tree, argument_trees, statement_tree, kind_tree, else_tree, statement_trees, declaration_tree, declaration_trees, iteration_tree};
 ghost use Rattle.syntax.specs.internal.Expressions.{expression, reference, arguments};
 ghost use Rattle.syntax.specs.internal.Results.{cause_of, Gives, Leaves};
-ghost use Rattle.syntax.specs.internal.Inside.{block_in, block_trees, condition, is_name_symbol, kind_inside, next_beginning};
+ghost use Rattle.syntax.specs.internal.Inside.{block_in, block_trees, condition, value, is_name_symbol, kind_inside, next_beginning};
 ghost use Rattle.syntax.specs.internal.Lists.{all_more_items};
 ghost use Rattle.syntax.specs.internal.Reader.{Unexpected, next_name};
-ghost use Rattle.syntax.specs.internal.Statements.{at_semicolon, beginning_at, next_label, labels_before, after_labels, begins_procedure, ends_declarations, end_of_do, end_name, ending, assignment, call, return_value, halt, goto, otherwise, conditional, step, iteration, body_of_do, do_statement, statements, declarations, procedure, declare, statement, declaration};
+ghost use Rattle.syntax.specs.internal.Statements.{at_semicolon, beginning_at, next_label, labels_before, after_labels, begins_procedure, ends_declarations, end_of_do, end_name, ending, assignment, call, return_value, halt, goto, otherwise, conditional, step, iteration, body_of_do, do_statement, simple_do, while_do, case_do, iterative_do, statements, declarations, procedure, declare, statement, declaration};
 
 use crate::fault::Fault;
 use crate::measured::EXPRESSION_LEVEL;
@@ -116,7 +116,6 @@ impl<'a> Reader<'a> {
     }
 
     // END `;`
-    #[tactic(auto, using(crate::proofs::ReaderResults::fails_bind))]
     fn take_end_of_do(&mut self) -> Result<(), Failure<Fault>>
         ensures { Leaves result self.new (end_of_do self.old) }
     {
@@ -126,7 +125,7 @@ impl<'a> Reader<'a> {
     }
 
     /// END [name] `;`, where what ends has a name of its own.
-    #[tactic(auto, using(crate::proofs::ReaderResults::fails_bind), unfolding(crate::specs::internal::Statements::ending))]
+    #[tactic(auto, unfolding(crate::specs::internal::Statements::ending))]
     pub(crate) fn take_ending(
         &mut self,
         own: &Identifier,
@@ -139,7 +138,6 @@ impl<'a> Reader<'a> {
     }
 
     // [name] `;`, after END.
-    #[tactic(auto, using(crate::proofs::ReaderResults::fails_bind))]
     fn take_end_name(&mut self, own: Identifier) -> Result<Option<Identifier>, Failure<Fault>>
         ensures { Gives (λ found. found) result self.new (end_name true own (next_name self.old) self.old) }
     {
@@ -190,7 +188,7 @@ impl<'a> Reader<'a> {
     }
 
     // reference {`,` reference} `=` expression `;`
-    #[tactic(auto, using(crate::proofs::ReaderResults::fails_bind), unfolding(crate::specs::internal::Statements::assignment))]
+    #[tactic(auto, unfolding(crate::specs::internal::Statements::assignment))]
     fn take_assignment(&mut self, room: u8) -> Result<StatementKind, Failure<Fault>>
         requires { room ≤ NESTING_LIMIT }
         ensures { Gives kind_tree result self.new (assignment (expression room) self.old) }
@@ -204,7 +202,6 @@ impl<'a> Reader<'a> {
     }
 
     // {`,` reference}
-    #[tactic(auto, using(crate::proofs::StatementTargets::target_loop))]
     fn take_more_targets(&mut self, room: u8) -> Result<Vec<Reference>, Failure<Fault>>
         requires { room ≤ NESTING_LIMIT }
         ensures { Gives (λ found. map reference_tree found.items) result self.new
@@ -221,7 +218,7 @@ impl<'a> Reader<'a> {
     }
 
     // name [arguments] `;`, after CALL.
-    #[tactic(auto, using(crate::proofs::ReaderResults::fails_bind), unfolding(crate::specs::internal::Statements::call))]
+    #[tactic(auto, unfolding(crate::specs::internal::Statements::call))]
     fn take_call(&mut self, place: Place, room: u8) -> Result<StatementKind, Failure<Fault>>
         requires { room ≤ NESTING_LIMIT }
         ensures { Gives kind_tree result self.new (call (expression room) place self.old) }
@@ -234,22 +231,30 @@ impl<'a> Reader<'a> {
     }
 
     // [expression] `;`, after RETURN.
-    #[tactic(auto, using(crate::proofs::ReaderResults::fails_bind), unfolding(crate::specs::internal::Statements::return_value))]
+    #[tactic(auto, using(crate::proofs::StatementValues::return_value_is))]
     fn take_return(&mut self, place: Place, room: u8) -> Result<StatementKind, Failure<Fault>>
         requires { room ≤ NESTING_LIMIT }
         ensures { Gives kind_tree result self.new (return_value (expression room) place self.old) }
     {
+        let value = self.take_value(room)?;
+        Ok(StatementKind::return_value(self.alloc, place, value)?)
+    }
+
+    // [expression] `;`
+    fn take_value(&mut self, room: u8) -> Result<Option<Expression>, Failure<Fault>>
+        requires { room ≤ NESTING_LIMIT }
+        ensures { Gives (λ found. option_map expression_tree found) result self.new
+            (value (expression room) self.old) }
+    {
         if self.at_semicolon() {
             self.skip();
-            return Ok(StatementKind::return_value(self.alloc, place, None)?);
+            return Ok(None);
         }
-        let value = self.take_expression(room)?;
-        self.take_semicolon()?;
-        Ok(StatementKind::return_value(self.alloc, place, Some(value))?)
+        let value = self.take_condition(room)?;
+        Ok(Some(value))
     }
 
     // `;`, after HALT.
-    #[tactic(auto, using(crate::proofs::ReaderResults::fails_bind))]
     fn take_halt(&mut self, place: Place) -> Result<StatementKind, Failure<Fault>>
         ensures { Gives kind_tree result self.new (halt place self.old) }
     {
@@ -258,7 +263,7 @@ impl<'a> Reader<'a> {
     }
 
     // name `;`, after GOTO.
-    #[tactic(auto, using(crate::proofs::ReaderResults::fails_bind), unfolding(crate::specs::internal::Statements::goto))]
+    #[tactic(auto, unfolding(crate::specs::internal::Statements::goto))]
     fn take_goto(&mut self, place: Place) -> Result<StatementKind, Failure<Fault>>
         ensures { Gives kind_tree result self.new (goto place self.old) }
     {
@@ -268,7 +273,7 @@ impl<'a> Reader<'a> {
     }
 
     // name `=` expression TO expression [BY expression] `;`
-    #[tactic(auto, using(crate::proofs::ReaderResults::fails_bind), unfolding(crate::specs::internal::Statements::iteration))]
+    #[tactic(auto, unfolding(crate::specs::internal::Statements::iteration))]
     fn take_iteration(&mut self, room: u8) -> Result<Iteration, Failure<Fault>>
         requires { room ≤ NESTING_LIMIT }
         ensures { Gives iteration_tree result self.new (iteration (expression room) self.old) }
@@ -289,7 +294,6 @@ impl<'a> Reader<'a> {
     }
 
     // [BY expression]
-    #[tactic(auto, using(crate::proofs::ReaderResults::fails_bind))]
     fn take_step(&mut self, room: u8) -> Result<Option<Expression>, Failure<Fault>>
         requires { room ≤ NESTING_LIMIT }
         ensures { Gives (λ found. option_map expression_tree found) result self.new
@@ -304,7 +308,6 @@ impl<'a> Reader<'a> {
     }
 
     // expression `;`
-    #[tactic(auto, using(crate::proofs::ReaderResults::fails_bind))]
     fn take_condition(&mut self, room: u8) -> Result<Expression, Failure<Fault>>
         requires { room ≤ NESTING_LIMIT }
         ensures { Gives expression_tree result self.new (condition (expression room) self.old) }
@@ -326,7 +329,6 @@ impl<'a> Reader<'a> {
     }
 
     // The label that stands here, if one does: a name before a colon.
-    #[tactic(auto, using(crate::proofs::StatementLabels::label_rules))]
     fn next_label(&self) -> Option<Identifier>
         ensures { result ≡ next_label self.now }
     {
@@ -337,7 +339,6 @@ impl<'a> Reader<'a> {
     }
 
     // The labels before a statement.
-    #[tactic(auto, using(crate::proofs::StatementLabels::label_rules))]
     fn take_labels(&mut self) -> Result<Vec<Identifier>, Failure<Fault>>
         ensures ok { IfOk result (λ found. found.items ≡ labels_before self.old) }
         ensures left { IfOk result (λ found. self.new ≡ after_labels self.old) }
@@ -355,7 +356,6 @@ impl<'a> Reader<'a> {
 
     /// A statement of no more levels than the room. Its labels take none.
     #[cycle(statement)]
-    #[tactic(auto, using(crate::proofs::ReaderResults::fails_bind, crate::proofs::StatementInsides::statement_in))]
     fn take_statement(&mut self, room: u8) -> Result<Statement, Failure<Fault>>
         requires { room ≤ NESTING_LIMIT }
         ensures { Gives statement_tree result self.new (statement true room self.old) }
@@ -370,7 +370,6 @@ impl<'a> Reader<'a> {
 
     // A statement without labels whose parts fit into a room.
     #[cycle(statement)]
-    #[tactic(auto, using(crate::proofs::ReaderResults::fails_bind))]
     fn take_kind(&mut self, room: u8) -> Result<StatementKind, Failure<Fault>>
         requires { room ≤ NESTING_LIMIT }
         ensures { Gives kind_tree result self.new (kind_inside room self.old) }
@@ -397,7 +396,7 @@ impl<'a> Reader<'a> {
 
     // expression THEN statement [ELSE statement], after IF.
     #[cycle(statement)]
-    #[tactic(auto, using(crate::proofs::ReaderResults::fails_bind), unfolding(crate::specs::internal::Statements::conditional))]
+    #[tactic(auto, unfolding(crate::specs::internal::Statements::conditional))]
     fn take_if(&mut self, place: Place, room: u8) -> Result<StatementKind, Failure<Fault>>
         requires { room ≤ NESTING_LIMIT }
         ensures { Gives kind_tree result self.new
@@ -412,7 +411,6 @@ impl<'a> Reader<'a> {
 
     // [ELSE statement]
     #[cycle(statement)]
-    #[tactic(auto, using(crate::proofs::ReaderResults::fails_bind))]
     fn take_otherwise(&mut self, room: u8) -> Result<Option<Statement>, Failure<Fault>>
         requires { room ≤ NESTING_LIMIT }
         ensures { Gives else_tree result self.new (otherwise (statement true room) self.old) }
@@ -427,7 +425,7 @@ impl<'a> Reader<'a> {
 
     // What stands after DO.
     #[cycle(statement)]
-    #[tactic(auto, using(crate::proofs::ReaderResults::fails_bind), unfolding(crate::specs::internal::Statements::do_statement, crate::specs::internal::Statements::simple_do, crate::specs::internal::Statements::while_do, crate::specs::internal::Statements::case_do, crate::specs::internal::Statements::iterative_do))]
+    #[tactic(auto, unfolding(crate::specs::internal::Statements::do_statement))]
     fn take_do(&mut self, place: Place, room: u8) -> Result<StatementKind, Failure<Fault>>
         requires { room ≤ NESTING_LIMIT }
         ensures { Gives kind_tree result self.new
@@ -435,22 +433,65 @@ impl<'a> Reader<'a> {
     {
         if self.at_semicolon() {
             self.skip();
-            let block = self.take_block(room)?;
-            self.take_end_of_do()?;
-            return Ok(StatementKind::simple_do(self.alloc, place, block)?);
+            return self.take_simple_do(place, room);
         }
         if self.at_word(ReservedWord::While) {
             self.skip();
-            let condition = self.take_condition(room)?;
-            let body = self.take_body(room)?;
-            return Ok(StatementKind::do_while(self.alloc, place, condition, body)?);
+            return self.take_while(place, room);
         }
         if self.at_word(ReservedWord::Case) {
             self.skip();
-            let choice = self.take_condition(room)?;
-            let body = self.take_body(room)?;
-            return Ok(StatementKind::do_case(self.alloc, place, choice, body)?);
+            return self.take_case(place, room);
         }
+        self.take_iterative_do(place, room)
+    }
+
+    // {declaration} {statement} END `;`, after DO `;`.
+    #[cycle(statement)]
+    #[tactic(auto, unfolding(crate::specs::internal::Statements::simple_do))]
+    fn take_simple_do(&mut self, place: Place, room: u8) -> Result<StatementKind, Failure<Fault>>
+        requires { room ≤ NESTING_LIMIT }
+        ensures { Gives kind_tree result self.new (simple_do (block_in room) place self.old) }
+    {
+        let block = self.take_block(room)?;
+        self.take_end_of_do()?;
+        Ok(StatementKind::simple_do(self.alloc, place, block)?)
+    }
+
+    // expression `;` {statement} END `;`, after DO WHILE.
+    #[cycle(statement)]
+    #[tactic(auto, unfolding(crate::specs::internal::Statements::while_do))]
+    fn take_while(&mut self, place: Place, room: u8) -> Result<StatementKind, Failure<Fault>>
+        requires { room ≤ NESTING_LIMIT }
+        ensures { Gives kind_tree result self.new
+            (while_do (expression room) (statement true room) place self.old) }
+    {
+        let condition = self.take_condition(room)?;
+        let body = self.take_body(room)?;
+        Ok(StatementKind::do_while(self.alloc, place, condition, body)?)
+    }
+
+    // expression `;` {statement} END `;`, after DO CASE.
+    #[cycle(statement)]
+    #[tactic(auto, unfolding(crate::specs::internal::Statements::case_do))]
+    fn take_case(&mut self, place: Place, room: u8) -> Result<StatementKind, Failure<Fault>>
+        requires { room ≤ NESTING_LIMIT }
+        ensures { Gives kind_tree result self.new
+            (case_do (expression room) (statement true room) place self.old) }
+    {
+        let choice = self.take_condition(room)?;
+        let body = self.take_body(room)?;
+        Ok(StatementKind::do_case(self.alloc, place, choice, body)?)
+    }
+
+    // The head of an iterative DO and {statement} END `;`, after DO.
+    #[cycle(statement)]
+    #[tactic(auto, unfolding(crate::specs::internal::Statements::iterative_do))]
+    fn take_iterative_do(&mut self, place: Place, room: u8) -> Result<StatementKind, Failure<Fault>>
+        requires { room ≤ NESTING_LIMIT }
+        ensures { Gives kind_tree result self.new
+            (iterative_do (expression room) (statement true room) place self.old) }
+    {
         let iteration = self.take_iteration(room)?;
         let body = self.take_body(room)?;
         Ok(StatementKind::iterative_do(self.alloc, place, iteration, body)?)
@@ -458,7 +499,7 @@ impl<'a> Reader<'a> {
 
     // {statement} END `;`
     #[cycle(statement)]
-    #[tactic(auto, using(crate::proofs::ReaderResults::fails_bind), unfolding(crate::specs::internal::Statements::body_of_do))]
+    #[tactic(auto, unfolding(crate::specs::internal::Statements::body_of_do))]
     fn take_body(&mut self, room: u8) -> Result<Vec<Statement>, Failure<Fault>>
         requires { room ≤ NESTING_LIMIT }
         ensures { Gives (λ found. statement_trees found.items) result self.new
@@ -471,7 +512,6 @@ impl<'a> Reader<'a> {
 
     // {statement}
     #[cycle(statement)]
-    #[tactic(auto, using(crate::proofs::StatementLoops::statement_loop))]
     fn take_statements(&mut self, room: u8) -> Result<Vec<Statement>, Failure<Fault>>
         requires { room ≤ NESTING_LIMIT }
         ensures { Gives (λ found. statement_trees found.items) result self.new
@@ -489,7 +529,7 @@ impl<'a> Reader<'a> {
 
     /// {declaration} {statement}
     #[cycle(statement)]
-    #[tactic(auto, using(crate::proofs::ReaderResults::fails_bind), unfolding(crate::specs::internal::Statements::block))]
+    #[tactic(auto, unfolding(crate::specs::internal::Statements::block))]
     pub(crate) fn take_block(&mut self, room: u8) -> Result<Block, Failure<Fault>>
         requires { room ≤ NESTING_LIMIT }
         ensures { Gives block_trees result self.new (block_in room self.old) }
@@ -504,7 +544,6 @@ impl<'a> Reader<'a> {
 
     // {declaration}
     #[cycle(statement)]
-    #[tactic(auto, using(crate::proofs::StatementLoops::declaration_loop))]
     fn take_declarations(&mut self, room: u8) -> Result<Vec<Declaration>, Failure<Fault>>
         requires { room ≤ NESTING_LIMIT }
         ensures { Gives (λ found. declaration_trees found.items) result self.new
@@ -521,7 +560,7 @@ impl<'a> Reader<'a> {
 
     // A declaration of no more levels than the room.
     #[cycle(statement)]
-    #[tactic(auto, using(crate::proofs::ReaderResults::fails_bind, crate::proofs::StatementInsides::declaration_in), unfolding(crate::specs::internal::Statements::declare_or))]
+    #[tactic(auto, unfolding(crate::specs::internal::Statements::declare_or))]
     fn take_declaration(&mut self, room: u8) -> Result<Declaration, Failure<Fault>>
         requires { room ≤ NESTING_LIMIT }
         ensures { Gives declaration_tree result self.new (declaration true room self.old) }
@@ -537,7 +576,7 @@ impl<'a> Reader<'a> {
     }
 
     // element {`,` element} `;`, after DECLARE.
-    #[tactic(auto, using(crate::proofs::ReaderResults::fails_bind, crate::proofs::ListItems::listed), unfolding(crate::specs::internal::Statements::declare))]
+    #[tactic(auto, using(crate::proofs::ListItems::listed), unfolding(crate::specs::internal::Statements::declare))]
     fn take_declare(&mut self) -> Result<Declaration, Failure<Fault>>
         ensures { Gives declaration_tree result self.new (declare self.old) }
     {
@@ -548,7 +587,7 @@ impl<'a> Reader<'a> {
 
     // A procedure whose inside fits into a room.
     #[cycle(statement)]
-    #[tactic(auto, using(crate::proofs::ReaderResults::fails_bind), unfolding(crate::specs::internal::Statements::procedure))]
+    #[tactic(auto, unfolding(crate::specs::internal::Statements::procedure))]
     fn take_procedure(&mut self, room: u8) -> Result<Declaration, Failure<Fault>>
         requires { room ≤ NESTING_LIMIT }
         ensures { Gives declaration_tree result self.new (procedure true (block_in room) self.old) }

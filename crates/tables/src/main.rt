@@ -7,7 +7,10 @@
 //! LINE` for so many lines of what is printed; `>?` and `!?` say only that something is printed. So no line of a text begins
 //! with `$ `, `@ `, `& `, `x `, `% `, `= `, `* `, `>` or `!`. Of the carriage returns that end a line the last one is no part of it.
 //! A file `closed.obj` can't be begun, and `broken.obj` takes three bytes.
-//! Then it prints what the machine, its parts and the interpreter do, as the manuals say it.
+//! Then it prints what the machine, its parts and the interpreter do, as the manuals say it; what merges of object files
+//! are, made of modules and of files; objects that are read, placed and loaded, texts of Intel HEX that are read, and how
+//! commands end whose output fails part way; what long code and code with many labels is; and at last whether the document
+//! of the routines, the file `runtime.md` where the program runs, is as it is made here, or else that document.
 //!
 //! What is said was written by hand from the rules of the language in `docs/language.md`, of object files in
 //! `docs/object-format.md` and of the commands in `docs/commands.md`, or computed from them by other programs that share
@@ -15,25 +18,39 @@
 #![tactic(auto)]
 
 mod adjusting;
+mod arguments;
+mod assemblies;
 mod block;
+mod calls;
 mod codes;
 mod events;
 mod faulty;
 mod interpreting;
 mod memory_files;
+mod merging;
+mod objects;
 mod operations;
+mod readers;
+mod routines;
 mod runs;
 mod scripts;
+mod shorter;
 mod texts;
 
 use adjusting::print_adjusting;
 use anyhow::Result;
+use assemblies::print_assemblies;
 use block::{Answer, Block};
 use codes::print_codes;
+use files::HostFiles;
 use interpreting::print_programs;
+use merging::print_merges;
+use objects::print_objects;
 use operations::print_operations;
+use routines::print_routines;
 use runs::print_runs;
 use scripts::print_scripts;
+use shorter::print_shorter;
 use std::alloc::Global;
 use std::io::{Write, read_to_string};
 
@@ -80,18 +97,24 @@ fn print_command_lines(rt: &HostRuntime) -> Result<()> {
     Ok(())
 }
 
-// Prints what the parts of the machine do, and the interpreter.
+// Prints what the parts of the machine do, the interpreter, and what reads and places objects.
 fn print_parts<W: Write>(alloc: Global, out: &mut W) -> Result<()> {
     print_codes(out)?;
     print_operations(out)?;
     print_runs(alloc, out)?;
     print_scripts(alloc, out)?;
     print_programs(alloc, out)?;
-    print_adjusting(alloc, out)
+    print_merges(alloc, out)?;
+    print_adjusting(alloc, out)?;
+    print_objects(alloc, out)?;
+    print_shorter(alloc, out)
 }
 
 fn main(rt: HostRuntime) -> Result<()> {
     print_command_lines(&rt)?;
     let mut out = rt.stdout();
-    print_parts(rt.alloc(), &mut out)
+    print_parts(rt.alloc(), &mut out)?;
+    print_assemblies(rt.alloc(), &mut out)?;
+    let mut files = HostFiles::new(&rt);
+    print_routines(rt.alloc(), &mut files, &mut out)
 }

@@ -1,5 +1,5 @@
 -- Scalars filled by one value after another.
-use Rattle.std.proofs.Common.{◌≡◌, ℕ, ◌+◌, ◌-◌, ◌/◌, ◌<◌, ◌≤◌, List, [], ◌∷◌, ◌++◌, length, Ok, Err, Option, Some, refl, ap, sym, ◌∙◌, append_assoc, arith, length-append, map, nat_le, nat_lt, subst, true, tests, rules}
+use Rattle.std.proofs.Common.{◌≡◌, ℕ, ◌+◌, ◌-◌, ◌/◌, ◌<◌, ◌≤◌, List, [], ◌∷◌, ◌++◌, length, Ok, Err, Option, Some, refl, ap, sym, ◌∙◌, append_assoc, arith, length-append, map, nat_le, nat_lt, subst, true, tests, rules, drop, get_or}
 use Rattle.std.specs.List.{repeat}
 use Rattle.std.proofs.Math.Nat.{add-div_right}
 use Rattle.trees.specs.declared.declaration.ScalarType.{ScalarType}
@@ -20,7 +20,7 @@ use Rattle.typing.specs.Results.{FailsBy}
 use Rattle.typing.specs.declared.fault.Fault.{Fault}
 use Rattle.typed_expressions.specs.internal.Fillings.{onto, values_filled, elements_listed}
 use Rattle.typed_expressions.proofs.LeftScalars.{repeat_empty}
-use Rattle.typing.proofs.Loops.{fails_more, then_then}
+use Rattle.typing.proofs.Loops.{fails_more, then_then, state_ended, state_fails}
 
 -- values and then more of them
 abbrev joined : Filled → Filled → Filled
@@ -48,6 +48,36 @@ pub values_first : (known : Known) (value : Restricted) (others : List Restricte
     → onto_values known (value ∷ others) state ≡ onto_value known value state >>= onto_values known others
 values_first known value others state =
     onto_then state.values (fill_value known state.left (restricted_tree value).origin (restricted_tree value).offsets) (fill known (map restricted_tree others))
+
+-- the values alone, of what begins with none
+nothing_after : {A : Type 0} (items : List A) → items ++ [] ≡ items
+nothing_after [] = refl
+nothing_after (first ∷ others) = ap (λ all. first ∷ all) (nothing_after others)
+
+abbrev values_of : Checked Filled → Checked (List InitialValue)
+values_of checked = checked >>= (λ (filled : Filled). Ok filled.values)
+
+values_onto : (checked : Checked Filled) → values_of checked ≡ values_of (onto [] checked)
+values_onto (Ok filled) = refl
+values_onto (Err fault) = refl
+
+module _ (known : Known) (values : List Restricted) (i : ℕ) (scalars : List ScalarType) (start now : Filled)
+    (empty : start ≡ record { values = []; left = scalars }) (left : onto_values known (drop i values) now ≡ onto_values known values start) where
+  values_started : values_filled known (map restricted_tree values) scalars ≡ values_of (onto_values known values start)
+  values_started = values_onto (fill known (map restricted_tree values) scalars) ∙ ap (λ state. values_of (onto_values known values state)) (sym empty)
+
+  pub all_filled : length values ≤ i → values_filled known (map restricted_tree values) scalars ≡ Ok now.values
+  all_filled past =
+      values_started
+      ∙ ap values_of (state_ended (onto_value known) (onto_values known) (values_first known) values i now (onto_values known values start) (Ok (record { values = now.values ++ []; left = now.left })) past left refl)
+      ∙ ap (λ made. Ok made) (nothing_after now.values)
+
+  pub some_fails : (value : Restricted) (fault : Option Fault) → i < length values → value ≡ get_or values i value
+      → FailsBy fault (onto_value known value now) → FailsBy fault (values_filled known (map restricted_tree values) scalars)
+  some_fails value fault within is fails =
+      subst (FailsBy fault) (sym values_started)
+      (fails_more fault (onto_values known values start) (λ (filled : Filled). Ok filled.values)
+      (state_fails (onto_value known) (onto_values known) (values_first known) values i value now (onto_values known values start) fault within is left fails))
 
 -- a value for each scalar
 abbrev Counts : List ScalarType → Checked Filled → Type 0

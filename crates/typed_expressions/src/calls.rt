@@ -15,7 +15,7 @@ use crate::expression_nodes;
 use crate::expression_nodes::as_type;
 use crate::functions::{function_of, shift_of};
 use crate::known::{Constants, Known, refuse, require};
-use crate::references::port_of;
+use crate::references::{number_of_arguments, port_of};
 use failure::Failure;
 use names::BuiltIn;
 use std::alloc::{AllocError, Global};
@@ -69,7 +69,6 @@ impl Known {
     /// The arguments of a call, as many as there are parameters, and as values of their types. Another number of arguments
     /// is refused as a wrong use, on the line of the call.
     #[cycle(expression)]
-    #[tactic(auto, using(crate::proofs::GivenParts::count_of_arguments))]
     pub fn call_arguments(
         &self,
         procedure: &TypedProcedure,
@@ -85,7 +84,11 @@ impl Known {
             }) (constants_view constants.old)) }
     {
         let scalars = procedure.parameter_types.as_slice();
-        require(trees.len() == scalars.len(), Cause::WrongUse, line)?;
+        require(
+            number_of_arguments(trees) == scalars.len(),
+            Cause::WrongUse,
+            line,
+        )?;
         let typed = self.arguments(trees, constants)?;
         Ok(arguments_as(self.alloc, scalars, typed)?)
     }
@@ -119,7 +122,6 @@ impl Known {
 
     // LOW, HIGH and DOUBLE of one value.
     #[cycle(expression)]
-    #[tactic(auto, using(crate::proofs::GivenParts::count_of_arguments))]
     fn unary_function(
         &self,
         reference: &Reference,
@@ -130,15 +132,15 @@ impl Known {
             (unary_function function (given self.now reference.now) (constants_view constants.old)) }
     {
         let line = reference.name.place.line;
-        require(reference.arguments.len() == 1, Cause::WrongUse, line)?;
-        let typed = self.arguments(reference.arguments.as_slice(), constants)?;
+        let arguments = reference.arguments.as_slice();
+        require(number_of_arguments(arguments) == 1, Cause::WrongUse, line)?;
+        let typed = self.arguments(arguments, constants)?;
         self.no_member(&reference.member)?;
         function_of(self.alloc, function, line, typed)
     }
 
     // SHL, SHR, ROL and ROR of a value and a count.
     #[cycle(expression)]
-    #[tactic(auto, using(crate::proofs::GivenParts::count_of_arguments))]
     fn shift_function(
         &self,
         reference: &Reference,
@@ -149,8 +151,9 @@ impl Known {
             (shift_function function (given self.now reference.now) (constants_view constants.old)) }
     {
         let line = reference.name.place.line;
-        require(reference.arguments.len() == 2, Cause::WrongUse, line)?;
-        let typed = self.arguments(reference.arguments.as_slice(), constants)?;
+        let arguments = reference.arguments.as_slice();
+        require(number_of_arguments(arguments) == 2, Cause::WrongUse, line)?;
+        let typed = self.arguments(arguments, constants)?;
         self.no_member(&reference.member)?;
         shift_of(self.alloc, function, line, typed)
     }

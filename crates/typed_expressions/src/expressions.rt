@@ -18,8 +18,8 @@ use crate::expression_nodes::{target_of, type_of_number};
 use crate::known::{Constants, Destination, Known, refuse, require};
 use crate::members::{element_size, member_place};
 use crate::references::{
-    Extent, FoundPart, FoundScalar, has_location, part_of_member, port_of, require_writable,
-    subscript_of, takes_subscripts, whole_part,
+    Extent, FoundPart, FoundScalar, has_location, number_of_arguments, part_of_member, port_of,
+    require_writable, subscript_of, takes_subscripts, whole_part,
 };
 use failure::Failure;
 use names::{Binding, BuiltIn, Entity};
@@ -64,7 +64,6 @@ impl Known {
     /// An expression with its types and conversions. The constant lists in it get the next numbers. Refused with its first
     /// fault.
     #[cycle(expression)]
-    #[tactic(auto, using(crate::proofs::GivenParts::given_is))]
     pub fn expression(
         &self,
         tree: &Expression,
@@ -117,7 +116,6 @@ impl Known {
 
     // A part of an object, once the subscript of the object is known: the element, or a member of it.
     #[cycle(expression)]
-    #[tactic(auto, using(crate::proofs::GivenParts::count_of_arguments))]
     fn part_with_member(
         &self,
         reference: &Reference,
@@ -136,19 +134,19 @@ impl Known {
         };
         let line = selector.name.place.line;
         let place = member_place(object_type, selector.name)?;
-        let count = selector.arguments.len();
+        let arguments = selector.arguments.as_slice();
+        let count = number_of_arguments(arguments);
         require(
             takes_subscripts(extent, place.member.dimension, count),
             Cause::WrongUse,
             line,
         )?;
-        let indices = self.arguments(selector.arguments.as_slice(), constants)?;
+        let indices = self.arguments(arguments, constants)?;
         Ok(part_of_member(self.alloc, object, subscript, place, indices)?)
     }
 
     // What a reference to an object means.
     #[cycle(expression)]
-    #[tactic(auto, using(crate::proofs::GivenParts::count_of_arguments))]
     fn part_of(
         &self,
         reference: &Reference,
@@ -162,13 +160,14 @@ impl Known {
             (constants_view constants.old)) }
     {
         let line = reference.name.place.line;
-        let count = reference.arguments.len();
+        let arguments = reference.arguments.as_slice();
+        let count = number_of_arguments(arguments);
         require(
             takes_subscripts(extent, object.dimension, count),
             Cause::WrongUse,
             line,
         )?;
-        let indices = self.arguments(reference.arguments.as_slice(), constants)?;
+        let indices = self.arguments(arguments, constants)?;
         let stride = element_size(object)?;
         let subscript = subscript_of(self.alloc, stride, object.dimension, indices)?;
         self.part_with_member(
@@ -239,15 +238,13 @@ impl Known {
 
     // What a value can be assigned to: a scalar, or OUTPUT.
     #[cycle(expression)]
-    #[tactic(auto, using(crate::proofs::GivenParts::given_is))]
     fn destination(
         &self,
         target: &Reference,
         constants: &mut Constants,
     ) -> Result<Destination, Failure<Fault>>
         ensures { Gives destination_view result (constants_view constants.new)
-            (destination_of (known_view self.now)
-            (given_reference (known_view self.now) (reference_tree target.now)) (constants_view constants.old)) }
+            (destination_of (known_view self.now) (given self.now target.now) (constants_view constants.old)) }
     {
         let line = target.name.place.line;
         match self.bound(target.name)? {

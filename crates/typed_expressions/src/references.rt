@@ -4,7 +4,7 @@ ghost use Rattle.std.specs.Prelude.{◌≡◌, None, IfOk, IfSome, IfNone};
 ghost use Rattle.trees.specs.Trees.{MoreArguments, NoArguments};
 ghost use Rattle.trees.specs.Views.{argument_trees, expression_tree};
 ghost use Rattle.typed_trees.specs.Views.{arguments_view, home_view, object_view, subscript_view, type_view};
-ghost use Rattle.typing.specs.References.{takes_subscripts as do_take, subscript_of as subscript_for, whole_part as whole};
+ghost use Rattle.typing.specs.References.{number_of_arguments, takes_subscripts as do_take, subscript_of as subscript_for, whole_part as whole};
 ghost use Rattle.typing.specs.References.{has_location as located, is_constant as constant, is_writable, port_of, port_of_character as character_port};
 ghost use Rattle.typing.specs.References.{scalar_of as scalar_in, without_member};
 ghost use Rattle.typed_expressions.specs.internal.Given.{extent_view, given_selector, member_part, only_tree, part_view, place_view};
@@ -183,6 +183,14 @@ fn port_of_character(line: u32, characters: &[u8]) -> Result<u8, Failure<Fault>>
         [character] => Ok(*character),
         _ => Err(refuse(Cause::WrongUse, line)),
     }
+}
+
+/// How many arguments there are.
+#[tactic(auto, using(crate::proofs::GivenParts::count_of_arguments))]
+pub(crate) fn number_of_arguments(arguments: &[Expression]) -> usize
+    ensures { result ≡ number_of_arguments (argument_trees arguments.now) }
+{
+    arguments.len()
 }
 
 /// An argument that stands alone.

@@ -1,5 +1,5 @@
 -- Lists of statements, statement by statement.
-use Rattle.std.proofs.Common.{◌≡◌, ℕ, ◌+◌, ◌<◌, ◌≤◌, List, [], ◌∷◌, ◌++◌, length, drop, get_or, Ok, Err, refl, ap, sym, ◌∙◌}
+use Rattle.std.proofs.Common.{◌≡◌, ℕ, ◌+◌, ◌<◌, ◌≤◌, List, [], ◌∷◌, ◌++◌, length, drop, get_or, Option, Ok, Err, refl, ap, sym, ◌∙◌}
 use Rattle.trees.specs.declared.identifier.Identifier.{Identifier}
 use Rattle.trees.specs.declared.statement.Statement.{Statement as Tree}
 use Rattle.trees.specs.Views.{statement_tree, statement_trees}
@@ -11,10 +11,11 @@ use Rattle.typing.specs.Blocks.{Block, Progress}
 use Rattle.typing.specs.Statements.{after_labels, declare_labels, places_from, with_here}
 use Rattle.typing.specs.Typing.{alone, cases, labelled, statements}
 use Rattle.types.specs.internal.Lists.{Listing, with_statement, statements_after}
-use Rattle.typing.specs.Results.{in_front}
+use Rattle.typing.specs.declared.fault.Fault.{Fault}
+use Rattle.typing.specs.Results.{FailsBy, in_front}
 use Rattle.types.specs.internal.Walking.{statement_with_labels}
 use Rattle.types.proofs.Listings.{before_more, before_none, label_after, statement_in_front, places_on}
-use Rattle.typing.proofs.Loops.{drop_item, made_goes_on, made_ended}
+use Rattle.typing.proofs.Loops.{drop_item, made_goes_on, made_fails, made_ended}
 
 -- the statements of a DO CASE
 module _ (block : Block) where
@@ -39,6 +40,12 @@ module _ (block : Block) where
   cases_go_on trees i tree made items statement progress now total within is left given after =
       made_goes_on case_first case_all case_grown (λ first others state. refl) trees i tree progress now (statement_view statement) (statements_after made) (statements_after items) total
       within is left given (λ rest. after_one made items statement rest after)
+
+  pub cases_fail : (trees : List Tree) (i : ℕ) (tree : Tree) (made : List Statement) (progress : Progress) (total : Checked (TypedStatements × Progress)) (fault : Option Fault)
+      → i < length trees → tree ≡ get_or trees i tree → in_front (statements_after made) (cases block (statement_trees (drop i trees)) progress) ≡ total
+      → FailsBy fault (alone block (statement_tree tree) progress) → FailsBy fault total
+  cases_fail trees i tree made progress total fault within is left fails =
+      made_fails case_first case_all case_grown (λ first others state. refl) trees i tree progress (statements_after made) total fault within is left fails
 
   pub cases_ended : (trees : List Tree) (i : ℕ) (made : List Statement) (progress : Progress) (total : Checked (TypedStatements × Progress))
       → length trees ≤ i → in_front (statements_after made) (cases block (statement_trees (drop i trees)) progress) ≡ total → total ≡ Ok (statements_view made, progress)

@@ -64,7 +64,7 @@ fn line_of_reference(reference: &Reference) -> u32
 }
 
 // Where what a statement does begins.
-#[tactic(auto, using(names::proofs::Parts::if_is, names::proofs::Parts::do_is, names::proofs::Parts::while_is, names::proofs::Parts::iterate_is, names::proofs::Parts::case_is, crate::proofs::Lines::line_of_first))]
+#[tactic(auto, using(names::proofs::Parts::do_is))]
 fn line_of_kind(kind: &StatementKind) -> u32
     ensures { result ≡ line_of_kind (kind_tree kind.now) }
 {

@@ -69,7 +69,6 @@ impl Checker {
 
     // What a statement does, its labels aside.
     #[cycle(walk)]
-    #[tactic(auto, using(names::proofs::Parts::if_is, names::proofs::Parts::do_is, names::proofs::Parts::while_is, names::proofs::Parts::iterate_is, names::proofs::Parts::case_is))]
     fn kind(
         &mut self,
         block: Block<'_>,
@@ -213,7 +212,6 @@ impl Checker {
 
     // The statements of a DO CASE.
     #[cycle(walk)]
-    #[tactic(auto, using(crate::proofs::Listings::before_more, crate::proofs::Listings::before_none))]
     fn cases(
         &mut self,
         block: Block<'_>,
@@ -310,7 +308,6 @@ impl Checker {
 
     // A declaration.
     #[cycle(walk)]
-    #[tactic(auto, using(names::proofs::Parts::procedure_is))]
     fn declaration(&mut self, block: Block<'_>, tree: &Declaration) -> Result<(), Failure<Fault>>
         ensures { Leaves result (progress_view self.new)
             (declaration (block_view block.entry) (declaration_tree tree.now)

@@ -1,8 +1,9 @@
--- What the building of a command leaves as it was.
-use Rattle.std.specs.Prelude.{◌≡◌}
+-- Commands while they are built.
+use Rattle.std.specs.Prelude.{◌≡◌, IfOk, Result, false}
+use Rattle.clap.specs.Words.{App, app_of}
 use Rattle.clap.specs.declared.builder.command.Command.{Command}
 use Rattle.clap.specs.declared.builder.command.Command.TheViews.{out-Command}
 
--- no global argument was added
-abbrev pub KeepsGlobals : Command → Command → Type 0
-KeepsGlobals before after = (out-Command after).has_globals ≡ (out-Command before).has_globals
+-- unless memory ran out, what `clap` reads of the command is this, and none of its arguments is global
+abbrev pub Builds : {E : Type 0} → App → Result Command E → Type 0
+Builds app built = IfOk built (λ command. (app_of command ≡ app) × ((out-Command command).has_globals ≡ false))

@@ -1,5 +1,5 @@
 -- What the judgement of a file knows of the records that it has passed, and how it takes in the next one.
-use Rattle.std.specs.Prelude.{◌≡◌, ℕ, zero, ◌+◌, ◌*◌, ◌==◌, Bool, true, false, not, ◌&&◌, nat_le, if◌then◌else◌, List, [], ◌∷◌, length, Option, Some, None, Result, Ok, Err}
+use Rattle.std.specs.Prelude.{◌≡◌, ℕ, ◌+◌, ◌*◌, ◌==◌, Bool, true, not, ◌&&◌, nat_le, if◌then◌else◌, List, [], ◌∷◌, length, Option, Some, None, Result, Ok, Err}
 use Rattle.std.specs.Option.{option_map_or}
 use Rattle.omf80.specs.declared.kind.RecordKind.{RecordKind}
 use Rattle.omf80.specs.declared.kind.RecordKind.TheVariants as kinds
@@ -14,15 +14,15 @@ use Rattle.object_modules.specs.Parts.{Content}
 use Rattle.object_modules.specs.Reading.{segment_of, name_in_front}
 use Rattle.object_entries.specs.Entries.{content_at, content_where, is_content}
 use Rattle.object_entries.specs.Fixes.{FixHead, fix_where, fixes_in}
-use Rattle.object_judgement.specs.declared.extents.Extents.{Extents}
+use Rattle.object_rules.specs.declared.extents.Extents.{Extents}
 use Rattle.object_judgement.specs.declared.header.Header.{Header}
-use Rattle.object_judgement.specs.declared.names.NameList.TheVariants.{Externals, Publics}
+use Rattle.object_rules.specs.declared.names.NameList.TheVariants.{Externals, Publics}
 use Rattle.object_judgement.specs.declared.state.State.{State as CodeState}
-use Rattle.object_judgement.specs.internal.Headers.{nothing_said, extents_in}
-use Rattle.object_judgement.specs.internal.Marks.{Marked, unmarked, marked_after}
-use Rattle.object_judgement.specs.internal.NamesJudged.{names_in, names_taken}
-use Rattle.object_judgement.specs.internal.Order.{may_come}
-use Rattle.object_judgement.specs.internal.References.{entries_fit, target_fits}
+use Rattle.object_rules.specs.Headers.{nothing_said, extents_in}
+use Rattle.object_rules.specs.Marks.{Marked, unmarked, marked_after}
+use Rattle.object_rules.specs.NamesJudged.{names_in, names_taken}
+use Rattle.object_rules.specs.Order.{may_come}
+use Rattle.object_rules.specs.References.{entries_fit, target_fits}
 
 pub record State : Type 0 where
   pub latest : Option RecordKind

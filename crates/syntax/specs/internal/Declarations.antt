@@ -129,6 +129,14 @@ item_type symbols =
       found ← scalar symbols
       Ok (ScalarItem found.0, found.1))
 
+-- `(` member {`,` member} `)`, after STRUCTURE
+abbrev pub structure : Parser ItemTypeTree
+structure symbols = do
+  later ← mark marks.LeftParenthesis symbols
+  found ← items member later
+  rest ← mark marks.RightParenthesis found.1
+  Ok (StructureItem found.0, rest)
+
 -- the next symbol, if it is PUBLIC or EXTERNAL
 abbrev pub external_of : Option Place → Option Linkage
 external_of None = None
@@ -266,6 +274,19 @@ element_after own symbols =
       its_base ← base symbols
       found ← item_after (SingleSubject own its_base.0) its_base.1
       Ok (ItemElement found.0, found.1))
+
+-- a text, after a name and LITERALLY
+abbrev pub definition : Identifier → Parser ElementTree
+definition own symbols = do
+  text ← string symbols
+  Ok (LiterallyElement own text.0, text.1)
+
+-- an item after its only name
+abbrev pub single_item : Identifier → Parser ElementTree
+single_item own symbols = do
+  its_base ← base symbols
+  found ← item_after (SingleSubject own its_base.0) its_base.1
+  Ok (ItemElement found.0, found.1)
 
 -- an element that begins with no name
 abbrev pub group_element : Parser ElementTree

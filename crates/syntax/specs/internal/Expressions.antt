@@ -5,6 +5,7 @@ use Rattle.words.specs.declared.vocabulary.Mark.TheVariants as marks
 use Rattle.words.specs.declared.vocabulary.ReservedWord.TheVariants as words
 use Rattle.trees.specs.declared.expression.BinaryOperator.{BinaryOperator}
 use Rattle.trees.specs.declared.expression.BinaryOperator.TheVariants.{Or, Xor, And, Equal, Less, Greater, LessOrEqual, GreaterOrEqual, Unequal, Add, Subtract, Multiply, Divide, Modulo}
+use Rattle.trees.specs.declared.expression.UnaryOperator.{UnaryOperator}
 use Rattle.trees.specs.declared.expression.UnaryOperator.TheVariants.{Not, Negate}
 use Rattle.trees.specs.declared.identifier.Identifier.{Identifier}
 use Rattle.grammar.specs.Forms.{expression_level, negation_level, sign_level, primary_level, level_of}
@@ -87,6 +88,31 @@ reference_after inner base symbols = do
   its_member ← member_of inner its_arguments.1
   Ok (ReferenceTo base its_arguments.0 its_member.0, its_member.1)
 
+-- name [arguments], after the name of a reference, its arguments and a period
+abbrev pub member_after : ExpressionParser → Identifier → ArgumentTrees → Parser ReferenceTree
+member_after inner base its_arguments symbols = do
+  member ← name symbols
+  found ← arguments inner member.1
+  Ok (ReferenceTo base its_arguments (MemberOf member.0 found.0), found.1)
+
+-- a reference as an expression, after its name
+abbrev pub reference_leaf : ExpressionParser → Identifier → Parser ExpressionTree
+reference_leaf inner base symbols = do
+  found ← reference_after inner base symbols
+  Ok (ReferenceLeaf found.0, found.1)
+
+-- a constant as an expression
+abbrev pub constant_leaf : Parser ExpressionTree
+constant_leaf symbols = do
+  found ← constant symbols
+  Ok (ConstantLeaf found.0, found.1)
+
+-- the operand of an operator that stands before it
+abbrev pub unary_node : ExpressionParser → UnaryOperator → ℕ → Parser ExpressionTree
+unary_node inner operator level symbols = do
+  found ← inner level symbols
+  Ok (UnaryNode operator found.0, found.1)
+
 -- reference: name [arguments] [`.` name [arguments]]
 unfoldable pub reference : ExpressionParser → Parser ReferenceTree
 reference inner symbols = do
@@ -103,6 +129,27 @@ location inner symbols =
     else (do
       found ← reference inner symbols
       Ok (LocationLeaf found.0, found.1))
+
+-- constants in parentheses, after the opening one
+abbrev pub constant_list : Parser ExpressionTree
+constant_list symbols = do
+  found ← items constant symbols
+  rest ← mark marks.RightParenthesis found.1
+  Ok (ListLeaf found.0, rest)
+
+-- a reference, after a period
+abbrev pub located : ExpressionParser → Parser ExpressionTree
+located inner symbols = do
+  found ← reference inner symbols
+  Ok (LocationLeaf found.0, found.1)
+
+-- `:=` expression `)`
+abbrev pub assigned_value : ExpressionParser → Parser ExpressionTree
+assigned_value deeper symbols = do
+  later ← mark marks.AssignSign symbols
+  value ← deeper expression_level later
+  rest ← mark marks.RightParenthesis value.1
+  Ok (value.0, rest)
 
 -- `:=` expression `)`, after a reference
 abbrev pub assigned : ExpressionParser → ExpressionTree → Parser ExpressionTree

@@ -1,5 +1,5 @@
 -- What the parser reads inside of statements and declarations, where names after END are compared.
-use Rattle.std.specs.Prelude.{◌≡◌, ℕ, Bool, true, false, List, [], ◌∷◌, Result, Ok, Err}
+use Rattle.std.specs.Prelude.{◌≡◌, ℕ, Bool, true, false, List, [], ◌∷◌, drop, Option, Some, None, Result, Ok, Err, if◌then◌else◌}
 use Rattle.trees.specs.declared.statement.Block.{Block}
 use Rattle.trees.specs.declared.statement.Declaration.{Declaration}
 use Rattle.trees.specs.declared.statement.Statement.{Statement}
@@ -14,7 +14,7 @@ use Rattle.syntax.specs.declared.statements.Beginning.TheVariants.{Name}
 use Rattle.syntax.specs.internal.Expressions.{ExpressionParser, expression}
 use Rattle.syntax.specs.internal.Results.{Fails}
 use Rattle.syntax.specs.internal.Reader.{Parser, Reading, Cause, ◌>>=◌, semicolon}
-use Rattle.syntax.specs.internal.Statements.{BlockParser, labels_before, after_labels, labelled, statement, declaration, kind_by, beginning_of, block}
+use Rattle.syntax.specs.internal.Statements.{BlockParser, at_semicolon, labels_before, after_labels, labelled, statement, declaration, kind_by, beginning_of, block}
 
 -- {declaration} {statement}, in a room
 abbrev pub block_in : ℕ → BlockParser
@@ -44,6 +44,14 @@ condition inner symbols = do
   found ← inner expression_level symbols
   end ← semicolon found.1
   Ok (found.0, end.1)
+
+-- [expression] `;`
+abbrev pub value : ExpressionParser → Parser (Option ExpressionTree)
+value inner symbols =
+    if at_semicolon symbols then Ok (None, drop 1 symbols)
+    else (do
+      found ← condition inner symbols
+      Ok (Some (found.0), found.1))
 
 -- whether a symbol is a name
 abbrev pub is_name_symbol : Symbol → Bool

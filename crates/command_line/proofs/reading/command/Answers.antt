@@ -1,12 +1,12 @@
 use Rattle.std.proofs.Common.{◌≡◌, ◌∙◌, [], ap, sym, subst}
-use Rattle.std.specs.Prelude.{option_and_then, option_map}
+use Rattle.std.specs.Prelude.{◌<◌, length, option_and_then, option_map}
 use Rattle.clap.specs.Walk.{texts}
 use Rattle.clap.specs.Faults.{is_simple_and_free}
 use Rattle.clap.specs.Kinds.{HasKind}
 use Rattle.clap.specs.Words.{App, fault_of, is_simple, subcommand_of, subcommand_rows_of}
-use Rattle.command_line.specs.Command.{plm_app, wanted_by, wanted_in, wanted_of_match}
+use Rattle.command_line.specs.Command.{IsFaultOf, Orders, files_in, plm_app, wanted_by, wanted_in, wanted_of_match}
 use Rattle.command_line.specs.declared.orders.Order.{Order}
-use Rattle.command_line.proofs.CommandLemmas.{fault_among}
+use Rattle.command_line.proofs.CommandLemmas.{fault_among, gives_none, out_of_memory, tells_none, wants_any}
 use Rattle.command_line.proofs.Given.{files_failed, files_ordered, link_failed, link_ordered, map_failed, map_ordered, place_failed, place_ordered, place_text_failed, place_text_ordered, text_failed, text_ordered}
 use Rattle.command_line.proofs.PlmWords.{order_is_there, some_files, plm_is_free, plm_is_simple}
 use Rattle.command_line.proofs.reading.command.Goals as goal
@@ -14,12 +14,12 @@ use Rattle.command_line.proofs.reading.command.Goals.{In-Ok}
 
 no_fault : (c : In-Ok) → fault_of plm_app (texts c.args.words.now) ≡ []
 no_fault c =
-    let plm_is = c.in_ok-plm.ensures in
+    let plm_is = c.in_ok-plm.ensures.0 in
     subst (λ (a : App). fault_of a (texts c.args.words.now) ≡ []) plm_is (c.in-Ok.ensures.kinds (ap is_simple_and_free plm_is ∙ plm_is_free))
 
 found : (c : In-Ok) → option_and_then wanted_of_match (subcommand_rows_of c.in-Ok.matches) ≡ wanted_by (texts c.args.words.now)
 found c =
-    let plm_is = c.in_ok-plm.ensures in
+    let plm_is = c.in_ok-plm.ensures.0 in
     ap (option_and_then wanted_of_match) ((c.in-Ok.ensures.matches (ap is_simple plm_is ∙ plm_is_simple)).1 ∙ ap (λ (a : App). subcommand_of a (texts c.args.words.now)) plm_is)
 
 pub unreachable-requires : goal.unreachable-requires
@@ -46,7 +46,7 @@ returns c =
 
 has_kind : (c : goal.After-failure_of) → HasKind (fault_of plm_app (texts c.args.words.now)) c.in-Err.error
 has_kind c =
-    let plm_is = c.in_ok-plm.ensures in
+    let plm_is = c.in_ok-plm.ensures.0 in
     subst (λ (a : App). HasKind (fault_of a (texts c.args.words.now)) c.in-Err.error) plm_is (c.in-Err.ensures.kinds (ap is_simple_and_free plm_is ∙ plm_is_free))
 
 pub returns-in-Err : goal.returns-in-Err
@@ -62,3 +62,39 @@ returns-in-Err c = record {
   ok = tt;
   fault = fault_among Order c.in-Err.error c.failure_of.result (fault_of plm_app (texts c.args.words.now)) (has_kind c) c.failure_of.ensures;
 }
+
+pub returns-in_err-plm : goal.returns-in_err-plm
+returns-in_err-plm c =
+    let words = texts c.args.words.now in
+    let answer = c.from_residual.result in
+    let is = out_of_memory answer c.from_residual.ensures.1 in
+    record {
+      files = λ name action files given. wants_any _ answer is;
+      option = λ name action files option text bare given. wants_any _ answer is;
+      map = λ name action files given. wants_any _ answer is;
+      link = λ name out files bare given. wants_any _ answer is;
+      place = λ name action files given. wants_any _ answer is;
+      place_option = λ name action files option text bare given. wants_any _ answer is;
+      order = gives_none (Orders words) answer is;
+      some = gives_none (λ order. 0 < length (files_in (wanted_in order))) answer is;
+      ok = gives_none (λ order. fault_of plm_app words ≡ []) answer is;
+      fault = tells_none (IsFaultOf (fault_of plm_app words)) answer is;
+    }
+
+pub returns-in_err-order : goal.returns-in_err-order
+returns-in_err-order c =
+    let words = texts c.args.words.now in
+    let answer = c.from_residual-in_err-order.result in
+    let is = out_of_memory answer c.from_residual-in_err-order.ensures.1 in
+    record {
+      files = λ name action files given. wants_any _ answer is;
+      option = λ name action files option text bare given. wants_any _ answer is;
+      map = λ name action files given. wants_any _ answer is;
+      link = λ name out files bare given. wants_any _ answer is;
+      place = λ name action files given. wants_any _ answer is;
+      place_option = λ name action files option text bare given. wants_any _ answer is;
+      order = gives_none (Orders words) answer is;
+      some = gives_none (λ order. 0 < length (files_in (wanted_in order))) answer is;
+      ok = gives_none (λ order. fault_of plm_app words ≡ []) answer is;
+      fault = tells_none (IsFaultOf (fault_of plm_app words)) answer is;
+    }

@@ -1,10 +1,13 @@
-use Rattle.std.proofs.Common.{◌≡◌, ◌++◌, drop, filter_map}
+use Rattle.std.proofs.Common.{◌≡◌, ◌++◌, length, filter_map}
 use Rattle.typed_trees.specs.Views.{module_view}
 use Rattle.layout.specs.Joined.{global_of}
 use Rattle.join.specs.internal.Shared.{globals_view}
 use Rattle.join.proofs.shared.push_shared.Given as goal
 
-abbrev pub invariant-loop-item : goal.invariant-loop-item
-invariant-loop-item l =
-    globals_view l.globals.items ++ filter_map (global_of (module_view l.typed)) (drop l.item-index l.item-items)
+abbrev pub invariant-loop-rest : goal.invariant-loop-rest
+invariant-loop-rest l =
+    globals_view l.globals.items ++ filter_map (global_of (module_view l.typed)) l.rest
     ≡ globals_view l.fn.globals.items ++ filter_map (global_of (module_view l.typed)) l.typed.globals.items
+
+abbrev pub decreases-loop-rest : goal.decreases-loop-rest
+decreases-loop-rest l = length l.rest

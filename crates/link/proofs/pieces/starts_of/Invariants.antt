@@ -1,7 +1,10 @@
-use Rattle.std.proofs.Common.{◌≡◌, ◌++◌, drop, map}
+use Rattle.std.proofs.Common.{◌≡◌, ◌++◌, length, map}
 use Rattle.link.specs.Views.{start_view}
 use Rattle.link_laws.specs.internal.Building.{starts_in}
 use Rattle.link.proofs.pieces.starts_of.Given as goal
 
-abbrev pub invariant-loop-one : goal.invariant-loop-one
-invariant-loop-one l = map start_view l.starts.items ++ starts_in (drop l.one-index l.placed) ≡ starts_in l.placed
+abbrev pub invariant-loop-rest : goal.invariant-loop-rest
+invariant-loop-rest l = map start_view l.starts.items ++ starts_in l.rest ≡ starts_in l.placed
+
+abbrev pub decreases-loop-rest : goal.decreases-loop-rest
+decreases-loop-rest l = length l.rest

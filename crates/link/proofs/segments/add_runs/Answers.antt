@@ -5,15 +5,15 @@ use Rattle.object_modules.specs.Stored.{are_longest}
 use Rattle.link_laws.proofs.FixesWithin.{runs_have_fixes}
 use Rattle.link.proofs.segments.add_runs.Goals as goal
 
-pub loop-run-init : goal.loop-run-init
-loop-run-init c = record {
+pub loop-rest-init : goal.loop-rest-init
+loop-rest-init c = record {
   theirs =
       runs_have_fixes c.args.placed.now.object c.args.segment (length_of c.args.placed.now.object c.args.segment)
-      c.runs-run-items.result.now c.fixes-left.result.now c.module.ensures.valid
+      c.runs-rest.result.now c.fixes-left.result.now c.module.ensures.valid
       (omega (arith, c.start-start.ensures.fits))
-      (c.runs-run-items.ensures.runs ∙ ap (λ (o : ObjectModule). runs_of o c.args.segment) c.module-2.ensures.same)
+      (c.runs-rest.ensures.runs ∙ ap (λ (o : ObjectModule). runs_of o c.args.segment) c.module-2.ensures.same)
       (c.fixes-left.ensures.fixes ∙ ap (λ (o : ObjectModule). fixes_in o c.args.segment) c.module.ensures.same)
-      (subst (λ (o : ObjectModule). IsTrue (are_longest (length_of o c.args.segment) c.runs-run-items.result.now))
-      c.module-2.ensures.same c.runs-run-items.ensures.longest);
+      (subst (λ (o : ObjectModule). IsTrue (are_longest (length_of o c.args.segment) c.runs-rest.result.now))
+      c.module-2.ensures.same c.runs-rest.ensures.longest);
   added = search rules;
 }

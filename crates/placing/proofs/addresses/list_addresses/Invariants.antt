@@ -1,9 +1,12 @@
-use Rattle.std.proofs.Common.{◌≡◌, ◌++◌, drop, map}
+use Rattle.std.proofs.Common.{◌≡◌, ◌++◌, length, map}
 use Rattle.layout.specs.Following.{address_of_slot}
 use Rattle.placing.specs.internal.Placings.{bases_view}
 use Rattle.placing.proofs.addresses.list_addresses.Given as goal
 
-abbrev pub invariant-loop-slot : goal.invariant-loop-slot
-invariant-loop-slot l =
-    l.addresses.items ++ map (address_of_slot (bases_view l.bases)) (drop l.slot-index l.slots)
+abbrev pub invariant-loop-rest : goal.invariant-loop-rest
+invariant-loop-rest l =
+    l.addresses.items ++ map (address_of_slot (bases_view l.bases)) l.rest
     ≡ map (address_of_slot (bases_view l.bases)) l.slots
+
+abbrev pub decreases-loop-rest : goal.decreases-loop-rest
+decreases-loop-rest l = length l.rest

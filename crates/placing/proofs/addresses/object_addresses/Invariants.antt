@@ -1,14 +1,14 @@
-use Rattle.std.proofs.Common.{◌≡◌, [], map}
+use Rattle.std.proofs.Common.{◌≡◌, [], length, map}
 use Rattle.std.specs.Prelude.{zip}
 use Rattle.typed_trees.specs.Views.{object_view}
 use Rattle.layout.specs.Placing.{addresses_after}
 use Rattle.placing.specs.internal.Placings.{bases_view}
-use Rattle.placing.proofs.Passes.{objects_left}
 use Rattle.placing.proofs.addresses.object_addresses.Given as goal
 
-abbrev pub invariant-loop-object : goal.invariant-loop-object
-invariant-loop-object l =
-    (addresses_after (bases_view l.bases) l.addresses.items
-    (objects_left l.objects l.slots l.object-index l.number)
-    ≡ addresses_after (bases_view l.bases) [] (zip (map object_view l.objects) l.slots))
-    × (l.number ≡ l.object-index)
+abbrev pub invariant-loop-rest : goal.invariant-loop-rest
+invariant-loop-rest l =
+    addresses_after (bases_view l.bases) l.addresses.items (zip (map object_view l.rest) l.places)
+    ≡ addresses_after (bases_view l.bases) [] (zip (map object_view l.objects) l.slots)
+
+abbrev pub decreases-loop-rest : goal.decreases-loop-rest
+decreases-loop-rest l = length l.rest

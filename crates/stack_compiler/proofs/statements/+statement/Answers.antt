@@ -1,9 +1,13 @@
-use Rattle.std.proofs.Common.{ap, ◌∙◌}
-use Rattle.typed_trees.specs.Views.{iteration_view, list_view, statements_view}
+use Rattle.std.proofs.Common.{◌++◌, ◌∷◌, [], Option, length, ap, sym, ◌∙◌, arith}
+use Rattle.std.proofs.lemmas.Result.{on_ok_weaker}
+use Rattle.typed_trees.specs.declared.statement.TypedStatement.{TypedStatement}
+use Rattle.typed_trees.specs.Views.{else_view, expression_view, iteration_view, list_view, statement_view, statements_view}
+use Rattle.stack_code.specs.Code.{choice_code, count_of_statements, else_code, entries_code, cases_code, expression_code, list_code, statement_code}
 use Rattle.stack_compiler.specs.internal.Openings.{closed, opened, opening}
 use Rattle.stack_compiler.specs.internal.Sites.{site_view}
-use Rattle.stack_compiler.proofs.Cases.{cases_made}
-use Rattle.stack_compiler.proofs.JumpsFilled.{iterate_made}
+use Rattle.stack_compiler.proofs.Cases.{case_made, case_opened, cases_made, cases_opened}
+use Rattle.stack_compiler.proofs.JumpsFilled.{if_with, if_without, iterate_made, while_made}
+use Rattle.stack_compiler.proofs.StatementLoops.{statement_emitted, statements_count, statements_emitted}
 use Rattle.stack_compiler.proofs.statements.+statement.Goals as goal
 
 pub cases_of-returns : goal.cases_of-returns
@@ -23,3 +27,55 @@ emit_iterate-returns t c =
     c.in_ok-emit_first.ensures c.next_place-start.ensures c.in_ok-emit.ensures c.in_ok-emit_list.ensures c.in_ok-emit_stepping.ensures
     c.next_place-leave.ensures c.in_ok-emit-2.ensures c.close_jump.ensures c.in_ok-emit_last.ensures c.count_after-count.ensures
     c.in_ok-emit-3.ensures c.close_jump_unless.ensures
+
+pub emit_statements-loop-statement-preserved : goal.emit_statements-loop-statement-preserved
+emit_statements-loop-statement-preserved t c =
+    statement_emitted (site_view c.args.site.now) c.loop-statement.code.items _ c.args.statements.now c.loop-statement.statement-index c.loop-statement.invariant
+    c.statement-item.result c.emit_statement.new.code.items (omega arith) c.statement-item.is c.in_ok-emit_statement.ensures
+
+pub emit_statements-returns : goal.emit_statements-returns
+emit_statements-returns t c =
+    statements_emitted (site_view c.args.site.now) c.loop-statement.code.items _ c.args.statements.now c.loop-statement.statement-index c.loop-statement.invariant (omega arith)
+
+pub emit_while-returns : goal.emit_while-returns
+emit_while-returns t c =
+    on_ok_weaker c.emit-2.result
+    (while_made c.args.code.now.items c.emit.new.code.items c.emit_list.new.code.items c.close_jump.new.code.items c.emit_expression.new.code.items
+    c.emit-2.new.code.items (list_code (site_view c.args.site.now) (list_view c.args.turns.now.body))
+    (expression_code (site_view c.args.site.now) (expression_view c.args.turns.now.condition)) c.next_place-start.result c.count_after-count.result
+    c.next_place-start.ensures c.in_ok-emit.ensures c.in_ok-emit_list.ensures c.close_jump.ensures c.in_ok-emit_expression.ensures c.count_after-count.ensures)
+    c.emit-2.ensures
+
+pub emit_if-returns-in_ok-emit_statement-in-Some : goal.emit_if-returns-in_ok-emit_statement-in-Some
+emit_if-returns-in_ok-emit_statement-in-Some t c =
+    let site = site_view c.args.site.now in
+    let condition = expression_code site (expression_view c.args.branch.now.condition) in
+    let body = statement_code site (statement_view c.args.branch.now.body) in
+    if_with c.args.code.now.items c.emit_expression.new.code.items c.emit.new.code.items c.emit_statement.new.code.items c.emit-in-Some.new.code.items
+    c.close_jump_unless.new.code.items c.emit_statement-in-Some.new.code.items c.close_jump.new.code.items condition body
+    (statement_code site (statement_view c.in-Some.otherwise)) c.next_place-choice.result c.next_place-end.result
+    c.in_ok-emit_expression.ensures c.next_place-choice.ensures c.in_ok-emit.ensures c.in_ok-emit_statement.ensures c.next_place-end.ensures
+    c.in_ok-emit-in-Some.ensures c.close_jump_unless.ensures c.in_ok-emit_statement-in-Some.ensures c.close_jump.ensures
+    ∙ ap (λ (one : Option TypedStatement). c.args.code.now.items ++ (condition ++ choice_code body (else_code site (else_view one)))) (sym c.in-Some.is)
+
+pub emit_if-returns-in-None : goal.emit_if-returns-in-None
+emit_if-returns-in-None t c =
+    let site = site_view c.args.site.now in
+    let condition = expression_code site (expression_view c.args.branch.now.condition) in
+    let body = statement_code site (statement_view c.args.branch.now.body) in
+    if_without c.args.code.now.items c.emit_expression.new.code.items c.emit.new.code.items c.emit_statement.new.code.items
+    c.close_jump_unless-in-None.new.code.items condition body c.next_place-choice.result
+    c.in_ok-emit_expression.ensures c.next_place-choice.ensures c.in_ok-emit.ensures c.in_ok-emit_statement.ensures c.close_jump_unless-in-None.ensures
+    ∙ ap (λ (one : Option TypedStatement). c.args.code.now.items ++ (condition ++ choice_code body (else_code site (else_view one)))) (sym c.in-None.is)
+
+pub open_cases-loop-entry-preserved : goal.open_cases-loop-entry-preserved
+open_cases-loop-entry-preserved t c =
+    case_opened (site_view c.args.site.now) c.loop-entry.cases.items c.loop-entry.ends.items _ c.args.statements.now c.loop-entry.entry c.loop-entry.invariant
+    c.index-statements-entry.result c.close_jump.new.code.items c.emit_statement.new.code.items c.emit.new.code.items c.push.new.self.items
+    (omega arith) c.index-statements-entry.is c.close_jump.ensures c.in_ok-emit_statement.ensures c.in_ok-emit.ensures
+    (c.in_ok-push.ensures.items ∙ ap (λ count. c.loop-entry.ends.items ++ (count ∷ [])) (c.len.ensures ∙ c.emit.new.code.ok.0))
+
+pub open_cases-returns : goal.open_cases-returns
+open_cases-returns t c =
+    cases_opened (site_view c.args.site.now) c.loop-entry.cases.items c.loop-entry.ends.items _ c.args.statements.now c.loop-entry.entry c.loop-entry.invariant
+    c.close_jump-2.new.code.items (omega arith) (omega arith) c.close_jump-2.ensures

@@ -4,7 +4,8 @@ use Rattle.trees.specs.Views.{expression_tree}
 use Rattle.syntax.specs.internal.Expressions.{expression}
 use Rattle.syntax.proofs.ExpressionSound.{expression-keeps}
 use Rattle.syntax.proofs.ListLoops.{list_more, list_ends, list_fails, gives_exit}
-use Rattle.syntax.proofs.ExpressionLoops.{shorter_after, operators_go_on, operators_do_not_go_on, operators_too_deep, primary_reads, primary_fails}
+use Rattle.syntax.proofs.ExpressionLoops.{shorter_after, expression_at, expression-deep, expression_less_at, operators_end, operators_go_on, operators_do_not_go_on, operators_too_deep, primary_name, primary_constant, primary_parenthesized, primary_location}
+use Rattle.syntax.proofs.MeasuredHeights.{arguments_of_map}
 use Rattle.syntax.proofs.reader.Reader.+expression.Goals as goal
 
 pub expressions-returns-in_err-next-clause-gives : goal.expressions-returns-in_err-next-clause-gives
@@ -62,12 +63,39 @@ operators-more-preserved t c =
       fits = omega (arith, c.in_ok-left.ensures.height, c.in_ok-right.ensures.fits, c.if-left-room.false);
     }
 
-pub primary-returns-in_err-found-2-clause-gives : goal.primary-returns-in_err-found-2-clause-gives
-primary-returns-in_err-found-2-clause-gives t c =
-    gives_exit _ c.from_residual-in_err-found-2.result _ _ _ c.from_residual-in_err-found-2.ensures.1
-    (primary_fails _ _ _ _ _ _ c.in-Some.ensures c.skip-2.ensures c.in_err-found-2.ensures.gives)
+pub operators-returns-clause-gives : goal.operators-returns-clause-gives
+operators-returns-clause-gives t c = grind (arith, operators_end)
+
+pub expression-returns-then-room-eq0-clause-gives : goal.expression-returns-then-room-eq0-clause-gives
+expression-returns-then-room-eq0-clause-gives t c =
+    expression-deep _ _ _ _ c.if-room-eq0.true c.too_deep.ensures
+
+pub expression-returns-in_err-left-clause-gives : goal.expression-returns-in_err-left-clause-gives
+expression-returns-in_err-left-clause-gives t c = grind (arith, expression_at)
+
+pub expression-returns-clause-gives : goal.expression-returns-clause-gives
+expression-returns-clause-gives t c = grind (arith, expression_at)
+
+pub primary-returns-then-at_mark-clause-gives : goal.primary-returns-then-at_mark-clause-gives
+primary-returns-then-at_mark-clause-gives t c = grind (arith, primary_parenthesized)
+
+pub primary-returns-then-at_mark-2-clause-gives : goal.primary-returns-then-at_mark-2-clause-gives
+primary-returns-then-at_mark-2-clause-gives t c = grind (arith, primary_location)
+
+pub primary-returns-in_default-clause-gives : goal.primary-returns-in_default-clause-gives
+primary-returns-in_default-clause-gives t c = grind (arith, primary_constant)
 
 pub primary-returns-clause-gives : goal.primary-returns-clause-gives
-primary-returns-clause-gives t c =
-    primary_reads _ _ _ _ _ _ _ _ c.in-Some.ensures c.skip-2.ensures c.in_ok-found-2.ensures.gives
-    c.in_ok-reference.ensures.view
+primary-returns-clause-gives t c = grind (arith, primary_name)
+
+pub assigned_value-returns-in_err-value-clause-gives : goal.assigned_value-returns-in_err-value-clause-gives
+assigned_value-returns-in_err-value-clause-gives t c = grind (arith, expression_less_at)
+
+pub assigned_value-returns-in_err-take_mark-2-clause-gives : goal.assigned_value-returns-in_err-take_mark-2-clause-gives
+assigned_value-returns-in_err-take_mark-2-clause-gives t c = grind (arith, expression_less_at)
+
+pub assigned_value-returns-clause-gives : goal.assigned_value-returns-clause-gives
+assigned_value-returns-clause-gives t c = grind (arith, expression_less_at)
+
+pub arguments-returns-clause-gives : goal.arguments-returns-clause-gives
+arguments-returns-clause-gives t c = grind (arith, arguments_of_map)

@@ -14,6 +14,15 @@ decreases-operators l = 10 * l.room + 1
 abbrev pub decreases-operand : goal.decreases-operand
 decreases-operand l = 10 * l.room + 9
 
+abbrev pub decreases-unary : goal.decreases-unary
+decreases-unary l = 10 * l.room + 1
+
+abbrev pub decreases-reference_leaf : goal.decreases-reference_leaf
+decreases-reference_leaf l = 10 * l.room + 6
+
+abbrev pub decreases-member_after : goal.decreases-member_after
+decreases-member_after l = 10 * l.room + 4
+
 abbrev pub decreases-primary : goal.decreases-primary
 decreases-primary l = 10 * l.room + 8
 
@@ -23,11 +32,17 @@ decreases-parenthesized l = 10 * l.room + 7
 abbrev pub decreases-assigned : goal.decreases-assigned
 decreases-assigned l = 10 * l.room + 6
 
+abbrev pub decreases-assigned_value : goal.decreases-assigned_value
+decreases-assigned_value l = 10 * l.room + 2
+
 abbrev pub decreases-location : goal.decreases-location
-decreases-location l = 10 * l.room + 5
+decreases-location l = 10 * l.room + 7
+
+abbrev pub decreases-located : goal.decreases-located
+decreases-located l = 10 * l.room + 6
 
 abbrev pub decreases-reference_after : goal.decreases-reference_after
-decreases-reference_after l = 10 * l.room + 4
+decreases-reference_after l = 10 * l.room + 5
 
 abbrev pub decreases-arguments : goal.decreases-arguments
 decreases-arguments l = 10 * l.room + 3

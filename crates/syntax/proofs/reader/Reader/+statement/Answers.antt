@@ -1,7 +1,9 @@
-use Rattle.std.proofs.Common.{not, sym, ◌∙◌, ap}
+use Rattle.std.proofs.Common.{not, sym, ◌∙◌, ap, arith}
 use Rattle.std.proofs.lemmas.Result.{err_from_is_err_and}
-use Rattle.syntax.proofs.StatementInsides.{statement-deep, declaration-deep, declaration-declares}
-use Rattle.syntax.proofs.StatementLoops.{statements-fails, statements-fails_at_end, declarations-fails}
+use Rattle.syntax.proofs.StatementInsides.{statement_in, declaration_in, statement-deep, declaration-deep, declaration-declares}
+use Rattle.syntax.proofs.StatementLoops.{statements-more, statements-end, statement-smaller, statements-fails, statements-fails_at_end, declarations-more, declarations-end, declaration-smaller, declarations-fails}
+use Rattle.syntax.proofs.ReaderResults.{fails_bind}
+use Rattle.syntax.specs.internal.Statements.{declare_or}
 use Rattle.syntax.proofs.reader.Reader.+statement.Goals as goal
 
 pub take_statement-returns-then-room-eq0 : goal.take_statement-returns-then-room-eq0
@@ -36,3 +38,31 @@ pub take_declaration-returns-then-at_word : goal.take_declaration-returns-then-a
 take_declaration-returns-then-at_word t c =
     rw (declaration-declares _ _ _ (sym c.if-at_word.true ∙ c.at_word.ensures) c.skip.ensures)
     c.take_declare.ensures
+
+pub take_statement-returns-in_err-kind : goal.take_statement-returns-in_err-kind
+take_statement-returns-in_err-kind t c = grind (arith, fails_bind, statement_in)
+
+pub take_statement-returns : goal.take_statement-returns
+take_statement-returns t c = grind (arith, statement_in)
+
+pub take_statements-more-smaller : goal.take_statements-more-smaller
+take_statements-more-smaller t c = grind (arith, statement-smaller)
+
+pub take_statements-more-preserved : goal.take_statements-more-preserved
+take_statements-more-preserved t c = grind (arith, statements-more)
+
+pub take_statements-returns : goal.take_statements-returns
+take_statements-returns t c = grind (arith, statements-end)
+
+pub take_declarations-more-smaller : goal.take_declarations-more-smaller
+take_declarations-more-smaller t c = grind (arith, declaration-smaller)
+
+pub take_declarations-more-preserved : goal.take_declarations-more-preserved
+take_declarations-more-preserved t c = grind (arith, declarations-more)
+
+pub take_declarations-returns : goal.take_declarations-returns
+take_declarations-returns t c = grind (arith, declarations-end)
+
+pub take_declaration-returns : goal.take_declaration-returns
+unfolding declare_or
+take_declaration-returns t c = grind (arith, declaration_in)

@@ -16,13 +16,25 @@ abbrev pub decreases-take_declarations : goal.decreases-take_declarations
 decreases-take_declarations l = 10 * l.room + 1
 
 abbrev pub decreases-take_do : goal.decreases-take_do
-decreases-take_do l = 10 * l.room + 4
+decreases-take_do l = 10 * l.room + 5
+
+abbrev pub decreases-take_simple_do : goal.decreases-take_simple_do
+decreases-take_simple_do l = 10 * l.room + 4
+
+abbrev pub decreases-take_while : goal.decreases-take_while
+decreases-take_while l = 10 * l.room + 3
+
+abbrev pub decreases-take_case : goal.decreases-take_case
+decreases-take_case l = 10 * l.room + 3
+
+abbrev pub decreases-take_iterative_do : goal.decreases-take_iterative_do
+decreases-take_iterative_do l = 10 * l.room + 3
 
 abbrev pub decreases-take_if : goal.decreases-take_if
 decreases-take_if l = 10 * l.room + 2
 
 abbrev pub decreases-take_kind : goal.decreases-take_kind
-decreases-take_kind l = 10 * l.room + 5
+decreases-take_kind l = 10 * l.room + 6
 
 abbrev pub decreases-take_otherwise : goal.decreases-take_otherwise
 decreases-take_otherwise l = 10 * l.room + 1

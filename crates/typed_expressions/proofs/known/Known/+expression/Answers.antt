@@ -1,5 +1,7 @@
 use Rattle.typed_expressions.specs.Views.{constants_view, known_view}
+use Rattle.std.proofs.Common.{rules}
 use Rattle.typed_expressions.proofs.ArgumentLoops.{goes_on, ended}
+use Rattle.typed_expressions.proofs.GivenParts.{given_is}
 use Rattle.typed_expressions.proofs.known.Known.+expression.Goals as goal
 
 pub arguments-loop-tree-preserved : goal.arguments-loop-tree-preserved
@@ -12,3 +14,18 @@ pub arguments-returns : goal.arguments-returns
 arguments-returns t c =
     ended (known_view c.args.self.now) c.args.trees.now c.loop-tree.tree-index c.loop-tree.made.items (constants_view c.loop-tree.constants) _
     c.loop-tree-test.false c.loop-tree.invariant
+
+pub expression-returns-in-Reference : goal.expression-returns-in-Reference
+expression-returns-in-Reference t c = rw c.in-Reference.is (rw (given_is c.args.self.now c.in-Reference.reference.value) (search rules))
+
+pub expression-returns-in-Location : goal.expression-returns-in-Location
+expression-returns-in-Location t c = rw c.in-Location.is (rw (given_is c.args.self.now c.in-Location.reference.value) (search rules))
+
+pub expression-returns-in_err-destination-in-Assignment : goal.expression-returns-in_err-destination-in-Assignment
+expression-returns-in_err-destination-in-Assignment t c = search (rules, given_is)
+
+pub expression-returns-in_err-value-in-Assignment : goal.expression-returns-in_err-value-in-Assignment
+expression-returns-in_err-value-in-Assignment t c = search (rules, given_is)
+
+pub expression-returns-in_ok-assignment-in-Assignment : goal.expression-returns-in_ok-assignment-in-Assignment
+expression-returns-in_ok-assignment-in-Assignment t c = search (rules, given_is)

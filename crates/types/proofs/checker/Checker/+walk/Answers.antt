@@ -1,6 +1,9 @@
+use Rattle.std.proofs.Common.{arith, rules}
+use Rattle.names.proofs.Parts.{if_is, do_is, while_is, iterate_is, case_is, procedure_is}
+use Rattle.typing.specs.Results.{fault_in}
 use Rattle.types.specs.internal.Lists.{listed_view}
 use Rattle.types.specs.internal.Views.{block_view, progress_view}
-use Rattle.types.proofs.Walks.{cases_go_on, cases_ended, statements_go_on, places_go_on, statements_ended}
+use Rattle.types.proofs.Walks.{cases_go_on, cases_fail, cases_ended, statements_go_on, places_go_on, statements_ended}
 use Rattle.types.proofs.checker.Checker.+walk.Goals as goal
 
 pub cases-loop-tree-preserved : goal.cases-loop-tree-preserved
@@ -24,3 +27,27 @@ pub statements-returns-clause-statements : goal.statements-returns-clause-statem
 statements-returns-clause-statements t c =
     statements_ended (block_view c.args.block) c.args.trees.now c.loop-tree.tree-index c.loop-tree.listed.statements.items c.loop-tree.listed.label
     (progress_view c.loop-tree.self) _ c.loop-tree-test.false c.loop-tree.invariant.typed
+
+pub kind-returns-in-If : goal.kind-returns-in-If
+kind-returns-in-If t c = grind (arith, if_is)
+
+pub kind-returns-in-Do : goal.kind-returns-in-Do
+kind-returns-in-Do t c = grind (arith, do_is)
+
+pub kind-returns-in-While : goal.kind-returns-in-While
+kind-returns-in-While t c = grind (arith, while_is)
+
+pub kind-returns-in-Iterate : goal.kind-returns-in-Iterate
+kind-returns-in-Iterate t c = grind (arith, iterate_is)
+
+pub kind-returns-in-Case : goal.kind-returns-in-Case
+kind-returns-in-Case t c = grind (arith, case_is)
+
+pub declaration-returns-in-Procedure : goal.declaration-returns-in-Procedure
+declaration-returns-in-Procedure t c = grind (arith, procedure_is)
+
+pub cases-returns-in_err-typed : goal.cases-returns-in_err-typed
+cases-returns-in_err-typed t c =
+    let failed = cases_fail (block_view c.args.block) c.args.trees.now c.loop-tree.tree-index c.tree-item.result c.loop-tree.made.items (progress_view c.loop-tree.self) _
+    (fault_in c.in_err-typed.field-0.0) c.loop-tree-test.true c.tree-item.is c.loop-tree.invariant c.in_err-typed.ensures in
+    search rules

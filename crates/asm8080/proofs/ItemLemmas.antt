@@ -1,0 +1,105 @@
+-- What one item more at the end does.
+use Rattle.std.proofs.Common.{◌≡◌, ℕ, ◌<◌, Bool, true, false, ◌||◌, List, [], ◌∷◌, ◌++◌, refl, sym, subst, ◌∙◌}
+use Rattle.std.proofs.lemmas.List.Elements.{All-push}
+use Rattle.std.proofs.lemmas.Bool.{eqb-true}
+use Rattle.asm8080.specs.declared.item.Item.{Item}
+use Rattle.asm8080.specs.declared.item.Item.TheVariants.{Mark}
+use Rattle.asm8080.specs.Items.{Assembly, BindsNew, BoundOnce, IsAssembly, KnowsLabels, is_bound, marks}
+
+neither : (here more : Bool) → here ≡ false → more ≡ false → (here || more) ≡ false
+neither false false h m = refl
+neither true more h m = h
+neither false true h m = m
+
+right_false : (here more : Bool) → (here || more) ≡ false → more ≡ false
+right_false true more h = let bad : true ≡ false = h in cc
+right_false false more h = h
+
+-- a label that one item binds, and another would bind only where that one didn't
+other_false : (here new others : Bool) → here ≡ true → (new ≡ true → (here || others) ≡ false) → new ≡ false
+other_false here false others h n = refl
+other_false true true others h n = n refl
+other_false false true others h n = let bad : false ≡ true = h in cc
+
+pub bound_more :
+    (label : ℕ) (items : List Item) (item : Item)
+    → is_bound label items ≡ false
+    → marks label item ≡ false
+    → is_bound label (items ++ item ∷ []) ≡ false
+bound_more label [] item b m = neither (marks label item) false m refl
+bound_more label (first ∷ others) item b m =
+    neither (marks label first) (is_bound label (others ++ item ∷ []))
+    (left_false (marks label first) (is_bound label others) b)
+    (bound_more label others item (right_false (marks label first) (is_bound label others) b) m)
+  where
+    left_false : (here more : Bool) → (here || more) ≡ false → here ≡ false
+    left_false true more h = h
+    left_false false more h = refl
+
+pub once_more :
+    (items : List Item) (item : Item)
+    → BoundOnce items
+    → BindsNew item items
+    → BoundOnce (items ++ item ∷ [])
+once_more [] item once new = ((λ label m. refl), tt)
+once_more (first ∷ others) item once new = (
+  (λ label m.
+      bound_more label others item (once.0 label m)
+      (other_false (marks label first) (marks label item) (is_bound label others) m (new label))),
+  once_more others item once.1
+      (λ label m. right_false (marks label first) (is_bound label others) (new label m)),
+)
+
+-- an assembly with one item more
+pub assembly_more :
+    (items after : List Item) (labels : ℕ) (item : Item)
+    → IsAssembly (record { items = items; labels = labels })
+    → KnowsLabels labels item
+    → BindsNew item items
+    → after ≡ items ++ item ∷ []
+    → IsAssembly (record { items = after; labels = labels })
+assembly_more items after labels item is knows new same =
+    subst (λ (list : List Item). IsAssembly (record { items = list; labels = labels })) (sym same)
+    (record {
+      known = All-push (KnowsLabels labels) items item is.known knows;
+      once = once_more items item is.once new;
+    })
+
+-- with an item more that binds no label
+pub other_more :
+    (items after : List Item) (labels : ℕ) (item : Item)
+    → IsAssembly (record { items = items; labels = labels })
+    → KnowsLabels labels item
+    → ((label : ℕ) → marks label item ≡ false)
+    → after ≡ items ++ item ∷ []
+    → IsAssembly (record { items = after; labels = labels })
+other_more items after labels item is knows unmarked same =
+    assembly_more items after labels item is knows
+    (λ label m. let bad : true ≡ false = sym m ∙ unmarked label in cc) same
+
+-- with a label more that is bound
+pub mark_more :
+    (items after : List Item) (labels label : ℕ)
+    → IsAssembly (record { items = items; labels = labels })
+    → label < labels
+    → is_bound label items ≡ false
+    → after ≡ items ++ Mark label ∷ []
+    → IsAssembly (record { items = after; labels = labels })
+mark_more items after labels label is known unbound same =
+    assembly_more items after labels (Mark label) is known
+    (λ other m. subst (λ n. is_bound n items ≡ false) (sym (eqb-true other label m)) unbound) same
+
+-- what is said of a view is so of the fields that it is of
+pub of_fields :
+    (now inside : Assembly) (P : Assembly → Type 0)
+    → now ≡ inside
+    → P now
+    → P inside
+of_fields now inside P same h = subst P same h
+
+pub of_fields_back :
+    (now inside : Assembly) (P : Assembly → Type 0)
+    → inside ≡ now
+    → P now
+    → P inside
+of_fields_back now inside P same h = subst P (sym same) h

@@ -1,0 +1,86 @@
+-- The words of items: their bytes, and what these become where targets have addresses.
+use Rattle.std.proofs.Common.{◌≡◌, ℕ, ◌+◌, ◌*◌, ◌/◌, ◌%◌, [], ◌∷◌, length, slice_index, refl, ap, ◌∙◌, arith}
+use Rattle.object_modules.specs.declared.segment.Target.{Target}
+use Rattle.object_modules.specs.declared.segment.Target.TheVariants.{InSegment}
+use Rattle.object_modules.specs.declared.segment.Segment.TheVariants.{Code}
+use Rattle.object_modules.specs.Moving.{second_byte_moved}
+use Rattle.isa8080.specs.State.{high_byte, low_byte, wrap}
+use Rattle.isa8080.specs.Code.{bytes_of}
+use Rattle.asm8080.specs.declared.item.WordForm.{WordForm}
+use Rattle.asm8080.specs.declared.item.WordForm.TheVariants.{LoadPair, StoreHl, LoadHl, StoreA, LoadA, Jump, JumpWhere, CallTo, CallWhere}
+use Rattle.asm8080.specs.declared.item.Reference.{Reference}
+use Rattle.asm8080.specs.declared.item.Reference.TheVariants.{AtLabel, AtTarget}
+use Rattle.asm8080.specs.declared.item.Item.{Item}
+use Rattle.asm8080.specs.declared.item.Item.TheVariants.{Plain, WithWord, Byte, Address, Mark}
+use Rattle.asm8080.specs.Items.{Layout, bytes_of_item, instruction_with, size_of, word_of}
+use Rattle.asm8080.specs.Assembled.{target_of}
+use Rattle.asm8080.specs.internal.Assembling.{layout_from}
+
+-- the first byte of a form
+abbrev pub opcode : WordForm → ℕ
+opcode form = slice_index (bytes_of (instruction_with form 0)) 0
+
+pub form_bytes :
+    (form : WordForm) (word : ℕ)
+    → bytes_of (instruction_with form word) ≡ opcode form ∷ low_byte word ∷ high_byte word ∷ []
+form_bytes (LoadPair pair) word = refl
+form_bytes StoreHl word = refl
+form_bytes LoadHl word = refl
+form_bytes StoreA word = refl
+form_bytes LoadA word = refl
+form_bytes Jump word = refl
+form_bytes (JumpWhere condition) word = refl
+form_bytes CallTo word = refl
+form_bytes (CallWhere condition) word = refl
+
+-- an item has as many bytes as it takes
+pub item_length : (layout : Layout) (item : Item) → length (bytes_of_item layout item) ≡ size_of item
+item_length layout (Plain instruction) = refl
+item_length layout (WithWord form reference) = ap length (form_bytes form (word_of layout reference))
+item_length layout (Byte value) = refl
+item_length layout (Address reference) = refl
+item_length layout (Mark label) = refl
+
+-- labels moved to where the code is, and targets with addresses
+abbrev pub layout_moved : (address_of : Target → ℕ) → (place_of : ℕ → ℕ) → Layout
+layout_moved address_of place_of = record {
+  place_of = λ label. address_of (InSegment Code) + place_of label;
+  address_of = address_of;
+}
+
+wrap_moved : (place gain : ℕ) → (place % 65536 + gain) % 65536 ≡ (gain + place) % 65536
+wrap_moved place gain = omega arith
+
+wrap_gain : (offset gain : ℕ) → ((offset + 0) % 65536 + gain) % 65536 ≡ (offset + gain) % 65536
+wrap_gain offset gain = omega arith
+
+-- a word gains the address of its target
+pub word_moved :
+    (address_of : Target → ℕ) (place_of : ℕ → ℕ) (reference : Reference)
+    → wrap (word_of (layout_from place_of) reference + address_of (target_of reference))
+    ≡ word_of (layout_moved address_of place_of) reference
+word_moved address_of place_of (AtLabel label) = wrap_moved (place_of label) (address_of (InSegment Code))
+word_moved address_of place_of (AtTarget target offset) = wrap_gain offset (address_of target)
+
+low_gained : (word gain : ℕ) → (word % 256 + gain) % 256 ≡ (word + gain) % 65536 % 256
+low_gained word gain = omega arith
+
+high_gained : (word gain : ℕ) → (word % 256 + 256 * (word / 256) + gain) / 256 % 256 ≡ (word + gain) % 65536 / 256
+high_gained word gain = omega arith
+
+pub low_moved :
+    (address_of : Target → ℕ) (place_of : ℕ → ℕ) (reference : Reference)
+    → (low_byte (word_of (layout_from place_of) reference) + address_of (target_of reference)) % 256
+    ≡ low_byte (word_of (layout_moved address_of place_of) reference)
+low_moved address_of place_of reference =
+    low_gained (word_of (layout_from place_of) reference) (address_of (target_of reference))
+    ∙ ap low_byte (word_moved address_of place_of reference)
+
+pub high_moved :
+    (address_of : Target → ℕ) (place_of : ℕ → ℕ) (reference : Reference)
+    → second_byte_moved (low_byte (word_of (layout_from place_of) reference))
+    (high_byte (word_of (layout_from place_of) reference)) (address_of (target_of reference))
+    ≡ high_byte (word_of (layout_moved address_of place_of) reference)
+high_moved address_of place_of reference =
+    high_gained (word_of (layout_from place_of) reference) (address_of (target_of reference))
+    ∙ ap high_byte (word_moved address_of place_of reference)

@@ -1,0 +1,13 @@
+use Rattle.std.proofs.Common.{◌≡◌, ◌+◌, ◌≤◌, drop, length}
+use Rattle.object_modules.specs.declared.segment.TheConstants.{SEGMENT_LIMIT}
+use Rattle.asm8080.specs.Items.{size_of_items}
+use Rattle.asm8080.specs.internal.Assembling.{layout_from, no_code, place_in, with_items}
+use Rattle.asm8080.proofs.assembling.assemble.Given as goal
+
+abbrev pub invariant-loop-item : goal.invariant-loop-item
+invariant-loop-item l = record {
+  code :
+      with_items (layout_from (place_in l.places)) l.code (drop l.item-index l.items)
+      ≡ with_items (layout_from (place_in l.places)) no_code l.items;
+  room : length l.code.bytes + size_of_items (drop l.item-index l.items) ≤ SEGMENT_LIMIT;
+}

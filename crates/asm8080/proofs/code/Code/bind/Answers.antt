@@ -1,0 +1,13 @@
+use Rattle.std.proofs.Common.{sym, subst, ◌≡◌, ◌<◌, false}
+use Rattle.asm8080.specs.Items.{is_bound}
+use Rattle.asm8080.proofs.ItemLemmas.{mark_more, of_fields_back}
+use Rattle.asm8080.proofs.code.Code.bind.Goals as goal
+
+pub invariant_of-self-2 : goal.invariant_of-self-2
+invariant_of-self-2 c =
+    mark_more _ _ _ _ c.self.invariant
+    (subst (λ n. n < c.self.inside.labels) (sym c.label.view_is)
+    (of_fields_back _ _ (λ a. c.args.label < a.labels) c.self.view_is c.requires.known))
+    (subst (λ n. is_bound n c.self.inside.items.items ≡ false) (sym c.label.view_is)
+    (of_fields_back _ _ (λ a. is_bound c.args.label a.items ≡ false) c.self.view_is c.requires.once))
+    c.in_ok-push.ensures.items

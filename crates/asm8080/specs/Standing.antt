@@ -1,0 +1,41 @@
+-- Bytes and instructions that stand in a memory, and what a machine keeps of one.
+use Rattle.std.specs.Prelude.{◌≡◌, ℕ, ◌+◌, ◌-◌, ◌≤◌, List, [], ◌∷◌, length}
+use Rattle.mem80.specs.declared.memory.TheConstants.{MEMORY_SIZE}
+use Rattle.mem80.specs.declared.range.Range.{Range}
+use Rattle.mem80.specs.Memory.{byte_at}
+use Rattle.mem80.specs.Range.{IsIn}
+use Rattle.isa8080.specs.declared.instr.Instr.{Instr}
+use Rattle.isa8080.specs.State.{State, wrap}
+use Rattle.isa8080.specs.Code.{bytes_of}
+
+-- bytes stand from an address on; after 65535 comes 0
+abbrev pub BytesStand : (memory : List ℕ) → (address : ℕ) → (bytes : List ℕ) → Type 0
+BytesStand memory address [] = Unit {0}
+BytesStand memory address (byte ∷ others) =
+    (byte_at memory (wrap address) ≡ byte) × BytesStand memory (address + 1) others
+
+-- an instruction stands at an address
+abbrev pub InstructionStands : (memory : List ℕ) → (address : ℕ) → Instr → Type 0
+InstructionStands memory address instruction = BytesStand memory address (bytes_of instruction)
+
+abbrev pub size_of_instruction : Instr → ℕ
+size_of_instruction instruction = length (bytes_of instruction)
+
+-- two memories have the same bytes in a range
+abbrev pub AgreesIn : Range → (memory other : List ℕ) → Type 0
+AgreesIn range memory other =
+    (address : ℕ) → IsIn address range → byte_at other address ≡ byte_at memory address
+
+-- a memory becomes another in which no byte differs but at addresses of one's own
+pub record Keeps (Own : ℕ → Type 0) (before after : List ℕ) : Type 0 where
+  pub size : length after ≡ length before
+  pub bytes : (address : ℕ) → (Own address → ⊥) → byte_at after address ≡ byte_at before address
+
+-- where the stack ends, counted up to 65536, so that SP is 0 where that is the end of memory
+pub record StackIsAt (level : ℕ) (s : State) : Type 0 where
+  pub limit : level ≤ MEMORY_SIZE
+  pub pointer : s.registers.sp ≡ wrap level
+
+-- so many bytes below a level
+abbrev pub below : (level room : ℕ) → Range
+below level room = record { start = level - room; len = room }

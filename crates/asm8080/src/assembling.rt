@@ -1,0 +1,201 @@
+//! Items as bytes and fixes.
+
+ghost use Rattle.std.specs.Prelude.{◌≡◌, ◌+◌, ◌≤◌, length, replicate, ◌++◌, [], ◌∷◌, Some, OnOk, IfOk};
+ghost use Rattle.object_modules.specs.declared.segment.TheConstants.{SEGMENT_LIMIT};
+ghost use Rattle.isa8080.specs.State.{high_byte, low_byte, wrap};
+ghost use Rattle.isa8080.specs.Code.{bytes_of};
+ghost use Rattle.asm8080.specs.Items.{instruction_with, size_of, size_of_items, word_of};
+ghost use Rattle.asm8080.specs.Assembled.{fix_at, target_of};
+ghost use Rattle.asm8080.specs.internal.Assembling.{all_placed, layout_from, no_code, place_in, places_of, with_item, with_items, with_mark};
+
+use crate::bytes::CodeBytes;
+use crate::item::{Item, Reference, WordForm};
+use isa8080::{Instr, encode};
+use object_modules::{Fix, FixKind, Segment, Target};
+use std::alloc::{AllocError, Global};
+
+// How many bytes an item takes, 3 at most.
+fn item_size(item: Item) -> usize
+    ensures size { result ≡ size_of item }
+    ensures at_most { result ≤ 3 }
+{
+    match item {
+        Item::Plain(instruction) => {
+            let (_, size) = encode(instruction);
+            size as usize
+        }
+        Item::WithWord(_, _) => 3,
+        Item::Byte(_) => 1,
+        Item::Address(_) => 2,
+        Item::Mark(_) => 0,
+    }
+}
+
+/// How many bytes items take.
+pub(crate) fn code_size(items: &[Item]) -> usize
+    ensures { result ≡ size_of_items items.now }
+{
+    let mut size = 0;
+    for item in items {
+        size += item_size(*item);
+    }
+    size
+}
+
+// Puts the offset of an item into the table, if it is a label.
+fn put_mark(places: &mut Vec<Option<usize>>, item: Item, offset: usize)
+    ensures { (places.new).items ≡ with_mark item offset (places.old).items }
+{
+    if let Item::Mark(label) = item
+        && label < places.len()
+    {
+        places[label] = Some(offset);
+    }
+}
+
+// A table without places.
+fn no_places(alloc: Global, labels: usize) -> Result<Vec<Option<usize>>, AllocError>
+    ensures { IfOk result (λ places. places.items ≡ replicate labels None) }
+{
+    let places = vec![in alloc; None; labels]?;
+    Ok(places)
+}
+
+/// How far from the start of items each of so many labels is, by its number; none where it is not bound.
+pub(crate) fn label_places(
+    alloc: Global,
+    items: &[Item],
+    labels: usize,
+) -> Result<Vec<Option<usize>>, AllocError>
+    ensures { IfOk result (λ places. places.items ≡ places_of labels items.now) }
+{
+    let mut places = no_places(alloc, labels)?;
+    let mut offset = 0;
+    for item in items {
+        put_mark(&mut places, *item, offset);
+        offset += item_size(*item);
+    }
+    Ok(places)
+}
+
+/// Whether each label of a table has a place.
+pub(crate) fn all_placed(places: &[Option<usize>]) -> bool
+    ensures { result ≡ all_placed places.now }
+{
+    places.iter().all(|place| place.is_some())
+}
+
+// The place of a label by a table, modulo 65536.
+fn place_word(places: &[Option<usize>], label: usize) -> u16
+    ensures { result ≡ wrap (place_in places.now label) }
+{
+    match places.get(label) {
+        Some(Some(place)) => (*place % 65_536) as u16,
+        _ => 0,
+    }
+}
+
+// The word of a reference where code begins at 0 and each target lies at 0.
+fn reference_word(reference: Reference, places: &[Option<usize>]) -> u16
+    ensures { result ≡ word_of (layout_from (place_in places.now)) reference }
+{
+    match reference {
+        Reference::AtLabel(label) => place_word(places, label),
+        Reference::AtTarget(_, offset) => offset,
+    }
+}
+
+// What a reference counts from.
+fn reference_target(reference: Reference) -> Target
+    ensures { result ≡ target_of reference }
+{
+    match reference {
+        Reference::AtLabel(_) => Target::InSegment(Segment::Code),
+        Reference::AtTarget(target, _) => target,
+    }
+}
+
+// The fix of the word of a reference.
+fn fix_at(offset: u16, reference: Reference) -> Fix
+    ensures { result ≡ fix_at offset reference }
+{
+    Fix {
+        kind: FixKind::Both,
+        target: reference_target(reference),
+        offset,
+    }
+}
+
+// The instruction of a form with its word.
+fn instruction_with(form: WordForm, word: u16) -> Instr
+    ensures { result ≡ instruction_with form word }
+{
+    match form {
+        WordForm::LoadPair(pair) => Instr::Lxi(pair, word),
+        WordForm::StoreHl => Instr::Shld(word),
+        WordForm::LoadHl => Instr::Lhld(word),
+        WordForm::StoreA => Instr::Sta(word),
+        WordForm::LoadA => Instr::Lda(word),
+        WordForm::Jump => Instr::Jmp(word),
+        WordForm::JumpWhere(condition) => Instr::JumpIf(condition, word),
+        WordForm::CallTo => Instr::Call(word),
+        WordForm::CallWhere(condition) => Instr::CallIf(condition, word),
+    }
+}
+
+// Adds the bytes of an instruction.
+fn push_instruction(bytes: &mut Vec<u8>, instruction: Instr) -> Result<(), AllocError>
+    ensures { OnOk result ((bytes.new).items ≡ (bytes.old).items ++ bytes_of instruction) }
+{
+    let (code, size) = encode(instruction);
+    bytes.extend_from_slice(&code[..size as usize])
+}
+
+// Adds a word, low byte first.
+fn push_word(bytes: &mut Vec<u8>, word: u16) -> Result<(), AllocError>
+    ensures { OnOk result ((bytes.new).items ≡ (bytes.old).items ++ low_byte word ∷ high_byte word ∷ []) }
+{
+    bytes.push((word % 256) as u8)?;
+    bytes.push((word / 256) as u8)?;
+    Ok(())
+}
+
+// Adds an item, whose labels have places in a table.
+fn push_item(code: &mut CodeBytes, item: Item, places: &[Option<usize>]) -> Result<(), AllocError>
+    requires { length code.old.bytes + size_of item ≤ SEGMENT_LIMIT }
+    ensures { OnOk result (code.new ≡ with_item (layout_from (place_in places.now)) code.old item) }
+{
+    let offset = code.bytes.len();
+    match item {
+        Item::Plain(instruction) => push_instruction(&mut code.bytes, instruction)?,
+        Item::WithWord(form, reference) => {
+            let word = reference_word(reference, places);
+            push_instruction(&mut code.bytes, instruction_with(form, word))?;
+            code.fixes.push(fix_at((offset + 1) as u16, reference))?;
+        }
+        Item::Byte(value) => code.bytes.push(value)?,
+        Item::Address(reference) => {
+            push_word(&mut code.bytes, reference_word(reference, places))?;
+            code.fixes.push(fix_at(offset as u16, reference))?;
+        }
+        Item::Mark(_) => {}
+    }
+    Ok(())
+}
+
+/// The code of items that fit a segment, whose labels have places in a table.
+pub(crate) fn assemble(
+    alloc: Global,
+    items: &[Item],
+    places: &[Option<usize>],
+) -> Result<CodeBytes, AllocError>
+    requires { size_of_items items.now ≤ SEGMENT_LIMIT }
+    ensures { IfOk result (λ code.
+        code ≡ with_items (layout_from (place_in places.now)) no_code items.now) }
+{
+    let mut code = CodeBytes::empty(alloc);
+    for item in items {
+        push_item(&mut code, *item, places)?;
+    }
+    Ok(code)
+}

@@ -1,0 +1,181 @@
+//! Code with labels.
+
+ghost use Rattle.std.specs.Prelude.{◌≡◌, ◌+◌, ◌^◌, ◌<◌, false, [], ◌∷◌, ◌++◌, OnErr, OnOk, IfOk, Ok, Err};
+ghost use Rattle.failure.specs.Failure.{IfFault};
+ghost use Rattle.asm8080.specs.declared.item.Item.TheVariants.{Plain, WithWord, Byte, Address, Mark};
+ghost use Rattle.asm8080.specs.declared.item.Reference.TheVariants.{AtLabel, AtTarget};
+ghost use Rattle.asm8080.specs.Items.{is_bound};
+ghost use Rattle.asm8080.specs.Assembled.{IsFinished};
+
+use crate::assembling::{all_placed, assemble, code_size, label_places};
+use crate::bytes::CodeBytes;
+use crate::fault::Fault;
+use crate::item::{Item, Reference, WordForm};
+use failure::Failure;
+use isa8080::Instr;
+use object_modules::{SEGMENT_LIMIT, Target};
+use std::alloc::{AllocError, Global};
+use std::marker::Model;
+
+/// A place in code, to be bound once.
+#[derive(Clone, Copy)]
+pub struct Label {
+    number: usize,
+}
+
+impl Model for Label {
+    ghost use Rattle.std.specs.Prelude.{ℕ};
+
+    ghost Value = { ℕ };
+
+    ghost view = { λ label. label.number };
+
+    ghost inverse = { λ number. record { number = number } };
+}
+
+/// Code to which more is added at its end. Where there is no memory for it, it stays as it was.
+#[derive(Drop)]
+pub struct Code {
+    items: Vec<Item>,
+    labels: usize,
+}
+
+impl Model for Code {
+    ghost use Rattle.asm8080.specs.Items.{Assembly, IsAssembly};
+
+    ghost Value = { Assembly };
+
+    ghost view = { λ code. record { items = code.items.items; labels = code.labels } };
+
+    ghost invariant = { λ code. IsAssembly (record { items = code.items.items; labels = code.labels }) };
+}
+
+impl Code {
+    /// No code yet.
+    pub fn new(alloc: Global) -> Code
+        ensures { result ≡ record { items = []; labels = 0 } }
+    {
+        Code {
+            items: Vec::new(alloc),
+            labels: 0,
+        }
+    }
+
+    /// Adds an instruction.
+    pub fn emit(&mut self, instruction: Instr) -> Result<(), AllocError>
+        ensures ok { OnOk result (self.new
+            ≡ record self.old { items = self.old.items ++ Plain instruction ∷ [] }) }
+        ensures err { OnErr result (self.new ≡ self.old) }
+    {
+        self.items.push(Item::Plain(instruction))?;
+        Ok(())
+    }
+
+    /// Adds an instruction whose word counts from a target.
+    pub fn emit_fixed(
+        &mut self,
+        form: WordForm,
+        target: Target,
+        offset: u16,
+    ) -> Result<(), AllocError>
+        ensures ok { OnOk result (self.new ≡ record self.old {
+          items = self.old.items ++ WithWord form (AtTarget target offset) ∷ [];
+        }) }
+        ensures err { OnErr result (self.new ≡ self.old) }
+    {
+        self.items
+            .push(Item::WithWord(form, Reference::AtTarget(target, offset)))?;
+        Ok(())
+    }
+
+    /// Adds a byte of data.
+    pub fn emit_byte(&mut self, value: u8) -> Result<(), AllocError>
+        ensures ok { OnOk result (self.new
+            ≡ record self.old { items = self.old.items ++ Byte value ∷ [] }) }
+        ensures err { OnErr result (self.new ≡ self.old) }
+    {
+        self.items.push(Item::Byte(value))?;
+        Ok(())
+    }
+
+    /// Adds a word of data that counts from a target.
+    pub fn emit_address(&mut self, target: Target, offset: u16) -> Result<(), AllocError>
+        ensures ok { OnOk result (self.new ≡ record self.old {
+          items = self.old.items ++ Address (AtTarget target offset) ∷ [];
+        }) }
+        ensures err { OnErr result (self.new ≡ self.old) }
+    {
+        self.items
+            .push(Item::Address(Reference::AtTarget(target, offset)))?;
+        Ok(())
+    }
+
+    /// A label that is not bound yet. Fails where there are as many as can be counted.
+    pub fn label(&mut self) -> Result<Label, AllocError>
+        ensures ok { IfOk result (λ label. label ≡ self.old.labels) }
+        ensures more { OnOk result (self.new ≡ record self.old { labels = self.old.labels + 1 }) }
+        ensures err { OnErr result (self.new ≡ self.old) }
+        ensures full { OnErr result (self.old.labels + 1 ≡ 2 ^ 64) }
+    {
+        let Some(labels) = self.labels.checked_add(1) else {
+            return Err(AllocError);
+        };
+        let label = Label {
+            number: self.labels,
+        };
+        self.labels = labels;
+        Ok(label)
+    }
+
+    /// Whether a label has its place. Looks at each item.
+    pub fn is_bound(&self, label: Label) -> bool
+        ensures { result ≡ is_bound label self.now.items }
+    {
+        self.items.iter().any(|item| matches!(item, Item::Mark(number) if *number == label.number))
+    }
+
+    /// Gives a label of this code its place here. No label is bound twice.
+    pub fn bind(&mut self, label: Label) -> Result<(), AllocError>
+        requires known { label < self.old.labels }
+        requires once { is_bound label self.old.items ≡ false }
+        ensures ok { OnOk result (self.new
+            ≡ record self.old { items = self.old.items ++ Mark label ∷ [] }) }
+        ensures err { OnErr result (self.new ≡ self.old) }
+    {
+        self.items.push(Item::Mark(label.number))?;
+        Ok(())
+    }
+
+    /// Adds an instruction whose word is the place of a label of this code: a jump, a call or any other.
+    pub fn jump(&mut self, form: WordForm, label: Label) -> Result<(), AllocError>
+        requires known { label < self.old.labels }
+        ensures ok { OnOk result (self.new ≡ record self.old {
+          items = self.old.items ++ WithWord form (AtLabel label) ∷ [];
+        }) }
+        ensures err { OnErr result (self.new ≡ self.old) }
+    {
+        self.items
+            .push(Item::WithWord(form, Reference::AtLabel(label.number)))?;
+        Ok(())
+    }
+
+    /// The code as bytes and fixes of a code segment. Only where each label is bound and the code has no more
+    /// bytes than a segment.
+    pub fn finish(self) -> Result<CodeBytes, Failure<Fault>>
+        ensures done { IfOk result (λ code. IsFinished self (Ok code)) }
+        ensures fault { IfFault result (λ fault. IsFinished self (Err fault)) }
+    {
+        let alloc = *self.items.allocator();
+        let items = self.items.as_slice();
+        let table = label_places(alloc, items, self.labels)?;
+        let places = table.as_slice();
+        if !all_placed(places) {
+            return Err(Failure::Fault(Fault::UnboundLabel));
+        }
+        if code_size(items) > SEGMENT_LIMIT as usize {
+            return Err(Failure::Fault(Fault::TooLong));
+        }
+        let code = assemble(alloc, items, places)?;
+        Ok(code)
+    }
+}

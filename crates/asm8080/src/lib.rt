@@ -1,0 +1,13 @@
+//! Code for the 8080 with labels, and the words in which its runs are spoken of.
+#![tactic(auto)]
+
+mod assembling;
+mod bytes;
+mod code;
+mod fault;
+mod item;
+
+pub use bytes::CodeBytes;
+pub use code::{Code, Label};
+pub use fault::Fault;
+pub use item::{Item, Reference, WordForm};

@@ -1,0 +1,30 @@
+-- What an argument or a command more makes of a command that is being built.
+use Rattle.std.proofs.Common.{◌≡◌, ◌∙◌, ap₂, subst, false, Ok, Err, refl}
+use Rattle.std.specs.Prelude.{IfOk, Result}
+use Rattle.clap.specs.Words.{AddsArg, AddsSubcommand, App, Rule, rule_of, with_rule, with_subcommand}
+use Rattle.clap.specs.declared.builder.arg.Arg.{Arg}
+use Rattle.clap.specs.declared.builder.command.Command.{Command}
+use Rattle.command_line.specs.internal.Building.{Builds}
+
+arg_of : {E : Type 0} (command : Command) (arg : Arg) (result : Result Command E) → IfOk result (AddsArg command arg) → arg.global ≡ false
+    → (app : App) (rule : Rule) → Builds {E = E} app (Ok command) → rule_of arg ≡ rule → Builds (with_rule app rule) result
+arg_of command arg (Ok more) adds local app rule builds is = (adds.shape local ∙ ap₂ with_rule builds.0 is, adds.globals ∙ rw (builds.1, local) refl)
+arg_of command arg (Err error) adds local app rule builds is = tt
+
+-- one more argument
+pub arg_added : {E : Type 0} (given result : Result Command E) (command : Command) (arg : Arg) → given ≡ Ok command → IfOk result (AddsArg command arg) → arg.global ≡ false
+    → (app : App) (rule : Rule) → Builds app given → rule_of arg ≡ rule → Builds (with_rule app rule) result
+arg_added given result command arg was adds local app rule builds is =
+    arg_of command arg result adds local app rule (subst (λ (g : Result Command _). Builds app g) was builds) is
+
+leaf_of : {E : Type 0} (command leaf : Command) (result : Result Command E) → IfOk result (AddsSubcommand command leaf)
+    → (app sub : App) → Builds {E = E} app (Ok command) → Builds {E = E} sub (Ok leaf) → Builds (with_subcommand app sub.top) result
+leaf_of command leaf (Ok more) adds app sub builds is =
+    (adds.shape is.1 ∙ ap₂ (λ (a b : App). with_subcommand a b.top) builds.0 is.0, adds.globals ∙ rw (builds.1, is.1) refl)
+leaf_of command leaf (Err error) adds app sub builds is = tt
+
+-- one more command
+pub leaf_added : {E : Type 0} (given below result : Result Command E) (command leaf : Command) → given ≡ Ok command → below ≡ Ok leaf → IfOk result (AddsSubcommand command leaf)
+    → (app sub : App) → Builds app given → Builds sub below → Builds (with_subcommand app sub.top) result
+leaf_added given below result command leaf was of adds app sub builds is =
+    leaf_of command leaf result adds app sub (subst (λ (g : Result Command _). Builds app g) was builds) (subst (λ (g : Result Command _). Builds sub g) of is)

@@ -1,0 +1,2 @@
+-- What the loops over the contents of files go by.
+pub mod Growing

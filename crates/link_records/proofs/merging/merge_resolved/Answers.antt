@@ -1,0 +1,18 @@
+use Rattle.std.proofs.Common.{◌≡◌, true, Err, rules}
+use Rattle.object_modules.specs.Displacements.{linked_modules}
+use Rattle.object_modules.specs.Merge.{SegmentTooLong, merge_of, some_segment_is_too_long}
+use Rattle.link.specs.Merging.{refusal_of}
+use Rattle.link.specs.declared.fault.LinkFault.{LinkFault}
+use Rattle.link_laws.proofs.Linkings.{by_lengths, handed_on}
+use Rattle.link_records.proofs.merging.merge_resolved.Goals as goal
+
+pub returns-in_err-pieces-clause-refused : goal.returns-in_err-pieces-clause-refused
+returns-in_err-pieces-clause-refused c =
+    handed_on c.from_residual.result c.pieces_of.result c.in_err-pieces.field-0.0
+    (λ (fault : LinkFault). refusal_of fault ≡ SegmentTooLong)
+    (λ (fault : LinkFault). some_segment_is_too_long c.args.files.now (linked_modules c.args.files.now) ≡ true)
+    (λ (fault : LinkFault). merge_of c.args.files.now ≡ Err (refusal_of fault))
+    (search rules) c.in_err-pieces.was
+    (λ fault h k.
+    by_lengths c.args.files.now c.args.names c.requires.known c.requires.resolved (refusal_of fault) h k)
+    c.pieces_of.ensures.fault c.pieces_of.ensures.too_long

@@ -1,0 +1,10 @@
+use Rattle.std.proofs.Common.{ap, ◌∙◌}
+use Rattle.object_modules.specs.Module.{is_among}
+use Rattle.file_merges.proofs.NameWalks.{among_borrowed}
+use Rattle.link_records.proofs.names.NameTable.contains.Goals as goal
+
+pub returns : goal.returns
+returns c =
+    c.contains.ensures
+    ∙ among_borrowed c.args.name.now c.self.inside.names.keys
+    ∙ ap (is_among c.args.name.now) c.self.view_is

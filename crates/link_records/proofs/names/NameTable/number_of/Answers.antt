@@ -1,0 +1,11 @@
+use Rattle.std.proofs.Common.{ap, ◌∙◌}
+use Rattle.std.specs.List.{position}
+use Rattle.std.specs.Str.{bytes_eq}
+use Rattle.file_merges.proofs.NameWalks.{position_borrowed}
+use Rattle.link_records.proofs.names.NameTable.number_of.Goals as goal
+
+pub returns : goal.returns
+returns c =
+    c.get_index_of.ensures.index
+    ∙ position_borrowed c.args.name.now c.self.inside.names.keys
+    ∙ ap (position (bytes_eq c.args.name.now)) c.self.view_is

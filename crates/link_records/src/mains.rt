@@ -1,0 +1,59 @@
+//! Main modules.
+
+ghost use Rattle.std.specs.Prelude.{◌≡◌, ◌==◌, length, slice_get};
+ghost use Rattle.std.specs.Option.{option_map};
+ghost use Rattle.object_modules.specs.Displacements.{linked_modules};
+ghost use Rattle.object_modules.specs.Merge.{main_modules};
+ghost use Rattle.object_merges.proofs.MergeValid.{main_of};
+ghost use Rattle.link_records.specs.internal.Views.{main_view};
+
+use crate::files::{ObjectFile, name_of};
+use crate::placed::PlacedFile;
+use object_modules::{Name, Segment};
+
+/// The name of a main module, and its start in a merge.
+#[derive(Clone, Copy)]
+pub(crate) struct MainModule {
+    pub(crate) name: Name,
+    pub(crate) start: u16,
+}
+
+/// Whether just one file spells a module with a start.
+#[tactic(auto, using(link_laws::proofs::MainPasses::mains_begun, link_laws::proofs::MainPasses::main_passed, link_laws::proofs::MainPasses::main_first, link_laws::proofs::MainPasses::main_again, link_laws::proofs::MainPasses::mains_ended))]
+pub(crate) fn has_one_main(files: &[ObjectFile<'_>]) -> bool
+    ensures { result ≡ (length (main_modules (linked_modules files.now)) == 1) }
+{
+    let mut found = false;
+    for file in files {
+        if file.start().is_some() {
+            if found {
+                return false;
+            }
+            found = true;
+        }
+    }
+    found
+}
+
+// The module of a file as a main module, if it is one.
+fn main_in(placed: &PlacedFile<'_>) -> Option<MainModule>
+    ensures { option_map main_view result ≡ main_of placed.now }
+{
+    let start = placed.file().start()?;
+    Some(MainModule {
+        name: name_of(placed.file().name()),
+        start: start.wrapping_add(placed.start(Segment::Code)),
+    })
+}
+
+/// The first main module.
+pub(crate) fn first_main(placed: &[PlacedFile<'_>]) -> Option<MainModule>
+    ensures { option_map main_view result ≡ slice_get (main_modules placed.now) 0 }
+{
+    for one in placed {
+        if let Some(main) = main_in(one) {
+            return Some(main);
+        }
+    }
+    None
+}

@@ -1,0 +1,171 @@
+//! The merge of the modules that files spell.
+
+ghost use Rattle.std.specs.Prelude.{◌≡◌, ◌==◌, ◌||◌, [], All, false, true, length, slice_get, sum_by, IfOk, Ok, Err, None, Some};
+ghost use Rattle.failure.specs.Failure.{IfFault};
+ghost use Rattle.object_modules.specs.declared.segment.Segment.TheVariants.{Code, Data};
+ghost use Rattle.object_modules.specs.Displacements.{linked_modules};
+ghost use Rattle.object_modules.specs.Merge.{main_modules, merge_of, public_names, some_segment_is_too_long};
+ghost use Rattle.object_modules.specs.Module.{IsObjectModule};
+ghost use Rattle.link.specs.Merging.{refusal_of};
+ghost use Rattle.link_laws.specs.internal.Building.{AreJoined, alignment_joined, end_in, end_joined};
+ghost use Rattle.link_laws.specs.internal.Passes.{externals_of, gathered, missing_in};
+ghost use Rattle.file_merges.specs.internal.Growing.{all_grown, nothing_grown};
+ghost use Rattle.link_records.specs.internal.Views.{main_view};
+
+use crate::contents::segments_of;
+use crate::files::ObjectFile;
+use crate::growing::GrowingSegment;
+use crate::mains::{MainModule, first_main, has_one_main};
+use crate::names::{NameTable, public_names_of, unresolved_in};
+use crate::pieces::{Pieces, pieces_of};
+use crate::placed::PlacedFile;
+use crate::publics::{Publics, publics_of};
+use failure::Failure;
+use link::LinkFault;
+use object_modules::{Alignment, ModuleParts, ObjectModule, Segment};
+use std::alloc::Global;
+
+// Where the last piece ends.
+fn merged_end(segment: Segment, placed: &[PlacedFile<'_>]) -> u16
+    ensures { result ≡ end_joined (end_in segment) 0 placed.now }
+{
+    let mut end = 0;
+    for one in placed {
+        end = one.end(segment);
+    }
+    end
+}
+
+// Where the merged segment may begin: at a page if one of its pieces is page-aligned.
+fn merged_alignment(segment: Segment, placed: &[PlacedFile<'_>]) -> Alignment
+    ensures { result ≡ alignment_joined segment placed.now }
+{
+    for one in placed {
+        if matches!(one.file().alignment(segment), Alignment::Page) {
+            return Alignment::Page;
+        }
+    }
+    Alignment::Byte
+}
+
+// Whether a high byte is fixed to what moves by no multiple of 256, in the code or in the data.
+fn high_byte_moves(code: &GrowingSegment, data_bytes: &GrowingSegment) -> bool
+    ensures { result ≡ (code.now.moves || data_bytes.now.moves) }
+{
+    code.moves() || data_bytes.moves()
+}
+
+// The parts of a merge whose segments are made.
+fn parts_of(
+    alloc: Global,
+    pieces: &Pieces<'_>,
+    publics: Publics<'_>,
+    main: MainModule,
+    code: GrowingSegment,
+    data_bytes: GrowingSegment,
+) -> ModuleParts
+    requires code { code ≡ all_grown publics Code nothing_grown pieces.now.placed.items }
+    requires data_bytes { data_bytes ≡ all_grown publics Data nothing_grown pieces.now.placed.items }
+    ensures { AreJoined publics.entry pieces.now.placed.items pieces.now.stack_length (main_view main) result }
+{
+    let placed = pieces.placed.as_slice();
+    let code_end = merged_end(Segment::Code, placed);
+    let data_end = merged_end(Segment::Data, placed);
+    ModuleParts {
+        name: main.name,
+        code: code.into_segment(code_end, merged_alignment(Segment::Code, placed)),
+        data_bytes: data_bytes.into_segment(data_end, merged_alignment(Segment::Data, placed)),
+        stack_length: pieces.stack_length,
+        publics: publics.into_publics(),
+        externals: Vec::new(alloc),
+        start: Some(main.start),
+    }
+}
+
+// The merge of files with all of their names found, pieces that fit, and one main module.
+fn merge_placed<'a>(
+    alloc: Global,
+    files: &[ObjectFile<'a>],
+    names: NameTable<'a>,
+    pieces: &Pieces<'a>,
+    main: MainModule,
+) -> Result<ObjectModule, Failure<LinkFault>>
+    requires known { gathered [] (public_names files.now) ≡ Ok names }
+    requires resolved { None ≡ missing_in names (externals_of files.now) }
+    requires fits { some_segment_is_too_long files.now (linked_modules files.now) ≡ false }
+    requires single { (length (main_modules (linked_modules files.now)) == 1) ≡ true }
+    requires main { Some (main_view main) ≡ slice_get (main_modules (linked_modules files.now)) 0 }
+    requires placed { pieces.now.placed.items ≡ linked_modules files.now }
+    requires stack { pieces.now.stack_length ≡ sum_by (λ object. object.stack_length) files.now }
+    requires valid { All IsObjectModule files.now }
+    ensures merged { IfOk result (λ object. merge_of files.now ≡ Ok object) }
+    ensures refused { IfFault result (λ fault. merge_of files.now ≡ Err (refusal_of fault)) }
+{
+    let placed = pieces.placed.as_slice();
+    let owned = publics_of(alloc, names.count(), placed)?;
+    let publics = Publics::new(names, owned);
+    let (code, data_bytes) = segments_of(alloc, &publics, placed)?;
+    if high_byte_moves(&code, &data_bytes) {
+        return Err(Failure::Fault(LinkFault::HighByteMoves));
+    }
+    let parts = parts_of(alloc, pieces, publics, main, code, data_bytes);
+    Ok(ObjectModule::from_parts(parts))
+}
+
+// The merge of files with all of their names found, and pieces that fit.
+#[tactic(auto, using(link_laws::proofs::Linkings::by_mains, link_laws::proofs::Linkings::by_no_main))]
+fn merge_pieces<'a>(
+    alloc: Global,
+    files: &[ObjectFile<'a>],
+    names: NameTable<'a>,
+    pieces: &Pieces<'a>,
+) -> Result<ObjectModule, Failure<LinkFault>>
+    requires known { gathered [] (public_names files.now) ≡ Ok names }
+    requires resolved { None ≡ missing_in names (externals_of files.now) }
+    requires fits { some_segment_is_too_long files.now (linked_modules files.now) ≡ false }
+    requires placed { pieces.now.placed.items ≡ linked_modules files.now }
+    requires stack { pieces.now.stack_length ≡ sum_by (λ object. object.stack_length) files.now }
+    requires valid { All IsObjectModule files.now }
+    ensures merged { IfOk result (λ object. merge_of files.now ≡ Ok object) }
+    ensures refused { IfFault result (λ fault. merge_of files.now ≡ Err (refusal_of fault)) }
+{
+    if has_one_main(files) {
+        match first_main(pieces.placed.as_slice()) {
+            Some(main) => merge_placed(alloc, files, names, pieces, main),
+            None => Err(Failure::Fault(LinkFault::NotOneMain)),
+        }
+    } else {
+        Err(Failure::Fault(LinkFault::NotOneMain))
+    }
+}
+
+// The merge of files with all of their names found.
+fn merge_resolved<'a>(
+    alloc: Global,
+    files: &[ObjectFile<'a>],
+    names: NameTable<'a>,
+) -> Result<ObjectModule, Failure<LinkFault>>
+    requires known { gathered [] (public_names files.now) ≡ Ok names }
+    requires resolved { None ≡ missing_in names (externals_of files.now) }
+    ensures merged { IfOk result (λ object. merge_of files.now ≡ Ok object) }
+    ensures refused { IfFault result (λ fault. merge_of files.now ≡ Err (refusal_of fault)) }
+{
+    let pieces = pieces_of(alloc, files)?;
+    merge_pieces(alloc, files, names, &pieces)
+}
+
+/// The merge of the modules that files spell, in this order. Where there is none, the first cause in the order
+/// of the faults is answered.
+pub(crate) fn merge_files(
+    alloc: Global,
+    files: &[ObjectFile<'_>],
+) -> Result<ObjectModule, Failure<LinkFault>>
+    ensures merged { IfOk result (λ object. merge_of files.now ≡ Ok object) }
+    ensures refused { IfFault result (λ fault. merge_of files.now ≡ Err (refusal_of fault)) }
+{
+    let names = public_names_of(alloc, files)?;
+    match unresolved_in(&names, files) {
+        Some(name) => Err(Failure::Fault(LinkFault::UnresolvedExternal { name })),
+        None => merge_resolved(alloc, files, names),
+    }
+}

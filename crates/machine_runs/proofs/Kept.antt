@@ -1,0 +1,128 @@
+-- Code that stays where it stands, while a machine writes elsewhere.
+use Rattle.std.proofs.Common.{◌≡◌, ◌≢◌, ℕ, zero, suc, ◌+◌, ◌-◌, ◌<◌, ◌≤◌, List, [], ◌∷◌, length, refl, sym, ap, ◌∙◌, arith, slice_set}
+use Rattle.std.proofs.lemmas.List.{length-set, get_or-set_same, get_or-set_other}
+use Rattle.std.proofs.lemmas.List.Elements.{All-set}
+use Rattle.mem80.specs.declared.memory.TheConstants.{MEMORY_SIZE}
+use Rattle.mem80.specs.Memory.{IsMemory, byte_at}
+use Rattle.isa8080.specs.State.{wrap}
+use Rattle.asm8080.specs.declared.item.WordForm.{WordForm}
+use Rattle.asm8080.specs.declared.item.WordForm.TheVariants.{LoadPair, StoreHl, LoadHl, StoreA, LoadA, Jump, JumpWhere, CallTo, CallWhere}
+use Rattle.asm8080.specs.declared.item.Item.{Item}
+use Rattle.asm8080.specs.declared.item.Item.TheVariants.{Plain, WithWord, Byte, Address, Mark}
+use Rattle.asm8080.specs.Items.{Layout, Stands, bytes_of_item, size_of, size_of_items, instruction_with}
+use Rattle.asm8080.specs.Standing.{BytesStand, size_of_instruction}
+
+-- a byte that is put elsewhere
+pub byte_kept :
+    (memory : List ℕ) (address other value : ℕ) → other ≢ address
+    → byte_at (slice_set memory address value) other ≡ byte_at memory other
+byte_kept memory address other value h = get_or-set_other memory address other value 0 h
+
+-- a byte that was put
+pub byte_put :
+    (memory : List ℕ) (address value : ℕ) → address < length memory
+    → byte_at (slice_set memory address value) address ≡ value
+byte_put memory address value h = get_or-set_same memory address value 0 h
+
+pub memory_put :
+    (memory : List ℕ) (address value : ℕ) → IsMemory memory → value < 256
+    → IsMemory (slice_set memory address value)
+memory_put memory address value is small = record {
+  size = length-set memory address value ∙ is.size;
+  bytes = All-set (λ (byte : ℕ). byte < 256) memory address value small is.bytes;
+}
+
+-- two memories have the same bytes from an address to another
+abbrev pub Alike : (from to : ℕ) → (memory other : List ℕ) → Type 0
+Alike from to memory other =
+    (address : ℕ) → from ≤ address → address < to → byte_at other address ≡ byte_at memory address
+
+wrapped : (place : ℕ) → place < MEMORY_SIZE → place ≡ wrap place
+wrapped place h = omega arith
+
+bytes_stay :
+    (memory other bytes : List ℕ) (from to : ℕ)
+    → to ≤ MEMORY_SIZE
+    → from + length bytes ≤ to
+    → Alike from to memory other
+    → BytesStand memory from bytes
+    → BytesStand other from bytes
+bytes_stay memory other [] from to limit fits alike stands = tt
+bytes_stay memory other (byte ∷ others) from to limit fits alike stands = (
+  alike (wrap from) (omega arith) (omega arith) ∙ stands.0,
+  bytes_stay memory other others (from + 1) to limit (omega arith)
+      (λ address low high. alike address (omega arith) high) stands.1,
+)
+
+size_with : (form : WordForm) (word : ℕ) → size_of_instruction (instruction_with form word) ≡ 3
+size_with (LoadPair pair) word = refl
+size_with StoreHl word = refl
+size_with LoadHl word = refl
+size_with StoreA word = refl
+size_with LoadA word = refl
+size_with Jump word = refl
+size_with (JumpWhere condition) word = refl
+size_with CallTo word = refl
+size_with (CallWhere condition) word = refl
+
+-- items end where their bytes do
+pub stands_size :
+    (layout : Layout) (memory : List ℕ) (items : List Item) (from to : ℕ)
+    → Stands layout memory items from to
+    → to ≡ from + size_of_items items
+stands_size layout memory [] from to h = let e : from ≡ to = h in omega arith
+stands_size layout memory (Mark label ∷ others) from to h =
+    let e : to ≡ from + size_of_items others = stands_size layout memory others from to h.1 in omega arith
+stands_size layout memory (Plain i ∷ others) from to h =
+    let e : to ≡ from + size_of (Plain i) + size_of_items others =
+    stands_size layout memory others (from + size_of (Plain i)) to h.1 in omega arith
+stands_size layout memory (WithWord form reference ∷ others) from to h =
+    let e : to ≡ from + 3 + size_of_items others =
+    stands_size layout memory others (from + 3) to h.1 in omega arith
+stands_size layout memory (Byte value ∷ others) from to h =
+    let e : to ≡ from + 1 + size_of_items others =
+    stands_size layout memory others (from + 1) to h.1 in omega arith
+stands_size layout memory (Address reference ∷ others) from to h =
+    let e : to ≡ from + 2 + size_of_items others =
+    stands_size layout memory others (from + 2) to h.1 in omega arith
+
+-- items stand in another memory that has the same bytes where they stand
+pub stands_still :
+    (layout : Layout) (memory other : List ℕ) (items : List Item) (from to : ℕ)
+    → to ≤ MEMORY_SIZE
+    → Alike from to memory other
+    → Stands layout memory items from to
+    → Stands layout other items from to
+stands_still layout memory other [] from to limit alike h = h
+stands_still layout memory other (Mark label ∷ others) from to limit alike h =
+    (h.0, stands_still layout memory other others from to limit alike h.1)
+stands_still layout memory other (Plain i ∷ others) from to limit alike h =
+    let e : to ≡ from + size_of (Plain i) + size_of_items others =
+    stands_size layout memory others (from + size_of (Plain i)) to h.1 in (
+      bytes_stay memory other (bytes_of_item layout (Plain i)) from to limit (omega arith) alike h.0,
+      stands_still layout memory other others (from + size_of (Plain i)) to limit
+          (λ address low high. alike address (omega arith) high) h.1,
+    )
+stands_still layout memory other (WithWord form reference ∷ others) from to limit alike h =
+    let e : to ≡ from + 3 + size_of_items others =
+    stands_size layout memory others (from + 3) to h.1 in
+    let size = size_with form (Rattle.asm8080.specs.Items.word_of layout reference) in (
+      bytes_stay memory other (bytes_of_item layout (WithWord form reference)) from to limit
+          (omega arith) alike h.0,
+      stands_still layout memory other others (from + 3) to limit
+          (λ address low high. alike address (omega arith) high) h.1,
+    )
+stands_still layout memory other (Byte value ∷ others) from to limit alike h =
+    let e : to ≡ from + 1 + size_of_items others =
+    stands_size layout memory others (from + 1) to h.1 in (
+      bytes_stay memory other (bytes_of_item layout (Byte value)) from to limit (omega arith) alike h.0,
+      stands_still layout memory other others (from + 1) to limit
+          (λ address low high. alike address (omega arith) high) h.1,
+    )
+stands_still layout memory other (Address reference ∷ others) from to limit alike h =
+    let e : to ≡ from + 2 + size_of_items others =
+    stands_size layout memory others (from + 2) to h.1 in (
+      bytes_stay memory other (bytes_of_item layout (Address reference)) from to limit (omega arith) alike h.0,
+      stands_still layout memory other others (from + 2) to limit
+          (λ address low high. alike address (omega arith) high) h.1,
+    )

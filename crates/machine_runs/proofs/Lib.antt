@@ -1,0 +1,5 @@
+pub mod Steps
+pub mod Straight
+pub mod Loops
+pub mod Kept
+pub mod Calls

@@ -1,0 +1,5 @@
+pub mod NewNames
+pub mod FixMarks
+pub mod FixReferences
+pub mod HeaderLaws
+pub mod Accepting

@@ -1,0 +1,5 @@
+pub mod Headers
+pub mod Order
+pub mod NamesJudged
+pub mod Marks
+pub mod References

@@ -1,0 +1,2 @@
+pub mod Routines
+pub mod internal

@@ -1,0 +1,198 @@
+-- What each routine promises to who calls it.
+use Rattle.std.specs.Prelude.{◌≡◌, ℕ, zero, suc, ◌+◌, ◌-◌, ◌*◌, ◌<◌, ◌≤◌, List, ◌++◌, Some, slice_set, false, not, IsTrue}
+use Rattle.trees.specs.declared.declaration.ScalarType.TheVariants.{Byte, Address}
+use Rattle.trees.specs.declared.expression.BinaryOperator.TheVariants.{Multiply, Divide, Modulo}
+use Rattle.typed_trees.specs.declared.parts.ShiftFunction.TheVariants.{ShiftLeft, ShiftRight, RotateLeft, RotateRight}
+use Rattle.meaning.specs.Values.{result_of, shifted}
+use Rattle.mem80.specs.declared.memory.TheConstants.{MEMORY_SIZE}
+use Rattle.mem80.specs.declared.range.Range.{Range}
+use Rattle.mem80.specs.Memory.{IsMemory, byte_at}
+use Rattle.mem80.specs.Range.{IsIn, Meets}
+use Rattle.isa8080.specs.declared.instr.Pair.TheVariants.{Bc, De, Hl}
+use Rattle.isa8080.specs.declared.instr.Instr.TheVariants.{Call}
+use Rattle.isa8080.specs.declared.registers.Status.TheVariants.{Running}
+use Rattle.isa8080.specs.State.{State, Registers, pair_of, wrap}
+use Rattle.asm8080.specs.declared.item.Item.{Item}
+use Rattle.asm8080.specs.Items.{Assembly, Layout, Stands, is_bound, size_of_items}
+use Rattle.asm8080.specs.Runs.{Comes}
+use Rattle.asm8080.specs.Standing.{InstructionStands, Keeps, StackIsAt, below}
+use Rattle.runtime8080.specs.declared.routine.Routine.{Routine}
+use Rattle.runtime8080.specs.declared.routine.Routine.TheVariants as routines
+
+-- how many bytes below the stack a call of a routine may write: its return address, and eight below that
+abbrev pub SPARE_BYTES : ℕ
+SPARE_BYTES = 10
+
+-- registers that hold bytes, as those of a machine do
+pub record HoldBytes (registers : Registers) : Type 0 where
+  pub a : registers.a < 256
+  pub b : registers.b < 256
+  pub c : registers.c < 256
+  pub d : registers.d < 256
+  pub e : registers.e < 256
+  pub h : registers.h < 256
+  pub l : registers.l < 256
+
+-- the bytes of a block copied one after another from the first on, at addresses that go on from 65535 to 0
+abbrev pub copied : (count source destination : ℕ) → (memory : List ℕ) → List ℕ
+copied zero source destination memory = memory
+copied (suc count) source destination memory =
+    copied count (source + 1) (destination + 1)
+    (slice_set memory (wrap destination) (byte_at memory (wrap source)))
+
+-- an address that a block has a byte at
+abbrev pub IsInBlock : (count start address : ℕ) → Type 0
+IsInBlock count start address = (k : ℕ) × (k < count) × (address ≡ wrap (start + k))
+
+-- a block has no byte in a range
+abbrev pub BlockMisses : (count start : ℕ) → Range → Type 0
+BlockMisses count start range = (address : ℕ) → IsInBlock count start address → IsIn address range → ⊥
+
+-- What a routine leaves in the registers, by what they were when it was called. Multiply, divide and the
+-- shifts of an ADDRESS take HL and DE, or HL and the count in E, and leave their value in HL, and divide its
+-- remainder in DE; the others take A, and the count in E, and leave their value in A.
+abbrev pub Computes : Routine → (before after : Registers) → Type 0
+Computes routines.Multiply before after =
+    result_of Address Multiply (pair_of Hl before) (pair_of De before) ≡ Some (pair_of Hl after)
+Computes routines.Divide before after =
+    (
+    (quotient : ℕ) → result_of Address Divide (pair_of Hl before) (pair_of De before) ≡ Some quotient
+    → pair_of Hl after ≡ quotient
+    )
+    × (
+    (remainder : ℕ) → result_of Address Modulo (pair_of Hl before) (pair_of De before) ≡ Some remainder
+    → pair_of De after ≡ remainder
+    )
+Computes routines.ShiftLeftByte before after = after.a ≡ shifted Byte ShiftLeft before.a before.e
+Computes routines.ShiftRightByte before after = after.a ≡ shifted Byte ShiftRight before.a before.e
+Computes routines.ShiftLeftAddress before after =
+    pair_of Hl after ≡ shifted Address ShiftLeft (pair_of Hl before) before.e
+Computes routines.ShiftRightAddress before after =
+    pair_of Hl after ≡ shifted Address ShiftRight (pair_of Hl before) before.e
+Computes routines.RotateLeft before after = after.a ≡ shifted Byte RotateLeft before.a before.e
+Computes routines.RotateRight before after = after.a ≡ shifted Byte RotateRight before.a before.e
+Computes routines.Move before after = Unit {0}
+
+pub record LeavesBcAndHl (before after : Registers) : Type 0 where
+  pub b : after.b ≡ before.b
+  pub c : after.c ≡ before.c
+  pub h : after.h ≡ before.h
+  pub l : after.l ≡ before.l
+
+pub record LeavesBcAndD (before after : Registers) : Type 0 where
+  pub b : after.b ≡ before.b
+  pub c : after.c ≡ before.c
+  pub d : after.d ≡ before.d
+
+-- what memory is to be after a routine, but for its own bytes: MOVE copies BC bytes from DE on to HL on
+abbrev pub memory_after : Routine → State → List ℕ
+memory_after routines.Move s =
+    copied (pair_of Bc s.registers) (pair_of De s.registers) (pair_of Hl s.registers) s.memory
+memory_after routine s = s.memory
+
+-- a block that is moved, and that which it is moved to, have no byte in a range
+abbrev pub MovesOutside : Routine → State → Range → Type 0
+MovesOutside routines.Move s range =
+    BlockMisses (pair_of Bc s.registers) (pair_of De s.registers) range
+    × BlockMisses (pair_of Bc s.registers) (pair_of Hl s.registers) range
+MovesOutside routine s range = Unit {0}
+
+-- a block is not moved to a range
+abbrev pub KeepsOutside : Routine → State → Range → Type 0
+KeepsOutside routines.Move s range =
+    BlockMisses (pair_of Bc s.registers) (pair_of Hl s.registers) range
+KeepsOutside routine s range = Unit {0}
+
+-- what a routine leaves as it was, of the registers that don't hold its value
+abbrev pub Leaves : Routine → (before after : Registers) → Type 0
+Leaves routines.Multiply before after = Unit {0}
+Leaves routines.Divide before after = Unit {0}
+Leaves routines.Move before after = Unit {0}
+Leaves routines.ShiftLeftAddress before after = LeavesBcAndD before after
+Leaves routines.ShiftRightAddress before after = LeavesBcAndD before after
+Leaves routine before after = LeavesBcAndHl before after
+
+-- the greatest number of steps of a call, with its CALL and its return
+abbrev pub most_steps : Routine → Registers → ℕ
+most_steps routines.Multiply registers = 107
+most_steps routines.Divide registers = 156
+most_steps routines.ShiftLeftByte registers = 36
+most_steps routines.ShiftRightByte registers = 43
+most_steps routines.ShiftLeftAddress registers = 66
+most_steps routines.ShiftRightAddress registers = 46
+most_steps routines.RotateLeft registers = 29
+most_steps routines.RotateRight registers = 29
+most_steps routines.Move registers = 8 + 7 * pair_of Bc registers
+
+-- how many bytes a routine has
+abbrev pub size_of_routine : Routine → ℕ
+size_of_routine routines.Multiply = 36
+size_of_routine routines.Divide = 59
+size_of_routine routines.ShiftLeftByte = 17
+size_of_routine routines.ShiftRightByte = 18
+size_of_routine routines.ShiftLeftAddress = 16
+size_of_routine routines.ShiftRightAddress = 36
+size_of_routine routines.RotateLeft = 13
+size_of_routine routines.RotateRight = 13
+size_of_routine routines.Move = 25
+
+-- The machine is about to carry out a CALL of a routine that stands in memory, with room below the stack.
+pub record MayCall
+    (routine : Routine) (entry : ℕ) (code : Range) (level : ℕ) (s : State) : Type 0 where
+  pub running : s.status ≡ Running
+  pub place : s.registers.pc < MEMORY_SIZE
+  pub registers : HoldBytes s.registers
+  pub memory : IsMemory s.memory
+  pub call : InstructionStands s.memory s.registers.pc (Call entry)
+  pub stack : StackIsAt level s
+  pub room : SPARE_BYTES ≤ level
+  pub apart : Meets code (below level SPARE_BYTES) → ⊥
+  pub outside : MovesOutside routine s (below level SPARE_BYTES)
+  pub kept : KeepsOutside routine s code
+
+-- The machine is after that CALL again.
+pub record HasReturned (routine : Routine) (level : ℕ) (before after : State) : Type 0 where
+  pub running : after.status ≡ Running
+  pub place : after.registers.pc ≡ wrap (before.registers.pc + 3)
+  pub stack : after.registers.sp ≡ before.registers.sp
+  pub events : after.events ≡ before.events
+  pub registers : HoldBytes after.registers
+  pub computes : Computes routine before.registers after.registers
+  pub leaves : Leaves routine before.registers after.registers
+  pub memory_is : IsMemory after.memory
+  pub memory :
+      Keeps (λ address. IsIn address (below level SPARE_BYTES)) (memory_after routine before) after.memory
+
+-- A run from the CALL to where the machine is after it.
+pub record Returns
+    (script : List (List ℕ)) (routine : Routine) (level : ℕ) (before : State) : Type 0 where
+  pub count : ℕ
+  pub after : State
+  pub run : Comes script count before after
+  pub some_steps : 1 ≤ count
+  pub few_steps : count ≤ most_steps routine before.registers
+  pub returned : HasReturned routine level before after
+
+-- items whose first byte is the entry of a routine: wherever they stand, calls of it return
+abbrev pub IsRoutine : Routine → List Item → Type 0
+IsRoutine routine items =
+    (layout : Layout) (from to : ℕ) (script : List (List ℕ)) (level : ℕ) (s : State)
+    → to ≤ MEMORY_SIZE
+    → Stands layout s.memory items from to
+    → MayCall routine from (record { start = from; len = to - from }) level s
+    → Returns script routine level s
+
+-- no label from the number of labels on is bound
+pub record IsFresh (assembly : Assembly) : Type 0 where
+  pub unbound : (label : ℕ) → assembly.labels ≤ label → is_bound label assembly.items ≡ false
+
+-- an assembly with a routine added, all of whose own labels are bound
+pub record AddsRoutine (routine : Routine) (before after : Assembly) : Type 0 where
+  pub items : List Item
+  pub added : after.items ≡ before.items ++ items
+  pub more : before.labels ≤ after.labels
+  pub bound :
+      (label : ℕ) → before.labels ≤ label → label < after.labels → IsTrue (is_bound label items)
+  pub new : (label : ℕ) → label < before.labels → IsTrue (not (is_bound label items))
+  pub size : size_of_items items ≡ size_of_routine routine
+  pub is_routine : IsRoutine routine items

@@ -1,0 +1,19 @@
+use Rattle.std.proofs.Common.{arith}
+use Rattle.names.proofs.Parts.{if_is, do_is, while_is, iterate_is, case_is}
+use Rattle.types.proofs.Lines.{line_of_first}
+use Rattle.types.proofs.procedures.line_of_kind.Goals as goal
+
+pub returns-in-Assignment : goal.returns-in-Assignment
+returns-in-Assignment c = grind (arith, line_of_first)
+
+pub returns-in-If : goal.returns-in-If
+returns-in-If c = grind (arith, if_is)
+
+pub returns-in-While : goal.returns-in-While
+returns-in-While c = grind (arith, while_is)
+
+pub returns-in-Iterate : goal.returns-in-Iterate
+returns-in-Iterate c = grind (arith, iterate_is)
+
+pub returns-in-Case : goal.returns-in-Case
+returns-in-Case c = grind (arith, case_is)
