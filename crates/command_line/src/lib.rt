@@ -9,4 +9,5 @@ mod values;
 
 pub use orders::{Action, LinkOrder, Order, PlaceAction, PlaceOrder, PlanTexts, ProgramOrder};
 pub use reading::{LineFault, command};
-pub use values::{InputByte, Plan, Settings, ValueFault};
+pub use plans::Plan;
+pub use values::{InputByte, Settings, ValueFault};

@@ -5,10 +5,10 @@ ghost use Rattle.object_modules.specs.Image.{gain_at};
 ghost use Rattle.locate.specs.Locating.{plan_view};
 ghost use Rattle.locate.specs.internal.Putting.{LieInMemory, joined, pieces_from, with_piece, with_pieces};
 
-use crate::plan::Plan;
 use crate::walk::moved_bytes;
 use mem80::{Bytes, Piece};
 use object_modules::{Fix, Run};
+use plans::Plan;
 use std::alloc::{AllocError, Global};
 
 // Puts a piece after two others of which the second is the last; as one where it touches that.

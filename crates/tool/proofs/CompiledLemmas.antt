@@ -9,7 +9,7 @@ use Rattle.typed_trees.specs.TypedTrees.{TypedModule}
 use Rattle.typed_trees.specs.Storable.{IsStorable}
 use Rattle.layout.specs.Storage.{storage_with}
 use Rattle.layout.specs.Views.{layout_view}
-use Rattle.placing.specs.declared.plan.Plan.{Plan}
+use Rattle.plans.specs.declared.Plan.{Plan}
 use Rattle.source_meaning.specs.Outputs.{outputs_of}
 use Rattle.frontend.specs.Causes.{HasReadCause}
 use Rattle.frontend.specs.Reading.{IsSourceOf}

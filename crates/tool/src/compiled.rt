@@ -12,7 +12,7 @@ use crate::sources::Source;
 use failure::Failure;
 use frontend::{SourceModule, read_source};
 use layout::Layout;
-use placing::Plan;
+use plans::Plan;
 use std::alloc::{AllocError, Global};
 use typed_trees::Typed;
 

@@ -19,7 +19,8 @@ use crate::compiled::{Parts, compile_all, first_unserved, parts_of};
 use crate::fault::ToolFault;
 use failure::Failure;
 use join::join;
-use placing::{Plan, place};
+use placing::place;
+use plans::Plan;
 use std::alloc::Global;
 
 /// The greatest number of sources.

@@ -1,7 +1,8 @@
-//! Plans.
+//! Plans: where the parts of a program are to lie in memory.
+#![tactic(auto)]
 
 ghost use Rattle.std.specs.Prelude.{◌≡◌};
-ghost use Rattle.placing.specs.Views.{stack_end_of};
+ghost use Rattle.plans.specs.Plans.{stack_end_of};
 
 /// Where the parts of a program are to lie.
 #[derive(Clone, Copy)]
