@@ -1,16 +1,17 @@
 //! Object files that are placed in memory.
 
-ghost use Rattle.std.specs.Prelude.{◌≡◌, ◌⊎◌, IfErr, IfOk};
+ghost use Rattle.std.specs.Prelude.{◌≡◌, ◌⊎◌, IfErr, IfOk, OnErr, OnOk};
 ghost use Rattle.files.specs.Files.{KeepsFiles};
+ghost use Rattle.answers.specs.Refusals.{TellsOther, TellsRefusal};
 ghost use Rattle.object_commands.specs.Placing.{PlacesFile, PrintsHex, PrintsPlaces, StopsHex, StopsPlaces};
 
 use crate::places::lines_of;
-use answers::{Ending, refuse, refuse_memory, refuse_output};
+use answers::{Ending, refuse, refuse_file, refuse_memory, refuse_output};
 use failure::Failure;
 use files::Files;
 use hex80::write_hex;
-use locate::{Absolute, locate};
-use object_modules::ObjectModule;
+use locate::{Absolute, LocateFault, locate};
+use object_modules::{Fault, ObjectModule};
 use objmod::read;
 use plans::Plan;
 use std::alloc::Global;
@@ -25,7 +26,7 @@ struct Placed {
 }
 
 // Reads an object file and places it, or prints why it can't.
-#[tactic(auto, using(crate::proofs::FilesPlaced::placed))]
+#[tactic(auto, using(crate::proofs::FilesPlaced::placed, answers::proofs::LinesPrinted::tells_file, answers::proofs::LinesPrinted::tells_no_file))]
 fn place_file<F: Files, E: Write>(
     alloc: Global,
     file: &str,
@@ -37,28 +38,49 @@ fn place_file<F: Files, E: Write>(
     ensures placed { IfOk result (λ placed.
         PlacesFile (F.files files.old) file.now plan.now placed.object placed.absolute) }
     ensures refused { IfErr result (λ ending. ending ≡ Ending.Refused) }
+    ensures told { OnErr result (TellsRefusal (F.failures files.old) (F.failures files.new)
+        (E.contents err.old) (E.contents err.new)) }
+    ensures count { OnOk result (F.failures files.new ≡ F.failures files.old) }
 {
     let bytes = match files.read_file(file) {
         Ok(bytes) => bytes,
-        Err(Failure::Fault(fault)) => return Err(refuse(fault.number(), file, 0, err)),
+        Err(Failure::Fault(fault)) => return Err(refuse_file(fault, file, err)),
         Err(Failure::Memory) => return Err(refuse_memory(err)),
     };
     let object = match read(alloc, bytes.as_slice()) {
         Ok(object) => object,
-        Err(Failure::Fault(fault)) => return Err(refuse(fault.number(), file, 0, err)),
+        Err(Failure::Fault(fault)) => return Err(refuse_object(&fault, file, err)),
         Err(Failure::Memory) => return Err(refuse_memory(err)),
     };
     match locate(alloc, &object, plan) {
         Ok(absolute) => Ok(Placed { object, absolute }),
-        Err(Failure::Fault(fault)) => Err(refuse(fault.number(), "-", 0, err)),
+        Err(Failure::Fault(fault)) => Err(refuse_place(&fault, err)),
         Err(Failure::Memory) => Err(refuse_memory(err)),
     }
+}
+
+// Prints why a file is no object file.
+#[tactic(auto, using(crate::proofs::Refused::object_told))]
+fn refuse_object<E: Write>(fault: &Fault, file: &str, err: &mut E) -> Ending
+    ensures ending { result ≡ Ending.Refused }
+    ensures told { TellsOther (E.contents err.old) (E.contents err.new) }
+{
+    refuse(fault.number(), file, 0, err)
+}
+
+// Prints why an object can't lie as planned.
+#[tactic(auto, using(crate::proofs::Refused::place_told))]
+fn refuse_place<E: Write>(fault: &LocateFault, err: &mut E) -> Ending
+    ensures ending { result ≡ Ending.Refused }
+    ensures told { TellsOther (E.contents err.old) (E.contents err.new) }
+{
+    refuse(fault.number(), "-", 0, err)
 }
 
 /// Places an object file by a plan, and prints where its code, its data and the stack lie and how many bytes they have,
 /// where it starts, and where its public names lie, in their order. After a write that failed a beginning of that was
 /// printed, and after any other refusal nothing.
-#[tactic(auto, using(crate::proofs::FilesPlaced::begins_places, crate::proofs::FilesPlaced::no_places, crate::proofs::FilesPlaced::prints_places))]
+#[tactic(auto, using(crate::proofs::FilesPlaced::begins_places, crate::proofs::FilesPlaced::no_places, crate::proofs::FilesPlaced::prints_places, answers::proofs::LinesPrinted::tells_no_file))]
 pub fn print_places<F: Files, O: Write, E: Write>(
     alloc: Global,
     file: &str,
@@ -73,6 +95,9 @@ pub fn print_places<F: Files, O: Write, E: Write>(
     ensures refused { (result ≡ Ending.Done → ⊥) → StopsPlaces (F.files files.old) file.now plan.now
         (O.contents out.old) (O.contents out.new) }
     ensures ending { (result ≡ Ending.Done) ⊎ (result ≡ Ending.Refused) }
+    ensures told { result ≡ Ending.Refused → TellsRefusal (F.failures files.old) (F.failures files.new)
+        (E.contents err.old) (E.contents err.new) }
+    ensures count { (result ≡ Ending.Refused → ⊥) → F.failures files.new ≡ F.failures files.old }
 {
     let placed = match place_file(alloc, file, plan, files, err) {
         Ok(placed) => placed,
@@ -91,7 +116,7 @@ pub fn print_places<F: Files, O: Write, E: Write>(
 
 /// Places an object file by a plan, and prints its bytes as Intel HEX. After a write that failed a beginning of that was
 /// printed, and after any other refusal nothing.
-#[tactic(auto, using(crate::proofs::FilesPlaced::begins_hex, crate::proofs::FilesPlaced::no_hex, crate::proofs::FilesPlaced::prints_hex))]
+#[tactic(auto, using(crate::proofs::FilesPlaced::begins_hex, crate::proofs::FilesPlaced::no_hex, crate::proofs::FilesPlaced::prints_hex, answers::proofs::LinesPrinted::tells_no_file))]
 pub fn print_hex<F: Files, O: Write, E: Write>(
     alloc: Global,
     file: &str,
@@ -106,6 +131,9 @@ pub fn print_hex<F: Files, O: Write, E: Write>(
     ensures refused { (result ≡ Ending.Done → ⊥) → StopsHex (F.files files.old) file.now plan.now
         (O.contents out.old) (O.contents out.new) }
     ensures ending { (result ≡ Ending.Done) ⊎ (result ≡ Ending.Refused) }
+    ensures told { result ≡ Ending.Refused → TellsRefusal (F.failures files.old) (F.failures files.new)
+        (E.contents err.old) (E.contents err.new) }
+    ensures count { (result ≡ Ending.Refused → ⊥) → F.failures files.new ≡ F.failures files.old }
 {
     let placed = match place_file(alloc, file, plan, files, err) {
         Ok(placed) => placed,

@@ -1,0 +1,47 @@
+-- What is printed where object files are refused: the line of no file that can't be read or written.
+use Rattle.std.proofs.Common.{◌≡◌, ℕ, true, List, Option, refl}
+use Rattle.writing.specs.Writing.{AppendsBeginning}
+use Rattle.answers.specs.Refusals.{TellsOther, refusal_line}
+use Rattle.answers.proofs.LinesPrinted.{is_other, tells_other}
+use Rattle.object_modules.specs.declared.fault.Fault.{Fault}
+use Rattle.object_modules.specs.declared.fault.Fault.TheVariants.{Truncated, WrongSum, WrongLength, UnknownType, OutOfOrder, WrongBody, ContentMisplaced, FixMisplaced, WrongAlignment}
+use Rattle.object_modules.specs.Numbers.{number_of}
+use Rattle.object_modules.specs.Merge.{LinkRefusal, link_number}
+use Rattle.object_modules.specs.Merge as merges
+use Rattle.object_modules.specs.Image.{PlacementRefusal, placement_number}
+use Rattle.object_modules.specs.Image as images
+
+object_other : (fault : Fault) → is_other (number_of fault) ≡ true
+object_other Truncated = refl
+object_other WrongSum = refl
+object_other WrongLength = refl
+object_other UnknownType = refl
+object_other OutOfOrder = refl
+object_other WrongBody = refl
+object_other ContentMisplaced = refl
+object_other FixMisplaced = refl
+object_other WrongAlignment = refl
+
+pub object_told : (fault : Fault) (name : List ℕ) (line : ℕ) (old new : Option (List ℕ)) → AppendsBeginning old new (refusal_line (number_of fault) name line) → TellsOther old new
+object_told fault name line old new appended = tells_other (number_of fault) name line old new (object_other fault) appended
+
+link_other : (refusal : LinkRefusal) → is_other (link_number refusal) ≡ true
+link_other (merges.DuplicatePublic name) = refl
+link_other (merges.UnresolvedExternal name) = refl
+link_other merges.SegmentTooLong = refl
+link_other merges.NotOneMain = refl
+link_other merges.HighByteMoves = refl
+
+pub link_told : (refusal : LinkRefusal) (name : List ℕ) (line : ℕ) (old new : Option (List ℕ)) → AppendsBeginning old new (refusal_line (link_number refusal) name line) → TellsOther old new
+link_told refusal name line old new appended = tells_other (link_number refusal) name line old new (link_other refusal) appended
+
+place_other : (refusal : PlacementRefusal) → is_other (placement_number refusal) ≡ true
+place_other images.ExternalLeft = refl
+place_other images.NoStart = refl
+place_other images.PassesMemory = refl
+place_other images.SegmentsMeet = refl
+place_other images.PageBroken = refl
+place_other images.HighByteBroken = refl
+
+pub place_told : (refusal : PlacementRefusal) (name : List ℕ) (line : ℕ) (old new : Option (List ℕ)) → AppendsBeginning old new (refusal_line (placement_number refusal) name line) → TellsOther old new
+place_told refusal name line old new appended = tells_other (placement_number refusal) name line old new (place_other refusal) appended
