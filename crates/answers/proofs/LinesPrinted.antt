@@ -1,5 +1,5 @@
 -- Lines that are printed piece by piece, and what they do not begin with.
-use Rattle.std.proofs.Common.{◌≡◌, ℕ, ◌-◌, ◌≤◌, ◌<◌, Bool, true, false, List, [], ◌∷◌, ◌++◌, Option, None, Some, Bor, inl, inr, codes, length, drop, take, get_or, refl, sym, ap, subst, ◌∙◌, true≢false, arith}
+use Rattle.std.proofs.Common.{◌≡◌, ℕ, ◌-◌, ◌≤◌, ◌<◌, Bool, true, false, List, [], ◌∷◌, ◌++◌, Option, None, Some, Bor, inl, inr, codes, decimal, length, drop, take, get_or, refl, sym, ap, subst, ◌∙◌, true≢false, arith}
 use Rattle.std.specs.Prelude.{◌==◌, ◌&&◌, not}
 use Rattle.std.specs.List.{flat_map}
 use Rattle.std.proofs.Math.Seq.{take-length}
@@ -8,7 +8,7 @@ use Rattle.std.specs.Io.KnownBytes.{Appends}
 use Rattle.writing.specs.Writing.{AppendsBeginning, IsBeginning}
 use Rattle.writing.proofs.WritingLemmas.{beginning_after}
 use Rattle.ports.specs.Events.{CountsFailure}
-use Rattle.answers.specs.Refusals.{IsOfNoFile, TellsOther, TellsRefusal, file_line, refusal_line}
+use Rattle.answers.specs.Refusals.{IsOfNoFile, Tells, TellsOther, TellsRefusal, file_line, refusal_line}
 
 -- a writer that nothing was sent to
 appends_nothing : (known : Option (List ℕ)) → Appends known known []
@@ -71,20 +71,34 @@ begins_otherwise (a ∷ b ∷ number) more other (rest, e) =
     (subst (λ (n : ℕ). not ((n == 85) && (b == 51)) ≡ true) first other) in
     absurd (true≢false (sym other_here))
 
+-- what was printed as pieces is the line
+pub line_told : (number place digits first last : List ℕ) (line : ℕ) (old new : Option (List ℕ)) → first ≡ number → last ≡ digits → digits ≡ decimal line
+    → AppendsBeginning old new (first ++ (32 ∷ (place ++ (32 ∷ (last ++ 10 ∷ []))))) → Tells (refusal_line number place line) old new
+unfolding refusal_line
+line_told number place digits first last line old new is_number is_digits is_decimal appended = record {
+  printed = subst (λ (l : List ℕ). AppendsBeginning old new (number ++ (32 ∷ (place ++ (32 ∷ (l ++ 10 ∷ [])))))) (is_digits ∙ is_decimal)
+      (subst (λ (l : List ℕ). AppendsBeginning old new (l ++ (32 ∷ (place ++ (32 ∷ (last ++ 10 ∷ [])))))) is_number appended);
+}
+
+other_line : (number place : List ℕ) (line : ℕ) → is_other number ≡ true → IsOfNoFile (refusal_line number place line)
+unfolding refusal_line
+other_line number place line other = inr (begins_otherwise number _ other)
+
 -- the line of another number
-pub tells_other : (number place : List ℕ) (line : ℕ) (old new : Option (List ℕ)) → is_other number ≡ true → AppendsBeginning old new (refusal_line number place line) → TellsOther old new
-tells_other number place line old new other appended =
-    (refusal_line number place line, inr (begins_otherwise number _ other), appended)
+pub tells_other : (number place : List ℕ) (line : ℕ) (old new : Option (List ℕ)) → is_other number ≡ true → Tells (refusal_line number place line) old new → TellsOther old new
+tells_other number place line old new other told = record { line = refusal_line number place line; of_no_file = other_line number place line other; told = told }
 
 -- the line of standard output
-pub tells_output : (old new : Option (List ℕ)) → AppendsBeginning old new (file_line (codes "-")) → TellsOther old new
-tells_output old new appended = (file_line (codes "-"), inl refl, appended)
+pub tells_output : (old new : Option (List ℕ)) → Tells (file_line (codes "-")) old new → TellsOther old new
+tells_output old new told = record { line = file_line (codes "-"); of_no_file = inl refl; told = told }
 
--- a file whose failure was counted
-pub tells_file : (before now after : ℕ) (name : List ℕ) (old new : Option (List ℕ)) → now ≡ before → CountsFailure now after → AppendsBeginning old new (file_line name)
+-- a file whose failure was counted, after calls that did not fail
+pub tells_file : (before now after : ℕ) (name : List ℕ) (old new : Option (List ℕ)) → now ≡ before → CountsFailure now after → Tells (file_line name) old new
     → TellsRefusal before after old new
-tells_file before now after name old new same counted appended = inl (subst (λ (n : ℕ). CountsFailure n after) same counted, (name, appended))
+unfolding TellsRefusal
+tells_file before now after name old new same counted told = inl (subst (λ (n : ℕ). CountsFailure n after) same counted, (name, told))
 
 -- another fault, where no failure was counted
 pub tells_no_file : (before after : ℕ) (old new : Option (List ℕ)) → after ≡ before → TellsOther old new → TellsRefusal before after old new
+unfolding TellsRefusal
 tells_no_file before after old new same other = inr (same, other)

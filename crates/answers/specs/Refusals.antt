@@ -5,7 +5,7 @@ use Rattle.writing.specs.Writing.{AppendsBeginning, IsBeginning}
 
 -- the line of a refusal: the number of the fault, a place and the line of a text, with spaces (32) between them and
 -- a line feed (10) at the end
-abbrev pub refusal_line : (number place : List ℕ) → (line : ℕ) → List ℕ
+unfoldable pub refusal_line : (number place : List ℕ) → (line : ℕ) → List ℕ
 refusal_line number place line = number ++ (32 ∷ (place ++ (32 ∷ (decimal line ++ 10 ∷ []))))
 
 -- the line of a file that can't be read or written
@@ -16,15 +16,18 @@ file_line name = refusal_line (codes "U3") name 0
 abbrev pub IsOfNoFile : (line : List ℕ) → Type 0
 IsOfNoFile line = (line ≡ file_line (codes "-")) ⊎ (IsBeginning (codes "U3 ") line → ⊥)
 
+-- a line was printed, or a beginning of it
+pub record Tells (line : List ℕ) (old new : Option (List ℕ)) : Type 0 where
+  pub printed : AppendsBeginning old new line
+
 -- the line of another fault was printed, or a beginning of it
-abbrev pub TellsOther : (old new : Option (List ℕ)) → Type 0
-TellsOther old new = (line : List ℕ) × IsOfNoFile line × AppendsBeginning old new line
+pub record TellsOther (old new : Option (List ℕ)) : Type 0 where
+  pub line : List ℕ
+  pub of_no_file : IsOfNoFile line
+  pub told : Tells line old new
 
--- a failure of files was counted, and the line of a file was printed, or a beginning of it
-abbrev pub TellsFile : (before after : ℕ) → (old new : Option (List ℕ)) → Type 0
-TellsFile before after old new =
-    CountsFailure before after × ((name : List ℕ) × AppendsBeginning old new (file_line name))
-
--- a command was refused: for a file whose failure was counted, or for another fault, and no failure was counted
-abbrev pub TellsRefusal : (before after : ℕ) → (old new : Option (List ℕ)) → Type 0
-TellsRefusal before after old new = TellsFile before after old new ⊎ ((after ≡ before) × TellsOther old new)
+-- a command was refused: for a file, whose failure was counted, or for another fault, and no failure was counted
+unfoldable pub TellsRefusal : (before after : ℕ) → (old new : Option (List ℕ)) → Type 0
+TellsRefusal before after old new =
+    (CountsFailure before after × ((name : List ℕ) × Tells (file_line name) old new))
+    ⊎ ((after ≡ before) × TellsOther old new)

@@ -3,7 +3,7 @@
 ghost use Rattle.std.specs.Prelude.{◌≡◌};
 ghost use Rattle.std.specs.List.{flat_map};
 ghost use Rattle.answers.specs.Endings.{status_of};
-ghost use Rattle.answers.specs.Refusals.{TellsOther, file_line, refusal_line};
+ghost use Rattle.answers.specs.Refusals.{Tells, TellsOther, file_line, refusal_line};
 ghost use Rattle.writing.specs.Writing.{AppendsBeginning};
 
 use files::FileFault;
@@ -48,13 +48,12 @@ impl Ending {
 /// A file could not be read or written.
 pub fn refuse_file<E: Write>(fault: FileFault, name: &str, err: &mut E) -> Ending
     ensures ending { result ≡ Ending.Refused }
-    ensures told { AppendsBeginning (E.contents err.old) (E.contents err.new) (file_line name.now) }
+    ensures told { Tells (file_line name.now) (E.contents err.old) (E.contents err.new) }
 {
     refuse(fault.number(), name, 0, err)
 }
 
 /// Standard output could not be written.
-#[tactic(auto, using(crate::proofs::LinesPrinted::tells_output))]
 pub fn refuse_output<E: Write>(err: &mut E) -> Ending
     ensures ending { result ≡ Ending.Refused }
     ensures told { TellsOther (E.contents err.old) (E.contents err.new) }
@@ -74,7 +73,6 @@ pub fn refuse_write<E: Write>(error: &io::Error, err: &mut E) -> Ending
 }
 
 /// Memory ran out.
-#[tactic(auto, using(crate::proofs::LinesPrinted::tells_other))]
 pub fn refuse_memory<E: Write>(err: &mut E) -> Ending
     ensures ending { result ≡ Ending.Refused }
     ensures told { TellsOther (E.contents err.old) (E.contents err.new) }
@@ -85,8 +83,8 @@ pub fn refuse_memory<E: Write>(err: &mut E) -> Ending
 /// Prints a number, where it was found and the line.
 pub fn refuse<E: Write>(number: &str, place: &str, line: u32, err: &mut E) -> Ending
     ensures ending { result ≡ Ending.Refused }
-    ensures told { AppendsBeginning (E.contents err.old) (E.contents err.new)
-        (refusal_line number.now place.now line) }
+    ensures told { Tells (refusal_line number.now place.now line)
+        (E.contents err.old) (E.contents err.new) }
 {
     refuse_name(number, place.as_bytes(), line, err)
 }
@@ -94,8 +92,8 @@ pub fn refuse<E: Write>(number: &str, place: &str, line: u32, err: &mut E) -> En
 /// Prints a number, the name that the fault is about, and the line. A failure of `err` ends the line.
 pub fn refuse_name<E: Write>(number: &str, name: &[u8], line: u32, err: &mut E) -> Ending
     ensures ending { result ≡ Ending.Refused }
-    ensures told { AppendsBeginning (E.contents err.old) (E.contents err.new)
-        (refusal_line number.now name.now line) }
+    ensures told { Tells (refusal_line number.now name.now line)
+        (E.contents err.old) (E.contents err.new) }
 {
     let mut digits = Buffer::new();
     let line = digits.format(line);

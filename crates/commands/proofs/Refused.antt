@@ -1,7 +1,6 @@
 -- What is printed where sources are refused: the line of no file that can't be read.
-use Rattle.std.proofs.Common.{◌≡◌, ℕ, true, List, Option, refl}
-use Rattle.writing.specs.Writing.{AppendsBeginning}
-use Rattle.answers.specs.Refusals.{TellsOther, refusal_line}
+use Rattle.std.proofs.Common.{◌≡◌, ℕ, true, List, Option, refl, ap, ◌∙◌}
+use Rattle.answers.specs.Refusals.{Tells, TellsOther, refusal_line}
 use Rattle.answers.proofs.LinesPrinted.{is_other, tells_other}
 use Rattle.words.specs.Fault as of_words
 use Rattle.words.specs.declared.fault.Fault as word_fault
@@ -87,5 +86,5 @@ sources_other (Join fault) = joining_other fault
 sources_other (Placement fault) = placement_other fault
 
 -- the line of any fault of sources
-pub sources_told : (fault : ToolFault) (name : List ℕ) (line : ℕ) (old new : Option (List ℕ)) → AppendsBeginning old new (refusal_line (number_of fault) name line) → TellsOther old new
-sources_told fault name line old new appended = tells_other (number_of fault) name line old new (sources_other fault) appended
+pub sources_told : (fault : ToolFault) (number name : List ℕ) (line : ℕ) (old new : Option (List ℕ)) → number ≡ number_of fault → Tells (refusal_line number name line) old new → TellsOther old new
+sources_told fault number name line old new is told = tells_other number name line old new (ap is_other is ∙ sources_other fault) told

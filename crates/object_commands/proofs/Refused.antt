@@ -1,7 +1,6 @@
 -- What is printed where object files are refused: the line of no file that can't be read or written.
-use Rattle.std.proofs.Common.{◌≡◌, ℕ, true, List, Option, refl}
-use Rattle.writing.specs.Writing.{AppendsBeginning}
-use Rattle.answers.specs.Refusals.{TellsOther, refusal_line}
+use Rattle.std.proofs.Common.{◌≡◌, ℕ, true, List, Option, refl, ap, ◌∙◌}
+use Rattle.answers.specs.Refusals.{Tells, TellsOther, refusal_line}
 use Rattle.answers.proofs.LinesPrinted.{is_other, tells_other}
 use Rattle.object_modules.specs.declared.fault.Fault.{Fault}
 use Rattle.object_modules.specs.declared.fault.Fault.TheVariants.{Truncated, WrongSum, WrongLength, UnknownType, OutOfOrder, WrongBody, ContentMisplaced, FixMisplaced, WrongAlignment}
@@ -22,8 +21,8 @@ object_other ContentMisplaced = refl
 object_other FixMisplaced = refl
 object_other WrongAlignment = refl
 
-pub object_told : (fault : Fault) (name : List ℕ) (line : ℕ) (old new : Option (List ℕ)) → AppendsBeginning old new (refusal_line (number_of fault) name line) → TellsOther old new
-object_told fault name line old new appended = tells_other (number_of fault) name line old new (object_other fault) appended
+pub object_told : (fault : Fault) (number name : List ℕ) (line : ℕ) (old new : Option (List ℕ)) → number ≡ number_of fault → Tells (refusal_line number name line) old new → TellsOther old new
+object_told fault number name line old new is told = tells_other number name line old new (ap is_other is ∙ object_other fault) told
 
 link_other : (refusal : LinkRefusal) → is_other (link_number refusal) ≡ true
 link_other (merges.DuplicatePublic name) = refl
@@ -32,8 +31,8 @@ link_other merges.SegmentTooLong = refl
 link_other merges.NotOneMain = refl
 link_other merges.HighByteMoves = refl
 
-pub link_told : (refusal : LinkRefusal) (name : List ℕ) (line : ℕ) (old new : Option (List ℕ)) → AppendsBeginning old new (refusal_line (link_number refusal) name line) → TellsOther old new
-link_told refusal name line old new appended = tells_other (link_number refusal) name line old new (link_other refusal) appended
+pub link_told : (refusal : LinkRefusal) (number name : List ℕ) (line : ℕ) (old new : Option (List ℕ)) → number ≡ link_number refusal → Tells (refusal_line number name line) old new → TellsOther old new
+link_told refusal number name line old new is told = tells_other number name line old new (ap is_other is ∙ link_other refusal) told
 
 place_other : (refusal : PlacementRefusal) → is_other (placement_number refusal) ≡ true
 place_other images.ExternalLeft = refl
@@ -43,5 +42,5 @@ place_other images.SegmentsMeet = refl
 place_other images.PageBroken = refl
 place_other images.HighByteBroken = refl
 
-pub place_told : (refusal : PlacementRefusal) (name : List ℕ) (line : ℕ) (old new : Option (List ℕ)) → AppendsBeginning old new (refusal_line (placement_number refusal) name line) → TellsOther old new
-place_told refusal name line old new appended = tells_other (placement_number refusal) name line old new (place_other refusal) appended
+pub place_told : (refusal : PlacementRefusal) (number name : List ℕ) (line : ℕ) (old new : Option (List ℕ)) → number ≡ placement_number refusal → Tells (refusal_line number name line) old new → TellsOther old new
+place_told refusal number name line old new is told = tells_other number name line old new (ap is_other is ∙ place_other refusal) told

@@ -4,10 +4,9 @@ ghost use Rattle.std.specs.Prelude.{◌≡◌, ◌⊎◌, IfOk, map};
 ghost use Rattle.answers.specs.Refusals.{TellsOther, TellsRefusal};
 ghost use Rattle.object_commands.specs.Linking.{KeepsOthers, LinksFiles, MergesTo, StopsLinking};
 
+use crate::refusals::{refuse_link_at, refuse_object};
 use crate::writing_files::write_file;
-use answers::{
-    Ending, read_files, refuse, refuse_file, refuse_memory, refuse_name, refuse_output,
-};
+use answers::{Ending, read_files, refuse_file, refuse_memory, refuse_output};
 use failure::Failure;
 use files::Files;
 use link::LinkFault;
@@ -18,7 +17,7 @@ use std::io::Write;
 /// Merges object files, and writes the merge to the file `out`. That file is begun once all others were read and their
 /// modules merged; after a write that failed it may have a beginning of the merge, which is no object file. Memory holds
 /// the files and the merge.
-#[tactic(auto, using(crate::proofs::FilesWritten::kept_others, crate::proofs::FilesWritten::kept_then_others, crate::proofs::FilesWritten::kept_then_stopped, crate::proofs::FilesWritten::links, crate::proofs::FilesWritten::not_linked, crate::proofs::FilesWritten::stops_linking, crate::proofs::FilesWritten::written_others, answers::proofs::LinesPrinted::tells_file, answers::proofs::LinesPrinted::tells_no_file))]
+#[tactic(auto, using(crate::proofs::FilesWritten::kept_others, crate::proofs::FilesWritten::kept_then_others, crate::proofs::FilesWritten::kept_then_stopped, crate::proofs::FilesWritten::links, crate::proofs::FilesWritten::not_linked, crate::proofs::FilesWritten::stops_linking, crate::proofs::FilesWritten::written_others))]
 pub fn link_files<F: Files, E: Write>(
     alloc: Global,
     objects: &[&str],
@@ -81,36 +80,36 @@ fn merge(alloc: Global, texts: &[Vec<u8>]) -> Result<Vec<u8>, Failure<StreamFaul
 
 // Prints why object files have no merge: the file that is no object file, the name that is there twice or not at all, or
 // a dash.
-#[tactic(auto, using(crate::proofs::Refused::object_told))]
 fn refuse_merge<E: Write>(fault: &StreamFault, objects: &[&str], err: &mut E) -> Ending
     ensures ending { result ≡ Ending.Refused }
     ensures told { TellsOther (E.contents err.old) (E.contents err.new) }
 {
     match fault {
-        StreamFault::Object { file, fault } => {
-            let name = match objects.get(*file) {
-                Some(name) => *name,
-                None => "-",
-            };
-            refuse(fault.number(), name, 0, err)
-        }
+        StreamFault::Object { file, fault } => refuse_object(fault, name_at(objects, *file), err),
         StreamFault::Link(fault) => refuse_link(fault, err),
         StreamFault::Write => refuse_output(err),
     }
 }
 
+// The name of the file of this number, or a dash.
+fn name_at<'a>(objects: &[&'a str], number: usize) -> &'a str {
+    match objects.get(number) {
+        Some(name) => *name,
+        None => "-",
+    }
+}
+
 // Prints why modules have no merge.
-#[tactic(auto, using(crate::proofs::Refused::link_told))]
 fn refuse_link<E: Write>(fault: &LinkFault, err: &mut E) -> Ending
     ensures ending { result ≡ Ending.Refused }
     ensures told { TellsOther (E.contents err.old) (E.contents err.new) }
 {
     match fault {
         LinkFault::DuplicatePublic { name } | LinkFault::UnresolvedExternal { name } => {
-            refuse_name(fault.number(), name.as_slice(), 0, err)
+            refuse_link_at(fault, name.as_slice(), err)
         }
         LinkFault::SegmentTooLong | LinkFault::NotOneMain | LinkFault::HighByteMoves => {
-            refuse(fault.number(), "-", 0, err)
+            refuse_link_at(fault, b"-", err)
         }
     }
 }

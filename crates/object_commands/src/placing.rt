@@ -2,16 +2,17 @@
 
 ghost use Rattle.std.specs.Prelude.{◌≡◌, ◌⊎◌, IfErr, IfOk, OnErr, OnOk};
 ghost use Rattle.files.specs.Files.{KeepsFiles};
-ghost use Rattle.answers.specs.Refusals.{TellsOther, TellsRefusal};
+ghost use Rattle.answers.specs.Refusals.{TellsRefusal};
 ghost use Rattle.object_commands.specs.Placing.{PlacesFile, PrintsHex, PrintsPlaces, StopsHex, StopsPlaces};
 
 use crate::places::lines_of;
-use answers::{Ending, refuse, refuse_file, refuse_memory, refuse_output};
+use crate::refusals::{refuse_object, refuse_place};
+use answers::{Ending, refuse_file, refuse_memory, refuse_output};
 use failure::Failure;
 use files::Files;
 use hex80::write_hex;
-use locate::{Absolute, LocateFault, locate};
-use object_modules::{Fault, ObjectModule};
+use locate::{Absolute, locate};
+use object_modules::ObjectModule;
 use objmod::read;
 use plans::Plan;
 use std::alloc::Global;
@@ -26,7 +27,7 @@ struct Placed {
 }
 
 // Reads an object file and places it, or prints why it can't.
-#[tactic(auto, using(crate::proofs::FilesPlaced::placed, answers::proofs::LinesPrinted::tells_file, answers::proofs::LinesPrinted::tells_no_file))]
+#[tactic(auto, using(crate::proofs::FilesPlaced::placed))]
 fn place_file<F: Files, E: Write>(
     alloc: Global,
     file: &str,
@@ -59,28 +60,10 @@ fn place_file<F: Files, E: Write>(
     }
 }
 
-// Prints why a file is no object file.
-#[tactic(auto, using(crate::proofs::Refused::object_told))]
-fn refuse_object<E: Write>(fault: &Fault, file: &str, err: &mut E) -> Ending
-    ensures ending { result ≡ Ending.Refused }
-    ensures told { TellsOther (E.contents err.old) (E.contents err.new) }
-{
-    refuse(fault.number(), file, 0, err)
-}
-
-// Prints why an object can't lie as planned.
-#[tactic(auto, using(crate::proofs::Refused::place_told))]
-fn refuse_place<E: Write>(fault: &LocateFault, err: &mut E) -> Ending
-    ensures ending { result ≡ Ending.Refused }
-    ensures told { TellsOther (E.contents err.old) (E.contents err.new) }
-{
-    refuse(fault.number(), "-", 0, err)
-}
-
 /// Places an object file by a plan, and prints where its code, its data and the stack lie and how many bytes they have,
 /// where it starts, and where its public names lie, in their order. After a write that failed a beginning of that was
 /// printed, and after any other refusal nothing.
-#[tactic(auto, using(crate::proofs::FilesPlaced::begins_places, crate::proofs::FilesPlaced::no_places, crate::proofs::FilesPlaced::prints_places, answers::proofs::LinesPrinted::tells_no_file))]
+#[tactic(auto, using(crate::proofs::FilesPlaced::begins_places, crate::proofs::FilesPlaced::no_places, crate::proofs::FilesPlaced::prints_places))]
 pub fn print_places<F: Files, O: Write, E: Write>(
     alloc: Global,
     file: &str,
@@ -116,7 +99,7 @@ pub fn print_places<F: Files, O: Write, E: Write>(
 
 /// Places an object file by a plan, and prints its bytes as Intel HEX. After a write that failed a beginning of that was
 /// printed, and after any other refusal nothing.
-#[tactic(auto, using(crate::proofs::FilesPlaced::begins_hex, crate::proofs::FilesPlaced::no_hex, crate::proofs::FilesPlaced::prints_hex, answers::proofs::LinesPrinted::tells_no_file))]
+#[tactic(auto, using(crate::proofs::FilesPlaced::begins_hex, crate::proofs::FilesPlaced::no_hex, crate::proofs::FilesPlaced::prints_hex))]
 pub fn print_hex<F: Files, O: Write, E: Write>(
     alloc: Global,
     file: &str,
