@@ -41,6 +41,7 @@ fn place_file<F: Files, E: Write>(
     ensures refused { IfErr result (λ ending. ending ≡ Ending.Refused) }
     ensures told { OnErr result (TellsRefusal (F.failures files.old) (F.failures files.new)
         (E.contents err.old) (E.contents err.new)) }
+    ensures silent { OnOk result (E.contents err.new ≡ E.contents err.old) }
     ensures count { OnOk result (F.failures files.new ≡ F.failures files.old) }
 {
     let bytes = match files.read_file(file) {
