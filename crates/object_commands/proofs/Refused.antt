@@ -1,7 +1,7 @@
 -- What is printed where object files are refused: the line of no file that can't be read or written.
-use Rattle.std.proofs.Common.{◌≡◌, ℕ, true, List, Option, refl, ap, ◌∙◌}
-use Rattle.answers.specs.Refusals.{Tells, TellsOther, refusal_line}
-use Rattle.answers.proofs.LinesPrinted.{is_other, tells_other}
+use Rattle.std.proofs.Common.{◌≡◌, ℕ, true, List, Option, refl, ap, subst, ◌∙◌}
+use Rattle.answers.specs.Refusals.{Tells, TellsOther, TellsRefusal, refusal_line}
+use Rattle.answers.proofs.LinesPrinted.{is_other, tells_no_file, tells_other}
 use Rattle.object_modules.specs.declared.fault.Fault.{Fault}
 use Rattle.object_modules.specs.declared.fault.Fault.TheVariants.{Truncated, WrongSum, WrongLength, UnknownType, OutOfOrder, WrongBody, ContentMisplaced, FixMisplaced, WrongAlignment}
 use Rattle.object_modules.specs.Numbers.{number_of}
@@ -44,3 +44,7 @@ place_other images.HighByteBroken = refl
 
 pub place_told : (refusal : PlacementRefusal) (number name : List ℕ) (line : ℕ) (old new : Option (List ℕ)) → number ≡ placement_number refusal → Tells (refusal_line number name line) old new → TellsOther old new
 place_told refusal number name line old new is told = tells_other number name line old new (ap is_other is ∙ place_other refusal) told
+
+-- another fault, after calls that neither failed nor printed
+pub tells_later : (before after : ℕ) (old now new : Option (List ℕ)) → now ≡ old → after ≡ before → TellsOther now new → TellsRefusal before after old new
+tells_later before after old now new silent same other = tells_no_file before after old new same (subst (λ (b : Option (List ℕ)). TellsOther b new) silent other)
