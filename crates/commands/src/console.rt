@@ -27,7 +27,7 @@ use tool::Source;
 /// it prints goes to `out`, and faults go to `err`; a failure of `err` changes no status. It changes no file but that of
 /// `link --out`, which has the merge of the objects where the status is 0, and may have a beginning of it otherwise. That
 /// a file can't be read or written is told, with status 1, just where a failure of the files was counted.
-#[tactic(auto, using(crate::proofs::OrdersKept::status_bound, crate::proofs::OrdersKept::done_is))]
+#[tactic(auto, using(crate::proofs::OrdersKept::status_bound, crate::proofs::OrdersKept::done_is, crate::proofs::OrdersKept::not_done, crate::proofs::OrdersKept::not_refused, crate::proofs::OrdersKept::refused_is))]
 pub fn run_command<F: Files, O: Write, E: Write>(
     alloc: Global,
     words: &[&str],
@@ -52,7 +52,7 @@ pub fn run_command<F: Files, O: Write, E: Write>(
 }
 
 // Carries out the words of a command line.
-#[tactic(auto, using(crate::proofs::OrdersKept::by_words, crate::proofs::OrdersKept::kept_by_words, crate::proofs::OrdersKept::linked_by_words, crate::proofs::OrdersKept::faulty_links))]
+#[tactic(auto, using(crate::proofs::OrdersKept::by_words, crate::proofs::OrdersKept::linked_by_words, crate::proofs::OrdersKept::prints_by_words, crate::proofs::OrdersKept::stops_by_words))]
 fn end_words<F: Files, O: Write, E: Write>(
     alloc: Global,
     words: &[&str],
