@@ -3,7 +3,7 @@ use Rattle.std.proofs.Common.{◌≡◌, ℕ, ◌<◌, ◌≤◌, Bool, true, fa
 use Rattle.std.proofs.lemmas.List.Elements.{All-head, All-tail, All-push}
 use Rattle.std.proofs.lemmas.Bool.{eqb-true, ne_eqb}
 use Rattle.asm8080.specs.declared.item.Item.{Item}
-use Rattle.asm8080.specs.declared.item.Item.TheVariants.{Plain, WithWord, Byte, Address, Mark}
+use Rattle.asm8080.specs.declared.item.Item.TheVariants.{Plain, WithWord, Byte, Address, Gap, Mark}
 use Rattle.asm8080.specs.Items.{Assembly, BindsNew, BoundOnce, IsAssembly, KnowsLabels, is_bound, marks}
 
 neither : (here more : Bool) → here ≡ false → more ≡ false → (here || more) ≡ false
@@ -102,6 +102,7 @@ unbound_from assembly label is from = none_of assembly.items is.known
     unmarked (WithWord form reference) known = refl
     unmarked (Byte value) known = refl
     unmarked (Address reference) known = refl
+    unmarked (Gap count) known = refl
     unmarked (Mark other) known =
         let within : other < assembly.labels = known in ne_eqb label other (λ e. absurd (omega (arith, e, within, from)))
 

@@ -2,7 +2,7 @@
 
 ghost use Rattle.std.specs.Prelude.{◌≡◌, ◌+◌, ◌^◌, ◌<◌, false, [], ◌∷◌, ◌++◌, OnErr, OnOk, IfOk, IsTrue, Ok, Err};
 ghost use Rattle.failure.specs.Failure.{IfFault};
-ghost use Rattle.asm8080.specs.declared.item.Item.TheVariants.{Plain, WithWord, Byte, Address, Mark};
+ghost use Rattle.asm8080.specs.declared.item.Item.TheVariants.{Plain, WithWord, Byte, Address, Gap, Mark};
 ghost use Rattle.asm8080.specs.declared.item.Reference.TheVariants.{AtLabel, AtTarget};
 ghost use Rattle.asm8080.specs.Items.{IsAssembly, is_bound, may_be_target};
 ghost use Rattle.asm8080.specs.Assembled.{IsFinished};
@@ -112,6 +112,16 @@ impl Code {
         Ok(())
     }
 
+    /// Adds so many bytes that stay unset.
+    pub fn leave(&mut self, count: u16) -> Result<(), AllocError>
+        ensures ok { OnOk result (self.new
+            ≡ record self.old { items = self.old.items ++ Gap count ∷ [] }) }
+        ensures err { OnErr result (self.new ≡ self.old) }
+    {
+        self.items.push(Item::Gap(count))?;
+        Ok(())
+    }
+
     /// How many labels there are. Their numbers are those below, and no label is bound but these, each once.
     pub fn label_count(&self) -> usize
         ensures count { result ≡ self.now.labels }
@@ -184,7 +194,7 @@ impl Code {
         if !all_placed(places) {
             return Err(Failure::Fault(Fault::UnboundLabel));
         }
-        if code_size(items) > SEGMENT_LIMIT as usize {
+        if code_size(items) > SEGMENT_LIMIT as u128 {
             return Err(Failure::Fault(Fault::TooLong));
         }
         let code = assemble(alloc, items, places)?;
