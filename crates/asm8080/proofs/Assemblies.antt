@@ -164,7 +164,6 @@ items_stand layout memory from to (Address reference ∷ others) once lie h end 
       items_stand layout memory (from + 2) to others once.1
           (labels_later layout.place_of from (Address reference) others once lie) parts.1 (omega (arith, end)),
     )
-
 items_stand layout memory from to (Gap count ∷ others) once lie h end =
     items_stand layout memory (from + count) to others once.1
     (labels_later layout.place_of from (Gap count) others once lie)

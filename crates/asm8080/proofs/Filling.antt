@@ -14,7 +14,7 @@ use Rattle.isa8080.specs.State.{high_byte, low_byte}
 use Rattle.asm8080.specs.declared.item.Reference.{Reference}
 use Rattle.asm8080.specs.declared.item.Item.{Item}
 use Rattle.asm8080.specs.declared.item.Item.TheVariants.{Plain, WithWord, Byte, Address, Gap, Mark}
-use Rattle.asm8080.specs.Items.{Layout, size_of, word_of}
+use Rattle.asm8080.specs.Items.{Layout, word_of}
 use Rattle.asm8080.specs.Assembled.{fix_at, fixes_of_items}
 use Rattle.asm8080.proofs.Words.{form_bytes, opcode}
 use Rattle.asm8080.proofs.Fixing.{cells_of_items, some_length}

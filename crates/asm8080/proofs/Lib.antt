@@ -5,6 +5,7 @@ pub mod Fixing
 pub mod Moving
 pub mod Filling
 pub mod Assemblies
+pub mod Segments
 pub mod Places
 pub mod Parts
 pub mod Worked

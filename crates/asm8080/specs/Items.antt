@@ -54,6 +54,15 @@ marks label item = false
 abbrev pub is_bound : (label : ℕ) → List Item → Bool
 is_bound label items = list_any (marks label) items
 
+-- the labels that are bound stay those that were
+abbrev pub BindsSame : (before after : List Item) → Type 0
+BindsSame before after = (label : ℕ) → is_bound label after ≡ is_bound label before
+
+-- and so do all but one
+abbrev pub BindsSameBut : (label : ℕ) → (before after : List Item) → Type 0
+BindsSameBut label before after =
+    (other : ℕ) → (other == label) ≡ false → is_bound other after ≡ is_bound other before
+
 -- how far a label is from the start
 abbrev pub offset_of : (label : ℕ) → List Item → Option ℕ
 offset_of label [] = None
