@@ -25,8 +25,8 @@ use Rattle.asm8080.specs.declared.item.Reference.TheVariants.{AtLabel, AtTarget}
 use Rattle.asm8080.specs.Items.{Assembly, Layout, ListsExternals, Stands, is_bound, offset_of, size_of, size_of_items}
 use Rattle.asm8080.specs.Standing.{SetBytesStand}
 
--- the bytes of a code segment, with 0 for each that stays unset, which of them are set, its fixes in the order
--- of their offsets, and how far its labels are from its start, by their numbers
+-- the bytes of a code segment, with 0 for each that stays unset, which of them are set, its fixes in the
+-- order of their offsets, and how far its labels are from its start, by their numbers
 pub record Assembled : Type 0 where
   pub bytes : List ℕ
   pub is_set : List Bool

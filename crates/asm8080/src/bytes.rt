@@ -10,8 +10,8 @@ use object_modules::Fix;
 use std::alloc::Global;
 use std::marker::Model;
 
-/// The bytes of a code segment, 65535 at most, which of them are set, its fixes in the order of their offsets, and where its labels
-/// lie. The words that are fixed to a segment are offsets in it.
+/// The bytes of a code segment, 65535 at most, which of them are set, its fixes in the order of their offsets,
+/// and where its labels lie. The words that are fixed to a segment are offsets in it.
 #[derive(Drop)]
 pub struct CodeBytes {
     pub(crate) bytes: Vec<u8>,
