@@ -102,6 +102,14 @@ layout_at address_of assembly = record {
   address_of = address_of;
 }
 
+-- what code that is assembled keeps to: it has no more bytes than a segment, of each it is told whether it is
+-- set, no fix begins before the one before it ends, and each ends within the bytes
+pub record FitsSegment (code : Assembled) : Type 0 where
+  pub few : length code.bytes ≤ SEGMENT_LIMIT
+  pub told : length code.is_set ≡ length code.bytes
+  pub ascending : IsTrue (fixes_ascend code.fixes)
+  pub within : IsTrue (list_all (λ (fix : Fix). nat_le (fix_end fix) (length code.bytes)) code.fixes)
+
 -- A segment whose bytes, resolved anywhere in memory, are the code.
 pub record Assembles (assembly : Assembly) (code : Assembled) : Type 0 where
   -- it has as many bytes as the items take
