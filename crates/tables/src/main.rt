@@ -39,6 +39,7 @@ mod objects;
 mod operations;
 mod page;
 mod readers;
+mod reports;
 mod routines;
 mod runs;
 mod scripts;
@@ -147,21 +148,21 @@ fn print_all(rt: &HostRuntime, page: &mut Page) -> Result<()> {
     print_routines(rt.alloc(), &mut files, page)
 }
 
-// Prints all that, as far as it comes.
-fn print_rows(rt: &HostRuntime) -> Result<()> {
-    let mut page = Page::new(rt.alloc());
-    let ended = print_all(rt, &mut page);
-    let written = page.write(&mut rt.stdout());
-    if ended.is_ok() { written } else { ended }
+// Measures what words order, or prints the rows where only the program's name is given.
+fn measure_or_print(rt: &HostRuntime, page: &mut Page, words: &[&str]) -> Result<()> {
+    if words.len() > 1 {
+        measure(rt, page, words)
+    } else {
+        print_all(rt, page)
+    }
 }
 
-// Measures what words order, or prints the rows where only the program's name is given.
-fn measure_or_print(rt: &HostRuntime, words: &[&str]) -> Result<()> {
-    if words.len() > 1 {
-        measure(rt, words)
-    } else {
-        print_rows(rt)
-    }
+// Does what the words order, and writes what that printed, as far as it came.
+fn print_page(rt: &HostRuntime, words: &[&str]) -> Result<()> {
+    let mut page = Page::new(rt.alloc());
+    let ended = measure_or_print(rt, &mut page, words);
+    let written = page.write(&mut rt.stdout());
+    if ended.is_ok() { written } else { ended }
 }
 
 // Does what the words order that the program was given.
@@ -170,7 +171,7 @@ fn carry_out(rt: &HostRuntime, given: &[String]) -> Result<()> {
     for word in given {
         words.push(word.as_str())?;
     }
-    measure_or_print(rt, words.as_slice())
+    print_page(rt, words.as_slice())
 }
 
 fn main(rt: HostRuntime) -> Result<()> {
