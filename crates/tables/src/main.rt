@@ -106,6 +106,23 @@ fn is_as_said(alloc: Global, page: &mut Page, block: &Block) -> Result<bool> {
     Ok(is_as_said)
 }
 
+// Takes in the line of a place, and carries out the block that it ends, if it ends one.
+fn read_line(
+    alloc: Global,
+    page: &mut Page,
+    counts: &mut Counts,
+    block: &mut Block,
+    place: usize,
+    line: &str,
+) -> Result<()> {
+    if line != END_OF_BLOCK {
+        return block.read(alloc, place, line);
+    }
+    counts.add(is_as_said(alloc, page, block)?);
+    *block = Block::new(alloc);
+    Ok(())
+}
+
 // Carries out the command lines of rows.
 fn print_blocks(alloc: Global, page: &mut Page, rows: &str) -> Result<()> {
     let mut counts = Counts {
@@ -114,12 +131,8 @@ fn print_blocks(alloc: Global, page: &mut Page, rows: &str) -> Result<()> {
     };
     let mut block = Block::new(alloc);
     for (before, line) in rows.lines().enumerate() {
-        if line == END_OF_BLOCK {
-            counts.add(is_as_said(alloc, page, &block)?);
-            block = Block::new(alloc);
-        } else {
-            block.read(alloc, before.saturating_add(1), line)?;
-        }
+        let place = before.saturating_add(1);
+        read_line(alloc, page, &mut counts, &mut block, place, line)?;
     }
     counts.print(page);
     Ok(())
