@@ -59,9 +59,10 @@ pub(crate) fn add_segment(
     ensures { OnOk result (pieces.new.items ≡ with_pieces pieces.old.items
         (pieces_from (gain_at (plan_view plan.now)) base runs.now fixes.now)) }
 {
+    let mut rest = runs;
     let mut left = fixes;
-    for run in runs {
-        let (bytes, rest) = moved_bytes(alloc, run, left, plan)?;
+    while let [run, more @ ..] = rest {
+        let (bytes, after) = moved_bytes(alloc, run, left, plan)?;
         add_piece(
             pieces,
             Piece {
@@ -69,7 +70,8 @@ pub(crate) fn add_segment(
                 bytes: Bytes::from_vec(bytes),
             },
         )?;
-        left = rest;
+        left = after;
+        rest = more;
     }
     Ok(())
 }
