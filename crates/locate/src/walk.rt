@@ -146,9 +146,11 @@ pub(crate) fn moved_bytes<'a>(
         fixes,
         word: None,
     };
-    for value in run.bytes() {
+    let mut rest = run.bytes();
+    while let [value, more @ ..] = rest {
         let placed = walk.place(*value, plan);
         bytes.push(placed)?;
+        rest = more;
     }
     Ok((bytes, walk.fixes))
 }
