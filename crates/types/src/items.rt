@@ -13,7 +13,7 @@ ghost use Rattle.typing.specs.Checks.{require as required};
 ghost use Rattle.typed_trees.specs.Views.{home_view, object_view, type_view};
 ghost use Rattle.names.specs.Uses.{declared_by};
 ghost use Rattle.typing.specs.Items as items;
-ghost use Rattle.types.specs.internal.Items.{bytes_with, with_last_object, with_names};
+ghost use Rattle.types.specs.internal.Items.{bytes_with, item_filled, with_last_object, with_listed, with_names};
 ghost use Rattle.typing.specs.Results.{Answers, Leaves};
 ghost use Rattle.typed_expressions.specs.Views.{constants_view, contents_view, extents_view, known_view};
 ghost use Rattle.types.specs.internal.Views.{block_view, owner_view, progress_view, typed_item_view};
@@ -132,6 +132,21 @@ fn typed_item(known: &Known, block: Block<'_>, item: &Item) -> Result<TypedItem,
     let base = typed_base(known, block, &item.subject)?;
     let extents = extents_of(block, item)?;
     let object_type = typed_type(known, block, item)?;
+    filled_item(known, block, item, base, extents, object_type)
+}
+
+// An item whose base, elements and type are known.
+fn filled_item(
+    known: &Known,
+    block: Block<'_>,
+    item: &Item,
+    base: Option<u32>,
+    extents: Extents,
+    object_type: ObjectType,
+) -> Result<TypedItem, Failure<Fault>>
+    ensures { Answers typed_item_view result (item_filled (known_view known.now) (block_view block.entry)
+        (item_tree item.now) base (extents_view extents) (type_view object_type)) }
+{
     check_linkage(block, item)?;
     let at = typed_at(known, block, item)?;
     let filled = typed_contents(known, block, item, &object_type, extents)?;
@@ -621,6 +636,24 @@ impl Checker {
         Ok(())
     }
 
+    // Puts an object that will be the next of the table where else it belongs.
+    fn list_object(
+        &mut self,
+        linkage: Option<Linkage>,
+        object: &TypedObject,
+        line: u32,
+    ) -> Result<(), Failure<Fault>>
+        ensures { Leaves result (progress_view self.new)
+            (with_listed linkage (object_view object.now) line (progress_view self.old)) }
+    {
+        let frame = frame_with(self.frame, object, line)?;
+        let number = next_object(&self.known)?;
+        add_constant(&mut self.constants, &object.home, number)?;
+        add_global(&mut self.globals, linkage, GlobalItem::GlobalObject(number))?;
+        self.frame = frame;
+        Ok(())
+    }
+
     // Puts an object at the end of the table, and where else it belongs.
     fn add_object(
         &mut self,
@@ -633,13 +666,8 @@ impl Checker {
     {
         let linkage = item.linkage;
         let object = object_named(block, item, name.name)?;
-        let frame = frame_with(self.frame, &object, name.place.line)?;
-        let number = next_object(&self.known)?;
-        add_constant(&mut self.constants, &object.home, number)?;
-        add_global(&mut self.globals, linkage, GlobalItem::GlobalObject(number))?;
-        push_object(&mut self.known, object)?;
-        self.frame = frame;
-        Ok(())
+        self.list_object(linkage, &object, name.place.line)?;
+        push_object(&mut self.known, object)
     }
 
     // Puts the objects of an item at the end of the table.

@@ -67,7 +67,7 @@ impl Checker {
             .destinations(&tree.target, others, &mut self.constants)?;
         let source = self.value(&tree.value)?;
         let targets = targets_of(self.alloc, places, source.scalar())?;
-        Ok(statement_nodes::assignment(self.alloc, targets, source)?)
+        statement_nodes::assignment(self.alloc, targets, source)
     }
 }
 
@@ -88,10 +88,7 @@ fn moved(
     else {
         return Err(refuse(Cause::WrongUse, line));
     };
-    let count = as_type(alloc, count, ScalarType::Address)?;
-    let source = as_type(alloc, source, ScalarType::Address)?;
-    let destination = as_type(alloc, destination, ScalarType::Address)?;
-    Ok(statement_nodes::copying(alloc, count, source, destination)?)
+    statement_nodes::copying(alloc, count, source, destination)
 }
 
 impl Checker {
@@ -171,7 +168,7 @@ impl Checker {
     {
         let typed = self.value(tree)?;
         let typed = as_type(self.alloc, typed, scalar)?;
-        Ok(statement_nodes::return_value(self.alloc, Some(typed))?)
+        statement_nodes::return_value(self.alloc, Some(typed))
     }
 
     // RETURN in a procedure with this result.
@@ -186,7 +183,7 @@ impl Checker {
             (progress_view self.old)) }
     {
         match (scalar, tree) {
-            (None, None) => Ok(statement_nodes::return_value(self.alloc, None)?),
+            (None, None) => statement_nodes::return_value(self.alloc, None),
             (Some(scalar), Some(tree)) => self.return_value(line, scalar, tree),
             _ => Err(refuse(Cause::WrongUse, line)),
         }

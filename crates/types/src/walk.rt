@@ -110,7 +110,7 @@ impl Checker {
         let condition = self.value(&branch.condition)?;
         let body = self.alone(block, &branch.body)?;
         let other = self.else_part(block, &branch.otherwise)?;
-        Ok(statement_nodes::conditional(self.alloc, condition, body, other)?)
+        statement_nodes::conditional(self.alloc, condition, body, other)
     }
 
     // A statement after THEN or ELSE or of a DO CASE.
@@ -162,7 +162,7 @@ impl Checker {
         self.declarations(inner, tree.declarations.as_slice())?;
         let body = self.list(inner, tree.statements.as_slice())?;
         self.leave();
-        Ok(statement_nodes::block(self.alloc, body)?)
+        statement_nodes::block(self.alloc, body)
     }
 
     // DO WHILE.
@@ -177,7 +177,7 @@ impl Checker {
     {
         let condition = self.value(&turns.condition)?;
         let body = self.list(block, turns.body.as_slice())?;
-        Ok(statement_nodes::while_true(self.alloc, condition, body)?)
+        statement_nodes::while_true(self.alloc, condition, body)
     }
 
     // An iterative DO.
@@ -192,7 +192,7 @@ impl Checker {
     {
         let head = self.iteration(&turns.iteration)?;
         let body = self.list(block, turns.body.as_slice())?;
-        Ok(statement_nodes::iterate(self.alloc, head, body)?)
+        statement_nodes::iterate(self.alloc, head, body)
     }
 
     // DO CASE.
@@ -207,7 +207,7 @@ impl Checker {
     {
         let number = self.value(&choice.choice)?;
         let body = self.cases(block, choice.body.as_slice())?;
-        Ok(statement_nodes::case(self.alloc, number, body)?)
+        statement_nodes::case(self.alloc, number, body)
     }
 
     // The statements of a DO CASE.
