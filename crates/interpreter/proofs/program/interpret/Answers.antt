@@ -49,12 +49,12 @@ returns-in_default-clause-kept g c = begins_same (g.P.Ports.events c.args.ports.
 pub returns-in_default-compile-clause-kept : goal.returns-in_default-compile-clause-kept
 returns-in_default-compile-clause-kept g c = begins_same (g.P.Ports.events c.args.ports.now)
 
-pub returns-in_None-clause-kept : goal.returns-in_None-clause-kept
-returns-in_None-clause-kept g c = begins_same (g.P.Ports.events c.args.ports.now)
+pub returns-in-None-clause-kept : goal.returns-in-None-clause-kept
+returns-in-None-clause-kept g c = begins_same (g.P.Ports.events c.args.ports.now)
 
 pub returns-in-Some-clause-kept : goal.returns-in-Some-clause-kept
 returns-in-Some-clause-kept g c =
     either _ _ _ c.run.result
-    (λ end stops. kept_stopped _ _ _ _ (g.P.Ports.events c.args.ports.now) _ c.args.budget _ stops)
-    (λ reaches. kept_reached _ _ _ _ (g.P.Ports.events c.args.ports.now) _ c.args.budget reaches)
+    (λ end stops. kept_stopped _ (module_view c.in-Some.found.typed.now) _ _ (g.P.Ports.events c.args.ports.now) _ c.args.budget _ stops)
+    (λ reaches. kept_reached _ (module_view c.in-Some.found.typed.now) _ _ (g.P.Ports.events c.args.ports.now) _ c.args.budget reaches)
     c.run.ensures.ended c.run.ensures.reached
