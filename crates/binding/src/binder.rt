@@ -266,7 +266,6 @@ impl Binder {
 
     // Goes through what a statement does.
     #[cycle(walk)]
-    #[tactic(auto, using(crate::proofs::Walks::gives_nothing, names::proofs::Parts::if_is, names::proofs::Parts::do_is, names::proofs::Parts::while_is, names::proofs::Parts::iterate_is, names::proofs::Parts::case_is))]
     fn kind(&mut self, kind: &StatementKind) -> Result<(), Failure<Fault>>
         ensures { Does result self.new (gives (see_kind (kind_tree kind.now)) self.old) }
     {
@@ -296,7 +295,6 @@ impl Binder {
 
     // Goes through the statement after ELSE, if there is one.
     #[cycle(walk)]
-    #[tactic(auto, using(crate::proofs::Walks::gives_nothing))]
     fn otherwise(&mut self, otherwise: &Option<Statement>) -> Result<(), Failure<Fault>>
         ensures { Does result self.new (gives (see_else (else_tree otherwise.now)) self.old) }
     {
@@ -403,7 +401,6 @@ impl Binder {
 
     // Goes through a declaration.
     #[cycle(walk)]
-    #[tactic(auto, using(names::proofs::Parts::procedure_is))]
     fn declaration(&mut self, declaration: &Declaration) -> Result<(), Failure<Fault>>
         ensures { Does result self.new (gives (see_declaration (declaration_tree declaration.now)) self.old) }
     {

@@ -3,6 +3,7 @@ use Rattle.trees.specs.declared.statement.Declaration.{Declaration}
 use Rattle.trees.specs.declared.statement.Statement.{Statement}
 use Rattle.trees.specs.Views.{declaration_tree, declaration_trees, kind_tree, statement_tree, statement_trees}
 use Rattle.names.specs.Events.{see_cases, see_declaration, see_declarations, see_kind, see_statement, see_statements}
+use Rattle.names.proofs.Parts.{if_is, do_is, while_is, iterate_is, case_is, procedure_is}
 use Rattle.binding.specs.internal.Walks.{gives}
 use Rattle.binding.proofs.Loops.{goes_on, fails_within, ended, hands_on}
 use Rattle.binding.proofs.Walks.{gives_turn, gives_nothing, gives_then, gives_three, fails_then, fails_middle}
@@ -169,3 +170,30 @@ procedure_inside-returns-in_err-parameters t c = grind (arith, fails_then)
 
 pub procedure_inside-returns : goal.procedure_inside-returns
 procedure_inside-returns t c = grind (arith, gives_then)
+
+pub kind-returns-in-Null : goal.kind-returns-in-Null
+kind-returns-in-Null t c = grind (arith, gives_nothing)
+
+pub kind-returns-in-Null-2 : goal.kind-returns-in-Null-2
+kind-returns-in-Null-2 t c = grind (arith, gives_nothing)
+
+pub kind-returns-in-If : goal.kind-returns-in-If
+kind-returns-in-If t c = grind (arith, if_is)
+
+pub kind-returns-in-Do : goal.kind-returns-in-Do
+kind-returns-in-Do t c = grind (arith, do_is)
+
+pub kind-returns-in-While : goal.kind-returns-in-While
+kind-returns-in-While t c = grind (arith, while_is)
+
+pub kind-returns-in-Iterate : goal.kind-returns-in-Iterate
+kind-returns-in-Iterate t c = grind (arith, iterate_is)
+
+pub kind-returns-in-Case : goal.kind-returns-in-Case
+kind-returns-in-Case t c = grind (arith, case_is)
+
+pub otherwise-returns-in-None : goal.otherwise-returns-in-None
+otherwise-returns-in-None t c = grind (arith, gives_nothing)
+
+pub declaration-returns-in-Procedure : goal.declaration-returns-in-Procedure
+declaration-returns-in-Procedure t c = grind (arith, procedure_is)
