@@ -1,7 +1,7 @@
 use Rattle.std.proofs.Common.{arith}
 use Rattle.object_modules.specs.declared.segment.Segment.TheVariants.{Code, Data}
 use Rattle.file_merges.proofs.AllGrown.{grown_step}
-use Rattle.link_records.proofs.contents.segments_of.Goals as goal
+use Rattle.link_records.proofs.contents.add_files.Goals as goal
 
 pub loop-one-preserved : goal.loop-one-preserved
 loop-one-preserved c = record {
