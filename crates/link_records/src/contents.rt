@@ -91,6 +91,13 @@ pub(crate) fn segments_of<'a>(
     let mut code = GrowingSegment::new(alloc);
     let mut data_bytes = GrowingSegment::new(alloc);
     let mut fixes = ContentFixes::new(alloc);
-    add_files(alloc, &mut code, &mut data_bytes, &mut fixes, publics, placed)?;
+    add_files(
+        alloc,
+        &mut code,
+        &mut data_bytes,
+        &mut fixes,
+        publics,
+        placed,
+    )?;
     Ok((code, data_bytes))
 }
