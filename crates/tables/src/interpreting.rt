@@ -67,8 +67,11 @@ fn print_port_fault(alloc: Global, page: &mut Page) -> anyhow::Result<()> {
 }
 
 const CALLS: &[u8] =
-    b"M: DO; DECLARE A(2) BYTE INITIAL (1, 2), P ADDRESS, X BASED P BYTE; F: PROCEDURE (N) BYTE REENTRANT; DECLARE (N, V) BYTE; \
-V = N; IF N = 0 THEN RETURN 0; RETURN F(N - 1) + V; END F; P = .(7, 'AB'); OUTPUT(0) = X; OUTPUT(0) = F(3) + A(1); END M;";
+    b"M: DO; DECLARE A(2) BYTE PUBLIC INITIAL (1, 'X'), K BYTE DATA (3), R STRUCTURE (B BYTE, C(2) ADDRESS), S LITERALLY 'A(0) + 1', \
+P ADDRESS, X BASED P BYTE; F: PROCEDURE (N) BYTE REENTRANT; DECLARE (N, V) BYTE; V = N; IF N = 0 THEN RETURN 0; RETURN F(N - 1) + V; END F; \
+G: PROCEDURE (Q) PUBLIC; DECLARE Q ADDRESS; P = Q; IF X THEN RETURN; HALT; END G; \
+DO WHILE S < 3; A(0), R.C(1) = -(A(0) := S) * 2; CALL G(.(7, 'AB')); END; OUTPUT(0) = X; OUTPUT(0) = F(3) + HIGH(R.C(1)); GOTO L; HALT; \
+L: DO CASE K - 3; OUTPUT(0) = A(0); HALT; END; END M;";
 
 // Prints how the program ends, and its events.
 fn print_calls(alloc: Global, page: &mut Page) {

@@ -73,6 +73,23 @@ impl Draft {
         Ok(())
     }
 
+    // Puts the name of a number, after its offset where it is a public one, which has a front.
+    fn put_name(
+        &mut self,
+        entry: &mut Vec<u8>,
+        kind: RecordKind,
+        front: &[u8],
+        module: usize,
+        number: usize,
+    ) -> Result<()> {
+        entry.clear();
+        if !front.is_empty() {
+            entry.extend_from_slice(&word(number))?;
+        }
+        push_name(entry, module % MODULES * NAMES + number)?;
+        self.put_entry(kind, front, entry.as_slice())
+    }
+
     // Puts the names of a module: publics with a front, which is the number of the code, and offsets, or external names.
     fn put_names(
         &mut self,
@@ -83,12 +100,7 @@ impl Draft {
     ) -> Result<()> {
         let mut entry = Vec::new(alloc);
         for number in 0..NAMES {
-            entry.clear();
-            if !front.is_empty() {
-                entry.extend_from_slice(&word(number))?;
-            }
-            push_name(&mut entry, module % MODULES * NAMES + number)?;
-            self.put_entry(kind, front, entry.as_slice())?;
+            self.put_name(&mut entry, kind, front, module, number)?;
         }
         self.end_record(kind)
     }
@@ -136,32 +148,69 @@ impl Draft {
     }
 }
 
-// The file of a module, whose external names are those of another. The first one is the main module.
-fn module_of(alloc: Global, shape: Shape, module: usize, other: usize) -> Result<Vec<u8>> {
-    let mut draft = Draft {
-        bytes: Vec::new(alloc),
-        body: Vec::new(alloc),
-    };
-    let data_size = shape.size / 2;
-    let code_size = shape.size - data_size;
+// Puts the names of a module, whose external names are the public ones of another.
+fn put_all_names(alloc: Global, draft: &mut Draft, module: usize, other: usize) -> Result<()> {
+    draft.put_names(alloc, RecordKind::ExternalNames, &[], other)?;
+    draft.put_names(alloc, RecordKind::Publics, &[1], module)
+}
+
+// Puts the header of a module whose segments have these sizes.
+fn put_header(draft: &mut Draft, code_size: usize, data_size: usize) -> Result<()> {
     let [low, high] = word(code_size);
     let [data_low, data_high] = word(data_size);
     let sizes = [1, low, high, 3, 2, data_low, data_high, 3];
     draft.body.extend_from_slice(&[1, b'M', 0, 0])?;
     draft.put_entry(RecordKind::Header, &[], &sizes)?;
-    draft.end_record(RecordKind::Header)?;
-    if shape.named {
-        draft.put_names(alloc, RecordKind::ExternalNames, &[], other)?;
-        draft.put_names(alloc, RecordKind::Publics, &[1], module)?;
-    }
-    draft.put_segment(shape.named, 1, code_size)?;
-    draft.put_segment(shape.named, 2, data_size)?;
+    draft.end_record(RecordKind::Header)
+}
+
+// Puts the end of a module. The first one is the main module.
+fn put_end(draft: &mut Draft, module: usize) -> Result<()> {
     let flag = if module == 0 { 1 } else { 0 };
     draft.body.extend_from_slice(&[flag, flag, 0, 0])?;
     draft.end_record(RecordKind::ModuleEnd)?;
-    let Draft { mut bytes, body: _ } = draft;
-    write_record(&mut bytes, RecordKind::EndOfFile.code(), &[])?;
+    write_record(&mut draft.bytes, RecordKind::EndOfFile.code(), &[])?;
+    Ok(())
+}
+
+// Puts a module, whose external names are the public ones of another.
+fn put_module(
+    alloc: Global,
+    draft: &mut Draft,
+    shape: Shape,
+    module: usize,
+    other: usize,
+) -> Result<()> {
+    let data_size = shape.size / 2;
+    let code_size = shape.size - data_size;
+    put_header(draft, code_size, data_size)?;
+    if shape.named {
+        put_all_names(alloc, draft, module, other)?;
+    }
+    draft.put_segment(shape.named, 1, code_size)?;
+    draft.put_segment(shape.named, 2, data_size)?;
+    put_end(draft, module)
+}
+
+// The file of a module, whose external names are the public ones of another.
+fn module_of(alloc: Global, shape: Shape, module: usize, other: usize) -> Result<Vec<u8>> {
+    let mut draft = Draft {
+        bytes: Vec::new(alloc),
+        body: Vec::new(alloc),
+    };
+    put_module(alloc, &mut draft, shape, module, other)?;
+    let Draft { bytes, body: _ } = draft;
     Ok(bytes)
+}
+
+// Adds the files of modules of a shape.
+fn add_files(alloc: Global, files: &mut Vec<Vec<u8>>, shape: Shape) -> Result<()> {
+    for module in 0..shape.modules {
+        let next = module + 1;
+        let other = if next == shape.modules { 0 } else { next };
+        files.push(module_of(alloc, shape, module, other)?)?;
+    }
+    Ok(())
 }
 
 /// The object files of a kind, if there is one: `many` has that many modules that link together, and `large` one module of that many
@@ -181,10 +230,6 @@ pub fn files_of(alloc: Global, kind: &str, length: usize) -> Result<Option<Vec<V
         _ => return Ok(None),
     };
     let mut files = Vec::new(alloc);
-    for module in 0..shape.modules {
-        let next = module + 1;
-        let other = if next == shape.modules { 0 } else { next };
-        files.push(module_of(alloc, shape, module, other)?)?;
-    }
+    add_files(alloc, &mut files, shape)?;
     Ok(Some(files))
 }

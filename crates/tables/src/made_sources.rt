@@ -64,12 +64,16 @@ fn push_numbered(source: &mut Vec<u8>, text: &[u8], number: usize) -> Result<(),
     Ok(())
 }
 
-// Appends a text, with another number each time, as often as it fits before a length.
-fn repeat(alloc: Global, source: &mut Vec<u8>, text: &[u8], most: usize) -> Result<(), AllocError> {
-    let mut piece = Vec::new(alloc);
+// Appends a text, with another number each time, as often as it fits before a length. Each is made in the piece.
+fn repeat_numbered(
+    source: &mut Vec<u8>,
+    piece: &mut Vec<u8>,
+    text: &[u8],
+    most: usize,
+) -> Result<(), AllocError> {
     for number in 0..LONGEST_SOURCE {
         piece.clear();
-        push_numbered(&mut piece, text, number)?;
+        push_numbered(piece, text, number)?;
         if source.len() >= most || most - source.len() < piece.len() {
             return Ok(());
         }
@@ -78,7 +82,29 @@ fn repeat(alloc: Global, source: &mut Vec<u8>, text: &[u8], most: usize) -> Resu
     Ok(())
 }
 
-// A module of at most a length: a text, another again and again, and at last one more.
+// The same, with a piece of its own.
+fn repeat(alloc: Global, source: &mut Vec<u8>, text: &[u8], most: usize) -> Result<(), AllocError> {
+    let mut piece = Vec::new(alloc);
+    repeat_numbered(source, &mut piece, text, most)
+}
+
+// Appends a module of at most a length: a text, another again and again, and at last one more.
+fn put_module(
+    alloc: Global,
+    source: &mut Vec<u8>,
+    texts: [&[u8]; 3],
+    length: usize,
+) -> Result<(), AllocError> {
+    let [first, text, last] = texts;
+    source.extend_from_slice(b"M: DO;\n")?;
+    source.extend_from_slice(first)?;
+    repeat(alloc, source, text, length.saturating_sub(32))?;
+    source.extend_from_slice(last)?;
+    source.extend_from_slice(b"END M;\n")?;
+    Ok(())
+}
+
+// That module.
 fn module_of(
     alloc: Global,
     first: &[u8],
@@ -87,51 +113,75 @@ fn module_of(
     length: usize,
 ) -> Result<Vec<u8>, AllocError> {
     let mut source = Vec::with_capacity(alloc, length)?;
-    source.extend_from_slice(b"M: DO;\n")?;
-    source.extend_from_slice(first)?;
-    repeat(alloc, &mut source, text, length.saturating_sub(32))?;
-    source.extend_from_slice(last)?;
-    source.extend_from_slice(b"END M;\n")?;
+    put_module(alloc, &mut source, [first, text, last], length)?;
     Ok(source)
 }
 
-// Definitions of which one use takes up some two million words.
-fn definitions(alloc: Global) -> Result<Vec<u8>, AllocError> {
-    let mut source = Vec::new(alloc);
+// Appends the definition of a letter that stands for seven of another.
+fn put_definition(source: &mut Vec<u8>, name: u8, other: u8) -> Result<(), AllocError> {
+    source.extend_from_slice(b", ")?;
+    source.push(name)?;
+    source.extend_from_slice(b" LITERALLY '")?;
+    for _ in 0..7_usize {
+        source.push(other)?;
+        source.push(b' ')?;
+    }
+    source.push(b'\'')?;
+    Ok(())
+}
+
+// Appends definitions of which one use takes up some two million words.
+fn put_definitions(source: &mut Vec<u8>) -> Result<(), AllocError> {
     source.extend_from_slice(b"M: DO; DECLARE Z LITERALLY ';;;;;;;;;;;;;;;;'")?;
     let names: [u8; 6] = [b'Y', b'X', b'W', b'V', b'U', b'T'];
     let mut last = b'Z';
     for name in names {
-        source.extend_from_slice(b", ")?;
-        source.push(name)?;
-        source.extend_from_slice(b" LITERALLY '")?;
-        for _ in 0..7_usize {
-            source.push(last)?;
-            source.push(b' ')?;
-        }
-        source.push(b'\'')?;
+        put_definition(source, name, last)?;
         last = name;
     }
     source.extend_from_slice(b"; T END M;\n")?;
+    Ok(())
+}
+
+// Those definitions.
+fn definitions(alloc: Global) -> Result<Vec<u8>, AllocError> {
+    let mut source = Vec::new(alloc);
+    put_definitions(&mut source)?;
     Ok(source)
 }
 
-// So many blocks within one another, each begun by a text, around statements.
-fn blocks(
-    alloc: Global,
+// Appends a text so many times.
+fn put_often(source: &mut Vec<u8>, text: &[u8], count: usize) -> Result<(), AllocError> {
+    for _ in 0..count {
+        source.extend_from_slice(text)?;
+    }
+    Ok(())
+}
+
+// Appends so many blocks within one another, each begun by a text, around statements.
+fn put_blocks(
+    source: &mut Vec<u8>,
     count: usize,
     begin: &[u8],
     statements: &[u8],
+) -> Result<(), AllocError> {
+    put_often(source, begin, count)?;
+    source.extend_from_slice(statements)?;
+    put_often(source, b"END;", count)
+}
+
+// A module of such blocks, of at most a length, after a text.
+fn module_of_blocks(
+    alloc: Global,
+    first: &[u8],
+    count: usize,
+    begin: &[u8],
+    statements: &[u8],
+    length: usize,
 ) -> Result<Vec<u8>, AllocError> {
     let mut deep = Vec::new(alloc);
-    for _ in 0..count {
-        deep.extend_from_slice(begin)?;
-    }
-    deep.extend_from_slice(statements)?;
-    for _ in 0..count {
-        deep.extend_from_slice(b"END;")?;
-    }
-    Ok(deep)
+    put_blocks(&mut deep, count, begin, statements)?;
+    module_of(alloc, first, deep.as_slice(), b"", length)
 }
 
 // Appends the name of a number: a letter, two letters or digits, and a digit, so that it is no reserved word.
@@ -144,35 +194,45 @@ fn push_name(source: &mut Vec<u8>, number: usize) -> Result<(), AllocError> {
     Ok(())
 }
 
-// As many names as fit in a length, declared in one scope. They take no storage.
-fn scope(alloc: Global, length: usize) -> Result<Vec<u8>, AllocError> {
-    let mut source = Vec::with_capacity(alloc, length)?;
+// Appends as many names as fit in a length, declared in one scope. They take no storage.
+fn put_scope(source: &mut Vec<u8>, length: usize) -> Result<(), AllocError> {
     source.extend_from_slice(b"M: DO; DECLARE (A")?;
     for number in 0..LONGEST_SOURCE {
-        if source.len() + 40 > length {
+        if source.len().saturating_add(40) > length {
             break;
         }
         source.push(b',')?;
-        push_name(&mut source, number)?;
+        push_name(source, number)?;
     }
     source.extend_from_slice(b") BYTE EXTERNAL; END M;\n")?;
+    Ok(())
+}
+
+// Those names.
+fn scope(alloc: Global, length: usize) -> Result<Vec<u8>, AllocError> {
+    let mut source = Vec::with_capacity(alloc, length)?;
+    put_scope(&mut source, length)?;
     Ok(source)
 }
 
-// Uses of a name of the module within scopes that are as deep as they may be.
-fn uses(alloc: Global, length: usize) -> Result<Vec<u8>, AllocError> {
-    let mut begin = Vec::new(alloc);
-    begin.extend_from_slice(b"DECLARE A BYTE;")?;
-    let mut end = Vec::new(alloc);
-    for _ in 0..62_usize {
-        begin.extend_from_slice(b"DO;DECLARE X BYTE;")?;
-        end.extend_from_slice(b"END;")?;
-    }
-    let inside = length.saturating_sub(end.len());
-    let mut source = module_of(alloc, begin.as_slice(), b"A=A;", b"", inside)?;
-    source.truncate(source.len().saturating_sub(7));
-    source.extend_from_slice(end.as_slice())?;
+// How many scopes lie within the module where uses are timed.
+const DEPTH: usize = 62;
+
+// Appends uses of a name of the module within scopes that are as deep as they may be.
+fn put_uses(alloc: Global, source: &mut Vec<u8>, length: usize) -> Result<(), AllocError> {
+    source.extend_from_slice(b"M: DO;\nDECLARE A BYTE;")?;
+    put_often(source, b"DO;DECLARE X BYTE;", DEPTH)?;
+    let inside = length.saturating_sub(4 * DEPTH);
+    repeat(alloc, source, b"A=A;", inside.saturating_sub(32))?;
+    put_often(source, b"END;", DEPTH)?;
     source.extend_from_slice(b"END M;\n")?;
+    Ok(())
+}
+
+// Those uses.
+fn uses(alloc: Global, length: usize) -> Result<Vec<u8>, AllocError> {
+    let mut source = Vec::with_capacity(alloc, length)?;
+    put_uses(alloc, &mut source, length)?;
     Ok(source)
 }
 
@@ -204,15 +264,16 @@ pub fn source_of(alloc: Global, kind: &str, length: usize) -> Result<Option<Vec<
             length,
         )?,
         "literally" => definitions(alloc)?,
-        "nesting" => {
-            let deep = blocks(alloc, 63, b"DO;", b";")?;
-            module_of(alloc, b"", deep.as_slice(), b"", length)?
-        }
+        "nesting" => module_of_blocks(alloc, b"", 63, b"DO;", b";", length)?,
         "scope" => scope(alloc, length)?,
-        "scopes" => {
-            let deep = blocks(alloc, 62, b"DO;DECLARE X BYTE;", b"A=X;")?;
-            module_of(alloc, b"DECLARE A BYTE;", deep.as_slice(), b"", length)?
-        }
+        "scopes" => module_of_blocks(
+            alloc,
+            b"DECLARE A BYTE;",
+            DEPTH,
+            b"DO;DECLARE X BYTE;",
+            b"A=X;",
+            length,
+        )?,
         "uses" => uses(alloc, length)?,
         _ => return Ok(None),
     };

@@ -39,6 +39,7 @@ mod objects;
 mod operations;
 mod page;
 mod readers;
+mod reports;
 mod routines;
 mod runs;
 mod scripts;
@@ -105,6 +106,23 @@ fn is_as_said(alloc: Global, page: &mut Page, block: &Block) -> Result<bool> {
     Ok(is_as_said)
 }
 
+// Takes in the line of a place, and carries out the block that it ends, if it ends one.
+fn read_line(
+    alloc: Global,
+    page: &mut Page,
+    counts: &mut Counts,
+    block: &mut Block,
+    place: usize,
+    line: &str,
+) -> Result<()> {
+    if line != END_OF_BLOCK {
+        return block.read(alloc, place, line);
+    }
+    counts.add(is_as_said(alloc, page, block)?);
+    *block = Block::new(alloc);
+    Ok(())
+}
+
 // Carries out the command lines of rows.
 fn print_blocks(alloc: Global, page: &mut Page, rows: &str) -> Result<()> {
     let mut counts = Counts {
@@ -113,12 +131,8 @@ fn print_blocks(alloc: Global, page: &mut Page, rows: &str) -> Result<()> {
     };
     let mut block = Block::new(alloc);
     for (before, line) in rows.lines().enumerate() {
-        if line == END_OF_BLOCK {
-            counts.add(is_as_said(alloc, page, &block)?);
-            block = Block::new(alloc);
-        } else {
-            block.read(alloc, before.saturating_add(1), line)?;
-        }
+        let place = before.saturating_add(1);
+        read_line(alloc, page, &mut counts, &mut block, place, line)?;
     }
     counts.print(page);
     Ok(())
@@ -147,21 +161,21 @@ fn print_all(rt: &HostRuntime, page: &mut Page) -> Result<()> {
     print_routines(rt.alloc(), &mut files, page)
 }
 
-// Prints all that, as far as it comes.
-fn print_rows(rt: &HostRuntime) -> Result<()> {
-    let mut page = Page::new(rt.alloc());
-    let ended = print_all(rt, &mut page);
-    let written = page.write(&mut rt.stdout());
-    if ended.is_ok() { written } else { ended }
+// Measures what words order, or prints the rows where only the program's name is given.
+fn measure_or_print(rt: &HostRuntime, page: &mut Page, words: &[&str]) -> Result<()> {
+    if words.len() > 1 {
+        measure(rt, page, words)
+    } else {
+        print_all(rt, page)
+    }
 }
 
-// Measures what words order, or prints the rows where only the program's name is given.
-fn measure_or_print(rt: &HostRuntime, words: &[&str]) -> Result<()> {
-    if words.len() > 1 {
-        measure(rt, words)
-    } else {
-        print_rows(rt)
-    }
+// Does what the words order, and writes what that printed, as far as it came.
+fn print_page(rt: &HostRuntime, words: &[&str]) -> Result<()> {
+    let mut page = Page::new(rt.alloc());
+    let ended = measure_or_print(rt, &mut page, words);
+    let written = page.write(&mut rt.stdout());
+    if ended.is_ok() { written } else { ended }
 }
 
 // Does what the words order that the program was given.
@@ -170,7 +184,7 @@ fn carry_out(rt: &HostRuntime, given: &[String]) -> Result<()> {
     for word in given {
         words.push(word.as_str())?;
     }
-    measure_or_print(rt, words.as_slice())
+    print_page(rt, words.as_slice())
 }
 
 fn main(rt: HostRuntime) -> Result<()> {

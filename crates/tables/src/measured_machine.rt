@@ -1,6 +1,7 @@
 //! Runs a program of 8080 instructions for a number of steps: `tables machine PROGRAM STEPS`. The programs are `tight` and
 //! `mixed`. `bench/machine` times it beside another machine.
 
+use crate::page::Page;
 use crate::runs::put_bytes;
 use anyhow::{Context, Result, bail};
 use cpu8080::{End, Machine};
@@ -63,16 +64,23 @@ fn memory_with(alloc: Global, program: &str) -> Result<Memory> {
 }
 
 // Prints how a run ended, and where.
-fn print_end(rt: &HostRuntime, end: &str, place: u16) -> Result<()> {
-    println!(rt; "{end} {place:04X}")?;
-    Ok(())
+fn print_end(page: &mut Page, end: &str, place: u16) {
+    page.text(end);
+    page.word(" ", place);
+    page.text("\n");
 }
 
 /// Runs a program for a number of steps, and prints how it ended and where.
-pub fn measure_machine(rt: &HostRuntime, program: &str, steps: &str) -> Result<()> {
+pub fn measure_machine(
+    rt: &HostRuntime,
+    page: &mut Page,
+    program: &str,
+    steps: &str,
+) -> Result<()> {
     let steps = steps.parse::<u64>().context("the number of steps")?;
     let memory = memory_with(rt.alloc(), program)?;
     let mut machine = Machine::new(memory, Script::new(rt.alloc()), 0x100);
     let end = word_of(machine.run(steps));
-    print_end(rt, end, machine.registers().pc)
+    print_end(page, end, machine.registers().pc);
+    Ok(())
 }

@@ -4,7 +4,8 @@
 ghost use Rattle.mem80.specs.Pieces.{AreWritable};
 
 use crate::made_objects::files_of;
-use crate::measured_text::{print_count, print_memory, report, report_count};
+use crate::page::Page;
+use crate::reports::{print_count, print_memory, report, report_count};
 use anyhow::{Context, Result, bail};
 use locate::Plan;
 use mem80::{MEMORY_SIZE, Memory, Piece};
@@ -21,23 +22,23 @@ fn room(alloc: Global, bytes: usize) -> Result<Vec<u8>, AllocError> {
 }
 
 // Copies files.
-fn copy_files(rt: &HostRuntime, files: &[&[u8]], bytes: usize) -> Result<()> {
+fn copy_files(rt: &HostRuntime, page: &mut Page, files: &[&[u8]], bytes: usize) -> Result<()> {
     let mut copied = room(rt.alloc(), bytes)?;
     let begun = Instant::now(rt)?;
     for file in files {
         copied.extend_from_slice(file)?;
     }
-    report(rt, "copy", begun)
+    report(rt, page, "copy", begun)
 }
 
 // Merges files.
-fn merge_files(rt: &HostRuntime, files: &[&[u8]], bytes: usize) -> Result<()> {
+fn merge_files(rt: &HostRuntime, page: &mut Page, files: &[&[u8]], bytes: usize) -> Result<()> {
     let mut merged = room(rt.alloc(), bytes)?;
     let begun = Instant::now(rt)?;
     if link_records::link_records(rt.alloc(), files, &mut merged).is_err() {
         bail!("the files are not merged");
     }
-    report_count(rt, "link_records", begun, "merged", merged.len())
+    report_count(rt, page, "link_records", begun, "merged", merged.len())
 }
 
 // The modules of files.
@@ -58,59 +59,82 @@ fn write_all(modules: &[ObjectModule], written: &mut Vec<u8>) -> Result<()> {
 }
 
 // Writes modules.
-fn write_modules(rt: &HostRuntime, modules: &[ObjectModule], bytes: usize) -> Result<()> {
+fn write_modules(
+    rt: &HostRuntime,
+    page: &mut Page,
+    modules: &[ObjectModule],
+    bytes: usize,
+) -> Result<()> {
     let mut written = room(rt.alloc(), bytes)?;
     let begun = Instant::now(rt)?;
     write_all(modules, &mut written)?;
-    report_count(rt, "write", begun, "written", written.len())
+    report_count(rt, page, "write", begun, "written", written.len())
 }
 
 // Reads files, and goes on up to a phase.
-fn read_up_to(rt: &HostRuntime, files: &[&[u8]], bytes: usize, phase: &str) -> Result<()> {
+fn read_up_to(
+    rt: &HostRuntime,
+    page: &mut Page,
+    files: &[&[u8]],
+    bytes: usize,
+    phase: &str,
+) -> Result<()> {
     let begun = Instant::now(rt)?;
     let modules = modules_of(rt.alloc(), files)?;
-    go_on_from_modules(rt, begun, modules.as_slice(), bytes, phase)
+    go_on_from_modules(rt, page, begun, modules.as_slice(), bytes, phase)
 }
 
 // What follows once files were read.
 fn go_on_from_modules(
     rt: &HostRuntime,
+    page: &mut Page,
     begun: Instant,
     modules: &[ObjectModule],
     bytes: usize,
     phase: &str,
 ) -> Result<()> {
-    report(rt, "read", begun)?;
+    report(rt, page, "read", begun)?;
     match phase {
         "read" => Ok(()),
-        "write" => write_modules(rt, modules, bytes),
-        _ => link_up_to(rt, modules, phase),
+        "write" => write_modules(rt, page, modules, bytes),
+        _ => link_up_to(rt, page, modules, phase),
     }
 }
 
 // Links modules, and goes on up to a phase.
-fn link_up_to(rt: &HostRuntime, modules: &[ObjectModule], phase: &str) -> Result<()> {
+fn link_up_to(
+    rt: &HostRuntime,
+    page: &mut Page,
+    modules: &[ObjectModule],
+    phase: &str,
+) -> Result<()> {
     let begun = Instant::now(rt)?;
     let merged = link::link(rt.alloc(), modules)?;
-    go_on_from_merge(rt, begun, merged.module(), phase)
+    go_on_from_merge(rt, page, begun, merged.module(), phase)
 }
 
 // What follows once modules were linked.
 fn go_on_from_merge(
     rt: &HostRuntime,
+    page: &mut Page,
     begun: Instant,
     module: &ObjectModule,
     phase: &str,
 ) -> Result<()> {
-    report(rt, "link", begun)?;
+    report(rt, page, "link", begun)?;
     if phase == "link" {
         return Ok(());
     }
-    place_up_to(rt, module, phase)
+    place_up_to(rt, page, module, phase)
 }
 
 // Places a module with its data after its code, and goes on up to a phase.
-fn place_up_to(rt: &HostRuntime, module: &ObjectModule, phase: &str) -> Result<()> {
+fn place_up_to(
+    rt: &HostRuntime,
+    page: &mut Page,
+    module: &ObjectModule,
+    phase: &str,
+) -> Result<()> {
     let plan = Plan {
         code: 0,
         data_base: module.length(Segment::Code),
@@ -122,12 +146,13 @@ fn place_up_to(rt: &HostRuntime, module: &ObjectModule, phase: &str) -> Result<(
     let absolute = locate::locate(rt.alloc(), module, &plan)?;
     absolute.load(&mut memory);
     let first = usize::from(memory.get(0));
-    go_on_from_pieces(rt, begun, first, absolute.pieces(), phase)
+    go_on_from_pieces(rt, page, begun, first, absolute.pieces(), phase)
 }
 
 // What follows once a module was placed.
 fn go_on_from_pieces(
     rt: &HostRuntime,
+    page: &mut Page,
     begun: Instant,
     first: usize,
     pieces: &[Piece],
@@ -135,69 +160,81 @@ fn go_on_from_pieces(
 ) -> Result<()>
     requires { AreWritable pieces.now }
 {
-    report_count(rt, "locate", begun, "first", first)?;
+    report_count(rt, page, "locate", begun, "first", first)?;
     if phase == "locate" {
         return Ok(());
     }
-    hex_up_to(rt, pieces, phase)
+    hex_up_to(rt, page, pieces, phase)
 }
 
 // Writes pieces as HEX, and goes on up to a phase.
-fn hex_up_to(rt: &HostRuntime, pieces: &[Piece], phase: &str) -> Result<()>
+fn hex_up_to(rt: &HostRuntime, page: &mut Page, pieces: &[Piece], phase: &str) -> Result<()>
     requires { AreWritable pieces.now }
 {
     let mut text = room(rt.alloc(), 3 * MEMORY_SIZE)?;
     let begun = Instant::now(rt)?;
     hex80::write_hex(rt.alloc(), pieces, &mut text)?;
-    go_on_from_hex(rt, begun, text.as_slice(), phase)
+    go_on_from_hex(rt, page, begun, text.as_slice(), phase)
 }
 
 // What follows once pieces were written.
-fn go_on_from_hex(rt: &HostRuntime, begun: Instant, text: &[u8], phase: &str) -> Result<()> {
-    report_count(rt, "write_hex", begun, "characters", text.len())?;
+fn go_on_from_hex(
+    rt: &HostRuntime,
+    page: &mut Page,
+    begun: Instant,
+    text: &[u8],
+    phase: &str,
+) -> Result<()> {
+    report_count(rt, page, "write_hex", begun, "characters", text.len())?;
     match phase {
         "write_hex" => {}
         "hex_file" => rt.stdout().write_all(text)?,
-        _ => read_hex(rt, text)?,
+        _ => read_hex(rt, page, text)?,
     }
     Ok(())
 }
 
 // Reads a HEX text.
-fn read_hex(rt: &HostRuntime, text: &[u8]) -> Result<()> {
+fn read_hex(rt: &HostRuntime, page: &mut Page, text: &[u8]) -> Result<()> {
     let begun = Instant::now(rt)?;
     let pieces = hex80::read_hex(rt.alloc(), text)?;
-    report_count(rt, "read_hex", begun, "pieces", pieces.len())
+    report_count(rt, page, "read_hex", begun, "pieces", pieces.len())
 }
 
 // Works on files up to a phase.
-fn work_up_to(rt: &HostRuntime, files: &[&[u8]], phase: &str) -> Result<()> {
+fn work_up_to(rt: &HostRuntime, page: &mut Page, files: &[&[u8]], phase: &str) -> Result<()> {
     let mut bytes: usize = 0;
     for file in files {
         bytes = bytes.saturating_add(file.len());
     }
-    print_count(rt, "bytes", bytes)?;
+    print_count(page, "bytes", bytes);
     match phase {
         "make" => Ok(()),
-        "copy" => copy_files(rt, files, bytes),
-        "link_records" => merge_files(rt, files, bytes),
-        _ => read_up_to(rt, files, bytes, phase),
+        "copy" => copy_files(rt, page, files, bytes),
+        "link_records" => merge_files(rt, page, files, bytes),
+        _ => read_up_to(rt, page, files, bytes, phase),
     }
 }
 
 // The same of files that are lists.
-fn work_on(rt: &HostRuntime, made: &[Vec<u8>], phase: &str) -> Result<()> {
+fn work_on(rt: &HostRuntime, page: &mut Page, made: &[Vec<u8>], phase: &str) -> Result<()> {
     let mut files: Vec<&[u8]> = Vec::new(rt.alloc());
     for file in made {
         files.push(file.as_slice())?;
     }
-    work_up_to(rt, files.as_slice(), phase)
+    work_up_to(rt, page, files.as_slice(), phase)
 }
 
 /// Works on object files of a kind up to a phase, and prints what that took.
-pub fn measure_objects(rt: &HostRuntime, kind: &str, length: &str, phase: &str) -> Result<()> {
+pub fn measure_objects(
+    rt: &HostRuntime,
+    page: &mut Page,
+    kind: &str,
+    length: &str,
+    phase: &str,
+) -> Result<()> {
     let length = length.parse::<usize>()?;
     let made = files_of(rt.alloc(), kind, length)?.context("no such kind of object files")?;
-    work_on(rt, made.as_slice(), phase)?;
-    print_memory(rt)
+    work_on(rt, page, made.as_slice(), phase)?;
+    print_memory(rt, page)
 }

@@ -6,8 +6,9 @@ ghost use Rattle.std.specs.Prelude.{◌≤◌, length};
 ghost use Rattle.words.specs.declared.limits.TheConstants.{LONGEST_SOURCE};
 
 use crate::made_sources::source_of;
+use crate::page::Page;
+use crate::reports::{print_count, print_memory, report, report_count};
 use anyhow::{Context, Result, bail};
-use std::fs;
 use std::time::Instant;
 use trees::Module;
 use typed_trees::Typed;
@@ -26,65 +27,32 @@ fn plain_reading(source: &[u8]) -> (usize, u32) {
     (lines, sum)
 }
 
-// The line of the system's status of this program with its greatest memory so far.
-fn line_of_memory(status: &str) -> Option<&str> {
-    for line in status.lines() {
-        if line.starts_with("VmHWM:") {
-            return Some(line);
-        }
-    }
-    None
-}
-
-// Prints that line.
-fn print_line_of_memory(rt: &HostRuntime, status: &str) -> Result<()> {
-    let line = line_of_memory(status).context("the system does not tell")?;
-    println!(rt; "{line}")?;
-    Ok(())
-}
-
-/// Prints how much memory this program had at most so far.
-pub fn print_memory(rt: &HostRuntime) -> Result<()> {
-    let status = fs::read_to_string(rt, "/proc/self/status")?;
-    print_line_of_memory(rt, status.as_str())
-}
-
-/// Prints a count after what is counted.
-pub fn print_count(rt: &HostRuntime, what: &str, count: usize) -> Result<()> {
-    println!(rt; "{what} {count}")?;
-    Ok(())
-}
-
-/// Prints how many microseconds a phase took.
-pub fn report(rt: &HostRuntime, phase: &str, begun: Instant) -> Result<()> {
-    println!(rt; "{phase} {}", begun.elapsed(rt)?.as_micros())?;
-    Ok(())
-}
-
-/// The same, and then a count.
-pub fn report_count(
-    rt: &HostRuntime,
-    phase: &str,
-    begun: Instant,
-    what: &str,
-    count: usize,
-) -> Result<()> {
-    report(rt, phase, begun)?;
-    print_count(rt, what, count)
+// Prints what a plain reading found in so many bytes.
+fn print_reading(page: &mut Page, bytes: usize, lines: usize, sum: u32) {
+    page.number("bytes ", bytes as u64);
+    page.number(" lines ", lines as u64);
+    page.number(" sum ", u64::from(sum));
+    page.text("\n");
 }
 
 // Reads a source plainly.
-fn read_plainly(rt: &HostRuntime, source: &[u8]) -> Result<()> {
+fn read_plainly(rt: &HostRuntime, page: &mut Page, source: &[u8]) -> Result<()> {
     let begun = Instant::now(rt)?;
     let (lines, sum) = plain_reading(source);
-    report(rt, "read", begun)?;
-    println!(rt; "bytes {} lines {lines} sum {sum}", source.len())?;
+    report(rt, page, "read", begun)?;
+    print_reading(page, source.len(), lines, sum);
     Ok(())
 }
 
 // Reads a source up to a phase.
-fn read_up_to(rt: &HostRuntime, source: &[u8], expands: bool, phase: &str) -> Result<()> {
-    read_plainly(rt, source)?;
+fn read_up_to(
+    rt: &HostRuntime,
+    page: &mut Page,
+    source: &[u8],
+    expands: bool,
+    phase: &str,
+) -> Result<()> {
+    read_plainly(rt, page, source)?;
     if phase == "read" {
         return Ok(());
     }
@@ -92,100 +60,121 @@ fn read_up_to(rt: &HostRuntime, source: &[u8], expands: bool, phase: &str) -> Re
         bail!("the source is too long");
     }
     if phase == "keep" {
-        return keep(rt, source);
+        return keep(rt, page, source);
     }
-    scan_up_to(rt, source, expands, phase)
+    scan_up_to(rt, page, source, expands, phase)
 }
 
 // Scans a source, and goes on up to a phase.
-fn scan_up_to(rt: &HostRuntime, source: &[u8], expands: bool, phase: &str) -> Result<()>
+fn scan_up_to(
+    rt: &HostRuntime,
+    page: &mut Page,
+    source: &[u8],
+    expands: bool,
+    phase: &str,
+) -> Result<()>
     requires { length source.now ≤ LONGEST_SOURCE }
 {
     let begun = Instant::now(rt)?;
     let words = words::scan(rt.alloc(), source)?;
-    report(rt, "scan", begun)?;
+    report(rt, page, "scan", begun)?;
     match phase {
         "scan" => Ok(()),
-        "expand" => expand_up_to(rt, words.as_slice(), phase),
-        _ if expands => expand_up_to(rt, words.as_slice(), phase),
-        _ => parse_up_to(rt, words.as_slice(), phase),
+        "expand" => expand_up_to(rt, page, words.as_slice(), phase),
+        _ if expands => expand_up_to(rt, page, words.as_slice(), phase),
+        _ => parse_up_to(rt, page, words.as_slice(), phase),
     }
 }
 
 // Expands words, and goes on up to a phase.
-fn expand_up_to(rt: &HostRuntime, words: &[Word], phase: &str) -> Result<()> {
+fn expand_up_to(rt: &HostRuntime, page: &mut Page, words: &[Word], phase: &str) -> Result<()> {
     let begun = Instant::now(rt)?;
     let output = literally::expand(rt.alloc(), words)?;
-    go_on_from_expansion(rt, begun, words.len(), output.as_slice(), phase)
+    go_on_from_expansion(rt, page, begun, words.len(), output.as_slice(), phase)
+}
+
+// Prints how many words there were before and after expansion.
+fn print_words(page: &mut Page, before: usize, after: usize) {
+    page.number("words ", before as u64);
+    page.number(" to ", after as u64);
+    page.text("\n");
 }
 
 // What follows once words were expanded, of which there were so many before.
 fn go_on_from_expansion(
     rt: &HostRuntime,
+    page: &mut Page,
     begun: Instant,
     before: usize,
     words: &[Word],
     phase: &str,
 ) -> Result<()> {
-    report(rt, "expand", begun)?;
-    println!(rt; "words {before} to {}", words.len())?;
+    report(rt, page, "expand", begun)?;
+    print_words(page, before, words.len());
     if phase == "expand" {
         return Ok(());
     }
-    parse_up_to(rt, words, phase)
+    parse_up_to(rt, page, words, phase)
 }
 
 // Parses words.
-fn parse(rt: &HostRuntime, words: &[Word]) -> Result<Module> {
+fn parse(rt: &HostRuntime, page: &mut Page, words: &[Word]) -> Result<Module> {
     let begun = Instant::now(rt)?;
     let module = syntax::parse(rt.alloc(), words)?;
-    report(rt, "parse", begun)?;
-    println!(rt; "module {}", module.name.name)?;
+    report(rt, page, "parse", begun)?;
+    page.text("module ");
+    page.value(&module.name.name);
+    page.text("\n");
     Ok(module)
 }
 
 // Parses words, and goes on up to a phase.
-fn parse_up_to(rt: &HostRuntime, words: &[Word], phase: &str) -> Result<()> {
-    let module = parse(rt, words)?;
+fn parse_up_to(rt: &HostRuntime, page: &mut Page, words: &[Word], phase: &str) -> Result<()> {
+    let module = parse(rt, page, words)?;
     match phase {
         "parse" => Ok(()),
-        "bind" => bind(rt, module),
-        _ => check_up_to(rt, module, phase),
+        "bind" => bind(rt, page, module),
+        _ => check_up_to(rt, page, module, phase),
     }
 }
 
 // Checks a module, and goes on up to a phase.
-fn check_up_to(rt: &HostRuntime, module: Module, phase: &str) -> Result<()> {
+fn check_up_to(rt: &HostRuntime, page: &mut Page, module: Module, phase: &str) -> Result<()> {
     let begun = Instant::now(rt)?;
     let typed = types::check(rt.alloc(), module)?;
-    go_on_from_check(rt, begun, &typed, phase)
+    go_on_from_check(rt, page, begun, &typed, phase)
 }
 
 // What follows once a module was checked.
-fn go_on_from_check(rt: &HostRuntime, begun: Instant, typed: &Typed, phase: &str) -> Result<()> {
-    report_count(rt, "check", begun, "objects", typed.objects.len())?;
+fn go_on_from_check(
+    rt: &HostRuntime,
+    page: &mut Page,
+    begun: Instant,
+    typed: &Typed,
+    phase: &str,
+) -> Result<()> {
+    report_count(rt, page, "check", begun, "objects", typed.objects.len())?;
     if phase == "check" {
         return Ok(());
     }
-    lay_out(rt, typed)
+    lay_out(rt, page, typed)
 }
 
 // Binds the names of a module.
-fn bind(rt: &HostRuntime, module: Module) -> Result<()> {
+fn bind(rt: &HostRuntime, page: &mut Page, module: Module) -> Result<()> {
     let begun = Instant::now(rt)?;
     let bound = binding::bind(rt.alloc(), module)?;
-    report_count(rt, "bind", begun, "uses", bound.bindings.len())
+    report_count(rt, page, "bind", begun, "uses", bound.bindings.len())
 }
 
 // Gives the objects of a module their places.
-fn lay_out(rt: &HostRuntime, typed: &Typed) -> Result<()> {
+fn lay_out(rt: &HostRuntime, page: &mut Page, typed: &Typed) -> Result<()> {
     let begun = Instant::now(rt)?;
     let storage = layout::layout(rt.alloc(), typed)?;
-    report(rt, "layout", begun)?;
-    println!(rt;
-        "data {} constants {}",
-        storage.data_size, storage.constant_size
-    )?;
+    report(rt, page, "layout", begun)?;
+    page.number("data ", u64::from(storage.data_size));
+    page.number(" constants ", u64::from(storage.constant_size));
+    page.text("\n");
     Ok(())
 }
 
@@ -199,20 +188,27 @@ fn typed(rt: &HostRuntime, source: &[u8]) -> Result<Typed>
 }
 
 // Makes the typed module of a source several times, and keeps all.
-fn keep(rt: &HostRuntime, source: &[u8]) -> Result<()>
+fn keep(rt: &HostRuntime, page: &mut Page, source: &[u8]) -> Result<()>
     requires { length source.now ≤ LONGEST_SOURCE }
 {
     let mut kept = Vec::new(rt.alloc());
     for _ in 0..KEPT {
         kept.push(typed(rt, source)?)?;
     }
-    print_count(rt, "kept", kept.len())
+    print_count(page, "kept", kept.len());
+    Ok(())
 }
 
 /// Reads a source up to a phase, and prints what that took.
-pub fn measure_text(rt: &HostRuntime, kind: &str, length: &str, phase: &str) -> Result<()> {
+pub fn measure_text(
+    rt: &HostRuntime,
+    page: &mut Page,
+    kind: &str,
+    length: &str,
+    phase: &str,
+) -> Result<()> {
     let length = length.parse::<usize>()?;
     let source = source_of(rt.alloc(), kind, length)?.context("no such kind of source")?;
-    read_up_to(rt, source.as_slice(), kind == "literally", phase)?;
-    print_memory(rt)
+    read_up_to(rt, page, source.as_slice(), kind == "literally", phase)?;
+    print_memory(rt, page)
 }

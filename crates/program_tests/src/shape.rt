@@ -3,12 +3,8 @@
 //!
 //! Lists are passed as vectors, since `as_slice` makes proofs longer.
 
-use failure::Failure;
 use std::alloc::Global;
-use std::fmt::Display;
 use std::io::Write;
-use std::process::Abort;
-use syntax::Fault;
 use trees::{
     Assignment, BinaryOperator, Block, Constant, Declaration, Dimension, Element, Expression,
     Heading, Identifier, IfThen, Item, ItemType, Iteration, Linkage, Member, Module, Number,
@@ -24,30 +20,6 @@ pub struct Shape {
     shows_places: bool,
 }
 
-/// What has a shape.
-pub trait Shaped {
-    /// Writes the shape.
-    fn write(&self, shape: &mut Shape);
-}
-
-impl Shaped for Expression {
-    fn write(&self, shape: &mut Shape) {
-        shape.expression(self);
-    }
-}
-
-impl Shaped for Statement {
-    fn write(&self, shape: &mut Shape) {
-        shape.statement(self);
-    }
-}
-
-impl Shaped for Declaration {
-    fn write(&self, shape: &mut Shape) {
-        shape.declaration(self);
-    }
-}
-
 impl Shape {
     /// A shape of which nothing is written, with or without the places of names.
     pub fn new(alloc: Global, shows_places: bool) -> Shape {
@@ -57,25 +29,23 @@ impl Shape {
         }
     }
 
-    /// Stops the test where another text is written than this.
-    pub fn check(&self, rt: &impl Abort, wanted: &[u8]) {
-        let written = self.text.as_slice();
-        let shown = str::from_utf8(written).unwrap_or("no text");
-        assert!(rt; written == wanted, "found {shown}");
+    /// What is written.
+    pub fn as_slice(&self) -> &[u8] {
+        self.text.as_slice()
     }
 
-    /// A text.
-    pub fn bytes(&mut self, bytes: &[u8]) {
+    // A text.
+    fn bytes(&mut self, bytes: &[u8]) {
         let _ = self.text.extend_from_slice(bytes);
     }
 
-    /// A character.
-    pub fn byte(&mut self, byte: u8) {
+    // A character.
+    fn byte(&mut self, byte: u8) {
         let _ = self.text.push(byte);
     }
 
-    /// What is printed of a number or a name.
-    pub fn printed(&mut self, value: impl Display + Drop) {
+    // What is printed of a number.
+    fn number(&mut self, value: u32) {
         let _ = write!(self.text, "{value}");
     }
 
@@ -83,7 +53,7 @@ impl Shape {
         self.bytes(name.name.as_slice());
         if self.shows_places {
             self.byte(b'@');
-            self.printed(name.place.start);
+            self.number(name.place.start);
         }
     }
 
@@ -93,18 +63,6 @@ impl Shape {
         self.name(&module.name);
         self.block(&module.body);
         self.ending(&module.end_name);
-    }
-
-    /// The number and the line of a fault, or that memory ran out.
-    pub fn failure(&mut self, failure: Failure<Fault>) {
-        match failure {
-            Failure::Fault(fault) => {
-                self.bytes(fault.number().as_bytes());
-                self.byte(b' ');
-                self.printed(fault.line());
-            }
-            Failure::Memory => self.bytes(b"out of memory"),
-        }
     }
 
     // END, the name after it, if there is one, and the parenthesis that closes what ends.
@@ -287,7 +245,7 @@ impl Shape {
 
     fn constant(&mut self, constant: &Constant) {
         match constant {
-            Constant::Number(number) => self.printed(number.value),
+            Constant::Number(number) => self.number(u32::from(number.value)),
             Constant::String(literal) => self.string(literal.characters.as_slice()),
         }
     }
@@ -399,7 +357,7 @@ impl Shape {
 
     fn count(&mut self, number: Number) {
         self.byte(b'(');
-        self.printed(number.value);
+        self.number(u32::from(number.value));
         self.byte(b')');
     }
 
