@@ -1,10 +1,10 @@
 -- What one item more at the end does.
-use Rattle.std.proofs.Common.{◌≡◌, ℕ, ◌<◌, ◌≤◌, Bool, true, false, ◌||◌, List, [], ◌∷◌, ◌++◌, All, refl, sym, subst, ◌∙◌, arith}
+use Rattle.std.proofs.Common.{◌≡◌, ℕ, ◌<◌, ◌≤◌, ◌==◌, Bool, true, false, ◌||◌, List, [], ◌∷◌, ◌++◌, All, refl, sym, subst, ap, ◌∙◌, arith}
 use Rattle.std.proofs.lemmas.List.Elements.{All-head, All-tail, All-push}
 use Rattle.std.proofs.lemmas.Bool.{eqb-true, ne_eqb}
 use Rattle.asm8080.specs.declared.item.Item.{Item}
-use Rattle.asm8080.specs.declared.item.Item.TheVariants.{Plain, WithWord, Byte, Address, Mark}
-use Rattle.asm8080.specs.Items.{Assembly, BindsNew, BoundOnce, IsAssembly, KnowsLabels, is_bound, marks}
+use Rattle.asm8080.specs.declared.item.Item.TheVariants.{Plain, WithWord, Byte, Address, Gap, Mark}
+use Rattle.asm8080.specs.Items.{Assembly, BindsNew, BindsSame, BindsSameBut, BoundOnce, IsAssembly, KnowsLabels, is_bound, marks}
 
 neither : (here more : Bool) → here ≡ false → more ≡ false → (here || more) ≡ false
 neither false false h m = refl
@@ -102,6 +102,7 @@ unbound_from assembly label is from = none_of assembly.items is.known
     unmarked (WithWord form reference) known = refl
     unmarked (Byte value) known = refl
     unmarked (Address reference) known = refl
+    unmarked (Gap count) known = refl
     unmarked (Mark other) known =
         let within : other < assembly.labels = known in ne_eqb label other (λ e. absurd (omega (arith, e, within, from)))
 
@@ -136,3 +137,34 @@ pub of_fields_back :
     → P now
     → P inside
 of_fields_back now inside P same h = subst P (sym same) h
+
+-- an item more binds no label but those that it marks
+is_bound_more :
+    (label : ℕ) (items : List Item) (item : Item)
+    → marks label item ≡ false
+    → is_bound label (items ++ item ∷ []) ≡ is_bound label items
+is_bound_more label [] item m = ap (λ here. here || false) m
+is_bound_more label (first ∷ others) item m =
+    ap (λ later. marks label first || later) (is_bound_more label others item m)
+
+pub bound_kept :
+    (now inside : Assembly) (item : Item) (after : List Item)
+    → inside ≡ now
+    → ((label : ℕ) → marks label item ≡ false)
+    → after ≡ inside.items ++ item ∷ []
+    → BindsSame now.items after
+bound_kept now inside item after same unmarked added label =
+    ap (is_bound label) added
+    ∙ is_bound_more label inside.items item (unmarked label)
+    ∙ ap (λ (view : Assembly). is_bound label view.items) same
+
+pub others_kept :
+    (now inside : Assembly) (label shown : ℕ) (after : List Item)
+    → inside ≡ now
+    → label ≡ shown
+    → after ≡ inside.items ++ Mark label ∷ []
+    → BindsSameBut shown now.items after
+others_kept now inside label shown after same seen added other apart =
+    ap (is_bound other) added
+    ∙ is_bound_more other inside.items (Mark label) (ap (λ n. other == n) seen ∙ apart)
+    ∙ ap (λ (view : Assembly). is_bound other view.items) same

@@ -3,6 +3,7 @@ pub mod RunLaws
 pub mod Words
 pub mod Fixing
 pub mod Moving
+pub mod Filling
 pub mod Assemblies
 pub mod Segments
 pub mod Places

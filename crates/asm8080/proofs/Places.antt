@@ -9,10 +9,10 @@ use Rattle.object_modules.specs.declared.segment.Fix.{Fix}
 use Rattle.object_modules.specs.declared.segment.TheConstants.{SEGMENT_LIMIT}
 use Rattle.asm8080.specs.declared.fault.Fault.TheVariants.{UnboundLabel, TooLong}
 use Rattle.asm8080.specs.declared.item.Item.{Item}
-use Rattle.asm8080.specs.declared.item.Item.TheVariants.{Plain, WithWord, Byte, Address, Mark}
+use Rattle.asm8080.specs.declared.item.Item.TheVariants.{Plain, WithWord, Byte, Address, Gap, Mark}
 use Rattle.asm8080.specs.Items.{Assembly, BoundOnce, IsAssembly, KnowsLabels, Layout, bytes_of_item, is_bound, marks, offset_of, size_of, size_of_items}
 use Rattle.asm8080.specs.Assembled.{AllBound, Assembled, Assembles, IsFinished, fixes_of_items, place_in}
-use Rattle.asm8080.specs.internal.Assembling.{all_placed, bytes_of_items, code_of, fixes_of_item, layout_from, no_code, offset_in, places_after, places_of, with_item, with_items, with_mark, with_places}
+use Rattle.asm8080.specs.internal.Assembling.{all_placed, bytes_of_items, code_of, fixes_of_item, flags_of_item, flags_of_items, layout_from, no_code, offset_in, places_after, places_of, with_item, with_items, with_mark, with_places}
 use Rattle.asm8080.proofs.Words.{item_length}
 use Rattle.asm8080.proofs.Assemblies.{assembles}
 
@@ -65,6 +65,7 @@ mark_length (Plain instruction) offset places = refl
 mark_length (WithWord form reference) offset places = refl
 mark_length (Byte value) offset places = refl
 mark_length (Address reference) offset places = refl
+mark_length (Gap count) offset places = refl
 mark_length (Mark label) offset places = set_length places label offset
 
 after_length :
@@ -129,6 +130,10 @@ place_after labels offset label (Address reference ∷ others) places size known
     place_after labels (offset + 2) label others places size
     (All-tail (KnowsLabels labels) (Address reference) others known) once.1
     ∙ later_place offset 2 (offset_of label others) (place_at places label)
+place_after labels offset label (Gap count ∷ others) places size known once =
+    place_after labels (offset + count) label others places size
+    (All-tail (KnowsLabels labels) (Gap count) others known) once.1
+    ∙ later_place offset count (offset_of label others) (place_at places label)
 place_after labels offset label (Mark other ∷ others) places size known once =
     place_after labels (offset + 0) label others (slice_set places other (Some offset))
     (set_length places other offset ∙ size)
@@ -251,17 +256,23 @@ fixes_split offset (Plain instruction) others = refl
 fixes_split offset (WithWord form reference) others = refl
 fixes_split offset (Byte value) others = refl
 fixes_split offset (Address reference) others = refl
+fixes_split offset (Gap count) others = refl
 fixes_split offset (Mark label) others = refl
 
 same_code :
-    (code : Assembled) (bytes bytes_after : List ℕ) (fixes fixes_after : List Fix)
+    (code : Assembled) (bytes bytes_after : List ℕ) (flags flags_after : List Bool) (fixes fixes_after : List Fix)
     → bytes ≡ bytes_after
+    → flags ≡ flags_after
     → fixes ≡ fixes_after
-    → ◌≡◌ {A = Assembled} (record code { bytes = bytes; fixes = fixes }) (record code { bytes = bytes_after; fixes = fixes_after })
-same_code code bytes bytes_after fixes fixes_after e f =
-    let first : List ℕ → Assembled = λ xs. record code { bytes = xs; fixes = fixes } in
-    let second : List Fix → Assembled = λ ys. record code { bytes = bytes_after; fixes = ys } in
-    ap first e ∙ ap second f
+    → ◌≡◌ {A = Assembled}
+    (record code { bytes = bytes; is_set = flags; fixes = fixes })
+    (record code { bytes = bytes_after; is_set = flags_after; fixes = fixes_after })
+same_code code bytes bytes_after flags flags_after fixes fixes_after e g f =
+    let first : List ℕ → Assembled = λ xs. record code { bytes = xs; is_set = flags; fixes = fixes } in
+    let second : List Bool → Assembled = λ bs. record code { bytes = bytes_after; is_set = bs; fixes = fixes } in
+    let third : List Fix → Assembled
+    = λ ys. record code { bytes = bytes_after; is_set = flags_after; fixes = ys } in
+    ap first e ∙ ap second g ∙ ap third f
 
 nothing_after : {A : Type 0} (xs : List A) → xs ≡ xs ++ []
 nothing_after [] = refl
@@ -272,11 +283,12 @@ pub items_added :
     → with_items layout code items
     ≡ record code {
       bytes = code.bytes ++ bytes_of_items layout items;
+      is_set = code.is_set ++ flags_of_items items;
       fixes = code.fixes ++ fixes_of_items (length code.bytes) items;
     }
 items_added layout code [] =
-    same_code code code.bytes (code.bytes ++ []) code.fixes (code.fixes ++ [])
-    (nothing_after code.bytes) (nothing_after code.fixes)
+    same_code code code.bytes (code.bytes ++ []) code.is_set (code.is_set ++ []) code.fixes (code.fixes ++ [])
+    (nothing_after code.bytes) (nothing_after code.is_set) (nothing_after code.fixes)
 items_added layout code (item ∷ others) =
     let here : List ℕ = bytes_of_item layout item in
     let end : length (code.bytes ++ here) ≡ length code.bytes + size_of item
@@ -284,9 +296,12 @@ items_added layout code (item ∷ others) =
     items_added layout (with_item layout code item) others
     ∙ same_code code
     ((code.bytes ++ here) ++ bytes_of_items layout others) (code.bytes ++ (here ++ bytes_of_items layout others))
+    ((code.is_set ++ flags_of_item item) ++ flags_of_items others)
+    (code.is_set ++ (flags_of_item item ++ flags_of_items others))
     ((code.fixes ++ fixes_of_item (length code.bytes) item) ++ fixes_of_items (length (code.bytes ++ here)) others)
     (code.fixes ++ fixes_of_items (length code.bytes) (item ∷ others))
     (append_assoc code.bytes here (bytes_of_items layout others))
+    (append_assoc code.is_set (flags_of_item item) (flags_of_items others))
     (append_assoc code.fixes (fixes_of_item (length code.bytes) item) (fixes_of_items (length (code.bytes ++ here)) others)
     ∙ ap (λ (fixes : List Fix). code.fixes ++ fixes)
     (ap (λ n. fixes_of_item (length code.bytes) item ++ fixes_of_items n others) end

@@ -1,5 +1,5 @@
 -- Code before it has a place: instructions with words that depend on where something will lie.
-use Rattle.std.specs.Prelude.{◌≡◌, ℕ, ◌+◌, ◌<◌, ◌==◌, Bool, true, false, if◌then◌else◌, IsTrue, List, [], ◌∷◌, All, Option, Some, None, option_map}
+use Rattle.std.specs.Prelude.{◌≡◌, ℕ, ◌+◌, ◌<◌, ◌==◌, Bool, true, false, if◌then◌else◌, IsTrue, List, [], ◌∷◌, All, replicate, Option, Some, None, option_map}
 use Rattle.std.specs.List.{list_any}
 use Rattle.object_modules.specs.declared.segment.Target.{Target}
 use Rattle.object_modules.specs.declared.segment.Target.TheVariants.{InSegment, External}
@@ -13,7 +13,7 @@ use Rattle.asm8080.specs.declared.item.WordForm.TheVariants.{LoadPair, StoreHl, 
 use Rattle.asm8080.specs.declared.item.Reference.{Reference}
 use Rattle.asm8080.specs.declared.item.Reference.TheVariants.{AtLabel, AtTarget}
 use Rattle.asm8080.specs.declared.item.Item.{Item}
-use Rattle.asm8080.specs.declared.item.Item.TheVariants.{Plain, WithWord, Byte, Address, Mark}
+use Rattle.asm8080.specs.declared.item.Item.TheVariants.{Plain, WithWord, Byte, Address, Gap, Mark}
 use Rattle.asm8080.specs.Standing.{BytesStand, size_of_instruction}
 
 -- what a program is made of: items in their order, and how many labels there are; the labels are 0, 1 and so
@@ -40,6 +40,7 @@ size_of (Plain instruction) = size_of_instruction instruction
 size_of (WithWord form reference) = 3
 size_of (Byte value) = 1
 size_of (Address reference) = 2
+size_of (Gap count) = count
 size_of (Mark label) = 0
 
 abbrev pub size_of_items : List Item → ℕ
@@ -52,6 +53,15 @@ marks label item = false
 
 abbrev pub is_bound : (label : ℕ) → List Item → Bool
 is_bound label items = list_any (marks label) items
+
+-- the labels that are bound stay those that were
+abbrev pub BindsSame : (before after : List Item) → Type 0
+BindsSame before after = (label : ℕ) → is_bound label after ≡ is_bound label before
+
+-- and so do all but one
+abbrev pub BindsSameBut : (label : ℕ) → (before after : List Item) → Type 0
+BindsSameBut label before after =
+    (other : ℕ) → (other == label) ≡ false → is_bound other after ≡ is_bound other before
 
 -- how far a label is from the start
 abbrev pub offset_of : (label : ℕ) → List Item → Option ℕ
@@ -110,19 +120,27 @@ abbrev pub word_of : Layout → Reference → ℕ
 word_of layout (AtLabel label) = wrap (layout.place_of label)
 word_of layout (AtTarget target offset) = wrap (offset + layout.address_of target)
 
--- the bytes of an item that isn't a label
+-- the bytes of an item that isn't a label, with 0 for each that stays unset
 abbrev pub bytes_of_item : Layout → Item → List ℕ
 bytes_of_item layout (Plain instruction) = bytes_of instruction
 bytes_of_item layout (WithWord form reference) = bytes_of (instruction_with form (word_of layout reference))
 bytes_of_item layout (Byte value) = value ∷ []
 bytes_of_item layout (Address reference) =
     low_byte (word_of layout reference) ∷ high_byte (word_of layout reference) ∷ []
+bytes_of_item layout (Gap count) = replicate count 0
 bytes_of_item layout (Mark label) = []
 
--- items stand in a memory from an address to another, and each label that they bind lies where it stands
+-- whether the bytes of an item are set
+abbrev pub is_set : Item → Bool
+is_set (Gap count) = false
+is_set item = true
+
+-- Items stand in a memory from an address to another, and each label that they bind lies where it stands. Of
+-- bytes that stay unset nothing is said.
 abbrev pub Stands : Layout → (memory : List ℕ) → List Item → (from to : ℕ) → Type 0
 Stands layout memory [] from to = from ≡ to
 Stands layout memory (Mark label ∷ others) from to =
     (layout.place_of label ≡ from) × Stands layout memory others from to
+Stands layout memory (Gap count ∷ others) from to = Stands layout memory others (from + count) to
 Stands layout memory (item ∷ others) from to =
     BytesStand memory from (bytes_of_item layout item) × Stands layout memory others (from + size_of item) to

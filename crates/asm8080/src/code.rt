@@ -2,9 +2,9 @@
 
 ghost use Rattle.std.specs.Prelude.{◌≡◌, ◌+◌, ◌^◌, ◌<◌, false, [], ◌∷◌, ◌++◌, OnErr, OnOk, IfOk, IsTrue, Ok, Err};
 ghost use Rattle.failure.specs.Failure.{IfFault};
-ghost use Rattle.asm8080.specs.declared.item.Item.TheVariants.{Plain, WithWord, Byte, Address, Mark};
+ghost use Rattle.asm8080.specs.declared.item.Item.TheVariants.{Plain, WithWord, Byte, Address, Gap, Mark};
 ghost use Rattle.asm8080.specs.declared.item.Reference.TheVariants.{AtLabel, AtTarget};
-ghost use Rattle.asm8080.specs.Items.{IsAssembly, is_bound, may_be_target};
+ghost use Rattle.asm8080.specs.Items.{BindsSame, BindsSameBut, IsAssembly, is_bound, may_be_target};
 ghost use Rattle.asm8080.specs.Assembled.{IsFinished};
 
 use crate::assembling::{all_placed, assemble, code_size, label_places};
@@ -65,6 +65,7 @@ impl Code {
     pub fn emit(&mut self, instruction: Instr) -> Result<(), AllocError>
         ensures ok { OnOk result (self.new
             ≡ record self.old { items = self.old.items ++ Plain instruction ∷ [] }) }
+        ensures bound { OnOk result (BindsSame self.old.items self.new.items) }
         ensures err { OnErr result (self.new ≡ self.old) }
     {
         self.items.push(Item::Plain(instruction))?;
@@ -82,6 +83,7 @@ impl Code {
         ensures ok { OnOk result (self.new ≡ record self.old {
           items = self.old.items ++ WithWord form (AtTarget target offset) ∷ [];
         }) }
+        ensures bound { OnOk result (BindsSame self.old.items self.new.items) }
         ensures err { OnErr result (self.new ≡ self.old) }
     {
         self.items
@@ -93,6 +95,7 @@ impl Code {
     pub fn emit_byte(&mut self, value: u8) -> Result<(), AllocError>
         ensures ok { OnOk result (self.new
             ≡ record self.old { items = self.old.items ++ Byte value ∷ [] }) }
+        ensures bound { OnOk result (BindsSame self.old.items self.new.items) }
         ensures err { OnErr result (self.new ≡ self.old) }
     {
         self.items.push(Item::Byte(value))?;
@@ -105,10 +108,35 @@ impl Code {
         ensures ok { OnOk result (self.new ≡ record self.old {
           items = self.old.items ++ Address (AtTarget target offset) ∷ [];
         }) }
+        ensures bound { OnOk result (BindsSame self.old.items self.new.items) }
         ensures err { OnErr result (self.new ≡ self.old) }
     {
         self.items
             .push(Item::Address(Reference::AtTarget(target, offset)))?;
+        Ok(())
+    }
+
+    /// Adds a word of data that is the place of a label of this code.
+    pub fn emit_place(&mut self, label: Label) -> Result<(), AllocError>
+        requires known { label < self.old.labels }
+        ensures ok { OnOk result (self.new
+            ≡ record self.old { items = self.old.items ++ Address (AtLabel label) ∷ [] }) }
+        ensures bound { OnOk result (BindsSame self.old.items self.new.items) }
+        ensures err { OnErr result (self.new ≡ self.old) }
+    {
+        self.items
+            .push(Item::Address(Reference::AtLabel(label.number)))?;
+        Ok(())
+    }
+
+    /// Adds so many bytes that stay unset.
+    pub fn leave(&mut self, count: u16) -> Result<(), AllocError>
+        ensures ok { OnOk result (self.new
+            ≡ record self.old { items = self.old.items ++ Gap count ∷ [] }) }
+        ensures bound { OnOk result (BindsSame self.old.items self.new.items) }
+        ensures err { OnErr result (self.new ≡ self.old) }
+    {
+        self.items.push(Item::Gap(count))?;
         Ok(())
     }
 
@@ -152,6 +180,7 @@ impl Code {
         requires once { is_bound label self.old.items ≡ false }
         ensures ok { OnOk result (self.new
             ≡ record self.old { items = self.old.items ++ Mark label ∷ [] }) }
+        ensures others { OnOk result (BindsSameBut label self.old.items self.new.items) }
         ensures err { OnErr result (self.new ≡ self.old) }
     {
         self.items.push(Item::Mark(label.number))?;
@@ -164,6 +193,7 @@ impl Code {
         ensures ok { OnOk result (self.new ≡ record self.old {
           items = self.old.items ++ WithWord form (AtLabel label) ∷ [];
         }) }
+        ensures bound { OnOk result (BindsSame self.old.items self.new.items) }
         ensures err { OnErr result (self.new ≡ self.old) }
     {
         self.items
@@ -184,7 +214,7 @@ impl Code {
         if !all_placed(places) {
             return Err(Failure::Fault(Fault::UnboundLabel));
         }
-        if code_size(items) > SEGMENT_LIMIT as usize {
+        if code_size(items) > SEGMENT_LIMIT as u128 {
             return Err(Failure::Fault(Fault::TooLong));
         }
         let code = assemble(alloc, items, places)?;

@@ -4,7 +4,7 @@ use Rattle.std.specs.Prelude.{All}
 use Rattle.std.proofs.lemmas.List.Elements.{All-nil, All-cons, All-head, All-tail}
 use Rattle.asm8080.specs.declared.item.Reference.TheVariants.{AtLabel, AtTarget}
 use Rattle.asm8080.specs.declared.item.Item.{Item}
-use Rattle.asm8080.specs.declared.item.Item.TheVariants.{Plain, WithWord, Byte, Address, Mark}
+use Rattle.asm8080.specs.declared.item.Item.TheVariants.{Plain, WithWord, Byte, Address, Gap, Mark}
 use Rattle.asm8080.specs.Items.{Assembly, ListsExternals}
 use Rattle.runtime8080.specs.declared.routine.Routine.{Routine}
 use Rattle.runtime8080.specs.Routines.{AddsRoutine, HasOwnLabels, IsRoutine}
@@ -49,6 +49,7 @@ own_label first past count (WithWord form (AtTarget target offset)) own = absurd
 own_label first past count (Byte value) own = tt
 own_label first past count (Address (AtLabel label)) own = tt
 own_label first past count (Address (AtTarget target offset)) own = absurd own
+own_label first past count (Gap size) own = tt
 own_label first past count (Mark label) own = tt
 
 pub no_externals :

@@ -200,6 +200,7 @@ HasOwnLabels first past (item_variants.Plain instruction) = Unit {0}
 HasOwnLabels first past (item_variants.WithWord form reference) = IsOwnReference first past reference
 HasOwnLabels first past (item_variants.Byte value) = Unit {0}
 HasOwnLabels first past (item_variants.Address reference) = IsOwnReference first past reference
+HasOwnLabels first past (item_variants.Gap count) = Unit {0}
 HasOwnLabels first past (item_variants.Mark label) = IsOwnLabel first past label
 
 -- An assembly with a routine added.
