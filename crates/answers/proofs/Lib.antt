@@ -1,1 +1,2 @@
 pub mod FilesRead
+pub mod LinesPrinted

@@ -1,21 +1,30 @@
 //! What commands print where sources or values are refused.
 
 ghost use Rattle.std.specs.Prelude.{◌≡◌};
+ghost use Rattle.answers.specs.Refusals.{TellsOther};
 
-use answers::{Ending, refuse};
+use answers::{Ending, refuse, refuse_name};
 use command_line::ValueFault;
 use std::io::Write;
 use tool::ToolFault;
 
 /// Prints why sources are refused: the number of the fault, the name that it tells of, or the file, or a dash, and the line.
-pub(crate) fn refuse_sources<E: Write>(fault: &ToolFault, files: &[&str], err: &mut E) -> Ending {
+pub(crate) fn refuse_sources<E: Write>(fault: &ToolFault, files: &[&str], err: &mut E) -> Ending
+    ensures ending { result ≡ Ending.Refused }
+    ensures told { TellsOther (E.contents err.old) (E.contents err.new) }
+{
     match fault.name() {
-        Some(name) => {
-            let _ = writeln!(err, "{} {name} {}", fault.number(), fault.line());
-            Ending::Refused
-        }
-        None => refuse(fault.number(), file_of(fault, files), fault.line(), err),
+        Some(name) => refuse_sources_at(fault, name.as_slice(), err),
+        None => refuse_sources_at(fault, file_of(fault, files).as_bytes(), err),
     }
+}
+
+// Prints why sources are refused, with the name that is told of.
+fn refuse_sources_at<E: Write>(fault: &ToolFault, name: &[u8], err: &mut E) -> Ending
+    ensures ending { result ≡ Ending.Refused }
+    ensures told { TellsOther (E.contents err.old) (E.contents err.new) }
+{
+    refuse_name(fault.number(), name, fault.line(), err)
 }
 
 // The name of the file that a fault is in, or a dash.

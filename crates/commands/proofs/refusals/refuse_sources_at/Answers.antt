@@ -1,0 +1,5 @@
+use Rattle.commands.proofs.Refused.{sources_told}
+use Rattle.commands.proofs.refusals.refuse_sources_at.Goals as goal
+
+pub returns-clause-told : goal.returns-clause-told
+returns-clause-told g c = sources_told _ _ _ _ _ _ c.number.ensures c.refuse_name.ensures.told

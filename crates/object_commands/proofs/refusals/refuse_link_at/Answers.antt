@@ -1,0 +1,5 @@
+use Rattle.object_commands.proofs.Refused.{link_told}
+use Rattle.object_commands.proofs.refusals.refuse_link_at.Goals as goal
+
+pub returns-clause-told : goal.returns-clause-told
+returns-clause-told g c = link_told _ _ _ _ _ _ c.number.ensures c.refuse_name.ensures.told
