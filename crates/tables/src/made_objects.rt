@@ -86,7 +86,7 @@ impl Draft {
         if !front.is_empty() {
             entry.extend_from_slice(&word(number))?;
         }
-        push_name(entry, module % MODULES * NAMES + number)?;
+        push_name(entry, (module % MODULES * NAMES).saturating_add(number))?;
         self.put_entry(kind, front, entry.as_slice())
     }
 

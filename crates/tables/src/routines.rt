@@ -171,9 +171,12 @@ fn byte_at(bytes: &[u8], offset: usize) -> u8 {
 fn print_instruction(page: &mut Page, bytes: &[u8], offset: usize) -> Result<usize> {
     let second = byte_at(bytes, offset.saturating_add(1));
     let third = byte_at(bytes, offset.saturating_add(2));
+    let Ok(place) = u16::try_from(offset) else {
+        bail!("no offset of code");
+    };
     match decode([byte_at(bytes, offset), second, third]) {
         Some((instr, size)) => {
-            page.word("    ", offset as u16);
+            page.word("    ", place);
             page.text("  ");
             page.value(&instr);
             page.text("\n");
