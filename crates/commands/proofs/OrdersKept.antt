@@ -1,17 +1,12 @@
 -- Files after a command line was carried out.
-use Rattle.std.proofs.Common.{◌≡◌, ◌≤◌, ℕ, List, [], ◌∷◌, Ok, Option, None, Some, inl, refl, arith}
-use Rattle.clap.specs.Words.{Kinds}
+use Rattle.std.proofs.Common.{◌≡◌, ◌≤◌, ℕ, List, Option, None, Some, inl, refl, arith}
 use Rattle.files.specs.Files.{Directory, KeepsFiles}
 use Rattle.answers.specs.Endings.{status_of}
 use Rattle.answers.specs.declared.endings.Ending.{Ending}
 use Rattle.answers.specs.declared.endings.Ending.TheVariants.{Done, Refused, WrongLine, Limit, Stopped, Outside}
-use Rattle.command_line.specs.declared.reading.LineFault.{LineFault}
-use Rattle.command_line.specs.declared.reading.LineFault.TheVariants.{Help, Wrong}
-use Rattle.command_line.specs.Command.{IsFaultOf, PlaceWanted, Wanted, wants_link, wants_place, wants_program}
+use Rattle.command_line.specs.Command.{Wanted, wants_link, wants_place, wants_program}
 use Rattle.object_commands.proofs.FilesWritten.{kept_others}
-use Rattle.command_line.specs.Settings.{only_file, plan_read}
-use Rattle.plans.specs.declared.Plan.{Plan}
-use Rattle.commands.specs.Orders.{ChangesAsWanted, ChangesByWords, LinksAsWanted, LinksByWords, PrintsAsWanted, PrintsByWords, PrintsPlaced, PrintsWanted, StopsAsWanted, StopsByWords}
+use Rattle.commands.specs.Orders.{ChangesAsWanted, ChangesByWords, LinksAsWanted, LinksByWords, PrintsAsWanted, PrintsByWords, StopsAsWanted, StopsByWords}
 
 -- where no file changed, none changed but what was wanted
 pub kept_as_wanted : (wanted : Wanted) (old new : Option Directory) → KeepsFiles old new → ChangesAsWanted wanted old new
@@ -30,12 +25,6 @@ by_words found wanted old new e changes = rw e changes
 pub linked_by_words : (found : Option Wanted) (wanted : Wanted) (old new : Option Directory) → found ≡ Some wanted → LinksAsWanted wanted old new → LinksByWords found old new
 linked_by_words found wanted old new e links = rw e links
 
--- words with a fault give no order
-pub faulty_links : (kinds : Kinds) (fault : LineFault) (found : Option Wanted) (old new : Option Directory) → IsFaultOf kinds fault → kinds ≡ [] → LinksByWords found old new
-faulty_links [] (Help error) found old new (is, among) none = absurd among
-faulty_links [] (Wrong error) found old new (is, among) none = absurd among
-faulty_links (k ∷ kinds) fault found old new is none = cc
-
 -- where no file changed, and where the words give the order that was not carried out
 pub stops_as_wanted : (wanted : Wanted) (old new : Option Directory) → KeepsFiles old new → StopsAsWanted wanted old new
 stops_as_wanted (wants_program program) old new kept = kept
@@ -49,20 +38,9 @@ kept_stops (Some wanted) old new kept = stops_as_wanted wanted old new kept
 pub stops_by_words : (found : Option Wanted) (wanted : Wanted) (old new : Option Directory) → found ≡ Some wanted → StopsAsWanted wanted old new → StopsByWords found old new
 stops_by_words found wanted old new e stops = rw e stops
 
--- what was printed of an object file, and where the words give the order
-pub prints_wanted : (place : PlaceWanted) (name : List ℕ) (plan : Plan) (files : Option Directory) (old new : Option (List ℕ)) → only_file place.files ≡ Ok name
-    → plan_read place.plan ≡ Ok plan → PrintsPlaced place.action files name plan old new → PrintsWanted place files old new
-prints_wanted place name plan files old new only planned printed = record { name = name; plan = plan; only = only; planned = planned; printed = printed }
-
 pub prints_by_words : (found : Option Wanted) (wanted : Wanted) (files : Option Directory) (old new : Option (List ℕ)) → found ≡ Some wanted → PrintsAsWanted wanted files old new
     → PrintsByWords found files old new
 prints_by_words found wanted files old new e prints = rw e prints
-
-pub faulty_prints : (kinds : Kinds) (fault : LineFault) (found : Option Wanted) (files : Option Directory) (old new : Option (List ℕ)) → IsFaultOf kinds fault → kinds ≡ []
-    → PrintsByWords found files old new
-faulty_prints [] (Help error) found files old new (is, among) none = absurd among
-faulty_prints [] (Wrong error) found files old new (is, among) none = absurd among
-faulty_prints (k ∷ kinds) fault found files old new is none = cc
 
 pub not_done : (ending : Ending) → (status_of ending ≡ 0 → ⊥) → ending ≡ Done → ⊥
 not_done ending other done = other (rw done refl)

@@ -21,14 +21,16 @@ LinksAsWanted (wants_link link) old new = LinksFiles old new link.objects link.o
 LinksAsWanted (wants_program program) old new = Unit {0}
 LinksAsWanted (wants_place place) old new = Unit {0}
 
--- where an order is not carried out, no file changes, but that of an order to link may have a beginning of the merge
+-- where an order is not carried out, no file changes, but that of an order to link may have a beginning of the
+-- merge
 abbrev pub StopsAsWanted : Wanted → Option Directory → Option Directory → Type 0
 StopsAsWanted (wants_link link) old new = StopsLinking old new link.objects link.out
 StopsAsWanted (wants_program program) old new = KeepsFiles old new
 StopsAsWanted (wants_place place) old new = KeepsFiles old new
 
 -- what a command on an object file prints of the file of this name, placed by this plan
-abbrev pub PrintsPlaced : PlaceAction → Option Directory → (name : List ℕ) → Plan → (old new : Option (List ℕ)) → Type 0
+abbrev pub PrintsPlaced :
+    PlaceAction → Option Directory → (name : List ℕ) → Plan → (old new : Option (List ℕ)) → Type 0
 PrintsPlaced Locate files name plan old new = PrintsPlaces files name plan old new
 PrintsPlaced Hex files name plan old new = PrintsHex files name plan old new
 

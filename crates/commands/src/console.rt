@@ -52,7 +52,7 @@ pub fn run_command<F: Files, O: Write, E: Write>(
 }
 
 // Carries out the words of a command line.
-#[tactic(auto, using(crate::proofs::OrdersKept::by_words, crate::proofs::OrdersKept::kept_by_words, crate::proofs::OrdersKept::linked_by_words, crate::proofs::OrdersKept::faulty_links, crate::proofs::OrdersKept::prints_by_words, crate::proofs::OrdersKept::faulty_prints, crate::proofs::OrdersKept::kept_stops, crate::proofs::OrdersKept::stops_by_words, answers::proofs::LinesPrinted::tells_no_file))]
+#[tactic(auto, using(crate::proofs::OrdersKept::by_words, crate::proofs::OrdersKept::linked_by_words, crate::proofs::OrdersKept::prints_by_words, crate::proofs::OrdersKept::stops_by_words))]
 fn end_words<F: Files, O: Write, E: Write>(
     alloc: Global,
     words: &[&str],
@@ -95,7 +95,7 @@ fn end_line<O: Write, E: Write>(fault: &LineFault, out: &mut O, err: &mut E) -> 
 }
 
 // Carries out an order.
-#[tactic(auto, using(crate::proofs::OrdersKept::kept_as_wanted, crate::proofs::OrdersKept::stops_as_wanted))]
+#[tactic(auto, using(crate::proofs::OrdersKept::kept_as_wanted))]
 fn carry_out<F: Files, O: Write, E: Write>(
     alloc: Global,
     order: &Order,
@@ -122,7 +122,7 @@ fn carry_out<F: Files, O: Write, E: Write>(
 }
 
 // Carries out an order on an object file, once the values of its options are known.
-#[tactic(auto, using(answers::proofs::FilesRead::stays, crate::proofs::OrdersKept::prints_wanted))]
+#[tactic(auto, using(answers::proofs::FilesRead::stays))]
 fn carry_out_place<F: Files, O: Write, E: Write>(
     alloc: Global,
     order: &PlaceOrder,
@@ -152,7 +152,7 @@ fn carry_out_place<F: Files, O: Write, E: Write>(
 }
 
 // Carries out an order on sources, once the values of its options are known.
-#[tactic(auto, using(answers::proofs::FilesRead::stays, answers::proofs::LinesPrinted::tells_no_file))]
+#[tactic(auto, using(answers::proofs::FilesRead::stays))]
 fn carry_out_program<F: Files, O: Write, E: Write>(
     alloc: Global,
     order: &ProgramOrder,
@@ -173,7 +173,6 @@ fn carry_out_program<F: Files, O: Write, E: Write>(
 }
 
 // Reads the files of an order, and carries it out.
-#[tactic(auto, using(answers::proofs::LinesPrinted::tells_file, answers::proofs::LinesPrinted::tells_no_file))]
 fn load<F: Files, O: Write, E: Write>(
     alloc: Global,
     order: &ProgramOrder,
