@@ -1,22 +1,30 @@
 -- The code of items is what their assembly is to be: it stands wherever it is resolved.
-use Rattle.std.proofs.Common.{◌≡◌, ℕ, ◌+◌, ◌≤◌, Bool, true, false, cond, ◌&&◌, ◌||◌, nat_le, List, [], ◌∷◌, ◌++◌, length, map, Option, Some, None, option_map, unwrap_or, refl, sym, subst, ap, ◌∙◌, arith}
+use Rattle.std.proofs.Common.{◌≡◌, ℕ, ◌+◌, ◌≤◌, Bool, true, false, cond, ◌&&◌, ◌||◌, nat_le, nat_lt, List, [], ◌∷◌, ◌++◌, length, map, replicate, Option, Some, None, option_map, unwrap_or, refl, sym, subst, ap, ◌∙◌, arith}
+use Rattle.std.specs.Prelude.{All}
 use Rattle.std.specs.List.{list_all}
-use Rattle.std.proofs.lemmas.Bool.{eq-eqb, le-leb}
-use Rattle.std.proofs.lemmas.List.{length-append}
+use Rattle.std.proofs.lemmas.Bool.{eq-eqb, le-leb, lt-ltb}
+use Rattle.std.proofs.lemmas.List.{length-append, length-replicate}
+use Rattle.std.proofs.lemmas.List.Elements.{All-head, All-tail}
 use Rattle.object_modules.specs.declared.segment.Fix.{Fix}
-use Rattle.object_modules.specs.declared.segment.Target.TheVariants.{InSegment}
+use Rattle.object_modules.specs.declared.segment.Target.TheVariants.{InSegment, External}
 use Rattle.object_modules.specs.declared.segment.Segment.TheVariants.{Code}
-use Rattle.object_modules.specs.Module.{SetByte, words_are_whole}
+use Rattle.object_modules.specs.Module.{is_target, words_are_whole}
 use Rattle.object_modules.specs.Rules.{fix_end}
-use Rattle.object_modules.specs.Stored.{fixes_ascend}
+use Rattle.object_modules.specs.Stored.{fixes_ascend, is_in_a_run}
+use Rattle.object_modules.specs.Text.{runs_from}
+use Rattle.object_modules.specs.declared.segment.TheConstants.{SEGMENT_LIMIT}
+use Rattle.isa8080.specs.State.{wrap}
+use Rattle.asm8080.specs.declared.item.Reference.{Reference}
+use Rattle.asm8080.specs.declared.item.Reference.TheVariants.{AtLabel, AtTarget}
 use Rattle.asm8080.specs.declared.item.Item.{Item}
-use Rattle.asm8080.specs.declared.item.Item.TheVariants.{Plain, WithWord, Byte, Address, Mark}
-use Rattle.asm8080.specs.Standing.{BytesStand}
-use Rattle.asm8080.specs.Items.{Assembly, BoundOnce, IsAssembly, Layout, Stands, bytes_of_item, is_bound, marks, offset_of, size_of, size_of_items}
-use Rattle.asm8080.specs.Assembled.{Assembles, fix_at, fixes_of_items, layout_at}
-use Rattle.asm8080.specs.internal.Assembling.{bytes_of_items, code_of, layout_from, offset_in}
+use Rattle.asm8080.specs.declared.item.Item.TheVariants.{Plain, WithWord, Byte, Address, Gap, Mark}
+use Rattle.asm8080.specs.Standing.{BytesStand, SetBytesStand}
+use Rattle.asm8080.specs.Items.{Assembly, BoundOnce, IsAssembly, IsKnown, IsListed, KnowsLabels, Layout, ListsExternals, Stands, bytes_of_item, is_bound, is_set, marks, offset_of, size_of, size_of_items}
+use Rattle.asm8080.specs.Assembled.{AllBound, Assembles, fix_at, fixed_bytes, fixes_of_items, layout_at, place_in, target_of}
+use Rattle.asm8080.specs.internal.Assembling.{bytes_of_items, code_of, flags_of_item, flags_of_items, layout_from, offset_in}
 use Rattle.asm8080.proofs.Words.{item_length}
-use Rattle.asm8080.proofs.Fixing.{fixed_items, whole_items}
+use Rattle.asm8080.proofs.Fixing.{cells_are, cells_of_items, fixed_items, some_length, whole_items}
+use Rattle.asm8080.proofs.Filling.{items_filled}
 use Rattle.asm8080.proofs.Moving.{resolved_items}
 
 -- the bytes are as many as the items take
@@ -28,23 +36,34 @@ items_length layout (item ∷ others) =
     let rest : length (bytes_of_items layout others) ≡ size_of_items others = items_length layout others in
     omega (arith, first, rest, length-append (bytes_of_item layout item) (bytes_of_items layout others))
 
+-- and so many are told of
+pub flags_length : (items : List Item) → length (flags_of_items items) ≡ size_of_items items
+flags_length [] = refl
+flags_length (item ∷ others) =
+    let first : length (flags_of_item item) ≡ size_of item = length-replicate (size_of item) (is_set item) in
+    let rest : length (flags_of_items others) ≡ size_of_items others = flags_length others in
+    omega (arith, first, rest, length-append (flags_of_item item) (flags_of_items others))
+
 -- bytes that stand, in two parts
 front_stands :
-    (memory : List ℕ) (from : ℕ) (bytes rest : List ℕ)
-    → BytesStand memory from (bytes ++ rest)
+    (memory : List ℕ) (from : ℕ) (bytes : List ℕ) (rest : List (Option ℕ))
+    → SetBytesStand memory from (map Some bytes ++ rest)
     → BytesStand memory from bytes
 front_stands memory from [] rest h = tt
 front_stands memory from (value ∷ others) rest h = (h.0, front_stands memory (from + 1) others rest h.1)
 
 rest_stands :
-    (memory : List ℕ) (from : ℕ) (bytes rest : List ℕ)
-    → BytesStand memory from (bytes ++ rest)
-    → BytesStand memory (from + length bytes) rest
+    (memory : List ℕ) (from : ℕ) (front rest : List (Option ℕ))
+    → SetBytesStand memory from (front ++ rest)
+    → SetBytesStand memory (from + length front) rest
 rest_stands memory from [] rest h =
-    let same : from ≡ from + 0 = omega arith in subst (λ n. BytesStand memory n rest) same h
-rest_stands memory from (value ∷ others) rest h =
-    let same : from + 1 + length others ≡ from + length (value ∷ others) = omega arith in
-    subst (λ n. BytesStand memory n rest) same (rest_stands memory (from + 1) others rest h.1)
+    let same : from ≡ from + 0 = omega arith in subst (λ n. SetBytesStand memory n rest) same h
+rest_stands memory from (None ∷ others) rest h =
+    let same : from + 1 + length others ≡ from + length {A = Option ℕ} (None ∷ others) = omega arith in
+    subst (λ n. SetBytesStand memory n rest) same (rest_stands memory (from + 1) others rest h)
+rest_stands memory from (Some value ∷ others) rest h =
+    let same : from + 1 + length others ≡ from + length (Some value ∷ others) = omega arith in
+    subst (λ n. SetBytesStand memory n rest) same (rest_stands memory (from + 1) others rest h.1)
 
 -- labels of items lie where they are from an address on
 abbrev LabelsLie : (place_of : ℕ → ℕ) → (from : ℕ) → List Item → Type 0
@@ -88,20 +107,21 @@ labels_later place_of from item others once lie label offset h =
 
 -- an item whose bytes stand, and what comes after it
 item_stands :
-    (layout : Layout) (memory : List ℕ) (from : ℕ) (item : Item) (rest : List ℕ)
-    → BytesStand memory from (bytes_of_item layout item ++ rest)
-    → BytesStand memory from (bytes_of_item layout item) × BytesStand memory (from + size_of item) rest
-item_stands layout memory from item rest h = (
-  front_stands memory from (bytes_of_item layout item) rest h,
-  subst (λ n. BytesStand memory (from + n) rest) (item_length layout item)
-      (rest_stands memory from (bytes_of_item layout item) rest h),
+    (memory : List ℕ) (from size : ℕ) (bytes : List ℕ) (rest : List (Option ℕ))
+    → length bytes ≡ size
+    → SetBytesStand memory from (map Some bytes ++ rest)
+    → BytesStand memory from bytes × SetBytesStand memory (from + size) rest
+item_stands memory from size bytes rest sized h = (
+  front_stands memory from bytes rest h,
+  subst (λ n. SetBytesStand memory (from + n) rest) (some_length bytes ∙ sized)
+      (rest_stands memory from (map Some bytes) rest h),
 )
 
 pub items_stand :
     (layout : Layout) (memory : List ℕ) (from to : ℕ) (items : List Item)
     → BoundOnce items
     → LabelsLie layout.place_of from items
-    → BytesStand memory from (bytes_of_items layout items)
+    → SetBytesStand memory from (cells_of_items layout items)
     → from + size_of_items items ≡ to
     → Stands layout memory items from to
 items_stand layout memory from to [] once lie h end = let same : from ≡ to = omega (arith, end) in same
@@ -117,29 +137,39 @@ items_stand layout memory from to (Mark label ∷ others) once lie h end =
           h (omega (arith, end)),
     )
 items_stand layout memory from to (Plain instruction ∷ others) once lie h end =
-    let parts = item_stands layout memory from (Plain instruction) (bytes_of_items layout others) h in (
+    let parts = item_stands memory from (size_of (Plain instruction)) (bytes_of_item layout (Plain instruction)) (cells_of_items layout others)
+    (item_length layout (Plain instruction)) h in (
       parts.0,
       items_stand layout memory (from + size_of (Plain instruction)) to others once.1
           (labels_later layout.place_of from (Plain instruction) others once lie) parts.1 (omega (arith, end)),
     )
 items_stand layout memory from to (WithWord form reference ∷ others) once lie h end =
-    let parts = item_stands layout memory from (WithWord form reference) (bytes_of_items layout others) h in (
+    let parts = item_stands memory from 3 (bytes_of_item layout (WithWord form reference)) (cells_of_items layout others)
+    (item_length layout (WithWord form reference)) h in (
       parts.0,
       items_stand layout memory (from + 3) to others once.1
           (labels_later layout.place_of from (WithWord form reference) others once lie) parts.1 (omega (arith, end)),
     )
 items_stand layout memory from to (Byte value ∷ others) once lie h end =
-    let parts = item_stands layout memory from (Byte value) (bytes_of_items layout others) h in (
+    let parts = item_stands memory from 1 (bytes_of_item layout (Byte value)) (cells_of_items layout others)
+    (item_length layout (Byte value)) h in (
       parts.0,
       items_stand layout memory (from + 1) to others once.1
           (labels_later layout.place_of from (Byte value) others once lie) parts.1 (omega (arith, end)),
     )
 items_stand layout memory from to (Address reference ∷ others) once lie h end =
-    let parts = item_stands layout memory from (Address reference) (bytes_of_items layout others) h in (
+    let parts = item_stands memory from 2 (bytes_of_item layout (Address reference)) (cells_of_items layout others)
+    (item_length layout (Address reference)) h in (
       parts.0,
       items_stand layout memory (from + 2) to others once.1
           (labels_later layout.place_of from (Address reference) others once lie) parts.1 (omega (arith, end)),
     )
+items_stand layout memory from to (Gap count ∷ others) once lie h end =
+    items_stand layout memory (from + count) to others once.1
+    (labels_later layout.place_of from (Gap count) others once lie)
+    (subst (λ n. SetBytesStand memory (from + n) (cells_of_items layout others)) (length-replicate count None)
+    (rest_stands memory from (replicate count None) (cells_of_items layout others) h))
+    (omega (arith, end))
 
 -- labels of items from a base on
 labels_moved :
@@ -172,6 +202,7 @@ fixes_after start offset (Plain instruction ∷ others) h =
 fixes_after start offset (WithWord form reference ∷ others) h = let ok : start ≤ offset + 1 = omega arith in ok
 fixes_after start offset (Byte value ∷ others) h = fixes_after start (offset + 1) others (omega arith)
 fixes_after start offset (Address reference ∷ others) h = h
+fixes_after start offset (Gap count ∷ others) h = fixes_after start (offset + count) others (omega arith)
 fixes_after start offset (Mark label ∷ others) h = fixes_after start (offset + 0) others (omega arith)
 
 pub items_ascend : (offset : ℕ) (items : List Item) → fixes_ascend (fixes_of_items offset items) ≡ true
@@ -184,6 +215,7 @@ items_ascend offset (Byte value ∷ others) = items_ascend (offset + 1) others
 items_ascend offset (Address reference ∷ others) =
     fixes_before (fix_at offset reference) (fixes_of_items (offset + 2) others)
     (fixes_after (offset + 2) (offset + 2) others (omega arith)) (items_ascend (offset + 2) others)
+items_ascend offset (Gap count ∷ others) = items_ascend (offset + count) others
 items_ascend offset (Mark label ∷ others) = items_ascend (offset + 0) others
 
 -- and each ends within the items
@@ -204,11 +236,118 @@ items_within offset end (Byte value ∷ others) h = items_within (offset + 1) en
 items_within offset end (Address reference ∷ others) h =
     and_true (nat_le (offset + 2) end) (list_all (ends_within end) (fixes_of_items (offset + 2) others))
     (le-leb (offset + 2) end (omega (arith, h))) (items_within (offset + 2) end others (omega (arith, h)))
+items_within offset end (Gap count ∷ others) h = items_within (offset + count) end others (omega (arith, h))
 items_within offset end (Mark label ∷ others) h = items_within (offset + 0) end others (omega (arith, h))
 
+-- and what it counts from is a target that an object module may have
+target_fits :
+    (labels count : ℕ) (reference : Reference)
+    → IsKnown labels reference
+    → IsListed count reference
+    → is_target count (target_of reference) ≡ true
+target_fits labels count (AtLabel label) known listed = refl
+target_fits labels count (AtTarget (InSegment segment) offset) known listed = known
+target_fits labels count (AtTarget (External number) offset) known listed =
+    and_true (nat_lt number count) (nat_lt number 65536) (lt-ltb number count listed.0)
+    (lt-ltb number 65536 listed.1)
+
+abbrev fits_module : (count : ℕ) → Fix → Bool
+fits_module count fix = is_target count fix.target
+
+pub items_fit :
+    (labels count offset : ℕ) (items : List Item)
+    → All (KnowsLabels labels) items
+    → All (ListsExternals count) items
+    → list_all (λ (fix : Fix). is_target count fix.target) (fixes_of_items offset items) ≡ true
+items_fit labels count offset [] known listed = refl
+items_fit labels count offset (Plain instruction ∷ others) known listed =
+    items_fit labels count (offset + size_of (Plain instruction)) others
+    (All-tail (KnowsLabels labels) (Plain instruction) others known)
+    (All-tail (ListsExternals count) (Plain instruction) others listed)
+items_fit labels count offset (WithWord form reference ∷ others) known listed =
+    and_true (is_target count (target_of reference))
+    (list_all (fits_module count) (fixes_of_items (offset + 3) others))
+    (target_fits labels count reference (All-head (KnowsLabels labels) (WithWord form reference) others known)
+    (All-head (ListsExternals count) (WithWord form reference) others listed))
+    (items_fit labels count (offset + 3) others
+    (All-tail (KnowsLabels labels) (WithWord form reference) others known)
+    (All-tail (ListsExternals count) (WithWord form reference) others listed))
+items_fit labels count offset (Byte value ∷ others) known listed =
+    items_fit labels count (offset + 1) others
+    (All-tail (KnowsLabels labels) (Byte value) others known)
+    (All-tail (ListsExternals count) (Byte value) others listed)
+items_fit labels count offset (Address reference ∷ others) known listed =
+    and_true (is_target count (target_of reference))
+    (list_all (fits_module count) (fixes_of_items (offset + 2) others))
+    (target_fits labels count reference (All-head (KnowsLabels labels) (Address reference) others known)
+    (All-head (ListsExternals count) (Address reference) others listed))
+    (items_fit labels count (offset + 2) others
+    (All-tail (KnowsLabels labels) (Address reference) others known)
+    (All-tail (ListsExternals count) (Address reference) others listed))
+items_fit labels count offset (Gap size ∷ others) known listed =
+    items_fit labels count (offset + size) others
+    (All-tail (KnowsLabels labels) (Gap size) others known)
+    (All-tail (ListsExternals count) (Gap size) others listed)
+items_fit labels count offset (Mark label ∷ others) known listed =
+    items_fit labels count (offset + 0) others
+    (All-tail (KnowsLabels labels) (Mark label) others known)
+    (All-tail (ListsExternals count) (Mark label) others listed)
+
+-- a label that is bound has a place within the items
+record HasPlace (label : ℕ) (items : List Item) : Type 0 where
+  offset : ℕ
+  is : offset_of label items ≡ Some offset
+  within : offset ≤ size_of_items items
+
+bound_has : (label : ℕ) (items : List Item) → is_bound label items ≡ true → HasPlace label items
+bound_has label [] h = absurd (let bad : false ≡ true = h in cc)
+bound_has label (item ∷ others) h = by_mark (λ e. bound_has label others e) (marks label item) refl
+  where
+    place : Bool → Option ℕ → Option ℕ
+    place here later = cond here (Some 0) (option_map (λ n. size_of item + n) later)
+
+    by_mark :
+        (is_bound label others ≡ true → HasPlace label others)
+        → (here : Bool) → marks label item ≡ here → HasPlace label (item ∷ others)
+    by_mark again true e = record {
+      offset = 0;
+      is = ap (λ here. place here (offset_of label others)) e;
+      within = omega arith;
+    }
+    by_mark again false e =
+        let later : HasPlace label others
+        = again (sym (ap (λ here. here || is_bound label others) e) ∙ h) in
+        let within : later.offset ≤ size_of_items others = later.within in
+        record {
+          offset = size_of item + later.offset;
+          is = ap (λ here. place here (offset_of label others)) e ∙ ap (place false) later.is;
+          within = omega (arith, within);
+        }
+
+wrap_small : (n : ℕ) → n ≤ SEGMENT_LIMIT → n ≡ wrap n
+wrap_small n h = omega arith
+
+label_placed :
+    (label : ℕ) (items : List Item)
+    → is_bound label items ≡ true
+    → size_of_items items ≤ SEGMENT_LIMIT
+    → offset_of label items ≡ Some (wrap (offset_in items label))
+label_placed label items h fits =
+    let has : HasPlace label items = bound_has label items h in
+    let within : has.offset ≤ size_of_items items = has.within in
+    let some : ℕ → Option ℕ = λ n. Some n in
+    has.is ∙ ap some (wrap_small has.offset (omega (arith, within, fits)))
+    ∙ ap (λ (place : Option ℕ). Some (wrap (unwrap_or place 0))) (sym has.is)
+
 -- the code of an assembly
-pub assembles : (assembly : Assembly) → IsAssembly assembly → Assembles assembly (code_of assembly.items)
-assembles assembly is =
+pub assembles :
+    (assembly : Assembly) (places : List (Option ℕ))
+    → IsAssembly assembly
+    → AllBound assembly
+    → size_of_items assembly.items ≤ SEGMENT_LIMIT
+    → ((label : ℕ) → place_in places label ≡ offset_in assembly.items label)
+    → Assembles assembly (code_of places assembly.items)
+assembles assembly places is bound fits placed =
     let items : List Item = assembly.items in
     let layout : Layout = layout_from (offset_in items) in
     let size : length (bytes_of_items layout items) ≡ size_of_items items = items_length layout items in
@@ -217,13 +356,22 @@ assembles assembly is =
       fixes = refl;
       ascending = items_ascend 0 items;
       within = items_within 0 (length (bytes_of_items layout items)) items (omega (arith, size));
+      told = flags_length items ∙ sym size;
+      filled =
+          ap (λ cells. list_all (is_in_a_run Code (runs_from 0 cells)) (fixes_of_items 0 items)) (cells_are layout items)
+          ∙ items_filled layout 0 items;
       whole =
-          ap (λ (set : List SetByte). words_are_whole (map Some set)) (fixed_items layout 0 items)
+          ap (λ cells. words_are_whole (fixed_bytes (fixes_of_items 0 items) 0 cells)) (cells_are layout items)
+          ∙ ap words_are_whole (fixed_items layout 0 items)
           ∙ whole_items layout items;
+      targets = λ count listed. items_fit assembly.labels count 0 items is.known listed;
+      places = λ label known.
+          label_placed label items (bound label (lt-ltb label assembly.labels known)) fits
+          ∙ ap (λ n. Some (wrap n)) (sym (placed label));
       stands = λ address_of memory room h.
           items_stand (layout_at address_of assembly) memory (address_of (InSegment Code))
           (address_of (InSegment Code) + length (bytes_of_items layout items)) items is.once
           (labels_moved (address_of (InSegment Code)) items)
-          (subst (BytesStand memory (address_of (InSegment Code))) (resolved_items address_of items) h)
+          (subst (SetBytesStand memory (address_of (InSegment Code))) (resolved_items address_of places items) h)
           (ap (λ n. address_of (InSegment Code) + n) (sym size));
     }

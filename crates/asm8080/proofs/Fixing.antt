@@ -1,20 +1,21 @@
 -- The bytes of items with their fixes.
-use Rattle.std.proofs.Common.{◌≡◌, ℕ, ◌+◌, ◌<◌, ◌==◌, Bool, true, false, cond, List, [], ◌∷◌, ◌++◌, length, map, Option, Some, None, option_map, refl, sym, ap, ◌∙◌, arith}
+use Rattle.std.proofs.Common.{◌≡◌, ℕ, zero, suc, ◌+◌, ◌<◌, ◌==◌, Bool, true, false, cond, List, [], ◌∷◌, ◌++◌, length, map, replicate, Option, Some, None, option_map, refl, sym, ap, ◌∙◌, arith}
 use Rattle.std.specs.List.{find}
+use Rattle.std.proofs.lemmas.List.{length-replicate}
 use Rattle.std.proofs.lemmas.Bool.{eq-eqb, ne_eqb}
 use Rattle.object_modules.specs.declared.segment.Fix.{Fix}
 use Rattle.object_modules.specs.declared.segment.FixKind.TheVariants.{Both}
 use Rattle.object_modules.specs.Module.{Fixup, SetByte, words_are_whole}
-use Rattle.object_modules.specs.Runs.{fixup_at, fixed_bytes}
+use Rattle.object_modules.specs.Runs.{fixup_at}
 use Rattle.isa8080.specs.State.{high_byte, low_byte}
 use Rattle.isa8080.specs.Code.{bytes_of}
 use Rattle.asm8080.specs.declared.item.Reference.{Reference}
 use Rattle.asm8080.specs.declared.item.Item.{Item}
-use Rattle.asm8080.specs.declared.item.Item.TheVariants.{Plain, WithWord, Byte, Address, Mark}
-use Rattle.asm8080.specs.Items.{Layout, size_of, word_of}
-use Rattle.asm8080.specs.Assembled.{fix_at, fixes_of_items, target_of}
-use Rattle.asm8080.specs.internal.Assembling.{bytes_of_items}
-use Rattle.asm8080.proofs.Words.{form_bytes, opcode}
+use Rattle.asm8080.specs.declared.item.Item.TheVariants.{Plain, WithWord, Byte, Address, Gap, Mark}
+use Rattle.asm8080.specs.Items.{Layout, bytes_of_item, size_of, word_of}
+use Rattle.asm8080.specs.Assembled.{fix_at, fixed_bytes, fixes_of_items, set_bytes, target_of}
+use Rattle.asm8080.specs.internal.Assembling.{bytes_of_items, flags_of_items}
+use Rattle.asm8080.proofs.Words.{form_bytes, item_length, opcode}
 
 -- a byte at which no fix begins, and the first byte of a word that is a reference
 abbrev pub plain : ℕ → SetByte
@@ -24,22 +25,86 @@ abbrev pub fixed : ℕ → Reference → SetByte
 fixed value reference =
     record { value = value; fixup = Some (record { kind = Both; target = target_of reference }) }
 
+-- bytes that are not fixed
+abbrev pub row_of : List (Option ℕ) → List (Option SetByte)
+row_of bytes = map (option_map plain) bytes
+
+-- the bytes of items that are set
+abbrev pub cells_of_item : Layout → Item → List (Option ℕ)
+cells_of_item layout (Gap count) = replicate count None
+cells_of_item layout item = map Some (bytes_of_item layout item)
+
+abbrev pub cells_of_items : Layout → List Item → List (Option ℕ)
+cells_of_items layout [] = []
+cells_of_items layout (item ∷ others) = cells_of_item layout item ++ cells_of_items layout others
+
+pub some_length : (bytes : List ℕ) → length (map Some bytes) ≡ length bytes
+some_length [] = refl
+some_length (value ∷ others) = ap (λ n. suc n) (some_length others)
+
+all_set :
+    (bytes others : List ℕ) (more : List Bool)
+    → set_bytes (bytes ++ others) (replicate (length bytes) true ++ more) ≡ map Some bytes ++ set_bytes others more
+all_set [] others more = refl
+all_set (value ∷ rest) others more =
+    ap (λ (cells : List (Option ℕ)). Some value ∷ cells) (all_set rest others more)
+
+none_set :
+    (count : ℕ) (others : List ℕ) (more : List Bool)
+    → set_bytes (replicate count 0 ++ others) (replicate count false ++ more)
+    ≡ replicate count None ++ set_bytes others more
+none_set zero others more = refl
+none_set (suc count) others more =
+    ap (λ (cells : List (Option ℕ)). None ∷ cells) (none_set count others more)
+
+item_set :
+    (bytes others : List ℕ) (size : ℕ) (more : List Bool) (cells : List (Option ℕ))
+    → length bytes ≡ size
+    → set_bytes others more ≡ cells
+    → set_bytes (bytes ++ others) (replicate size true ++ more) ≡ map Some bytes ++ cells
+item_set bytes others size more cells sized h =
+    ap (λ n. set_bytes (bytes ++ others) (replicate n true ++ more)) (sym sized)
+    ∙ all_set bytes others more
+    ∙ ap (λ (rest : List (Option ℕ)). map Some bytes ++ rest) h
+
+pub cells_are :
+    (layout : Layout) (items : List Item)
+    → set_bytes (bytes_of_items layout items) (flags_of_items items) ≡ cells_of_items layout items
+cells_are layout [] = refl
+cells_are layout (Plain instruction ∷ others) =
+    item_set (bytes_of instruction) (bytes_of_items layout others) (size_of (Plain instruction)) (flags_of_items others)
+    (cells_of_items layout others) refl (cells_are layout others)
+cells_are layout (WithWord form reference ∷ others) =
+    item_set (bytes_of_item layout (WithWord form reference)) (bytes_of_items layout others) 3 (flags_of_items others)
+    (cells_of_items layout others) (item_length layout (WithWord form reference)) (cells_are layout others)
+cells_are layout (Byte value ∷ others) =
+    item_set (value ∷ []) (bytes_of_items layout others) 1 (flags_of_items others)
+    (cells_of_items layout others) refl (cells_are layout others)
+cells_are layout (Address reference ∷ others) =
+    item_set (bytes_of_item layout (Address reference)) (bytes_of_items layout others) 2 (flags_of_items others)
+    (cells_of_items layout others) refl (cells_are layout others)
+cells_are layout (Gap count ∷ others) =
+    none_set count (bytes_of_items layout others) (flags_of_items others)
+    ∙ ap (λ (rest : List (Option ℕ)). replicate count None ++ rest) (cells_are layout others)
+cells_are layout (Mark label ∷ others) = cells_are layout others
+
 -- the bytes of items with the fixes that begin at them
-abbrev pub set_before : Layout → Item → List SetByte → List SetByte
-set_before layout (Plain instruction) rest = map plain (bytes_of instruction) ++ rest
+abbrev pub set_before : Layout → Item → List (Option SetByte) → List (Option SetByte)
+set_before layout (Plain instruction) rest = row_of (map Some (bytes_of instruction)) ++ rest
 set_before layout (WithWord form reference) rest =
-    plain (opcode form)
-    ∷ fixed (low_byte (word_of layout reference)) reference
-    ∷ plain (high_byte (word_of layout reference))
+    Some (plain (opcode form))
+    ∷ Some (fixed (low_byte (word_of layout reference)) reference)
+    ∷ Some (plain (high_byte (word_of layout reference)))
     ∷ rest
-set_before layout (Byte value) rest = plain value ∷ rest
+set_before layout (Byte value) rest = Some (plain value) ∷ rest
 set_before layout (Address reference) rest =
-    fixed (low_byte (word_of layout reference)) reference
-    ∷ plain (high_byte (word_of layout reference))
+    Some (fixed (low_byte (word_of layout reference)) reference)
+    ∷ Some (plain (high_byte (word_of layout reference)))
     ∷ rest
+set_before layout (Gap count) rest = row_of (replicate count None) ++ rest
 set_before layout (Mark label) rest = rest
 
-abbrev pub set_of_items : Layout → List Item → List SetByte
+abbrev pub set_of_items : Layout → List Item → List (Option SetByte)
 set_of_items layout [] = []
 set_of_items layout (item ∷ others) = set_before layout item (set_of_items layout others)
 
@@ -80,61 +145,67 @@ none_early offset x (Address reference ∷ others) h =
     not_here (fix_at offset reference) (fixes_of_items (offset + 2) others) x
     (ne_eqb offset x (λ e. absurd (omega (arith, e))))
     ∙ none_early (offset + 2) x others (omega arith)
+none_early offset x (Gap count ∷ others) h = none_early (offset + count) x others (omega arith)
 none_early offset x (Mark label ∷ others) h = none_early (offset + 0) x others (omega arith)
 
+-- a byte, if it is set, with the fix that begins there
+abbrev with_fixup : Option Fixup → Option ℕ → Option SetByte
+with_fixup fixup byte = option_map (λ value. record { value = value; fixup = fixup }) byte
+
 join :
-    (value : ℕ) (a b : Option Fixup) (xs ys : List SetByte)
+    (byte : Option ℕ) (a b : Option Fixup) (xs ys : List (Option SetByte))
     → a ≡ b
     → xs ≡ ys
-    → ◌≡◌ {A = List SetByte} (record { value = value; fixup = a } ∷ xs) (record { value = value; fixup = b } ∷ ys)
-join value a b xs ys e f =
-    let first : Option Fixup → List SetByte = λ c. record { value = value; fixup = c } ∷ xs in
-    let others : List SetByte → List SetByte = λ zs. record { value = value; fixup = b } ∷ zs in
+    → ◌≡◌ {A = List (Option SetByte)} (with_fixup a byte ∷ xs) (with_fixup b byte ∷ ys)
+join byte a b xs ys e f =
+    let first : Option Fixup → List (Option SetByte) = λ c. with_fixup c byte ∷ xs in
+    let others : List (Option SetByte) → List (Option SetByte) = λ zs. with_fixup b byte ∷ zs in
     ap first e ∙ ap others f
 
 -- a fix before the bytes is none of theirs
 skip :
-    (fix : Fix) (fixes : List Fix) (offset : ℕ) (bytes : List ℕ)
+    (fix : Fix) (fixes : List Fix) (offset : ℕ) (bytes : List (Option ℕ))
     → fix.offset < offset
     → fixed_bytes (fix ∷ fixes) offset bytes ≡ fixed_bytes fixes offset bytes
 skip fix fixes offset [] h = refl
-skip fix fixes offset (value ∷ others) h =
-    join value (fixup_at (fix ∷ fixes) offset) (fixup_at fixes offset)
+skip fix fixes offset (byte ∷ others) h =
+    join byte (fixup_at (fix ∷ fixes) offset) (fixup_at fixes offset)
     (fixed_bytes (fix ∷ fixes) (offset + 1) others) (fixed_bytes fixes (offset + 1) others)
     (not_here fix fixes offset (ne_eqb fix.offset offset (λ e. absurd (omega (arith, e)))))
     (skip fix fixes (offset + 1) others (omega arith))
 
 -- bytes before all fixes
 plain_front :
-    (fixes : List Fix) (offset : ℕ) (bytes rest : List ℕ)
-    → ((x : ℕ) → x < offset + length bytes → fixup_at fixes x ≡ None)
-    → fixed_bytes fixes offset (bytes ++ rest)
-    ≡ map plain bytes ++ fixed_bytes fixes (offset + length bytes) rest
-plain_front fixes offset [] rest none =
-    let same : offset ≡ offset + 0 = omega arith in ap (λ n. fixed_bytes fixes n rest) same
-plain_front fixes offset (value ∷ others) rest none =
-    let same : offset + 1 + length others ≡ offset + length (value ∷ others) = omega arith in
-    join value (fixup_at fixes offset) None
-    (fixed_bytes fixes (offset + 1) (others ++ rest))
-    (map plain others ++ fixed_bytes fixes (offset + length (value ∷ others)) rest)
-    (none offset (omega arith))
-    (plain_front fixes (offset + 1) others rest (λ x h. none x (omega arith))
-    ∙ ap (λ n. map plain others ++ fixed_bytes fixes n rest) same)
+    (fixes : List Fix) (offset end : ℕ) (bytes rest : List (Option ℕ)) (out : List (Option SetByte))
+    → offset + length bytes ≡ end
+    → ((x : ℕ) → x < end → fixup_at fixes x ≡ None)
+    → fixed_bytes fixes end rest ≡ out
+    → fixed_bytes fixes offset (bytes ++ rest) ≡ row_of bytes ++ out
+plain_front fixes offset end [] rest out ends none h =
+    let same : offset ≡ end = omega (arith, ends) in ap (λ n. fixed_bytes fixes n rest) same ∙ h
+plain_front fixes offset end (byte ∷ others) rest out ends none h =
+    let here : offset < end = omega (arith, ends) in
+    let next : offset + 1 + length others ≡ end = omega (arith, ends) in
+    join byte (fixup_at fixes offset) None
+    (fixed_bytes fixes (offset + 1) (others ++ rest)) (row_of others ++ out)
+    (none offset here)
+    (plain_front fixes (offset + 1) end others rest out next none h)
 
 -- a word with its fix
 word_front :
-    (reference : Reference) (offset low high : ℕ) (others : List Item) (rest : List ℕ) (out : List SetByte)
+    (reference : Reference) (offset low high : ℕ) (others : List Item) (rest : List (Option ℕ))
+    (out : List (Option SetByte))
     → fixed_bytes (fixes_of_items (offset + 2) others) (offset + 2) rest ≡ out
-    → fixed_bytes (fix_at offset reference ∷ fixes_of_items (offset + 2) others) offset (low ∷ high ∷ rest)
-    ≡ fixed low reference ∷ plain high ∷ out
+    → fixed_bytes (fix_at offset reference ∷ fixes_of_items (offset + 2) others) offset (Some low ∷ Some high ∷ rest)
+    ≡ Some (fixed low reference) ∷ Some (plain high) ∷ out
 word_front reference offset low high others rest out h =
     let fix : Fix = fix_at offset reference in
     let fixes : List Fix = fixes_of_items (offset + 2) others in
     let same : offset + 1 + 1 ≡ offset + 2 = omega arith in
-    join low (fixup_at (fix ∷ fixes) offset) (Some (fixup_of fix))
-    (fixed_bytes (fix ∷ fixes) (offset + 1) (high ∷ rest)) (plain high ∷ out)
+    join (Some low) (fixup_at (fix ∷ fixes) offset) (Some (fixup_of fix))
+    (fixed_bytes (fix ∷ fixes) (offset + 1) (Some high ∷ rest)) (Some (plain high) ∷ out)
     (here fix fixes offset (eq-eqb offset offset refl))
-    (join high (fixup_at (fix ∷ fixes) (offset + 1)) None
+    (join (Some high) (fixup_at (fix ∷ fixes) (offset + 1)) None
     (fixed_bytes (fix ∷ fixes) (offset + 1 + 1) rest) out
     (not_here fix fixes (offset + 1) (ne_eqb offset (offset + 1) (λ e. absurd (omega (arith, e))))
     ∙ none_early (offset + 2) (offset + 1) others (omega arith))
@@ -144,59 +215,69 @@ word_front reference offset low high others rest out h =
 -- the bytes of items with the fixes of items
 pub fixed_items :
     (layout : Layout) (offset : ℕ) (items : List Item)
-    → fixed_bytes (fixes_of_items offset items) offset (bytes_of_items layout items) ≡ set_of_items layout items
+    → fixed_bytes (fixes_of_items offset items) offset (cells_of_items layout items) ≡ set_of_items layout items
 fixed_items layout offset [] = refl
 fixed_items layout offset (Plain instruction ∷ others) =
-    plain_front (fixes_of_items (offset + length (bytes_of instruction)) others) offset (bytes_of instruction)
-    (bytes_of_items layout others)
-    (λ x h. none_early (offset + length (bytes_of instruction)) x others h)
-    ∙ ap (λ rest. map plain (bytes_of instruction) ++ rest)
-    (fixed_items layout (offset + length (bytes_of instruction)) others)
+    let end : ℕ = offset + length (bytes_of instruction) in
+    plain_front (fixes_of_items end others) offset end (map Some (bytes_of instruction))
+    (cells_of_items layout others) (set_of_items layout others)
+    (ap (λ n. offset + n) (some_length (bytes_of instruction)))
+    (λ x h. none_early end x others h)
+    (fixed_items layout end others)
 fixed_items layout offset (WithWord form reference ∷ others) =
     let word : ℕ = word_of layout reference in
-    let rest : List ℕ = bytes_of_items layout others in
+    let rest : List (Option ℕ) = cells_of_items layout others in
     let fixes : List Fix = fixes_of_items offset (WithWord form reference ∷ others) in
     let moved : offset + 1 + 2 ≡ offset + 3 = omega arith in
-    ap (λ bytes. fixed_bytes fixes offset (bytes ++ rest)) (form_bytes form word)
-    ∙ join (opcode form) (fixup_at fixes offset) None
-    (fixed_bytes fixes (offset + 1) (low_byte word ∷ high_byte word ∷ rest))
-    (fixed (low_byte word) reference ∷ plain (high_byte word) ∷ set_of_items layout others)
+    ap (λ (bytes : List ℕ). fixed_bytes fixes offset (map Some bytes ++ rest)) (form_bytes form word)
+    ∙ join (Some (opcode form)) (fixup_at fixes offset) None
+    (fixed_bytes fixes (offset + 1) (Some (low_byte word) ∷ Some (high_byte word) ∷ rest))
+    (Some (fixed (low_byte word) reference) ∷ Some (plain (high_byte word)) ∷ set_of_items layout others)
     (not_here (fix_at (offset + 1) reference) (fixes_of_items (offset + 3) others) offset
     (ne_eqb (offset + 1) offset (λ e. absurd (omega (arith, e))))
     ∙ none_early (offset + 3) offset others (omega arith))
     (ap (λ n.
     fixed_bytes (fix_at (offset + 1) reference ∷ fixes_of_items n others) (offset + 1)
-    (low_byte word ∷ high_byte word ∷ rest)) (sym moved)
+    (Some (low_byte word) ∷ Some (high_byte word) ∷ rest)) (sym moved)
     ∙ word_front reference (offset + 1) (low_byte word) (high_byte word) others rest (set_of_items layout others)
     (fixed_items layout (offset + 1 + 2) others))
 fixed_items layout offset (Byte value ∷ others) =
-    join value (fixup_at (fixes_of_items (offset + 1) others) offset) None
-    (fixed_bytes (fixes_of_items (offset + 1) others) (offset + 1) (bytes_of_items layout others))
+    join (Some value) (fixup_at (fixes_of_items (offset + 1) others) offset) None
+    (fixed_bytes (fixes_of_items (offset + 1) others) (offset + 1) (cells_of_items layout others))
     (set_of_items layout others)
     (none_early (offset + 1) offset others (omega arith))
     (fixed_items layout (offset + 1) others)
 fixed_items layout offset (Address reference ∷ others) =
     word_front reference offset (low_byte (word_of layout reference)) (high_byte (word_of layout reference)) others
-    (bytes_of_items layout others) (set_of_items layout others)
+    (cells_of_items layout others) (set_of_items layout others)
     (fixed_items layout (offset + 2) others)
+fixed_items layout offset (Gap count ∷ others) =
+    plain_front (fixes_of_items (offset + count) others) offset (offset + count) (replicate count None)
+    (cells_of_items layout others) (set_of_items layout others)
+    (ap (λ n. offset + n) (length-replicate count None))
+    (λ x h. none_early (offset + count) x others h)
+    (fixed_items layout (offset + count) others)
 fixed_items layout offset (Mark label ∷ others) =
     let same : offset + 0 ≡ offset = omega arith in
-    ap (λ n. fixed_bytes (fixes_of_items n others) offset (bytes_of_items layout others)) same
+    ap (λ n. fixed_bytes (fixes_of_items n others) offset (cells_of_items layout others)) same
     ∙ fixed_items layout offset others
 
 -- each word is whole
 whole_plain :
-    (bytes : List ℕ) (rest : List SetByte)
-    → words_are_whole (map Some rest) ≡ true
-    → words_are_whole (map Some (map plain bytes ++ rest)) ≡ true
+    (bytes : List (Option ℕ)) (rest : List (Option SetByte))
+    → words_are_whole rest ≡ true
+    → words_are_whole (row_of bytes ++ rest) ≡ true
 whole_plain [] rest h = h
-whole_plain (value ∷ others) rest h = whole_plain others rest h
+whole_plain (None ∷ others) rest h = whole_plain others rest h
+whole_plain (Some value ∷ others) rest h = whole_plain others rest h
 
-pub whole_items : (layout : Layout) (items : List Item) → words_are_whole (map Some (set_of_items layout items)) ≡ true
+pub whole_items : (layout : Layout) (items : List Item) → words_are_whole (set_of_items layout items) ≡ true
 whole_items layout [] = refl
 whole_items layout (Plain instruction ∷ others) =
-    whole_plain (bytes_of instruction) (set_of_items layout others) (whole_items layout others)
+    whole_plain (map Some (bytes_of instruction)) (set_of_items layout others) (whole_items layout others)
 whole_items layout (WithWord form reference ∷ others) = whole_items layout others
 whole_items layout (Byte value ∷ others) = whole_items layout others
 whole_items layout (Address reference ∷ others) = whole_items layout others
+whole_items layout (Gap count ∷ others) =
+    whole_plain (replicate count None) (set_of_items layout others) (whole_items layout others)
 whole_items layout (Mark label ∷ others) = whole_items layout others

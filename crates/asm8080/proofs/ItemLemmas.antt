@@ -1,10 +1,10 @@
 -- What one item more at the end does.
-use Rattle.std.proofs.Common.{◌≡◌, ℕ, ◌<◌, Bool, true, false, ◌||◌, List, [], ◌∷◌, ◌++◌, refl, sym, subst, ◌∙◌}
-use Rattle.std.proofs.lemmas.List.Elements.{All-push}
-use Rattle.std.proofs.lemmas.Bool.{eqb-true}
+use Rattle.std.proofs.Common.{◌≡◌, ℕ, ◌<◌, ◌≤◌, ◌==◌, Bool, true, false, ◌||◌, List, [], ◌∷◌, ◌++◌, All, refl, sym, subst, ap, ◌∙◌, arith}
+use Rattle.std.proofs.lemmas.List.Elements.{All-head, All-tail, All-push}
+use Rattle.std.proofs.lemmas.Bool.{eqb-true, ne_eqb}
 use Rattle.asm8080.specs.declared.item.Item.{Item}
-use Rattle.asm8080.specs.declared.item.Item.TheVariants.{Mark}
-use Rattle.asm8080.specs.Items.{Assembly, BindsNew, BoundOnce, IsAssembly, KnowsLabels, is_bound, marks}
+use Rattle.asm8080.specs.declared.item.Item.TheVariants.{Plain, WithWord, Byte, Address, Gap, Mark}
+use Rattle.asm8080.specs.Items.{Assembly, BindsNew, BindsSame, BindsSameBut, BoundOnce, IsAssembly, KnowsLabels, is_bound, marks}
 
 neither : (here more : Bool) → here ≡ false → more ≡ false → (here || more) ≡ false
 neither false false h m = refl
@@ -89,6 +89,40 @@ mark_more items after labels label is known unbound same =
     assembly_more items after labels (Mark label) is known
     (λ other m. subst (λ n. is_bound n items ≡ false) (sym (eqb-true other label m)) unbound) same
 
+-- no label is bound that there isn't yet
+pub unbound_from :
+    (assembly : Assembly) (label : ℕ)
+    → IsAssembly assembly
+    → assembly.labels ≤ label
+    → is_bound label assembly.items ≡ false
+unbound_from assembly label is from = none_of assembly.items is.known
+  where
+    unmarked : (item : Item) → KnowsLabels assembly.labels item → marks label item ≡ false
+    unmarked (Plain instruction) known = refl
+    unmarked (WithWord form reference) known = refl
+    unmarked (Byte value) known = refl
+    unmarked (Address reference) known = refl
+    unmarked (Gap count) known = refl
+    unmarked (Mark other) known =
+        let within : other < assembly.labels = known in ne_eqb label other (λ e. absurd (omega (arith, e, within, from)))
+
+    none_of : (items : List Item) → All (KnowsLabels assembly.labels) items → is_bound label items ≡ false
+    none_of [] known = refl
+    none_of (item ∷ others) known =
+        neither (marks label item) (is_bound label others)
+        (unmarked item (All-head (KnowsLabels assembly.labels) item others known))
+        (none_of others (All-tail (KnowsLabels assembly.labels) item others known))
+
+-- the next label, where a view is of these fields
+pub label_unbound :
+    (now inside : Assembly)
+    → inside ≡ now
+    → IsAssembly inside
+    → is_bound inside.labels now.items ≡ false
+label_unbound now inside same is =
+    subst (λ (view : Assembly). is_bound inside.labels view.items ≡ false) same
+    (unbound_from inside inside.labels is (omega arith))
+
 -- what is said of a view is so of the fields that it is of
 pub of_fields :
     (now inside : Assembly) (P : Assembly → Type 0)
@@ -103,3 +137,34 @@ pub of_fields_back :
     → P now
     → P inside
 of_fields_back now inside P same h = subst P (sym same) h
+
+-- an item more binds no label but those that it marks
+is_bound_more :
+    (label : ℕ) (items : List Item) (item : Item)
+    → marks label item ≡ false
+    → is_bound label (items ++ item ∷ []) ≡ is_bound label items
+is_bound_more label [] item m = ap (λ here. here || false) m
+is_bound_more label (first ∷ others) item m =
+    ap (λ later. marks label first || later) (is_bound_more label others item m)
+
+pub bound_kept :
+    (now inside : Assembly) (item : Item) (after : List Item)
+    → inside ≡ now
+    → ((label : ℕ) → marks label item ≡ false)
+    → after ≡ inside.items ++ item ∷ []
+    → BindsSame now.items after
+bound_kept now inside item after same unmarked added label =
+    ap (is_bound label) added
+    ∙ is_bound_more label inside.items item (unmarked label)
+    ∙ ap (λ (view : Assembly). is_bound label view.items) same
+
+pub others_kept :
+    (now inside : Assembly) (label shown : ℕ) (after : List Item)
+    → inside ≡ now
+    → label ≡ shown
+    → after ≡ inside.items ++ Mark label ∷ []
+    → BindsSameBut shown now.items after
+others_kept now inside label shown after same seen added other apart =
+    ap (is_bound other) added
+    ∙ is_bound_more other inside.items (Mark label) (ap (λ n. other == n) seen ∙ apart)
+    ∙ ap (λ (view : Assembly). is_bound other view.items) same

@@ -3,7 +3,9 @@ pub mod RunLaws
 pub mod Words
 pub mod Fixing
 pub mod Moving
+pub mod Filling
 pub mod Assemblies
+pub mod Segments
 pub mod Places
 pub mod Parts
 pub mod Worked

@@ -2,7 +2,7 @@
 use Rattle.std.proofs.Common.{◌≡◌, ℕ, ◌+◌, Bool, true, false, ◌||◌, List, [], ◌∷◌, ◌++◌, refl, sym, subst, ap, ◌∙◌, arith}
 use Rattle.isa8080.specs.State.{wrap}
 use Rattle.asm8080.specs.declared.item.Item.{Item}
-use Rattle.asm8080.specs.declared.item.Item.TheVariants.{Plain, WithWord, Byte, Address, Mark}
+use Rattle.asm8080.specs.declared.item.Item.TheVariants.{Plain, WithWord, Byte, Address, Gap, Mark}
 use Rattle.asm8080.specs.declared.item.Reference.TheVariants.{AtLabel}
 use Rattle.asm8080.specs.declared.item.WordForm.{WordForm}
 use Rattle.asm8080.specs.Standing.{InstructionStands}
@@ -61,6 +61,9 @@ stands_in_parts layout memory (Byte value ∷ rest) others from to h =
 stands_in_parts layout memory (Address reference ∷ rest) others from to h =
     with_first layout memory (Address reference) rest others from to (λ end later. (h.0, later))
     (stands_in_parts layout memory rest others (from + 2) to h.1)
+stands_in_parts layout memory (Gap count ∷ rest) others from to h =
+    with_first layout memory (Gap count) rest others from to (λ end later. later)
+    (stands_in_parts layout memory rest others (from + count) to h)
 stands_in_parts layout memory (Mark label ∷ rest) others from to h =
     let same : from ≡ from + 0 = omega arith in
     with_first layout memory (Mark label) rest others from to
@@ -83,6 +86,8 @@ parts_stand layout memory (Byte value ∷ rest) others from middle to first seco
     (first.0, parts_stand layout memory rest others (from + 1) middle to first.1 second)
 parts_stand layout memory (Address reference ∷ rest) others from middle to first second =
     (first.0, parts_stand layout memory rest others (from + 2) middle to first.1 second)
+parts_stand layout memory (Gap count ∷ rest) others from middle to first second =
+    parts_stand layout memory rest others (from + count) middle to first second
 parts_stand layout memory (Mark label ∷ rest) others from middle to first second =
     (first.0, parts_stand layout memory rest others from middle to first.1 second)
 

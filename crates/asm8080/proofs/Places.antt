@@ -9,10 +9,10 @@ use Rattle.object_modules.specs.declared.segment.Fix.{Fix}
 use Rattle.object_modules.specs.declared.segment.TheConstants.{SEGMENT_LIMIT}
 use Rattle.asm8080.specs.declared.fault.Fault.TheVariants.{UnboundLabel, TooLong}
 use Rattle.asm8080.specs.declared.item.Item.{Item}
-use Rattle.asm8080.specs.declared.item.Item.TheVariants.{Plain, WithWord, Byte, Address, Mark}
+use Rattle.asm8080.specs.declared.item.Item.TheVariants.{Plain, WithWord, Byte, Address, Gap, Mark}
 use Rattle.asm8080.specs.Items.{Assembly, BoundOnce, IsAssembly, KnowsLabels, Layout, bytes_of_item, is_bound, marks, offset_of, size_of, size_of_items}
-use Rattle.asm8080.specs.Assembled.{AllBound, Assembled, Assembles, IsFinished, fixes_of_items}
-use Rattle.asm8080.specs.internal.Assembling.{all_placed, bytes_of_items, code_of, fixes_of_item, layout_from, no_code, offset_in, place_in, places_after, places_of, with_item, with_items, with_mark}
+use Rattle.asm8080.specs.Assembled.{AllBound, Assembled, Assembles, IsFinished, fixes_of_items, place_in}
+use Rattle.asm8080.specs.internal.Assembling.{all_placed, bytes_of_items, code_of, fixes_of_item, flags_of_item, flags_of_items, layout_from, no_code, offset_in, places_after, places_of, with_item, with_items, with_mark, with_places}
 use Rattle.asm8080.proofs.Words.{item_length}
 use Rattle.asm8080.proofs.Assemblies.{assembles}
 
@@ -65,6 +65,7 @@ mark_length (Plain instruction) offset places = refl
 mark_length (WithWord form reference) offset places = refl
 mark_length (Byte value) offset places = refl
 mark_length (Address reference) offset places = refl
+mark_length (Gap count) offset places = refl
 mark_length (Mark label) offset places = set_length places label offset
 
 after_length :
@@ -129,6 +130,10 @@ place_after labels offset label (Address reference ∷ others) places size known
     place_after labels (offset + 2) label others places size
     (All-tail (KnowsLabels labels) (Address reference) others known) once.1
     ∙ later_place offset 2 (offset_of label others) (place_at places label)
+place_after labels offset label (Gap count ∷ others) places size known once =
+    place_after labels (offset + count) label others places size
+    (All-tail (KnowsLabels labels) (Gap count) others known) once.1
+    ∙ later_place offset count (offset_of label others) (place_at places label)
 place_after labels offset label (Mark other ∷ others) places size known once =
     place_after labels (offset + 0) label others (slice_set places other (Some offset))
     (set_length places other offset ∙ size)
@@ -251,17 +256,23 @@ fixes_split offset (Plain instruction) others = refl
 fixes_split offset (WithWord form reference) others = refl
 fixes_split offset (Byte value) others = refl
 fixes_split offset (Address reference) others = refl
+fixes_split offset (Gap count) others = refl
 fixes_split offset (Mark label) others = refl
 
 same_code :
-    (bytes bytes_after : List ℕ) (fixes fixes_after : List Fix)
+    (code : Assembled) (bytes bytes_after : List ℕ) (flags flags_after : List Bool) (fixes fixes_after : List Fix)
     → bytes ≡ bytes_after
+    → flags ≡ flags_after
     → fixes ≡ fixes_after
-    → ◌≡◌ {A = Assembled} (record { bytes = bytes; fixes = fixes }) (record { bytes = bytes_after; fixes = fixes_after })
-same_code bytes bytes_after fixes fixes_after e f =
-    let first : List ℕ → Assembled = λ xs. record { bytes = xs; fixes = fixes } in
-    let second : List Fix → Assembled = λ ys. record { bytes = bytes_after; fixes = ys } in
-    ap first e ∙ ap second f
+    → ◌≡◌ {A = Assembled}
+    (record code { bytes = bytes; is_set = flags; fixes = fixes })
+    (record code { bytes = bytes_after; is_set = flags_after; fixes = fixes_after })
+same_code code bytes bytes_after flags flags_after fixes fixes_after e g f =
+    let first : List ℕ → Assembled = λ xs. record code { bytes = xs; is_set = flags; fixes = fixes } in
+    let second : List Bool → Assembled = λ bs. record code { bytes = bytes_after; is_set = bs; fixes = fixes } in
+    let third : List Fix → Assembled
+    = λ ys. record code { bytes = bytes_after; is_set = flags_after; fixes = ys } in
+    ap first e ∙ ap second g ∙ ap third f
 
 nothing_after : {A : Type 0} (xs : List A) → xs ≡ xs ++ []
 nothing_after [] = refl
@@ -270,46 +281,59 @@ nothing_after (x ∷ xs) = ap (λ ys. x ∷ ys) (nothing_after xs)
 pub items_added :
     (layout : Layout) (code : Assembled) (items : List Item)
     → with_items layout code items
-    ≡ record {
+    ≡ record code {
       bytes = code.bytes ++ bytes_of_items layout items;
+      is_set = code.is_set ++ flags_of_items items;
       fixes = code.fixes ++ fixes_of_items (length code.bytes) items;
     }
 items_added layout code [] =
-    same_code code.bytes (code.bytes ++ []) code.fixes (code.fixes ++ [])
-    (nothing_after code.bytes) (nothing_after code.fixes)
+    same_code code code.bytes (code.bytes ++ []) code.is_set (code.is_set ++ []) code.fixes (code.fixes ++ [])
+    (nothing_after code.bytes) (nothing_after code.is_set) (nothing_after code.fixes)
 items_added layout code (item ∷ others) =
     let here : List ℕ = bytes_of_item layout item in
     let end : length (code.bytes ++ here) ≡ length code.bytes + size_of item
     = length-append code.bytes here ∙ ap (λ n. length code.bytes + n) (item_length layout item) in
     items_added layout (with_item layout code item) others
-    ∙ same_code
+    ∙ same_code code
     ((code.bytes ++ here) ++ bytes_of_items layout others) (code.bytes ++ (here ++ bytes_of_items layout others))
+    ((code.is_set ++ flags_of_item item) ++ flags_of_items others)
+    (code.is_set ++ (flags_of_item item ++ flags_of_items others))
     ((code.fixes ++ fixes_of_item (length code.bytes) item) ++ fixes_of_items (length (code.bytes ++ here)) others)
     (code.fixes ++ fixes_of_items (length code.bytes) (item ∷ others))
     (append_assoc code.bytes here (bytes_of_items layout others))
+    (append_assoc code.is_set (flags_of_item item) (flags_of_items others))
     (append_assoc code.fixes (fixes_of_item (length code.bytes) item) (fixes_of_items (length (code.bytes ++ here)) others)
     ∙ ap (λ (fixes : List Fix). code.fixes ++ fixes)
     (ap (λ n. fixes_of_item (length code.bytes) item ++ fixes_of_items n others) end
     ∙ fixes_split (length code.bytes) item others))
 
+place_same :
+    (assembly : Assembly) (label : ℕ)
+    → IsAssembly assembly
+    → place_in (places_of assembly.labels assembly.items) label ≡ offset_in assembly.items label
+place_same assembly label is =
+    place_in_is (places_of assembly.labels assembly.items) label
+    ∙ ap (λ (place : Option ℕ). unwrap_or place 0) (place_is assembly label is)
+
 places_same :
     (assembly : Assembly)
     → IsAssembly assembly
     → ◌≡◌ {A = (label : ℕ) → ℕ} (place_in (places_of assembly.labels assembly.items)) (offset_in assembly.items)
-places_same assembly is =
-    fun_ext (λ label.
-    place_in_is (places_of assembly.labels assembly.items) label
-    ∙ ap (λ (place : Option ℕ). unwrap_or place 0) (place_is assembly label is))
+places_same assembly is = fun_ext (λ label. place_same assembly label is)
 
 pub code_is :
     (assembly : Assembly)
     → IsAssembly assembly
-    → with_items (layout_from (place_in (places_of assembly.labels assembly.items))) no_code assembly.items
-    ≡ code_of assembly.items
+    → with_places (places_of assembly.labels assembly.items)
+    (with_items (layout_from (place_in (places_of assembly.labels assembly.items))) no_code assembly.items)
+    ≡ code_of (places_of assembly.labels assembly.items) assembly.items
 code_is assembly is =
+    let placed : Assembled → Assembled = with_places (places_of assembly.labels assembly.items) in
     let by : ((label : ℕ) → ℕ) → Assembled
-    = λ place_of. with_items (layout_from place_of) no_code assembly.items in
-    ap by (places_same assembly is) ∙ items_added (layout_from (offset_in assembly.items)) no_code assembly.items
+    = λ place_of. placed (with_items (layout_from place_of) no_code assembly.items) in
+    ap by (places_same assembly is)
+    ∙ ap placed
+    (items_added (layout_from (offset_in assembly.items)) no_code assembly.items)
 
 -- What assembling answers, by the slices that it looks at.
 pub record Table (view : Assembly) (items : List Item) (places : List (Option ℕ)) : Type 0 where
@@ -329,6 +353,16 @@ table_of view inside slice made places shown is same table again =
     subst (λ (assembly : Assembly). Table assembly slice places) shown
     (record { is = is; same = same; table = again ∙ table ∙ ap (places_of inside.labels) same })
 
+-- the code with its table of places
+pub with_table :
+    (slice : List Item) (places table : List (Option ℕ)) (inside code : Assembled)
+    → places ≡ table
+    → inside ≡ with_items (layout_from (place_in places)) no_code slice
+    → code ≡ with_places table inside
+    → code ≡ with_places places (with_items (layout_from (place_in places)) no_code slice)
+with_table slice places table inside code shown made is =
+    is ∙ ap (λ them. with_places them inside) (sym shown) ∙ ap (with_places places) made
+
 pub finished :
     (view : Assembly) (slice : List Item) (places : List (Option ℕ)) (placed : Bool) (size : ℕ) (code : Assembled)
     → Table view slice places
@@ -336,18 +370,21 @@ pub finished :
     → placed ≡ true
     → size ≡ size_of_items slice
     → size ≤ SEGMENT_LIMIT
-    → code ≡ with_items (layout_from (place_in places)) no_code slice
+    → code ≡ with_places places (with_items (layout_from (place_in places)) no_code slice)
     → IsFinished view (Ok code)
 finished view slice places placed size code t test holds sum small made =
     let by : List (Option ℕ) → List Item → Assembled
-    = λ them items. with_items (layout_from (place_in them)) no_code items in
-    let same : code ≡ code_of view.items
+    = λ them items. with_places them (with_items (layout_from (place_in them)) no_code items) in
+    let same : code ≡ code_of (places_of view.labels view.items) view.items
     = made ∙ ap (by places) t.same ∙ ap (λ them. by them view.items) t.table ∙ code_is view t.is in
+    let bound : AllBound view
+    = all_bound view t.is (ap (λ them. all_placed them) (sym t.table) ∙ sym test ∙ holds) in
     let fits : size_of_items view.items ≤ SEGMENT_LIMIT
     = subst (λ n. n ≤ SEGMENT_LIMIT) (sum ∙ ap size_of_items t.same) small in (
-      all_bound view t.is (ap (λ them. all_placed them) (sym t.table) ∙ sym test ∙ holds),
+      bound,
       fits,
-      subst (Assembles view) (sym same) (assembles view t.is),
+      subst (Assembles view) (sym same) (assembles view (places_of view.labels view.items) t.is bound fits
+          (λ label. place_same view label t.is)),
     )
 
 pub unbound :

@@ -1,5 +1,6 @@
 -- The words of items: their bytes, and what these become where targets have addresses.
 use Rattle.std.proofs.Common.{◌≡◌, ℕ, ◌+◌, ◌*◌, ◌/◌, ◌%◌, [], ◌∷◌, length, slice_index, refl, ap, ◌∙◌, arith}
+use Rattle.std.proofs.lemmas.List.{length-replicate}
 use Rattle.object_modules.specs.declared.segment.Target.{Target}
 use Rattle.object_modules.specs.declared.segment.Target.TheVariants.{InSegment}
 use Rattle.object_modules.specs.declared.segment.Segment.TheVariants.{Code}
@@ -11,7 +12,7 @@ use Rattle.asm8080.specs.declared.item.WordForm.TheVariants.{LoadPair, StoreHl, 
 use Rattle.asm8080.specs.declared.item.Reference.{Reference}
 use Rattle.asm8080.specs.declared.item.Reference.TheVariants.{AtLabel, AtTarget}
 use Rattle.asm8080.specs.declared.item.Item.{Item}
-use Rattle.asm8080.specs.declared.item.Item.TheVariants.{Plain, WithWord, Byte, Address, Mark}
+use Rattle.asm8080.specs.declared.item.Item.TheVariants.{Plain, WithWord, Byte, Address, Gap, Mark}
 use Rattle.asm8080.specs.Items.{Layout, bytes_of_item, instruction_with, size_of, word_of}
 use Rattle.asm8080.specs.Assembled.{target_of}
 use Rattle.asm8080.specs.internal.Assembling.{layout_from}
@@ -39,6 +40,7 @@ item_length layout (Plain instruction) = refl
 item_length layout (WithWord form reference) = ap length (form_bytes form (word_of layout reference))
 item_length layout (Byte value) = refl
 item_length layout (Address reference) = refl
+item_length layout (Gap count) = length-replicate count 0
 item_length layout (Mark label) = refl
 
 -- labels moved to where the code is, and targets with addresses

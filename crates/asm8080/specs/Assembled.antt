@@ -1,45 +1,81 @@
 -- What assembling gives.
-use Rattle.std.specs.Prelude.{◌≡◌, ℕ, ◌+◌, ◌≤◌, true, nat_lt, nat_le, IsTrue, List, [], ◌∷◌, length, map, filter_map, Option, Some, None, Result, Ok, Err, unwrap_or}
+use Rattle.std.specs.Prelude.{slice_get, ◌≡◌, ℕ, ◌+◌, ◌<◌, ◌≤◌, Bool, true, if◌then◌else◌, nat_lt, nat_le, IsTrue, List, [], ◌∷◌, All, length, map, Option, Some, None, option_map, Result, Ok, Err, unwrap_or}
 use Rattle.std.specs.List.{list_all}
 use Rattle.mem80.specs.declared.memory.TheConstants.{MEMORY_SIZE}
+use Rattle.isa8080.specs.State.{wrap}
 use Rattle.object_modules.specs.declared.segment.Fix.{Fix}
+use Rattle.object_modules.specs.declared.segment.Alignment.TheVariants.{Byte as OnByte}
 use Rattle.object_modules.specs.declared.segment.FixKind.TheVariants.{Both}
 use Rattle.object_modules.specs.declared.segment.Target.{Target}
 use Rattle.object_modules.specs.declared.segment.Segment.TheVariants.{Code}
 use Rattle.object_modules.specs.declared.segment.Target.TheVariants.{InSegment}
 use Rattle.object_modules.specs.declared.segment.TheConstants.{SEGMENT_LIMIT}
-use Rattle.object_modules.specs.Module.{SetByte, words_are_whole}
+use Rattle.object_modules.specs.Module.{SetByte, is_target, words_are_whole}
 use Rattle.object_modules.specs.Moving.{moved}
 use Rattle.object_modules.specs.Rules.{fix_end}
-use Rattle.object_modules.specs.Runs.{fixed_bytes}
-use Rattle.object_modules.specs.Stored.{fixes_ascend}
+use Rattle.object_modules.specs.Runs.{fixup_at}
+use Rattle.object_modules.specs.Stored.{StoredSegment, fixes_ascend, is_in_a_run}
+use Rattle.object_modules.specs.Text.{runs_from}
 use Rattle.asm8080.specs.declared.fault.Fault.{Fault}
 use Rattle.asm8080.specs.declared.fault.Fault.TheVariants.{UnboundLabel, TooLong}
 use Rattle.asm8080.specs.declared.item.Item.{Item}
 use Rattle.asm8080.specs.declared.item.Item.TheVariants.{WithWord, Address}
 use Rattle.asm8080.specs.declared.item.Reference.{Reference}
 use Rattle.asm8080.specs.declared.item.Reference.TheVariants.{AtLabel, AtTarget}
-use Rattle.asm8080.specs.Items.{Assembly, Layout, Stands, is_bound, offset_of, size_of, size_of_items}
-use Rattle.asm8080.specs.Standing.{BytesStand}
+use Rattle.asm8080.specs.Items.{Assembly, Layout, ListsExternals, Stands, is_bound, offset_of, size_of, size_of_items}
+use Rattle.asm8080.specs.Standing.{SetBytesStand}
 
--- the bytes of a code segment, and its fixes in the order of their offsets
+-- the bytes of a code segment, with 0 for each that stays unset, which of them are set, its fixes in the
+-- order of their offsets, and how far its labels are from its start, by their numbers
 pub record Assembled : Type 0 where
   pub bytes : List ℕ
+  pub is_set : List Bool
   pub fixes : List Fix
+  pub places : List (Option ℕ)
+
+-- bytes of which some are set
+abbrev pub set_bytes : (bytes : List ℕ) → (is_set : List Bool) → List (Option ℕ)
+set_bytes [] is_set = []
+set_bytes (byte ∷ others) [] = None ∷ set_bytes others []
+set_bytes (byte ∷ others) (here ∷ later) = (if here then Some byte else None) ∷ set_bytes others later
+
+abbrev pub place_or_start : Option (Option ℕ) → ℕ
+place_or_start None = 0
+place_or_start (Some None) = 0
+place_or_start (Some (Some place)) = place
+
+-- where a label is by a table
+abbrev pub place_in : List (Option ℕ) → (label : ℕ) → ℕ
+place_in places label = place_or_start (slice_get places label)
+
+-- where a label of the segment lies, from its start
+abbrev pub place_of : Assembled → (label : ℕ) → ℕ
+place_of code label = wrap (place_in code.places label)
+
+-- bytes from an offset on, each that is set with the fix that begins there
+abbrev pub fixed_bytes : List Fix → (offset : ℕ) → List (Option ℕ) → List (Option SetByte)
+fixed_bytes fixes offset [] = []
+fixed_bytes fixes offset (byte ∷ others) =
+    option_map (λ value. record { value = value; fixup = fixup_at fixes offset }) byte
+    ∷ fixed_bytes fixes (offset + 1) others
 
 -- the places of the segment
 abbrev pub places_of : Assembled → List (Option SetByte)
-places_of code = map Some (fixed_bytes code.fixes 0 code.bytes)
+places_of code = fixed_bytes code.fixes 0 (set_bytes code.bytes code.is_set)
+
+-- the segment that an object module keeps of it: the longest runs of bytes that are set
+abbrev pub segment_of : Assembled → StoredSegment
+segment_of code = record {
+  size = length code.bytes;
+  alignment = OnByte;
+  runs = runs_from 0 (set_bytes code.bytes code.is_set);
+  fixes = code.fixes;
+}
 
 -- the bytes where targets have these addresses
-abbrev pub resolved : (address_of : Target → ℕ) → Assembled → List ℕ
+abbrev pub resolved : (address_of : Target → ℕ) → Assembled → List (Option ℕ)
 resolved address_of code =
-    filter_map (λ place. place)
-    (map (λ (place : Option SetByte). value_at place) (moved address_of (λ target. None) (places_of code)))
-  where
-    value_at : Option SetByte → Option ℕ
-    value_at None = None
-    value_at (Some here) = Some here.value
+    map (option_map (λ (here : SetByte). here.value)) (moved address_of (λ target. None) (places_of code))
 
 -- what a reference counts from: a label from the start of the code
 abbrev pub target_of : Reference → Target
@@ -66,17 +102,35 @@ layout_at address_of assembly = record {
   address_of = address_of;
 }
 
--- a segment whose bytes, resolved anywhere in memory, are the code
+-- A segment whose bytes, resolved anywhere in memory, are the code.
 pub record Assembles (assembly : Assembly) (code : Assembled) : Type 0 where
+  -- it has as many bytes as the items take
   pub size : length code.bytes ≡ size_of_items assembly.items
+  -- of each byte it says whether it is set
+  pub told : length code.is_set ≡ length code.bytes
+  -- each word that is a reference has a fix, and nothing else has one
   pub fixes : code.fixes ≡ fixes_of_items 0 assembly.items
+  -- no fix begins before the one before it ends
   pub ascending : IsTrue (fixes_ascend code.fixes)
+  -- each fix ends within the bytes
   pub within : IsTrue (list_all (λ (fix : Fix). nat_le (fix_end fix) (length code.bytes)) code.fixes)
+  -- and all its bytes are set
+  pub filled : IsTrue (list_all (is_in_a_run Code (segment_of code).runs) code.fixes)
+  -- no fix begins at the second byte of a word
   pub whole : IsTrue (words_are_whole (places_of code))
+  -- an object module with the external names that the items refer to may have the targets of the fixes
+  pub targets :
+      (external_count : ℕ)
+      → All (ListsExternals external_count) assembly.items
+      → IsTrue (list_all (λ (fix : Fix). is_target external_count fix.target) code.fixes)
+  -- each label lies where it is bound
+  pub places :
+      (label : ℕ) → label < assembly.labels → offset_of label assembly.items ≡ Some (place_of code label)
+  -- and wherever the bytes that are set stand, resolved there, the items do
   pub stands :
       (address_of : Target → ℕ) (memory : List ℕ)
       → address_of (InSegment Code) + length code.bytes ≤ MEMORY_SIZE
-      → BytesStand memory (address_of (InSegment Code)) (resolved address_of code)
+      → SetBytesStand memory (address_of (InSegment Code)) (resolved address_of code)
       → Stands
       (layout_at address_of assembly)
       memory

@@ -1,5 +1,5 @@
 -- Bytes and instructions that stand in a memory, and what a machine keeps of one.
-use Rattle.std.specs.Prelude.{◌≡◌, ℕ, ◌+◌, ◌-◌, ◌≤◌, List, [], ◌∷◌, length}
+use Rattle.std.specs.Prelude.{◌≡◌, ℕ, ◌+◌, ◌-◌, ◌≤◌, List, [], ◌∷◌, length, Option, Some, None}
 use Rattle.mem80.specs.declared.memory.TheConstants.{MEMORY_SIZE}
 use Rattle.mem80.specs.declared.range.Range.{Range}
 use Rattle.mem80.specs.Memory.{byte_at}
@@ -13,6 +13,13 @@ abbrev pub BytesStand : (memory : List ℕ) → (address : ℕ) → (bytes : Lis
 BytesStand memory address [] = Unit {0}
 BytesStand memory address (byte ∷ others) =
     (byte_at memory (wrap address) ≡ byte) × BytesStand memory (address + 1) others
+
+-- of bytes from an address on, those that are set stand
+abbrev pub SetBytesStand : (memory : List ℕ) → (address : ℕ) → (bytes : List (Option ℕ)) → Type 0
+SetBytesStand memory address [] = Unit {0}
+SetBytesStand memory address (None ∷ others) = SetBytesStand memory (address + 1) others
+SetBytesStand memory address (Some byte ∷ others) =
+    (byte_at memory (wrap address) ≡ byte) × SetBytesStand memory (address + 1) others
 
 -- an instruction stands at an address
 abbrev pub InstructionStands : (memory : List ℕ) → (address : ℕ) → Instr → Type 0
@@ -36,6 +43,6 @@ pub record StackIsAt (level : ℕ) (s : State) : Type 0 where
   pub limit : level ≤ MEMORY_SIZE
   pub pointer : s.registers.sp ≡ wrap level
 
--- so many bytes below a level
+-- so many bytes below a level, which is no less
 abbrev pub below : (level room : ℕ) → Range
 below level room = record { start = level - room; len = room }

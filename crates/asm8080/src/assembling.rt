@@ -4,9 +4,9 @@ ghost use Rattle.std.specs.Prelude.{◌≡◌, ◌+◌, ◌≤◌, length, repli
 ghost use Rattle.object_modules.specs.declared.segment.TheConstants.{SEGMENT_LIMIT};
 ghost use Rattle.isa8080.specs.State.{high_byte, low_byte, wrap};
 ghost use Rattle.isa8080.specs.Code.{bytes_of};
-ghost use Rattle.asm8080.specs.Items.{instruction_with, size_of, size_of_items, word_of};
-ghost use Rattle.asm8080.specs.Assembled.{fix_at, target_of};
-ghost use Rattle.asm8080.specs.internal.Assembling.{all_placed, layout_from, no_code, place_in, places_of, with_item, with_items, with_mark};
+ghost use Rattle.asm8080.specs.Items.{instruction_with, is_set, size_of, size_of_items, word_of};
+ghost use Rattle.asm8080.specs.Assembled.{fix_at, place_in, target_of};
+ghost use Rattle.asm8080.specs.internal.Assembling.{all_placed, flags_of_item, layout_from, no_code, places_of, with_item, with_items, with_mark};
 
 use crate::bytes::CodeBytes;
 use crate::item::{Item, Reference, WordForm};
@@ -14,36 +14,36 @@ use isa8080::{Instr, encode};
 use object_modules::{Fix, FixKind, Segment, Target};
 use std::alloc::{AllocError, Global};
 
-// How many bytes an item takes, 3 at most.
-fn item_size(item: Item) -> usize
-    ensures size { result ≡ size_of item }
-    ensures at_most { result ≤ 3 }
+// How many bytes an item takes.
+fn item_size(item: Item) -> u16
+    ensures { result ≡ size_of item }
 {
     match item {
         Item::Plain(instruction) => {
             let (_, size) = encode(instruction);
-            size as usize
+            size as u16
         }
         Item::WithWord(_, _) => 3,
         Item::Byte(_) => 1,
         Item::Address(_) => 2,
+        Item::Gap(count) => count,
         Item::Mark(_) => 0,
     }
 }
 
 /// How many bytes items take.
-pub(crate) fn code_size(items: &[Item]) -> usize
+pub(crate) fn code_size(items: &[Item]) -> u128
     ensures { result ≡ size_of_items items.now }
 {
     let mut size = 0;
     for item in items {
-        size += item_size(*item);
+        size += item_size(*item) as u128;
     }
     size
 }
 
 // Puts the offset of an item into the table, if it is a label.
-fn put_mark(places: &mut Vec<Option<usize>>, item: Item, offset: usize)
+fn put_mark(places: &mut Vec<Option<u128>>, item: Item, offset: u128)
     ensures { (places.new).items ≡ with_mark item offset (places.old).items }
 {
     if let Item::Mark(label) = item
@@ -54,7 +54,7 @@ fn put_mark(places: &mut Vec<Option<usize>>, item: Item, offset: usize)
 }
 
 // A table without places.
-fn no_places(alloc: Global, labels: usize) -> Result<Vec<Option<usize>>, AllocError>
+fn no_places(alloc: Global, labels: usize) -> Result<Vec<Option<u128>>, AllocError>
     ensures { IfOk result (λ places. places.items ≡ replicate labels None) }
 {
     let places = vec![in alloc; None; labels]?;
@@ -66,27 +66,27 @@ pub(crate) fn label_places(
     alloc: Global,
     items: &[Item],
     labels: usize,
-) -> Result<Vec<Option<usize>>, AllocError>
+) -> Result<Vec<Option<u128>>, AllocError>
     ensures { IfOk result (λ places. places.items ≡ places_of labels items.now) }
 {
     let mut places = no_places(alloc, labels)?;
     let mut offset = 0;
     for item in items {
         put_mark(&mut places, *item, offset);
-        offset += item_size(*item);
+        offset += item_size(*item) as u128;
     }
     Ok(places)
 }
 
 /// Whether each label of a table has a place.
-pub(crate) fn all_placed(places: &[Option<usize>]) -> bool
+pub(crate) fn all_placed(places: &[Option<u128>]) -> bool
     ensures { result ≡ all_placed places.now }
 {
     places.iter().all(|place| place.is_some())
 }
 
-// The place of a label by a table, modulo 65536.
-fn place_word(places: &[Option<usize>], label: usize) -> u16
+/// The place of a label by a table, modulo 65536; 0 where it is not bound.
+pub(crate) fn place_word(places: &[Option<u128>], label: usize) -> u16
     ensures { result ≡ wrap (place_in places.now label) }
 {
     match places.get(label) {
@@ -96,7 +96,7 @@ fn place_word(places: &[Option<usize>], label: usize) -> u16
 }
 
 // The word of a reference where code begins at 0 and each target lies at 0.
-fn reference_word(reference: Reference, places: &[Option<usize>]) -> u16
+fn reference_word(reference: Reference, places: &[Option<u128>]) -> u16
     ensures { result ≡ word_of (layout_from (place_in places.now)) reference }
 {
     match reference {
@@ -160,8 +160,31 @@ fn push_word(bytes: &mut Vec<u8>, word: u16) -> Result<(), AllocError>
     Ok(())
 }
 
+// Adds bytes of 0, so many.
+fn push_zeros(bytes: &mut Vec<u8>, count: u16) -> Result<(), AllocError>
+    ensures { OnOk result ((bytes.new).items ≡ (bytes.old).items ++ replicate count 0) }
+{
+    let zeros = vec![in *bytes.allocator(); 0; count as usize]?;
+    bytes.extend_from_slice(zeros.as_slice())
+}
+
+// Whether the bytes of an item are set.
+fn is_set(item: Item) -> bool
+    ensures { result ≡ is_set item }
+{
+    !matches!(item, Item::Gap(_))
+}
+
+// Adds which bytes of an item are set.
+fn push_flags(flags: &mut Vec<bool>, item: Item) -> Result<(), AllocError>
+    ensures { OnOk result ((flags.new).items ≡ (flags.old).items ++ flags_of_item item) }
+{
+    let more = vec![in *flags.allocator(); is_set(item); item_size(item) as usize]?;
+    flags.extend_from_slice(more.as_slice())
+}
+
 // Adds an item, whose labels have places in a table.
-fn push_item(code: &mut CodeBytes, item: Item, places: &[Option<usize>]) -> Result<(), AllocError>
+fn push_item(code: &mut CodeBytes, item: Item, places: &[Option<u128>]) -> Result<(), AllocError>
     requires { length code.old.bytes + size_of item ≤ SEGMENT_LIMIT }
     ensures { OnOk result (code.new ≡ with_item (layout_from (place_in places.now)) code.old item) }
 {
@@ -178,16 +201,17 @@ fn push_item(code: &mut CodeBytes, item: Item, places: &[Option<usize>]) -> Resu
             push_word(&mut code.bytes, reference_word(reference, places))?;
             code.fixes.push(fix_at(offset as u16, reference))?;
         }
+        Item::Gap(count) => push_zeros(&mut code.bytes, count)?,
         Item::Mark(_) => {}
     }
-    Ok(())
+    push_flags(&mut code.is_set, item)
 }
 
 /// The code of items that fit a segment, whose labels have places in a table.
 pub(crate) fn assemble(
     alloc: Global,
     items: &[Item],
-    places: &[Option<usize>],
+    places: &[Option<u128>],
 ) -> Result<CodeBytes, AllocError>
     requires { size_of_items items.now ≤ SEGMENT_LIMIT }
     ensures { IfOk result (λ code.

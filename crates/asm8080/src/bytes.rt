@@ -1,18 +1,23 @@
 //! Assembled code.
 
 ghost use Rattle.std.specs.Prelude.{◌≡◌};
-ghost use Rattle.asm8080.specs.internal.Assembling.{no_code};
+ghost use Rattle.asm8080.specs.Assembled.{place_of};
+ghost use Rattle.asm8080.specs.internal.Assembling.{no_code, with_places};
 
+use crate::assembling::place_word;
+use crate::code::Label;
 use object_modules::Fix;
 use std::alloc::Global;
 use std::marker::Model;
 
-/// The bytes of a code segment, 65535 at most, and its fixes in the order of their offsets. The words that are
-/// fixed to a segment are offsets in it.
+/// The bytes of a code segment, 65535 at most, which of them are set, its fixes in the order of their offsets,
+/// and where its labels lie. The words that are fixed to a segment are offsets in it.
 #[derive(Drop)]
 pub struct CodeBytes {
     pub(crate) bytes: Vec<u8>,
+    pub(crate) is_set: Vec<bool>,
     pub(crate) fixes: Vec<Fix>,
+    places: Vec<Option<u128>>,
 }
 
 impl Model for CodeBytes {
@@ -20,7 +25,12 @@ impl Model for CodeBytes {
 
     ghost Value = { Assembled };
 
-    ghost view = { λ code. record { bytes = code.bytes.items; fixes = code.fixes.items } };
+    ghost view = { λ code. record {
+      bytes = code.bytes.items;
+      is_set = code.is_set.items;
+      fixes = code.fixes.items;
+      places = code.places.items;
+    } };
 }
 
 impl CodeBytes {
@@ -30,15 +40,40 @@ impl CodeBytes {
     {
         CodeBytes {
             bytes: Vec::new(alloc),
+            is_set: Vec::new(alloc),
             fixes: Vec::new(alloc),
+            places: Vec::new(alloc),
         }
     }
 
-    /// The bytes, with nothing added to the words that are fixed.
+    // Its labels are where a table has them.
+    pub(crate) fn with_places(self, places: Vec<Option<u128>>) -> CodeBytes
+        ensures { result ≡ with_places places.items self }
+    {
+        let mut code = self;
+        code.places = places;
+        code
+    }
+
+    /// How far a label is from the start of the bytes. The label is of the code that they were made of.
+    pub fn place(&self, label: Label) -> u16
+        ensures { result ≡ place_of self.now label }
+    {
+        place_word(self.places.as_slice(), label.number)
+    }
+
+    /// The bytes, with nothing added to the words that are fixed, and 0 for each that stays unset.
     pub fn bytes(&self) -> &[u8]
         ensures { result.now ≡ self.now.bytes }
     {
         self.bytes.as_slice()
+    }
+
+    /// Of each byte, whether it is set.
+    pub fn is_set(&self) -> &[bool]
+        ensures { result.now ≡ self.now.is_set }
+    {
+        self.is_set.as_slice()
     }
 
     /// The fixes, in the order of their offsets.
@@ -48,12 +83,18 @@ impl CodeBytes {
         self.fixes.as_slice()
     }
 
-    /// The bytes and the fixes, as a segment of an object module keeps them.
-    pub fn into_parts(self) -> (Vec<u8>, Vec<Fix>)
+    /// The bytes, which of them are set, and the fixes.
+    pub fn into_parts(self) -> (Vec<u8>, Vec<bool>, Vec<Fix>)
         ensures bytes { result.0.items ≡ self.bytes }
-        ensures fixes { result.1.items ≡ self.fixes }
+        ensures is_set { result.1.items ≡ self.is_set }
+        ensures fixes { result.2.items ≡ self.fixes }
     {
-        let CodeBytes { bytes, fixes } = self;
-        (bytes, fixes)
+        let CodeBytes {
+            bytes,
+            is_set,
+            fixes,
+            ..
+        } = self;
+        (bytes, is_set, fixes)
     }
 }

@@ -1,10 +1,10 @@
 //! Code with labels.
 
-ghost use Rattle.std.specs.Prelude.{◌≡◌, ◌+◌, ◌^◌, ◌<◌, false, [], ◌∷◌, ◌++◌, OnErr, OnOk, IfOk, Ok, Err};
+ghost use Rattle.std.specs.Prelude.{◌≡◌, ◌+◌, ◌^◌, ◌<◌, false, [], ◌∷◌, ◌++◌, OnErr, OnOk, IfOk, IsTrue, Ok, Err};
 ghost use Rattle.failure.specs.Failure.{IfFault};
-ghost use Rattle.asm8080.specs.declared.item.Item.TheVariants.{Plain, WithWord, Byte, Address, Mark};
+ghost use Rattle.asm8080.specs.declared.item.Item.TheVariants.{Plain, WithWord, Byte, Address, Gap, Mark};
 ghost use Rattle.asm8080.specs.declared.item.Reference.TheVariants.{AtLabel, AtTarget};
-ghost use Rattle.asm8080.specs.Items.{is_bound};
+ghost use Rattle.asm8080.specs.Items.{BindsSame, BindsSameBut, IsAssembly, is_bound, may_be_target};
 ghost use Rattle.asm8080.specs.Assembled.{IsFinished};
 
 use crate::assembling::{all_placed, assemble, code_size, label_places};
@@ -20,7 +20,7 @@ use std::marker::Model;
 /// A place in code, to be bound once.
 #[derive(Clone, Copy)]
 pub struct Label {
-    number: usize,
+    pub(crate) number: usize,
 }
 
 impl Model for Label {
@@ -65,22 +65,25 @@ impl Code {
     pub fn emit(&mut self, instruction: Instr) -> Result<(), AllocError>
         ensures ok { OnOk result (self.new
             ≡ record self.old { items = self.old.items ++ Plain instruction ∷ [] }) }
+        ensures bound { OnOk result (BindsSame self.old.items self.new.items) }
         ensures err { OnErr result (self.new ≡ self.old) }
     {
         self.items.push(Item::Plain(instruction))?;
         Ok(())
     }
 
-    /// Adds an instruction whose word counts from a target.
+    /// Adds an instruction whose word counts from a target: code, data, the stack or an external name.
     pub fn emit_fixed(
         &mut self,
         form: WordForm,
         target: Target,
         offset: u16,
     ) -> Result<(), AllocError>
+        requires target { IsTrue (may_be_target target) }
         ensures ok { OnOk result (self.new ≡ record self.old {
           items = self.old.items ++ WithWord form (AtTarget target offset) ∷ [];
         }) }
+        ensures bound { OnOk result (BindsSame self.old.items self.new.items) }
         ensures err { OnErr result (self.new ≡ self.old) }
     {
         self.items
@@ -92,17 +95,20 @@ impl Code {
     pub fn emit_byte(&mut self, value: u8) -> Result<(), AllocError>
         ensures ok { OnOk result (self.new
             ≡ record self.old { items = self.old.items ++ Byte value ∷ [] }) }
+        ensures bound { OnOk result (BindsSame self.old.items self.new.items) }
         ensures err { OnErr result (self.new ≡ self.old) }
     {
         self.items.push(Item::Byte(value))?;
         Ok(())
     }
 
-    /// Adds a word of data that counts from a target.
+    /// Adds a word of data that counts from a target: code, data, the stack or an external name.
     pub fn emit_address(&mut self, target: Target, offset: u16) -> Result<(), AllocError>
+        requires target { IsTrue (may_be_target target) }
         ensures ok { OnOk result (self.new ≡ record self.old {
           items = self.old.items ++ Address (AtTarget target offset) ∷ [];
         }) }
+        ensures bound { OnOk result (BindsSame self.old.items self.new.items) }
         ensures err { OnErr result (self.new ≡ self.old) }
     {
         self.items
@@ -110,9 +116,43 @@ impl Code {
         Ok(())
     }
 
+    /// Adds a word of data that is the place of a label of this code.
+    pub fn emit_place(&mut self, label: Label) -> Result<(), AllocError>
+        requires known { label < self.old.labels }
+        ensures ok { OnOk result (self.new
+            ≡ record self.old { items = self.old.items ++ Address (AtLabel label) ∷ [] }) }
+        ensures bound { OnOk result (BindsSame self.old.items self.new.items) }
+        ensures err { OnErr result (self.new ≡ self.old) }
+    {
+        self.items
+            .push(Item::Address(Reference::AtLabel(label.number)))?;
+        Ok(())
+    }
+
+    /// Adds so many bytes that stay unset.
+    pub fn leave(&mut self, count: u16) -> Result<(), AllocError>
+        ensures ok { OnOk result (self.new
+            ≡ record self.old { items = self.old.items ++ Gap count ∷ [] }) }
+        ensures bound { OnOk result (BindsSame self.old.items self.new.items) }
+        ensures err { OnErr result (self.new ≡ self.old) }
+    {
+        self.items.push(Item::Gap(count))?;
+        Ok(())
+    }
+
+    /// How many labels there are. Their numbers are those below, and no label is bound but these, each once.
+    pub fn label_count(&self) -> usize
+        ensures count { result ≡ self.now.labels }
+        ensures valid { IsAssembly self.now }
+    {
+        self.labels
+    }
+
     /// A label that is not bound yet. Fails where there are as many as can be counted.
     pub fn label(&mut self) -> Result<Label, AllocError>
         ensures ok { IfOk result (λ label. label ≡ self.old.labels) }
+        ensures unbound { IfOk result (λ label. is_bound label self.old.items ≡ false) }
+        ensures valid { IsAssembly self.old }
         ensures more { OnOk result (self.new ≡ record self.old { labels = self.old.labels + 1 }) }
         ensures err { OnErr result (self.new ≡ self.old) }
         ensures full { OnErr result (self.old.labels + 1 ≡ 2 ^ 64) }
@@ -140,6 +180,7 @@ impl Code {
         requires once { is_bound label self.old.items ≡ false }
         ensures ok { OnOk result (self.new
             ≡ record self.old { items = self.old.items ++ Mark label ∷ [] }) }
+        ensures others { OnOk result (BindsSameBut label self.old.items self.new.items) }
         ensures err { OnErr result (self.new ≡ self.old) }
     {
         self.items.push(Item::Mark(label.number))?;
@@ -152,6 +193,7 @@ impl Code {
         ensures ok { OnOk result (self.new ≡ record self.old {
           items = self.old.items ++ WithWord form (AtLabel label) ∷ [];
         }) }
+        ensures bound { OnOk result (BindsSame self.old.items self.new.items) }
         ensures err { OnErr result (self.new ≡ self.old) }
     {
         self.items
@@ -172,10 +214,10 @@ impl Code {
         if !all_placed(places) {
             return Err(Failure::Fault(Fault::UnboundLabel));
         }
-        if code_size(items) > SEGMENT_LIMIT as usize {
+        if code_size(items) > SEGMENT_LIMIT as u128 {
             return Err(Failure::Fault(Fault::TooLong));
         }
         let code = assemble(alloc, items, places)?;
-        Ok(code)
+        Ok(code.with_places(table))
     }
 }

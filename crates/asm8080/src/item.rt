@@ -46,6 +46,8 @@ pub enum Item {
     Byte(u8),
     /// A word of data, low byte first.
     Address(Reference),
+    /// So many bytes that stay unset.
+    Gap(u16),
     /// The place of a label, by its number.
     Mark(usize),
 }

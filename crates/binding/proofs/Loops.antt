@@ -1,5 +1,5 @@
 -- Loops over lists whose items are bound one by one.
-use Rattle.std.proofs.Common.{◌≡◌, ℕ, suc, ◌+◌, ◌<◌, List, length, drop, get_or, ◌∷◌, ap, sym, subst, Option, Result, Ok, Err, ◌≤◌, [], ◌∙◌}
+use Rattle.std.proofs.Common.{◌≡◌, ℕ, ◌+◌, ◌<◌, List, length, drop, get_or, ◌∷◌, ap, sym, subst, Option, Result, Ok, Err, ◌≤◌, [], ◌∙◌}
 use Rattle.std.proofs.Math.ListN.{drop_of_length-le}
 use Rattle.failure.specs.declared.Failure.{Failure}
 use Rattle.names.specs.declared.fault.Fault.{Fault}

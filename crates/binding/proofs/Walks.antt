@@ -159,6 +159,11 @@ pub fails_uses : (fault : Option Fault) (names : List Identifier) (walk : Walk) 
 fails_uses fault names walk fails =
     subst (FailsBy fault) (sym (gives_used names walk)) (fails_more fault (bound_at walk.here names walk.bindings) (with_bindings walk.here) fails)
 
+pub uses_done : {A : Type 0} (result : Result A (Failure Fault)) (names : List Identifier) (walk : Walk) (now : List Binding) → Does result now (bound_at walk.here names walk.bindings)
+    → Does result (walk_at walk.here now) (gives (uses_of names) walk)
+uses_done (Ok done) names walk now does = gives_uses names walk now does
+uses_done (Err failure) names walk now does = fails_uses (fault_in failure) names walk does
+
 -- an item, whose declarations bind nothing
 objects_bind_nothing : (names : List Identifier) (here : Here) → bindings_of (see_all declares_object names here).events ≡ []
 unfolding in_turn nothing declares

@@ -80,7 +80,6 @@ impl Binder {
     }
 
     // Declares objects.
-    #[tactic(auto, using(crate::proofs::Walks::gives_then, crate::proofs::Walks::gives_three, crate::proofs::Walks::fails_then, crate::proofs::Walks::fails_second, crate::proofs::Walks::fails_middle, crate::proofs::Walks::gives_nothing))]
     fn objects(&mut self, names: &[Identifier]) -> Result<(), Failure<Fault>>
         ensures { Does result self.new (gives (see_all declares_object names.now) self.old) }
     {
@@ -91,7 +90,6 @@ impl Binder {
     }
 
     // Takes in the parameters of a heading.
-    #[tactic(auto, using(crate::proofs::Walks::gives_then, crate::proofs::Walks::gives_three, crate::proofs::Walks::fails_then, crate::proofs::Walks::fails_second, crate::proofs::Walks::fails_middle, crate::proofs::Walks::gives_nothing))]
     fn parameters(&mut self, names: &[Identifier]) -> Result<(), Failure<Fault>>
         ensures { Does result self.new (gives (see_all declares_parameter names.now) self.old) }
     {
@@ -102,7 +100,6 @@ impl Binder {
     }
 
     // Takes in the labels before a statement.
-    #[tactic(auto, using(crate::proofs::Walks::gives_then, crate::proofs::Walks::gives_three, crate::proofs::Walks::fails_then, crate::proofs::Walks::fails_second, crate::proofs::Walks::fails_middle, crate::proofs::Walks::gives_nothing))]
     fn labels(&mut self, names: &[Identifier]) -> Result<(), Failure<Fault>>
         ensures { Does result self.new (gives (see_all declares_label names.now) self.old) }
     {
@@ -113,7 +110,6 @@ impl Binder {
     }
 
     // Declares the names of an item.
-    #[tactic(auto, using(crate::proofs::Walks::gives_then, crate::proofs::Walks::gives_three, crate::proofs::Walks::fails_then, crate::proofs::Walks::fails_second, crate::proofs::Walks::fails_middle, crate::proofs::Walks::gives_nothing))]
     fn subject(&mut self, subject: &Subject) -> Result<(), Failure<Fault>>
         ensures { Does result self.new
             (gives (see_all declares_object (declared_by (subject_tree subject.now))) self.old) }
@@ -147,7 +143,6 @@ impl Binder {
     }
 
     // Goes through the elements of a DECLARE.
-    #[tactic(auto, using(crate::proofs::Walks::gives_then, crate::proofs::Walks::gives_three, crate::proofs::Walks::fails_then, crate::proofs::Walks::fails_second, crate::proofs::Walks::fails_middle, crate::proofs::Walks::gives_nothing))]
     fn elements(&mut self, elements: &[Element]) -> Result<(), Failure<Fault>>
         ensures { Does result self.new
             (gives (see_all see_element (map element_tree elements.now)) self.old) }
@@ -159,57 +154,47 @@ impl Binder {
     }
 
     // Binds the names in an expression.
-    #[tactic(auto, using(crate::proofs::Walks::gives_uses, crate::proofs::Walks::fails_uses))]
     fn expression(&mut self, expression: &Expression) -> Result<(), Failure<Fault>>
         ensures { Does result self.new
             (gives (uses_of (names_in_expression (expression_tree expression.now))) self.old) }
     {
-        bind_expression(&self.scopes, expression, &mut self.bindings)?;
-        Ok(())
+        bind_expression(&self.scopes, expression, &mut self.bindings)
     }
 
     // Binds the names in an expression, if there is one.
-    #[tactic(auto, using(crate::proofs::Walks::gives_uses, crate::proofs::Walks::fails_uses))]
     fn optional(&mut self, expression: &Option<Box<Expression>>) -> Result<(), Failure<Fault>>
         ensures { Does result self.new
             (gives (uses_of (names_in_optional names_in_expression (option_map
             (λ held. expression_tree held.value) expression.now))) self.old) }
     {
-        bind_optional(&self.scopes, expression, &mut self.bindings)?;
-        Ok(())
+        bind_optional(&self.scopes, expression, &mut self.bindings)
     }
 
     // Binds the name and the arguments of a CALL.
-    #[tactic(auto, using(crate::proofs::Walks::gives_uses, crate::proofs::Walks::fails_uses))]
     fn call(&mut self, procedure: &Selector) -> Result<(), Failure<Fault>>
         ensures { Does result self.new
             (gives (uses_of (procedure.now.name ∷ names_in_arguments
             (argument_trees procedure.now.arguments.items))) self.old) }
     {
-        bind_call(&self.scopes, procedure, &mut self.bindings)?;
-        Ok(())
+        bind_call(&self.scopes, procedure, &mut self.bindings)
     }
 
     // Binds the names in an assignment.
-    #[tactic(auto, using(crate::proofs::Walks::gives_uses, crate::proofs::Walks::fails_uses))]
     fn assignment(&mut self, assignment: &Assignment) -> Result<(), Failure<Fault>>
         ensures { Does result self.new
             (gives (uses_of (flat_map names_in_reference
             (target_trees assignment.now.target assignment.now.others.items) ++ names_in_expression
             (expression_tree assignment.now.value))) self.old) }
     {
-        bind_assignment(&self.scopes, assignment, &mut self.bindings)?;
-        Ok(())
+        bind_assignment(&self.scopes, assignment, &mut self.bindings)
     }
 
     // Binds the names in the head of an iterative DO.
-    #[tactic(auto, using(crate::proofs::Walks::gives_uses, crate::proofs::Walks::fails_uses))]
     fn iteration(&mut self, iteration: &Iteration) -> Result<(), Failure<Fault>>
         ensures { Does result self.new
             (gives (uses_of (names_in_iteration (iteration_tree iteration.now))) self.old) }
     {
-        bind_iteration(&self.scopes, iteration, &mut self.bindings)?;
-        Ok(())
+        bind_iteration(&self.scopes, iteration, &mut self.bindings)
     }
 
     // Binds the name after GOTO.
@@ -272,7 +257,6 @@ impl Binder {
 
     // Goes through a statement of a list.
     #[cycle(walk)]
-    #[tactic(auto, using(crate::proofs::Walks::gives_then, crate::proofs::Walks::gives_three, crate::proofs::Walks::fails_then, crate::proofs::Walks::fails_second, crate::proofs::Walks::fails_middle, crate::proofs::Walks::gives_nothing))]
     fn statement(&mut self, statement: &Statement) -> Result<(), Failure<Fault>>
         ensures { Does result self.new (gives (see_statement (statement_tree statement.now)) self.old) }
     {
@@ -282,7 +266,6 @@ impl Binder {
 
     // Goes through what a statement does.
     #[cycle(walk)]
-    #[tactic(auto, using(crate::proofs::Walks::gives_nothing, names::proofs::Parts::if_is, names::proofs::Parts::do_is, names::proofs::Parts::while_is, names::proofs::Parts::iterate_is, names::proofs::Parts::case_is))]
     fn kind(&mut self, kind: &StatementKind) -> Result<(), Failure<Fault>>
         ensures { Does result self.new (gives (see_kind (kind_tree kind.now)) self.old) }
     {
@@ -302,7 +285,6 @@ impl Binder {
 
     // Goes through an IF.
     #[cycle(walk)]
-    #[tactic(auto, using(crate::proofs::Walks::gives_then, crate::proofs::Walks::gives_three, crate::proofs::Walks::fails_then, crate::proofs::Walks::fails_second, crate::proofs::Walks::fails_middle, crate::proofs::Walks::gives_nothing))]
     fn conditional(&mut self, branch: &IfThen) -> Result<(), Failure<Fault>>
         ensures { Does result self.new (gives (see_kind (if_tree branch.now)) self.old) }
     {
@@ -313,7 +295,6 @@ impl Binder {
 
     // Goes through the statement after ELSE, if there is one.
     #[cycle(walk)]
-    #[tactic(auto, using(crate::proofs::Walks::gives_nothing))]
     fn otherwise(&mut self, otherwise: &Option<Statement>) -> Result<(), Failure<Fault>>
         ensures { Does result self.new (gives (see_else (else_tree otherwise.now)) self.old) }
     {
@@ -325,7 +306,6 @@ impl Binder {
 
     // Goes through a simple DO.
     #[cycle(walk)]
-    #[tactic(auto, using(crate::proofs::Walks::gives_then, crate::proofs::Walks::gives_three, crate::proofs::Walks::fails_then, crate::proofs::Walks::fails_second, crate::proofs::Walks::fails_middle, crate::proofs::Walks::gives_nothing))]
     fn simple_do(&mut self, place: Place, block: &Block) -> Result<(), Failure<Fault>>
         ensures { Does result self.new (gives (see_kind (do_tree place block.now)) self.old) }
     {
@@ -337,7 +317,6 @@ impl Binder {
 
     // Goes through a DO WHILE.
     #[cycle(walk)]
-    #[tactic(auto, using(crate::proofs::Walks::gives_then, crate::proofs::Walks::gives_three, crate::proofs::Walks::fails_then, crate::proofs::Walks::fails_second, crate::proofs::Walks::fails_middle, crate::proofs::Walks::gives_nothing))]
     fn do_while(&mut self, turns: &DoWhile) -> Result<(), Failure<Fault>>
         ensures { Does result self.new (gives (see_kind (while_tree turns.now)) self.old) }
     {
@@ -347,7 +326,6 @@ impl Binder {
 
     // Goes through an iterative DO.
     #[cycle(walk)]
-    #[tactic(auto, using(crate::proofs::Walks::gives_then, crate::proofs::Walks::gives_three, crate::proofs::Walks::fails_then, crate::proofs::Walks::fails_second, crate::proofs::Walks::fails_middle, crate::proofs::Walks::gives_nothing))]
     fn do_iterate(&mut self, turns: &IterativeDo) -> Result<(), Failure<Fault>>
         ensures { Does result self.new (gives (see_kind (iterate_tree turns.now)) self.old) }
     {
@@ -357,7 +335,6 @@ impl Binder {
 
     // Goes through a DO CASE.
     #[cycle(walk)]
-    #[tactic(auto, using(crate::proofs::Walks::gives_then, crate::proofs::Walks::gives_three, crate::proofs::Walks::fails_then, crate::proofs::Walks::fails_second, crate::proofs::Walks::fails_middle, crate::proofs::Walks::gives_nothing))]
     fn do_case(&mut self, choice: &DoCase) -> Result<(), Failure<Fault>>
         ensures { Does result self.new (gives (see_kind (case_tree choice.now)) self.old) }
     {
@@ -367,7 +344,6 @@ impl Binder {
 
     // Goes through the statements of a DO CASE.
     #[cycle(walk)]
-    #[tactic(auto, using(crate::proofs::Walks::gives_then, crate::proofs::Walks::gives_three, crate::proofs::Walks::fails_then, crate::proofs::Walks::fails_second, crate::proofs::Walks::fails_middle, crate::proofs::Walks::gives_nothing))]
     fn cases(&mut self, statements: &[Statement]) -> Result<(), Failure<Fault>>
         ensures { Does result self.new (gives (see_cases (statement_trees statements.now)) self.old) }
     {
@@ -379,7 +355,6 @@ impl Binder {
 
     // Goes through a list of statements.
     #[cycle(walk)]
-    #[tactic(auto, using(crate::proofs::Walks::gives_then, crate::proofs::Walks::gives_three, crate::proofs::Walks::fails_then, crate::proofs::Walks::fails_second, crate::proofs::Walks::fails_middle, crate::proofs::Walks::gives_nothing))]
     fn list(&mut self, statements: &[Statement]) -> Result<(), Failure<Fault>>
         ensures { Does result self.new
             (gives (in_list (statement_trees statements.now) (see_statements
@@ -393,7 +368,6 @@ impl Binder {
 
     // Goes through the statements of a list.
     #[cycle(walk)]
-    #[tactic(auto, using(crate::proofs::Walks::gives_then, crate::proofs::Walks::gives_three, crate::proofs::Walks::fails_then, crate::proofs::Walks::fails_second, crate::proofs::Walks::fails_middle, crate::proofs::Walks::gives_nothing))]
     fn statements(&mut self, statements: &[Statement]) -> Result<(), Failure<Fault>>
         ensures { Does result self.new (gives (see_statements (statement_trees statements.now)) self.old) }
     {
@@ -405,7 +379,6 @@ impl Binder {
 
     // Goes through what a block declares and does.
     #[cycle(walk)]
-    #[tactic(auto, using(crate::proofs::Walks::gives_then, crate::proofs::Walks::gives_three, crate::proofs::Walks::fails_then, crate::proofs::Walks::fails_second, crate::proofs::Walks::fails_middle, crate::proofs::Walks::gives_nothing))]
     fn block(&mut self, block: &Block) -> Result<(), Failure<Fault>>
         ensures { Does result self.new
             (gives (see_block (block_declarations block.now) (block_statements block.now)) self.old) }
@@ -416,7 +389,6 @@ impl Binder {
 
     // Goes through declarations.
     #[cycle(walk)]
-    #[tactic(auto, using(crate::proofs::Walks::gives_then, crate::proofs::Walks::gives_three, crate::proofs::Walks::fails_then, crate::proofs::Walks::fails_second, crate::proofs::Walks::fails_middle, crate::proofs::Walks::gives_nothing))]
     fn declarations(&mut self, declarations: &[Declaration]) -> Result<(), Failure<Fault>>
         ensures { Does result self.new
             (gives (see_declarations (declaration_trees declarations.now)) self.old) }
@@ -429,7 +401,6 @@ impl Binder {
 
     // Goes through a declaration.
     #[cycle(walk)]
-    #[tactic(auto, using(names::proofs::Parts::procedure_is))]
     fn declaration(&mut self, declaration: &Declaration) -> Result<(), Failure<Fault>>
         ensures { Does result self.new (gives (see_declaration (declaration_tree declaration.now)) self.old) }
     {
@@ -441,7 +412,6 @@ impl Binder {
 
     // Goes through a procedure.
     #[cycle(walk)]
-    #[tactic(auto, using(crate::proofs::Walks::gives_then, crate::proofs::Walks::gives_three, crate::proofs::Walks::fails_then, crate::proofs::Walks::fails_second, crate::proofs::Walks::fails_middle, crate::proofs::Walks::gives_nothing))]
     fn procedure(&mut self, procedure: &Procedure) -> Result<(), Failure<Fault>>
         ensures { Does result self.new (gives (see_declaration (procedure_parts procedure.now)) self.old) }
     {
@@ -451,7 +421,6 @@ impl Binder {
 
     // Goes through the body of a procedure.
     #[cycle(walk)]
-    #[tactic(auto, using(crate::proofs::Walks::gives_then, crate::proofs::Walks::gives_three, crate::proofs::Walks::fails_then, crate::proofs::Walks::fails_second, crate::proofs::Walks::fails_middle, crate::proofs::Walks::gives_nothing))]
     fn procedure_body(&mut self, procedure: &Procedure) -> Result<(), Failure<Fault>>
         ensures { Does result self.new (gives (in_body (see_body procedure.now)) self.old) }
     {
@@ -463,7 +432,6 @@ impl Binder {
 
     // Goes through what stands in a procedure.
     #[cycle(walk)]
-    #[tactic(auto, using(crate::proofs::Walks::gives_then, crate::proofs::Walks::gives_three, crate::proofs::Walks::fails_then, crate::proofs::Walks::fails_second, crate::proofs::Walks::fails_middle, crate::proofs::Walks::gives_nothing))]
     fn procedure_inside(&mut self, procedure: &Procedure) -> Result<(), Failure<Fault>>
         ensures { Does result self.new (gives (see_body procedure.now) self.old) }
     {

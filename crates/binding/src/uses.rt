@@ -36,7 +36,6 @@ pub(crate) fn bind_name(
 
 /// Binds the names in an expression.
 #[cycle(uses)]
-#[tactic(auto, using(crate::proofs::Walks::bound_append_ok, crate::proofs::Walks::fails_append, crate::proofs::Walks::bound_none))]
 pub(crate) fn bind_expression(
     scopes: &Scopes,
     expression: &Expression,
@@ -65,7 +64,6 @@ pub(crate) fn bind_expression(
 
 /// Binds the names in a reference.
 #[cycle(uses)]
-#[tactic(auto, using(crate::proofs::Walks::bound_append_ok, crate::proofs::Walks::fails_append, crate::proofs::Walks::bound_none, crate::proofs::Walks::bound_cons_ok, crate::proofs::Walks::fails_cons, crate::proofs::References::reference_names))]
 pub(crate) fn bind_reference(
     scopes: &Scopes,
     reference: &Reference,
@@ -84,7 +82,6 @@ pub(crate) fn bind_reference(
 
 /// Binds the names in arguments.
 #[cycle(uses)]
-#[tactic(auto, using(crate::proofs::Walks::bound_append_ok, crate::proofs::Walks::fails_append, crate::proofs::Walks::bound_none))]
 pub(crate) fn bind_arguments(
     scopes: &Scopes,
     arguments: &[Expression],
@@ -100,7 +97,6 @@ pub(crate) fn bind_arguments(
 }
 
 /// Binds the names in an expression, if there is one.
-#[tactic(auto, using(crate::proofs::Walks::bound_append_ok, crate::proofs::Walks::fails_append, crate::proofs::Walks::bound_none, crate::proofs::Walks::bound_cons_ok, crate::proofs::Walks::fails_cons))]
 pub(crate) fn bind_optional(
     scopes: &Scopes,
     expression: &Option<Box<Expression>>,
@@ -117,7 +113,6 @@ pub(crate) fn bind_optional(
 }
 
 /// Binds the name and the arguments of a call.
-#[tactic(auto, using(crate::proofs::Walks::bound_append_ok, crate::proofs::Walks::fails_append, crate::proofs::Walks::bound_none, crate::proofs::Walks::bound_cons_ok, crate::proofs::Walks::fails_cons))]
 pub(crate) fn bind_call(
     scopes: &Scopes,
     procedure: &Selector,
@@ -132,7 +127,6 @@ pub(crate) fn bind_call(
 }
 
 /// Binds the names in targets.
-#[tactic(auto, using(crate::proofs::Walks::bound_append_ok, crate::proofs::Walks::fails_append, crate::proofs::Walks::bound_none, crate::proofs::Walks::bound_cons_ok, crate::proofs::Walks::fails_cons))]
 pub(crate) fn bind_targets(
     scopes: &Scopes,
     targets: &[Reference],
@@ -149,7 +143,6 @@ pub(crate) fn bind_targets(
 }
 
 /// Binds the names in an assignment.
-#[tactic(auto, using(crate::proofs::Walks::bound_append_ok, crate::proofs::Walks::fails_append, crate::proofs::Walks::bound_none, crate::proofs::Walks::bound_cons_ok, crate::proofs::Walks::fails_cons))]
 pub(crate) fn bind_assignment(
     scopes: &Scopes,
     assignment: &Assignment,
@@ -166,7 +159,6 @@ pub(crate) fn bind_assignment(
 }
 
 /// Binds the names in the step of an iterative DO, if there is one.
-#[tactic(auto, using(crate::proofs::Walks::bound_append_ok, crate::proofs::Walks::fails_append, crate::proofs::Walks::bound_none, crate::proofs::Walks::bound_cons_ok, crate::proofs::Walks::fails_cons))]
 fn bind_step(
     scopes: &Scopes,
     step: &Option<Expression>,
@@ -183,7 +175,6 @@ fn bind_step(
 }
 
 /// Binds the names in the bounds and the step of an iterative DO.
-#[tactic(auto, using(crate::proofs::Walks::bound_append_ok, crate::proofs::Walks::fails_append, crate::proofs::Walks::bound_none, crate::proofs::Walks::bound_cons_ok, crate::proofs::Walks::fails_cons))]
 fn bind_bounds(
     scopes: &Scopes,
     iteration: &Iteration,
@@ -198,7 +189,6 @@ fn bind_bounds(
 }
 
 /// Binds the names in the head of an iterative DO.
-#[tactic(auto, using(crate::proofs::Walks::bound_append_ok, crate::proofs::Walks::fails_append, crate::proofs::Walks::bound_none, crate::proofs::Walks::bound_cons_ok, crate::proofs::Walks::fails_cons))]
 pub(crate) fn bind_iteration(
     scopes: &Scopes,
     iteration: &Iteration,
@@ -212,7 +202,6 @@ pub(crate) fn bind_iteration(
 }
 
 /// Binds the name in a restricted expression, if there is one.
-#[tactic(auto, using(crate::proofs::Walks::bound_append_ok, crate::proofs::Walks::fails_append, crate::proofs::Walks::bound_none, crate::proofs::Walks::bound_cons_ok, crate::proofs::Walks::fails_cons))]
 pub(crate) fn bind_restricted(
     scopes: &Scopes,
     restricted: &Restricted,
@@ -228,7 +217,6 @@ pub(crate) fn bind_restricted(
 }
 
 /// Binds the names in the values of INITIAL or DATA.
-#[tactic(auto, using(crate::proofs::Walks::bound_append_ok, crate::proofs::Walks::fails_append, crate::proofs::Walks::bound_none, crate::proofs::Walks::bound_cons_ok, crate::proofs::Walks::fails_cons))]
 pub(crate) fn bind_values(
     scopes: &Scopes,
     values: &[Restricted],
@@ -245,7 +233,6 @@ pub(crate) fn bind_values(
 }
 
 /// Binds the name after BASED, if there is one.
-#[tactic(auto, using(crate::proofs::Walks::bound_append_ok, crate::proofs::Walks::fails_append, crate::proofs::Walks::bound_none, crate::proofs::Walks::bound_cons_ok, crate::proofs::Walks::fails_cons))]
 pub(crate) fn bind_base(
     scopes: &Scopes,
     subject: &Subject,
@@ -264,7 +251,6 @@ pub(crate) fn bind_base(
 }
 
 /// Binds the names that an item uses.
-#[tactic(auto, using(crate::proofs::Walks::bound_append_ok, crate::proofs::Walks::fails_append, crate::proofs::Walks::bound_none, crate::proofs::Walks::bound_cons_ok, crate::proofs::Walks::fails_cons))]
 pub(crate) fn bind_item(
     scopes: &Scopes,
     item: &Item,

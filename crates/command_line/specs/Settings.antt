@@ -9,7 +9,7 @@ use Rattle.failure.specs.declared.Failure.{Failure}
 use Rattle.failure.specs.declared.Failure.TheVariants.{Fault, Memory}
 use Rattle.command_line.specs.Command.{PlanWanted, ProgramWanted}
 use Rattle.command_line.specs.declared.values.InputByte.{InputByte}
-use Rattle.command_line.specs.declared.values.Plan.{Plan}
+use Rattle.plans.specs.declared.Plan.{Plan}
 use Rattle.command_line.specs.declared.values.Settings.{Settings}
 use Rattle.command_line.specs.declared.values.ValueFault.{ValueFault}
 

@@ -8,5 +8,6 @@ mod reading;
 mod values;
 
 pub use orders::{Action, LinkOrder, Order, PlaceAction, PlaceOrder, PlanTexts, ProgramOrder};
+pub use plans::Plan;
 pub use reading::{LineFault, command};
-pub use values::{InputByte, Plan, Settings, ValueFault};
+pub use values::{InputByte, Settings, ValueFault};

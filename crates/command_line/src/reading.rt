@@ -155,18 +155,13 @@ fn order_named<'a>(
     ensures { IfOk result (λ order.
         option_map wanted_in order ≡ wanted_of_match (name.now, rows_of (found_of matches.now))) }
 {
-    if name == "run" {
-        program(alloc, Action::Run, matches)
-    } else if name == "interpret" {
-        program(alloc, Action::Interpret, matches)
-    } else if name == "link" {
-        link(alloc, matches)
-    } else if name == "locate" {
-        place(alloc, PlaceAction::Locate, matches)
-    } else if name == "hex" {
-        place(alloc, PlaceAction::Hex, matches)
-    } else {
-        Ok(None)
+    match name {
+        "run" => program(alloc, Action::Run, matches),
+        "interpret" => program(alloc, Action::Interpret, matches),
+        "link" => link(alloc, matches),
+        "locate" => place(alloc, PlaceAction::Locate, matches),
+        "hex" => place(alloc, PlaceAction::Hex, matches),
+        _ => Ok(None),
     }
 }
 

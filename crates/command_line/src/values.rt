@@ -16,24 +16,12 @@ ghost use Rattle.command_line.specs.internal.Reads.{Reads, ReadsFile, if_read, i
 
 use crate::orders::{PlaceOrder, PlanTexts, ProgramOrder};
 use failure::Failure;
+use plans::Plan;
 use std::alloc::{AllocError, Global};
 use thiserror::Error;
 
 // The most instructions that are run, and the greatest budget.
 const MOST: u64 = 1_000_000_000_000;
-
-/// Where the parts of a program are to lie.
-#[derive(Clone, Copy)]
-pub struct Plan {
-    /// The address of the code.
-    pub code: u16,
-    /// The address of the data.
-    pub data_base: u16,
-    /// The lowest address of the stack.
-    pub stack: u16,
-    /// The number of bytes of the stack.
-    pub stack_size: u16,
-}
 
 /// A byte that a port gives.
 #[derive(Clone, Copy)]

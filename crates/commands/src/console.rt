@@ -17,7 +17,6 @@ use command_line::{
 };
 use failure::Failure;
 use files::Files;
-use locate::Plan;
 use object_commands::{link_files, print_hex, print_places};
 use std::alloc::Global;
 use std::io::Write;
@@ -108,19 +107,13 @@ fn carry_out_place<F: Files, O: Write, E: Write>(
 ) -> Ending
     ensures kept { KeepsFiles (F.files files.old) (F.files files.new) }
 {
-    let values = match order.plan() {
-        Ok(values) => values,
+    let plan = match order.plan() {
+        Ok(plan) => plan,
         Err(fault) => return refuse_value(&fault, err),
     };
     let file = match order.file() {
         Ok(file) => file,
         Err(fault) => return refuse_value(&fault, err),
-    };
-    let plan = Plan {
-        code: values.code,
-        data_base: values.data_base,
-        stack: values.stack,
-        stack_size: values.stack_size,
     };
     match order.action {
         PlaceAction::Locate => print_places(alloc, file, &plan, files, out, err),

@@ -20,7 +20,7 @@ use mem80::Memory;
 use report::report;
 use std::alloc::Global;
 use std::io::Write;
-use tool::{Plan, Source};
+use tool::Source;
 
 /// Reads the program of sources, and interprets it from a memory of zeros.
 #[tactic(auto, using(interpretation::proofs::Programs::has_table, interpretation::proofs::Programs::has_sound_jumps))]
@@ -32,13 +32,7 @@ pub(crate) fn interpret_sources<O: Write, E: Write>(
     out: &mut O,
     err: &mut E,
 ) -> Ending {
-    let plan = Plan {
-        code: settings.plan.code,
-        data_base: settings.plan.data_base,
-        stack: settings.plan.stack,
-        stack_size: settings.plan.stack_size,
-    };
-    match read_program(alloc, sources, &plan) {
+    match read_program(alloc, sources, &settings.plan) {
         Ok(readied) => interpret_program(alloc, order, settings, &readied, out, err),
         Err(Failure::Fault(fault)) => refuse_sources(&fault, order.files.as_slice(), err),
         Err(Failure::Memory) => refuse_memory(err),

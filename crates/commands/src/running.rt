@@ -11,7 +11,7 @@ use mem80::Memory;
 use report::report;
 use std::alloc::Global;
 use std::io::Write;
-use tool::{Built, Plan, Source, build, execute};
+use tool::{Built, Source, build, execute};
 
 /// Builds the program of sources, and runs its image on a memory of zeros.
 pub(crate) fn run_sources<O: Write, E: Write>(
@@ -22,13 +22,7 @@ pub(crate) fn run_sources<O: Write, E: Write>(
     out: &mut O,
     err: &mut E,
 ) -> Ending {
-    let plan = Plan {
-        code: settings.plan.code,
-        data_base: settings.plan.data_base,
-        stack: settings.plan.stack,
-        stack_size: settings.plan.stack_size,
-    };
-    match build(alloc, sources, &plan) {
+    match build(alloc, sources, &settings.plan) {
         Ok(built) => run_built(alloc, order, settings, &built, out, err),
         Err(Failure::Fault(fault)) => refuse_sources(&fault, order.files.as_slice(), err),
         Err(Failure::Memory) => refuse_memory(err),

@@ -51,13 +51,18 @@ fn word_of(end: End) -> &'static str {
     }
 }
 
+// Prints what the printer printed, how much happened at the ports, and how the run ended.
+fn print_end(rt: &HostRuntime, devices: &Devices, end: End) -> Result<()> {
+    println!(rt; "printed: {}", devices.paper())?;
+    println!(rt; "events: {}", devices.log().len())?;
+    println!(rt; "the machine has {}", word_of(end))?;
+    Ok(())
+}
+
 fn main(rt: HostRuntime) -> Result<()> {
     let mut memory = Memory::new(rt.alloc())?;
     put_program(&mut memory, START, &PROGRAM);
     let mut machine = Machine::new(memory, Devices::new(rt.alloc()), START);
     let end = machine.run(1000);
-    println!(rt; "printed: {}", machine.ports().paper())?;
-    println!(rt; "events: {}", machine.ports().log().len())?;
-    println!(rt; "the machine has {}", word_of(end))?;
-    Ok(())
+    print_end(&rt, machine.ports(), end)
 }

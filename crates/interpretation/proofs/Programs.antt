@@ -14,7 +14,7 @@ use Rattle.layout.specs.Joined.{IsJoined}
 use Rattle.layout.specs.Lawful.{IsLawful}
 use Rattle.layout.specs.Placement.{pieces_of}
 use Rattle.layout.specs.Placing.{placement_by}
-use Rattle.placing.specs.declared.plan.Plan.{Plan}
+use Rattle.plans.specs.declared.Plan.{Plan}
 use Rattle.placing.specs.Segments.{HoldsConstants, HaveStorage}
 use Rattle.placing.specs.Tables.{IsTableOf}
 use Rattle.placing.specs.Views.{placement_view, plan_view}

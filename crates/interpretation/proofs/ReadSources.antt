@@ -1,9 +1,13 @@
 -- Sources that are read, one by one.
-use Rattle.std.proofs.Common.{◌≡◌, ℕ, ◌+◌, ◌<◌, ◌≤◌, ◌⊎◌, List, [], ◌∷◌, ◌++◌, length, drop, get_or, map, arith, refl, sym, ap, ◌∙◌, subst, add-one, append-nil, append_assoc, ⊎_elim}
+use Rattle.std.proofs.Common.{◌≡◌, Err, Ok, ℕ, ◌+◌, ◌<◌, ◌≤◌, ◌⊎◌, List, [], ◌∷◌, ◌++◌, length, drop, get_or, map, arith, refl, sym, ap, ◌∙◌, subst, add-one, append-nil, append_assoc, ⊎_elim}
 use Rattle.std.proofs.Math.ListN.{drop_of_length-le}
 use Rattle.std.proofs.Math.Seq.{drop-cons}
 use Rattle.std.proofs.lemmas.Bool.{cases_lt}
 use Rattle.std.proofs.lemmas.List.{get_or-map, length-map}
+use Rattle.std.specs.Prelude.{IsErrAnd, Result}
+use Rattle.failure.specs.Failure.{IfFault}
+use Rattle.failure.specs.declared.Failure.{Failure}
+use Rattle.failure.specs.declared.Failure.TheVariants.{Fault, Memory}
 use Rattle.frontend.specs.declared.read.SourceModule.{SourceModule}
 use Rattle.typed_trees.specs.Jumps.{JumpsAreSound}
 use Rattle.typed_trees.specs.Storable.{IsStorable}
@@ -79,3 +83,25 @@ first_of_one (CodeTooLong place) file text texts has before = absurd has
 first_of_one (NotServed place line) file text texts has before = absurd has
 first_of_one (Join fault) file text texts has before = absurd has
 first_of_one (Placement fault) file text texts has before = absurd has
+
+-- a failure that is handed on
+pub passed : {A F : Type 0} (result : Result A F) (failure : F) → IsErrAnd result (λ given. given ≡ failure) → result ≡ Err failure
+passed (Ok value) failure is = absurd is
+passed (Err given) failure is = ap Err is
+
+-- the failure of one source is that of all
+pub fault_of_all : {A : Type 0} (texts : List (List ℕ)) (file : ℕ) (text : List ℕ) (result : Result A (Failure ToolFault)) (failure : Failure ToolFault) → result ≡ Err failure → file < length texts
+    → text ≡ text_of texts file → IfFault {A = SourceModule} (Err failure) (λ fault. HasFaultOf fault file text) → IfFault result (λ fault. HasFault fault texts)
+fault_of_all {A} texts file text result (Fault fault) is below at has =
+    subst (λ (r : Result A (Failure ToolFault)). IfFault r (λ other. HasFault other texts)) (sym is)
+    (fault_of_one fault file texts below (subst (HasFaultOf fault file) at has))
+fault_of_all {A} texts file text result Memory is below at has =
+    subst (λ (r : Result A (Failure ToolFault)). IfFault r (λ other. HasFault other texts)) (sym is) tt
+
+-- and comes first where those before it have none
+pub first_of_all : {A : Type 0} (texts : List (List ℕ)) (file : ℕ) (text : List ℕ) (result : Result A (Failure ToolFault)) (failure : Failure ToolFault) → result ≡ Err failure
+    → IfFault {A = SourceModule} (Err failure) (λ fault. HasFaultOf fault file text) → AreReadable file texts → IfFault result (λ fault. IsFirst fault texts)
+first_of_all {A} texts file text result (Fault fault) is has before =
+    subst (λ (r : Result A (Failure ToolFault)). IfFault r (λ other. IsFirst other texts)) (sym is) (first_of_one fault file text texts has before)
+first_of_all {A} texts file text result Memory is has before =
+    subst (λ (r : Result A (Failure ToolFault)). IfFault r (λ other. IsFirst other texts)) (sym is) tt

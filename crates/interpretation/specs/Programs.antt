@@ -10,7 +10,7 @@ use Rattle.layout.specs.Placing.{placement_by, placing_refusal}
 use Rattle.join.specs.declared.fault.Fault as join_fault
 use Rattle.join.specs.Views as of_joining
 use Rattle.placing.specs.declared.fault.Fault as placing_fault
-use Rattle.placing.specs.declared.plan.Plan.{Plan}
+use Rattle.plans.specs.declared.Plan.{Plan}
 use Rattle.placing.specs.Tables.{IsTableOf}
 use Rattle.placing.specs.Views as of_placement
 use Rattle.frontend.specs.Causes.{HasReadCause}

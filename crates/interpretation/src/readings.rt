@@ -1,6 +1,6 @@
 //! Sources alone: what each is read as.
 
-ghost use Rattle.std.specs.Prelude.{◌≡◌, length, map, IfOk};
+ghost use Rattle.std.specs.Prelude.{◌≡◌, ◌∷◌, ◌++◌, [], length, map, IfOk, OnOk};
 ghost use Rattle.failure.specs.Failure.{IfFault};
 ghost use Rattle.tool.specs.Sources.{texts_of};
 ghost use Rattle.interpretation.specs.Programs.{AreReadable, HasFault, IsFirst};
@@ -14,7 +14,6 @@ use tool::{Source, ToolFault};
 use typed_trees::Typed;
 
 /// Reads each source, in the order given.
-#[tactic(auto, using(crate::proofs::ReadSources::none_readable, crate::proofs::ReadSources::one_more_readable, crate::proofs::ReadSources::goes_on, crate::proofs::ReadSources::all_read, crate::proofs::ReadSources::text_at, crate::proofs::ReadSources::within_texts, crate::proofs::ReadSources::fault_of_one, crate::proofs::ReadSources::first_of_one))]
 pub(crate) fn read_all(
     alloc: Global,
     sources: &[Source],
@@ -52,6 +51,28 @@ pub(crate) struct Parts {
     pub(crate) lengths: Vec<u32>,
 }
 
+impl Parts {
+    // Adds what one source is taken apart to.
+    fn add(&mut self, one: SourceModule) -> Result<(), AllocError>
+        ensures modules { OnOk result
+            (self.new.modules.items ≡ self.old.modules.items ++ one.typed ∷ []) }
+        ensures storages { OnOk result
+            (self.new.storages.items ≡ self.old.storages.items ++ one.storage ∷ []) }
+        ensures lengths { OnOk result
+            (self.new.lengths.items ≡ self.old.lengths.items ++ one.storage.constant_size ∷ []) }
+    {
+        let SourceModule {
+            typed,
+            storage,
+            unserved_line: _,
+        } = one;
+        self.lengths.push(storage.constant_size)?;
+        self.modules.push(typed)?;
+        self.storages.push(storage)?;
+        Ok(())
+    }
+}
+
 /// Takes sources apart.
 pub(crate) fn parts_of(alloc: Global, read: Vec<SourceModule>) -> Result<Parts, AllocError>
     ensures modules { IfOk result (λ parts. parts.modules.items ≡ map (λ one. one.typed) read.items) }
@@ -59,22 +80,13 @@ pub(crate) fn parts_of(alloc: Global, read: Vec<SourceModule>) -> Result<Parts, 
     ensures lengths { IfOk result
         (λ parts. parts.lengths.items ≡ map (λ one. one.storage.constant_size) read.items) }
 {
-    let mut modules = Vec::with_capacity(alloc, read.len())?;
-    let mut storages = Vec::with_capacity(alloc, read.len())?;
-    let mut lengths = Vec::with_capacity(alloc, read.len())?;
+    let mut parts = Parts {
+        modules: Vec::new(alloc),
+        storages: Vec::new(alloc),
+        lengths: Vec::new(alloc),
+    };
     for one in read {
-        let SourceModule {
-            typed,
-            storage,
-            unserved_line: _,
-        } = one;
-        lengths.push(storage.constant_size)?;
-        modules.push(typed)?;
-        storages.push(storage)?;
+        parts.add(one)?;
     }
-    Ok(Parts {
-        modules,
-        storages,
-        lengths,
-    })
+    Ok(parts)
 }

@@ -1,5 +1,5 @@
 -- Runs of stack code are runs of the source.
-use Rattle.std.proofs.Common.{◌≡◌, ℕ, suc, ◌-◌, List, Option, None, Some, Result, Ok, Err, IfOk, OnErr, All, find, nat_lt, slice_get, refl, sym, ap, ◌∙◌, subst}
+use Rattle.std.proofs.Common.{◌≡◌, ℕ, suc, ◌-◌, Bool, true, false, cond, List, [], ◌++◌, Option, None, Some, Result, Ok, Err, IfOk, OnErr, All, find, nat_lt, slice_get, refl, sym, ap, ◌∙◌, subst, append_assoc, append-nil}
 use Rattle.std.specs.Option.{option_map_or}
 use Rattle.ports.specs.declared.event.Event.{Event}
 use Rattle.ports.specs.Events.{IsBeginning}
@@ -18,8 +18,11 @@ use Rattle.meaning.specs.internal.Kept.{ComesAfter}
 use Rattle.meaning.proofs.Added.{adds_if, adds_rest, begins_itself, later_adds}
 use Rattle.stack_code.specs.Program.{AreTablesOf}
 use Rattle.stack_code.specs.declared.program.StackProgram.{StackProgram}
-use Rattle.stack_code.specs.Machine.{Machine, Progress, Going, Done}
-use Rattle.stack_code.specs.Run.{stack_run, start_state, start_surroundings}
+use Rattle.stack_code.specs.declared.instruction.Instruction.{Instruction}
+use Rattle.stack_code.specs.Machine.{Machine, Progress, Going, Done, and_then_steps, progress_of, steps}
+use Rattle.stack_code.specs.Run.{machine_in, stack_run, start_state, start_surroundings, started as charged_start}
+use Rattle.stack_code.specs.internal.Simulation.{Adds}
+use Rattle.stack_code.proofs.Events.{adds_steps}
 use Rattle.stack_code.proofs.Meant.{begins_as_meant, done_as_meant, main_at}
 use Rattle.stack_compiler.specs.Compiled.{IsCompiled}
 use Rattle.stack_machine.specs.Runs.{Reaches, Stops, state_at_start}
@@ -101,3 +104,43 @@ if_ok P Q (Err fault) go holds = tt
 pub on_err : {A E : Type 0} (P Q : Type 0) (answer : Result A E) → (P → Q) → OnErr answer P → OnErr answer Q
 on_err P Q (Ok found) go holds = tt
 on_err P Q (Err fault) go holds = go holds
+
+-- a run of stack code only adds events, to its end and on its way
+pub begins_same : (events : List Event) → IsBeginning events events
+begins_same events = ([], sym (append-nil events))
+
+adds_both : (s t : State) (progress : Progress) → IsBeginning s.events t.events → Adds t progress → Adds s progress
+adds_both s t (Going m) first second = (first.0 ++ second.0, second.1 ∙ ap (λ es. es ++ second.0) first.1 ∙ append_assoc s.events first.0 second.0)
+adds_both s t (Done why u) first second = (first.0 ++ second.0, second.1 ∙ ap (λ es. es ++ second.0) first.1 ∙ append_assoc s.events first.0 second.0)
+
+adds_through : (code : List Instruction) (s : State) (progress : Progress) (count : ℕ) → Adds s progress → Adds s (and_then_steps progress (steps code count))
+adds_through code s (Going n) count first = adds_both s n.state (steps code count n) first (adds_steps code count n)
+adds_through code s (Done why t) count first = first
+
+adds_charged : (is_over : Bool) (within : Surroundings) (s : State) → Adds s (progress_of (cond is_over (Stopped (Outside Stack) s) (Gave within s)) machine_in)
+adds_charged true within s = begins_itself s
+adds_charged false within s = begins_itself s
+
+adds_run : (code : List Instruction) (main : TypedModule) (around : Surroundings) (s : State) (count : ℕ) → Adds s (stack_run code main around s count)
+adds_run code main around s count =
+    adds_through code s (charged_start main around s) count
+    (adds_charged (nat_lt around.room (charge_of main.main)) (record around { room = around.room - charge_of main.main }) s)
+
+module _ (code : List Instruction) (main : TypedModule) (around : Surroundings) (memory : List ℕ) (events after : List Event) (budget : ℕ) where
+  abbrev run_here : (count : ℕ) → Progress
+  run_here count = stack_run code main around (state_at_start memory events budget) count
+
+  pub kept_stopped : (why : Stop) → Stops run_here why after → IsBeginning events after
+  kept_stopped why stops =
+      let added : IsBeginning events stops.state.events = subst (λ progress. Adds (state_at_start memory events budget) progress) stops.stopped (adds_run code main around (state_at_start memory events budget) stops.count) in
+      subst (λ (es : List Event). IsBeginning events es) stops.events_are added
+
+  pub kept_reached : Reaches run_here after → IsBeginning events after
+  kept_reached reaches =
+      let added : IsBeginning events reaches.machine.state.events = subst (λ progress. Adds (state_at_start memory events budget) progress) reaches.going (adds_run code main around (state_at_start memory events budget) reaches.count) in
+      subst (λ (es : List Event). IsBeginning events es) reaches.events_are added
+
+-- what holds of each answer
+pub either : {A E : Type 0} (P : A → Type 0) (Q R : Type 0) (answer : Result A E) → ((found : A) → P found → R) → (Q → R) → IfOk answer P → OnErr answer Q → R
+either P Q R (Ok found) one other holds none = one found holds
+either P Q R (Err fault) one other none holds = other holds

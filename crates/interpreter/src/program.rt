@@ -23,7 +23,7 @@ use std::alloc::{AllocError, Global};
 /// Interprets a joined program that lies at a placement: from a memory, in which its initial values and constants are put
 /// first; with so much room on the stack, in bytes; with these ports; and with a budget of turns of loops, jumps and calls.
 /// Where no port fails it does just what the program means. After a fault, of a port or of memory, the events are a
-/// beginning of those.
+/// beginning of those, and the events that there were before stay.
 #[tactic(auto, using(crate::proofs::Runs::meant, crate::proofs::Runs::begun, crate::proofs::Runs::ended))]
 pub fn interpret<P: Ports>(
     alloc: Global,
@@ -43,6 +43,7 @@ pub fn interpret<P: Ports>(
     ensures beginning { OnErr result (IsBeginning (P.events ports.new)
         (source_run (modules_in joined.now) (placement_view placement.now) room memory
         (P.script ports.old) (P.events ports.old) budget).events) }
+    ensures kept { IsBeginning (P.events ports.old) (P.events ports.new) }
     ensures count { OnOk result (P.failures ports.new ≡ P.failures ports.old) }
     ensures failed { IfErr result (λ fault. FaultCounts fault (P.failures ports.old) (P.failures ports.new)) }
     ensures script { P.script ports.new ≡ P.script ports.old }

@@ -58,6 +58,25 @@ fn add_file<'a>(
     Ok(())
 }
 
+// Adds the contents of files, file by file.
+fn add_files<'a>(
+    alloc: Global,
+    code: &mut GrowingSegment,
+    data_bytes: &mut GrowingSegment,
+    fixes: &mut ContentFixes,
+    publics: &Publics<'a>,
+    placed: &[PlacedFile<'a>],
+) -> Result<(), AllocError>
+    ensures code { OnOk result (code.new ≡ all_grown publics.now Code code.old placed.now) }
+    ensures data_bytes { OnOk result
+        (data_bytes.new ≡ all_grown publics.now Data data_bytes.old placed.now) }
+{
+    for one in placed {
+        add_file(alloc, code, data_bytes, fixes, publics, one)?;
+    }
+    Ok(())
+}
+
 /// The code and the data of a merge, made of the contents of files, file by file. One content at a time is
 /// looked at.
 pub(crate) fn segments_of<'a>(
@@ -72,8 +91,13 @@ pub(crate) fn segments_of<'a>(
     let mut code = GrowingSegment::new(alloc);
     let mut data_bytes = GrowingSegment::new(alloc);
     let mut fixes = ContentFixes::new(alloc);
-    for one in placed {
-        add_file(alloc, &mut code, &mut data_bytes, &mut fixes, publics, one)?;
-    }
+    add_files(
+        alloc,
+        &mut code,
+        &mut data_bytes,
+        &mut fixes,
+        publics,
+        placed,
+    )?;
     Ok((code, data_bytes))
 }

@@ -13,7 +13,7 @@ mod placed;
 mod publics;
 mod resolved;
 
-ghost use Rattle.std.specs.Prelude.{◌≡◌, map, IfOk, OnOk, Err};
+ghost use Rattle.std.specs.Prelude.{◌≡◌, [], map, IfOk, OnOk, Err};
 ghost use Rattle.std.specs.List.{AllZip};
 ghost use Rattle.std.specs.Io.KnownBytes.{Keeps};
 ghost use Rattle.failure.specs.Failure.{IfFault};
@@ -62,22 +62,22 @@ fn judged_file<'a>(
     }
 }
 
-// The files in their order, each of which spells a module.
-#[tactic(auto, using(crate::proofs::Reading::one_more, crate::proofs::Reading::first_faulty))]
-fn judged_files<'a>(
+// Puts the files in their order, each of which spells a module.
+#[tactic(auto, using(crate::proofs::Reading::first_faulty))]
+fn judge_files<'a>(
     alloc: Global,
     files: &[&'a [u8]],
-) -> Result<Vec<ObjectFile<'a>>, Failure<StreamFault>>
-    ensures spelled { IfOk result (λ objects.
-        AllZip Spells (map (λ file. file.now) files.now) objects.items) }
+    objects: &mut Vec<ObjectFile<'a>>,
+) -> Result<(), Failure<StreamFault>>
+    requires { objects.old.items ≡ [] }
+    ensures spelled { OnOk result (AllZip Spells (map (λ file. file.now) files.now) objects.new.items) }
     ensures fault { IfFault result (λ fault. HasNoMerge (map (λ file. file.now) files.now) fault) }
 {
-    let mut objects = Vec::new(alloc);
     for file in files {
         let object = judged_file(alloc, objects.len(), file)?;
         objects.push(object)?;
     }
-    Ok(objects)
+    Ok(())
 }
 
 // The merge of the modules that files spell.
@@ -85,7 +85,8 @@ fn merge(alloc: Global, files: &[&[u8]]) -> Result<ObjectModule, Failure<StreamF
     ensures merges { IfOk result (λ merged. Merges (map (λ file. file.now) files.now) merged) }
     ensures fault { IfFault result (λ fault. HasNoMerge (map (λ file. file.now) files.now) fault) }
 {
-    let objects = judged_files(alloc, files)?;
+    let mut objects = Vec::new(alloc);
+    judge_files(alloc, files, &mut objects)?;
     match merge_files(alloc, objects.as_slice()) {
         Ok(merged) => Ok(merged),
         Err(Failure::Fault(fault)) => Err(Failure::Fault(StreamFault::Link(fault))),

@@ -98,7 +98,6 @@ impl<'a> NameTable<'a> {
 }
 
 /// The public names of files, file by file; the first that stood already is a fault.
-#[tactic(auto, using(file_merges::proofs::NameWalks::file_added, file_merges::proofs::NameWalks::file_repeats, link_laws::proofs::NameLoops::modules_ended))]
 pub(crate) fn public_names_of<'a>(
     alloc: Global,
     files: &[ObjectFile<'a>],

@@ -33,7 +33,6 @@ fn start_at(end: u32, alignment: Alignment) -> u32
 }
 
 /// Where the pieces of files begin, file by file; a segment of the merge that is too long is a fault.
-#[tactic(auto, using(link_laws::proofs::StartLoops::code_too_long, link_laws::proofs::StartLoops::data_too_long, link_laws::proofs::StartLoops::stack_too_long, link_laws::proofs::StartLoops::one_more, link_laws::proofs::StartLoops::all_placed, link_laws::proofs::StartLoops::all_valid, link_laws::proofs::StartLoops::all_stacks, link_laws::proofs::StartLoops::all_fit))]
 pub(crate) fn pieces_of<'a>(
     alloc: Global,
     files: &[ObjectFile<'a>],
@@ -56,7 +55,8 @@ pub(crate) fn pieces_of<'a>(
         let data_start = start_at(data_end, file.alignment(Segment::Data));
         code = code_start + file.length(Segment::Code) as u32;
         data_end = data_start + file.length(Segment::Data) as u32;
-        stack += file.length(Segment::Stack) as u32;
+        let stack_more = file.length(Segment::Stack);
+        stack += stack_more as u32;
         if code > SEGMENT_LIMIT {
             return Err(Failure::Fault(LinkFault::SegmentTooLong));
         }

@@ -12,4 +12,4 @@ mod walk;
 pub use absolute::{Absolute, Symbol};
 pub use fault::LocateFault;
 pub use placed::locate;
-pub use plan::Plan;
+pub use plans::Plan;

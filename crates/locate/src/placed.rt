@@ -11,12 +11,13 @@ ghost use Rattle.locate.specs.internal.Putting.{with_pieces};
 
 use crate::absolute::{Absolute, Symbol};
 use crate::fault::LocateFault;
-use crate::plan::Plan;
+use crate::plan::base;
 use crate::putting::add_segment;
 use crate::refusals::refusal;
 use failure::Failure;
 use mem80::{MEMORY_SIZE, Piece};
 use object_modules::{ObjectModule, OwnedPublic, Segment};
+use plans::Plan;
 use std::alloc::{AllocError, Global};
 
 // Puts the runs of a segment of a module after other pieces.
@@ -35,7 +36,7 @@ fn add_runs_of(
     add_segment(
         alloc,
         pieces,
-        plan.base(segment),
+        base(plan, segment),
         object.runs(segment),
         object.fixes(segment),
         plan,
@@ -72,7 +73,7 @@ fn symbols_of(
     for public in publics {
         symbols.push(Symbol {
             name: public.name,
-            address: public.offset.wrapping_add(plan.base(public.segment)),
+            address: public.offset.wrapping_add(base(plan, public.segment)),
         })?;
     }
     Ok(symbols)

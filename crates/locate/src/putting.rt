@@ -1,15 +1,29 @@
 //! The runs of segments as pieces of memory, in the order of their addresses.
 
-ghost use Rattle.std.specs.Prelude.{◌≡◌, ◌∷◌, ◌++◌, [], OnOk};
+ghost use Rattle.std.specs.Prelude.{◌≡◌, ◌∷◌, ◌++◌, [], IfOk, OnOk};
 ghost use Rattle.object_modules.specs.Image.{gain_at};
 ghost use Rattle.locate.specs.Locating.{plan_view};
 ghost use Rattle.locate.specs.internal.Putting.{LieInMemory, joined, pieces_from, with_piece, with_pieces};
 
-use crate::plan::Plan;
 use crate::walk::moved_bytes;
 use mem80::{Bytes, Piece};
 use object_modules::{Fix, Run};
+use plans::Plan;
 use std::alloc::{AllocError, Global};
+
+// A piece and the bytes of the next as one.
+fn whole_of(last: Piece, next: &Piece) -> Result<Piece, AllocError>
+    ensures { IfOk result (λ whole.
+        whole ≡ record { start = last.start; bytes = last.bytes ++ next.now.bytes }) }
+{
+    let Piece { start, bytes } = last;
+    let mut held = bytes.into_vec();
+    held.extend_from_slice(next.bytes.as_slice())?;
+    Ok(Piece {
+        start,
+        bytes: Bytes::from_vec(held),
+    })
+}
 
 // Puts a piece after two others of which the second is the last; as one where it touches that.
 fn add_after(pieces: &mut Vec<Piece>, last: Piece, next: Piece) -> Result<(), AllocError>
@@ -17,19 +31,13 @@ fn add_after(pieces: &mut Vec<Piece>, last: Piece, next: Piece) -> Result<(), Al
 {
     let end = last.start as usize + last.bytes.as_slice().len();
     if end == next.start as usize {
-        let Piece { start, bytes } = last;
-        let mut held = bytes.into_vec();
-        held.extend_from_slice(next.bytes.as_slice())?;
-        pieces.push(Piece {
-            start,
-            bytes: Bytes::from_vec(held),
-        })?;
-        Ok(())
+        let whole = whole_of(last, &next)?;
+        pieces.push(whole)?;
     } else {
         pieces.push(last)?;
         pieces.push(next)?;
-        Ok(())
     }
+    Ok(())
 }
 
 // Puts a piece after others.
@@ -59,9 +67,10 @@ pub(crate) fn add_segment(
     ensures { OnOk result (pieces.new.items ≡ with_pieces pieces.old.items
         (pieces_from (gain_at (plan_view plan.now)) base runs.now fixes.now)) }
 {
+    let mut rest = runs;
     let mut left = fixes;
-    for run in runs {
-        let (bytes, rest) = moved_bytes(alloc, run, left, plan)?;
+    while let [run, more @ ..] = rest {
+        let (bytes, after) = moved_bytes(alloc, run, left, plan)?;
         add_piece(
             pieces,
             Piece {
@@ -69,7 +78,8 @@ pub(crate) fn add_segment(
                 bytes: Bytes::from_vec(bytes),
             },
         )?;
-        left = rest;
+        left = after;
+        rest = more;
     }
     Ok(())
 }

@@ -11,9 +11,10 @@ ghost use Rattle.locate.specs.Locating.{plan_view, refusal_of};
 ghost use Rattle.locate.specs.internal.Images.{breaks_high};
 
 use crate::fault::LocateFault;
-use crate::plan::Plan;
+use crate::plan::{base, gain};
 use mem80::{MEMORY_SIZE, Range, overlap};
 use object_modules::{Alignment, Fix, FixKind, ObjectModule, Segment};
+use plans::Plan;
 
 // Where code, data and stack would lie.
 #[derive(Clone, Copy)]
@@ -86,7 +87,7 @@ fn page_breaks(object: &ObjectModule, segment: Segment, plan: &Plan) -> bool
 {
     match object.alignment(segment) {
         Alignment::Byte => false,
-        Alignment::Page => plan.base(segment) % 256 != 0,
+        Alignment::Page => base(plan, segment) % 256 != 0,
     }
 }
 
@@ -96,7 +97,7 @@ fn high_breaks(fix: &Fix, plan: &Plan) -> bool
 {
     match fix.kind {
         FixKind::Low => false,
-        FixKind::High => plan.gain(fix.target) % 256 != 0,
+        FixKind::High => gain(plan, fix.target) % 256 != 0,
         FixKind::Both => false,
     }
 }

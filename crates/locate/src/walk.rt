@@ -8,9 +8,10 @@ ghost use Rattle.locate.specs.Locating.{plan_view};
 ghost use Rattle.locate.specs.internal.Fixing.{after_first, carry_by, first_at, fixes_after, second_by, value_at, value_by, values_from, walk_after, walk_at, word_by};
 ghost use Rattle.locate.specs.internal.Views.{carry_view, walk_view};
 
-use crate::plan::Plan;
+use crate::plan::gain;
 use mem80::MEMORY_SIZE;
 use object_modules::{Fix, FixKind, Run};
+use plans::Plan;
 use std::alloc::{AllocError, Global};
 
 // The first byte of a word as it was, and what the word gains.
@@ -94,7 +95,7 @@ fn byte_with(value: u8, word: Option<Carry>, fix: Option<Fix>, plan: &Plan) -> u
     ensures { result ≡ value_by (gain_at (plan_view plan.now)) value (option_map carry_view word) fix }
 {
     match fix {
-        Some(fix) => first_byte(fix.kind, value, plan.gain(fix.target)),
+        Some(fix) => first_byte(fix.kind, value, gain(plan, fix.target)),
         None => second_byte(value, word),
     }
 }
@@ -104,7 +105,7 @@ fn word_with(value: u8, fix: Option<Fix>, plan: &Plan) -> Option<Carry>
     ensures { option_map carry_view result ≡ word_by (gain_at (plan_view plan.now)) value fix }
 {
     match fix {
-        Some(fix) => word_from(fix.kind, value, plan.gain(fix.target)),
+        Some(fix) => word_from(fix.kind, value, gain(plan, fix.target)),
         None => None,
     }
 }
@@ -145,9 +146,11 @@ pub(crate) fn moved_bytes<'a>(
         fixes,
         word: None,
     };
-    for value in run.bytes() {
+    let mut rest = run.bytes();
+    while let [value, more @ ..] = rest {
         let placed = walk.place(*value, plan);
         bytes.push(placed)?;
+        rest = more;
     }
     Ok((bytes, walk.fixes))
 }

@@ -1,5 +1,5 @@
 -- Code that stays where it stands, while a machine writes elsewhere.
-use Rattle.std.proofs.Common.{◌≡◌, ◌≢◌, ℕ, zero, suc, ◌+◌, ◌-◌, ◌<◌, ◌≤◌, List, [], ◌∷◌, length, refl, sym, ap, ◌∙◌, arith, slice_set}
+use Rattle.std.proofs.Common.{◌≡◌, ◌≢◌, ℕ, ◌+◌, ◌<◌, ◌≤◌, List, [], ◌∷◌, length, refl, ◌∙◌, arith, slice_set}
 use Rattle.std.proofs.lemmas.List.{length-set, get_or-set_same, get_or-set_other}
 use Rattle.std.proofs.lemmas.List.Elements.{All-set}
 use Rattle.mem80.specs.declared.memory.TheConstants.{MEMORY_SIZE}
@@ -8,7 +8,7 @@ use Rattle.isa8080.specs.State.{wrap}
 use Rattle.asm8080.specs.declared.item.WordForm.{WordForm}
 use Rattle.asm8080.specs.declared.item.WordForm.TheVariants.{LoadPair, StoreHl, LoadHl, StoreA, LoadA, Jump, JumpWhere, CallTo, CallWhere}
 use Rattle.asm8080.specs.declared.item.Item.{Item}
-use Rattle.asm8080.specs.declared.item.Item.TheVariants.{Plain, WithWord, Byte, Address, Mark}
+use Rattle.asm8080.specs.declared.item.Item.TheVariants.{Plain, WithWord, Byte, Address, Gap, Mark}
 use Rattle.asm8080.specs.Items.{Layout, Stands, bytes_of_item, size_of, size_of_items, instruction_with}
 use Rattle.asm8080.specs.Standing.{BytesStand, size_of_instruction}
 
@@ -85,6 +85,9 @@ stands_size layout memory (Byte value ∷ others) from to h =
 stands_size layout memory (Address reference ∷ others) from to h =
     let e : to ≡ from + 2 + size_of_items others =
     stands_size layout memory others (from + 2) to h.1 in omega arith
+stands_size layout memory (Gap count ∷ others) from to h =
+    let e : to ≡ from + count + size_of_items others =
+    stands_size layout memory others (from + count) to h in omega arith
 
 -- items stand in another memory that has the same bytes where they stand
 pub stands_still :
@@ -126,3 +129,6 @@ stands_still layout memory other (Address reference ∷ others) from to limit al
       stands_still layout memory other others (from + 2) to limit
           (λ address low high. alike address (omega arith) high) h.1,
     )
+stands_still layout memory other (Gap count ∷ others) from to limit alike h =
+    stands_still layout memory other others (from + count) to limit
+    (λ address low high. alike address (omega arith) high) h

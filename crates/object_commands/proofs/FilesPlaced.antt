@@ -5,7 +5,7 @@ use Rattle.writing.specs.Writing.{AppendsBeginning}
 use Rattle.files.specs.Files.{Directory, HasFile}
 use Rattle.hex80.specs.Texts.{BeginsText, WritesText}
 use Rattle.locate.specs.Locating.{Absolute, IsPlaced, plan_view}
-use Rattle.locate.specs.declared.plan.Plan.{Plan}
+use Rattle.plans.specs.declared.Plan.{Plan}
 use Rattle.object_modules.specs.Module.{ObjectModule}
 use Rattle.object_modules.specs.Spelling.{Spells}
 use Rattle.object_commands.specs.Placing.{PlacesFile, PrintsHex, PrintsPlaces, StopsHex, StopsPlaces, places_text}

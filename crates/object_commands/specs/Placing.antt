@@ -8,7 +8,7 @@ use Rattle.files.specs.Files.{Directory, HasFile}
 use Rattle.hex80.specs.Lines.{digits_of}
 use Rattle.hex80.specs.Texts.{BeginsText, WritesText}
 use Rattle.locate.specs.Locating.{Absolute, IsPlaced, plan_view}
-use Rattle.locate.specs.declared.plan.Plan.{Plan}
+use Rattle.plans.specs.declared.Plan.{Plan}
 use Rattle.object_modules.specs.declared.segment.Segment.TheVariants.{Code, Data}
 use Rattle.object_modules.specs.Image.{Symbol}
 use Rattle.object_modules.specs.Module.{ObjectModule, length_of}

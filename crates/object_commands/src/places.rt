@@ -5,8 +5,9 @@ ghost use Rattle.std.specs.List.{flat_map};
 ghost use Rattle.locate.specs.Locating.{symbol_view};
 ghost use Rattle.object_commands.specs.Placing.{places_text, range_line, start_line, symbol_line};
 
-use locate::{Absolute, Plan, Symbol};
+use locate::{Absolute, Symbol};
 use object_modules::{ObjectModule, Segment};
+use plans::Plan;
 use std::alloc::Global;
 use std::io;
 use std::io::Write;

@@ -1,11 +1,10 @@
 -- Placements, plans and faults of the code in the words of programs.
-use Rattle.std.specs.Prelude.{ℕ, ◌+◌, ◌%◌, List, map, codes}
-use Rattle.mem80.specs.declared.memory.TheConstants.{MEMORY_SIZE}
+use Rattle.std.specs.Prelude.{ℕ, List, map, codes}
 use Rattle.placing.specs.declared.fault.Fault.{Fault}
 use Rattle.placing.specs.declared.fault.Fault.TheVariants as faults
 use Rattle.placing.specs.declared.placement.ModulePlacement.{ModulePlacement as CodeModulePlacement}
 use Rattle.placing.specs.declared.placement.Placement.{Placement as CodePlacement}
-use Rattle.placing.specs.declared.plan.Plan.{Plan as CodePlan}
+use Rattle.plans.specs.declared.Plan.{Plan as CodePlan}
 use Rattle.layout.specs.Placement.{ModulePlacement, Placement}
 use Rattle.layout.specs.Placing.{Plan, PlacingRefusal, SegmentTooLarge, PassesMemory, RangesOverlap, ObjectMisplaced}
 
@@ -26,10 +25,6 @@ plan_view plan = record {
   stack_base = plan.stack;
   stack_size = plan.stack_size;
 }
-
--- the address just past the stack of a plan
-abbrev pub stack_end_of : CodePlan → ℕ
-stack_end_of plan = (plan.stack + plan.stack_size) % MEMORY_SIZE
 
 -- the number of a fault
 abbrev pub number_of : Fault → List ℕ

@@ -17,11 +17,11 @@ use crate::addresses::{Bases, module_placements};
 use crate::fault::Fault;
 use crate::misplaced::first_misplaced;
 use crate::placement::Placement;
-use crate::plan::Plan;
 use crate::ranges::{range_fault, ranges_by};
 use failure::Failure;
 use join::Joined;
 use layout::Layout;
+use plans::Plan;
 use std::alloc::Global;
 
 /// Places a program by a plan. Each of its modules has the storage that is given for it, and a code segment of the length

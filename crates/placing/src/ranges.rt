@@ -7,9 +7,9 @@ ghost use Rattle.placing.specs.Views.{plan_view, refusal_of};
 ghost use Rattle.placing.specs.internal.Placings.{layout_sizes, range_refusal};
 
 use crate::fault::Fault;
-use crate::plan::Plan;
 use layout::{Layout, SEGMENT_LIMIT};
 use mem80::{MEMORY_SIZE, Range, overlap};
+use plans::Plan;
 
 /// Where code, data and stack lie.
 #[derive(Clone, Copy)]

@@ -1,108 +1,57 @@
-//! Sources, with what their uses of names are bound to, or with the number and the line of the first fault.
+//! What the names of a source are bound to, and a name that binding alone refuses.
 
-use crate::source::bound;
+use crate::bytes::beginning;
+use binding::bind;
+use failure::Failure;
 use names::{Binding, BuiltIn, Entity};
+use std::alloc::Global;
 use std::test::Fail;
+use syntax::parse;
+use trees::Module;
+use words::scan;
 
-// Sources whose names are all known, each with what they are bound to.
-static BOUND: [(&[u8], &[Binding]); 8] = [
-    (b"M: DO; END;", &[]),
-    (
-        b"M: DO; DECLARE (A, B) BYTE, C BYTE; A, C = B; OUTPUT(1) = LOW(A); END;",
-        &[
-            Binding::Declared(Entity::Object(0)),
-            Binding::Declared(Entity::Object(2)),
-            Binding::Declared(Entity::Object(1)),
-            Binding::BuiltInName(BuiltIn::Output),
-            Binding::BuiltInName(BuiltIn::Low),
-            Binding::Declared(Entity::Object(0)),
-        ],
-    ),
-    (
-        b"M: DO; DECLARE LOW BYTE; LOW = 1; END;",
-        &[Binding::Declared(Entity::Object(0))],
-    ),
-    (
-        b"M: DO; DECLARE A BYTE; DO; DECLARE A BYTE; A = 1; END; A = 2; END;",
-        &[
-            Binding::Declared(Entity::Object(1)),
-            Binding::Declared(Entity::Object(0)),
-        ],
-    ),
-    (
-        b"M: DO; P: PROCEDURE (X); DECLARE X BYTE; L: X = 1; GOTO L; CALL P(X); END P; L: CALL P(2); GOTO L; END;",
-        &[
-            Binding::Declared(Entity::Object(0)),
-            Binding::Declared(Entity::Label(0)),
-            Binding::Declared(Entity::Procedure(0)),
-            Binding::Declared(Entity::Object(0)),
-            Binding::Declared(Entity::Procedure(0)),
-            Binding::Declared(Entity::Label(1)),
-        ],
-    ),
-    (
-        b"M: DO; DECLARE P ADDRESS, S BASED P STRUCTURE (B BYTE); S.B = 1; END;",
-        &[
-            Binding::Declared(Entity::Object(0)),
-            Binding::Declared(Entity::Object(1)),
-        ],
-    ),
-    (
-        b"M: DO; GOTO L; DO WHILE 1; L: ; GOTO L; END; END;",
-        &[Binding::UnknownLabel, Binding::Declared(Entity::Label(0))],
-    ),
-    (
-        b"M: DO; DECLARE A BYTE, X BYTE AT (.A), Y(2) ADDRESS INITIAL (.A, 1); END;",
-        &[
-            Binding::Declared(Entity::Object(0)),
-            Binding::Declared(Entity::Object(0)),
-        ],
-    ),
+// The tree of the beginning of a source.
+fn parsed(alloc: Global, source: &[u8]) -> Result<Module, Fail> {
+    let words = scan(alloc, beginning(source))?;
+    match parse(alloc, words.as_slice()) {
+        Ok(parsed) => Ok(parsed),
+        Err(_) => Err(Fail::new("no module")),
+    }
+}
+
+// A procedure and its module have labels of one name, and the procedure calls itself.
+const NAMES: &[u8] =
+    b"M: DO; P: PROCEDURE (X); DECLARE X BYTE; L: X = LOW(X); GOTO L; CALL P(X); END P; L: CALL P(2); GOTO L; END;";
+
+// What its names are bound to, in the order of their uses.
+static BINDINGS: [Binding; 8] = [
+    Binding::Declared(Entity::Object(0)),
+    Binding::BuiltInName(BuiltIn::Low),
+    Binding::Declared(Entity::Object(0)),
+    Binding::Declared(Entity::Label(0)),
+    Binding::Declared(Entity::Procedure(0)),
+    Binding::Declared(Entity::Object(0)),
+    Binding::Declared(Entity::Procedure(0)),
+    Binding::Declared(Entity::Label(1)),
 ];
 
 #[test]
 fn names_are_bound(rt: HostRuntime) -> Result<(), Fail> {
-    for (source, bindings) in BOUND.iter() {
-        let Ok(found) = bound(rt.alloc(), source)? else {
-            return Err(Fail::new("a fault"));
-        };
-        assert!(rt; found.bindings.as_slice() == *bindings);
-    }
+    let Ok(found) = bind(rt.alloc(), parsed(rt.alloc(), NAMES)?) else {
+        return Err(Fail::new("not bound"));
+    };
+    assert!(rt; found.bindings.as_slice() == BINDINGS.as_slice());
     Ok(())
 }
 
-// Sources with a fault, its number and its line.
-static REFUSED: [(&[u8], &str, u32); 12] = [
-    (b"M: DO;\nX = 1; END;", "C11", 2),
-    (b"M: DO; DECLARE A BASED\nA BYTE; END;", "C11", 2),
-    (b"M: DO; P: PROCEDURE (X);\nX = 1; END; END;", "C11", 2),
-    (b"M: DO; DO; DECLARE A BYTE; END;\nA = 1; END;", "C11", 2),
-    (b"M: DO; DECLARE A BYTE;\nA = M; END;", "C11", 2),
-    (b"M: DO; DECLARE A BYTE;\nDECLARE A BYTE; END;", "C12", 2),
-    (
-        b"M: DO; DECLARE A BYTE PUBLIC;\nDECLARE A BYTE EXTERNAL; END;",
-        "C12",
-        2,
-    ),
-    (
-        b"M: DO; DECLARE A BYTE;\nL: A = 1;\nL: A = 2; END;",
-        "C12",
-        3,
-    ),
-    (b"M: DO; DO;\nDECLARE A BYTE; END;\nA: ; END;", "C12", 3),
-    (b"M: DO; L: ; DO;\nDECLARE L BYTE; END; END;", "C12", 2),
-    (b"M: DO; P: PROCEDURE (X,\nX); END; END;", "C12", 2),
-    (b"M: DO; DECLARE A BYTE,\nA BASED\nB BYTE; END;", "C12", 2),
-];
-
+// A parameter is not declared by its heading. The typing of a module tells that first, with another number.
 #[test]
-fn first_fault_is_told(rt: HostRuntime) -> Result<(), Fail> {
-    for (source, number, line) in REFUSED.iter() {
-        let Err(fault) = bound(rt.alloc(), source)? else {
-            return Err(Fail::new("no fault"));
-        };
-        assert_eq!(rt; fault.number(), *number);
-        assert_eq!(rt; fault.line(), *line);
-    }
+fn a_heading_declares_nothing(rt: HostRuntime) -> Result<(), Fail> {
+    let module = parsed(rt.alloc(), b"M: DO; P: PROCEDURE (X);\nX = 1; END; END;")?;
+    let Err(Failure::Fault(fault)) = bind(rt.alloc(), module) else {
+        return Err(Fail::new("no fault"));
+    };
+    assert_eq!(rt; fault.number(), "C11");
+    assert_eq!(rt; fault.line(), 2);
     Ok(())
 }

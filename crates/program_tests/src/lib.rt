@@ -1,20 +1,14 @@
-//! Tests of the whole way from texts to a program.
+//! Tests of what no command line shows: the words of a text, the trees of sources, and what names are bound to.
 #![tactic(auto)]
 
 #[cfg(test)]
 mod bindings;
 mod bytes;
 #[cfg(test)]
-mod memory;
-#[cfg(test)]
-mod programs;
-#[cfg(test)]
 mod reading;
 #[cfg(test)]
-mod source;
+mod shape;
 #[cfg(test)]
-mod storage;
-#[cfg(test)]
-mod tables;
+mod shapes;
 
 pub use bytes::{LONGEST, beginning};

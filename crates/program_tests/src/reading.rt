@@ -1,8 +1,8 @@
-//! Words, LITERALLY and trees.
+//! Words, LITERALLY and names.
 
 use literally::expand;
 use std::test::Fail;
-use syntax::parse;
+use symbols::Name;
 use words::{Kind, Mark, ReservedWord, scan};
 
 // The words of `M: DO;`, `A = 0AH;` and `END M;`, a line each: what they are, where they begin, and their lines.
@@ -52,18 +52,12 @@ fn a_name_is_replaced(rt: HostRuntime) -> Result<(), Fail> {
     Ok(())
 }
 
+// Texts that are no names, of which the first has 32 characters.
+static NO_NAMES: [&[u8]; 5] = [b"ABCDEFGHIJKLMNOPQRSTUVWXYZ012345", b"1A", b"$", b"", b"A+"];
+
 #[test]
-fn words_have_a_tree(rt: HostRuntime) -> Result<(), Fail> {
-    let words = scan(
-        rt.alloc(),
-        b"M: DO; DECLARE A BYTE; A = 1; L: ; GOTO L; END M;",
-    )?;
-    let Ok(module) = parse(rt.alloc(), words.as_slice()) else {
-        return Err(Fail::new("no module"));
-    };
-    assert!(rt; module.name.name.as_slice() == b"M".as_slice());
-    assert_eq!(rt; module.body.declarations.len(), 1);
-    assert_eq!(rt; module.body.statements.len(), 3);
-    assert!(rt; module.end_name.is_some());
-    Ok(())
+fn other_texts_are_no_names(rt: HostRuntime) {
+    for text in NO_NAMES.iter() {
+        assert!(rt; Name::from_text(text).is_none());
+    }
 }

@@ -1,13 +1,14 @@
 -- What an assembly is to which a routine was added.
 use Rattle.std.proofs.Common.{◌≡◌, ℕ, ◌+◌, ◌<◌, ◌≤◌, List, ◌++◌, refl, sym, ap, subst, ◌∙◌, arith}
 use Rattle.asm8080.specs.declared.item.Item.{Item}
-use Rattle.asm8080.specs.Items.{Assembly, is_bound, size_of_items}
+use Rattle.asm8080.specs.Items.{Assembly, IsAssembly, is_bound, size_of_items}
 use Rattle.runtime8080.specs.declared.routine.Routine.{Routine}
 use Rattle.runtime8080.specs.declared.routine.Routine.TheVariants.{Divide, Multiply, Move, RotateLeft, RotateRight, ShiftLeftAddress, ShiftRightAddress, ShiftLeftByte, ShiftRightByte}
-use Rattle.runtime8080.specs.Routines.{AddsRoutine, IsFresh, IsRoutine, size_of_routine}
+use Rattle.runtime8080.specs.Routines.{AddsRoutine, IsRoutine, size_of_routine}
 use Rattle.runtime8080.specs.internal.Listings.{divide_with, labels_of, listing, move_bytes_with, multiply_with, shift_right_address_with, shift_left_address, rotate_left, rotate_right, shift_left_byte, shift_right_byte}
 use Rattle.runtime8080.specs.internal.Emission.{Fits, with_routine}
-use Rattle.runtime8080.proofs.Labels.{AllDiffer, AllFrom, AllKnown, Differs, bound_by, fit_items, none_bound, not_bound, not_true, true_unless, unbound_differs}
+use Rattle.asm8080.proofs.ItemLemmas.{unbound_from}
+use Rattle.runtime8080.proofs.Labels.{AllDiffer, AllFrom, AllKnown, AllOwn, Differs, all_own, bound_by, fit_items, none_bound, not_bound, not_true, true_unless, unbound_differs}
 use Rattle.runtime8080.proofs.Rotations.{rotates_left, rotates_right}
 use Rattle.runtime8080.proofs.LeftShift.{shifts_address_left}
 use Rattle.runtime8080.proofs.RightShift.{shifts_address_right}
@@ -23,6 +24,7 @@ record HasLabels (routine : Routine) (first : ℕ) : Type 0 where
   from : AllFrom first (bound_by (listing routine first))
   all : (label : ℕ) → first ≤ label → label < first + labels_of routine → Differs label (bound_by (listing routine first)) → ⊥
   new : (label : ℕ) → label < first → Differs label (bound_by (listing routine first))
+  own : AllOwn first (first + labels_of routine) (listing routine first)
 
 adds :
     (routine : Routine) (before after : Assembly)
@@ -43,6 +45,7 @@ adds routine before after has size is same =
       new = λ label low.
           not_true (is_bound label (listing routine before.labels))
           (not_bound label (listing routine before.labels) (has.new label low));
+      own = all_own before.labels (before.labels + labels_of routine) (listing routine before.labels) has.own;
       size = size;
       is_routine = is;
     })
@@ -51,21 +54,22 @@ adds routine before after has size is same =
 fits :
     (routine : Routine) (before with_labels : Assembly)
     → HasLabels routine before.labels
-    → IsFresh before
+    → IsAssembly before
     → with_labels ≡ record before { labels = before.labels + labels_of routine }
     → Fits with_labels (listing routine before.labels)
 unfolding Fits
 fits routine before with_labels has fresh labels =
     subst (λ (a : Assembly). Fits a (listing routine before.labels)) (sym labels)
     (fit_items (before.labels + labels_of routine) before.items (listing routine before.labels) has.known has.differ
-    (none_bound before.items before.labels (bound_by (listing routine before.labels)) fresh.unbound has.from))
+    (none_bound before.items before.labels (bound_by (listing routine before.labels))
+    (λ label from. unbound_from before label fresh from) has.from))
 
 -- with one label
 fits_one :
     (routine : Routine) (before with_label : Assembly) (label : ℕ)
     → HasLabels routine before.labels
     → labels_of routine ≡ 1
-    → IsFresh before
+    → IsAssembly before
     → label ≡ before.labels
     → with_label ≡ record before { labels = before.labels + 1 }
     → Fits with_label (listing routine label)
@@ -89,7 +93,7 @@ done_one routine before with_label after label one same labels is =
 
 labels_of_rotate_left : (first : ℕ) → HasLabels RotateLeft first
 labels_of_rotate_left first =
-    record { known = omega arith; differ = (tt, tt); from = omega arith; all = omega arith; new = omega arith }
+    record { known = omega arith; differ = (tt, tt); from = omega arith; all = omega arith; new = omega arith; own = omega arith }
 
 pub adds_rotate_left :
     (before after : Assembly) → after ≡ with_routine RotateLeft before → AddsRoutine RotateLeft before after
@@ -98,7 +102,7 @@ adds_rotate_left before after same =
 
 pub fits_rotate_left :
     (before with_label : Assembly) (label : ℕ)
-    → IsFresh before
+    → IsAssembly before
     → label ≡ before.labels
     → with_label ≡ record before { labels = before.labels + 1 }
     → Fits with_label (rotate_left label)
@@ -116,7 +120,7 @@ done_rotate_left before with_label after label same labels is =
 
 labels_of_rotate_right : (first : ℕ) → HasLabels RotateRight first
 labels_of_rotate_right first =
-    record { known = omega arith; differ = (tt, tt); from = omega arith; all = omega arith; new = omega arith }
+    record { known = omega arith; differ = (tt, tt); from = omega arith; all = omega arith; new = omega arith; own = omega arith }
 
 pub adds_rotate_right :
     (before after : Assembly) → after ≡ with_routine RotateRight before → AddsRoutine RotateRight before after
@@ -125,7 +129,7 @@ adds_rotate_right before after same =
 
 pub fits_rotate_right :
     (before with_label : Assembly) (label : ℕ)
-    → IsFresh before
+    → IsAssembly before
     → label ≡ before.labels
     → with_label ≡ record before { labels = before.labels + 1 }
     → Fits with_label (rotate_right label)
@@ -143,7 +147,7 @@ done_rotate_right before with_label after label same labels is =
 
 labels_of_shift_left_byte : (first : ℕ) → HasLabels ShiftLeftByte first
 labels_of_shift_left_byte first =
-    record { known = omega arith; differ = (tt, tt); from = omega arith; all = omega arith; new = omega arith }
+    record { known = omega arith; differ = (tt, tt); from = omega arith; all = omega arith; new = omega arith; own = omega arith }
 
 pub adds_shift_left_byte :
     (before after : Assembly) → after ≡ with_routine ShiftLeftByte before → AddsRoutine ShiftLeftByte before after
@@ -152,7 +156,7 @@ adds_shift_left_byte before after same =
 
 pub fits_shift_left_byte :
     (before with_label : Assembly) (label : ℕ)
-    → IsFresh before
+    → IsAssembly before
     → label ≡ before.labels
     → with_label ≡ record before { labels = before.labels + 1 }
     → Fits with_label (shift_left_byte label)
@@ -170,7 +174,7 @@ done_shift_left_byte before with_label after label same labels is =
 
 labels_of_shift_right_byte : (first : ℕ) → HasLabels ShiftRightByte first
 labels_of_shift_right_byte first =
-    record { known = omega arith; differ = (tt, tt); from = omega arith; all = omega arith; new = omega arith }
+    record { known = omega arith; differ = (tt, tt); from = omega arith; all = omega arith; new = omega arith; own = omega arith }
 
 pub adds_shift_right_byte :
     (before after : Assembly) → after ≡ with_routine ShiftRightByte before → AddsRoutine ShiftRightByte before after
@@ -179,7 +183,7 @@ adds_shift_right_byte before after same =
 
 pub fits_shift_right_byte :
     (before with_label : Assembly) (label : ℕ)
-    → IsFresh before
+    → IsAssembly before
     → label ≡ before.labels
     → with_label ≡ record before { labels = before.labels + 1 }
     → Fits with_label (shift_right_byte label)
@@ -197,7 +201,7 @@ done_shift_right_byte before with_label after label same labels is =
 
 labels_of_shift_left_address : (first : ℕ) → HasLabels ShiftLeftAddress first
 labels_of_shift_left_address first =
-    record { known = omega arith; differ = (tt, tt); from = omega arith; all = omega arith; new = omega arith }
+    record { known = omega arith; differ = (tt, tt); from = omega arith; all = omega arith; new = omega arith; own = omega arith }
 
 pub adds_shift_left_address :
     (before after : Assembly) → after ≡ with_routine ShiftLeftAddress before → AddsRoutine ShiftLeftAddress before after
@@ -206,7 +210,7 @@ adds_shift_left_address before after same =
 
 pub fits_shift_left_address :
     (before with_label : Assembly) (label : ℕ)
-    → IsFresh before
+    → IsAssembly before
     → label ≡ before.labels
     → with_label ≡ record before { labels = before.labels + 1 }
     → Fits with_label (shift_left_address label)
@@ -224,7 +228,7 @@ done_shift_left_address before with_label after label same labels is =
 
 labels_of_multiply : (first : ℕ) → HasLabels Multiply first
 labels_of_multiply first =
-    record { known = omega arith; differ = omega arith; from = omega arith; all = omega arith; new = omega arith }
+    record { known = omega arith; differ = omega arith; from = omega arith; all = omega arith; new = omega arith; own = omega arith }
 
 pub adds_multiply :
     (before after : Assembly) → after ≡ with_routine Multiply before → AddsRoutine Multiply before after
@@ -248,7 +252,7 @@ items_of_multiply before first second third fourth fifth is_first is_second is_t
 
 pub fits_multiply :
     (before with_labels : Assembly) (first second third fourth fifth : ℕ)
-    → IsFresh before
+    → IsAssembly before
     → first ≡ before.labels
     → second ≡ before.labels + 1
     → third ≡ before.labels + 2
@@ -278,7 +282,7 @@ done_multiply before with_labels after first second third fourth fifth is_first 
 
 labels_of_move : (first : ℕ) → HasLabels Move first
 labels_of_move first =
-    record { known = omega arith; differ = omega arith; from = omega arith; all = omega arith; new = omega arith }
+    record { known = omega arith; differ = omega arith; from = omega arith; all = omega arith; new = omega arith; own = omega arith }
 
 pub adds_move :
     (before after : Assembly) → after ≡ with_routine Move before → AddsRoutine Move before after
@@ -296,7 +300,7 @@ items_of_move before first second is_first is_second =
 
 pub fits_move :
     (before with_labels : Assembly) (first second : ℕ)
-    → IsFresh before
+    → IsAssembly before
     → first ≡ before.labels
     → second ≡ before.labels + 1
     → with_labels ≡ record before { labels = before.labels + 2 }
@@ -320,7 +324,7 @@ done_move before with_labels after first second is_first is_second labels is =
 
 labels_of_shift_right_address : (first : ℕ) → HasLabels ShiftRightAddress first
 labels_of_shift_right_address first =
-    record { known = omega arith; differ = omega arith; from = omega arith; all = omega arith; new = omega arith }
+    record { known = omega arith; differ = omega arith; from = omega arith; all = omega arith; new = omega arith; own = omega arith }
 
 pub adds_shift_right_address :
     (before after : Assembly) → after ≡ with_routine ShiftRightAddress before → AddsRoutine ShiftRightAddress before after
@@ -338,7 +342,7 @@ items_of_shift_right_address before first second is_first is_second =
 
 pub fits_shift_right_address :
     (before with_labels : Assembly) (first second : ℕ)
-    → IsFresh before
+    → IsAssembly before
     → first ≡ before.labels
     → second ≡ before.labels + 1
     → with_labels ≡ record before { labels = before.labels + 2 }
@@ -392,7 +396,7 @@ five_more before one two three four five a b c d e =
 
 labels_of_divide : (first : ℕ) → HasLabels Divide first
 labels_of_divide first =
-    record { known = omega arith; differ = omega arith; from = omega arith; all = omega arith; new = omega arith }
+    record { known = omega arith; differ = omega arith; from = omega arith; all = omega arith; new = omega arith; own = omega arith }
 
 pub adds_divide :
     (before after : Assembly) → after ≡ with_routine Divide before → AddsRoutine Divide before after
@@ -439,7 +443,7 @@ with_seven before with_five with_labels five two =
 
 pub fits_divide :
     (before with_five with_labels : Assembly) (first second third fourth fifth sixth seventh : ℕ)
-    → IsFresh before
+    → IsAssembly before
     → first ≡ before.labels
     → second ≡ before.labels + 1
     → third ≡ before.labels + 2

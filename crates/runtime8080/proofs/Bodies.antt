@@ -6,7 +6,6 @@ use Rattle.mem80.specs.Memory.{byte_at}
 use Rattle.mem80.specs.Range.{IsIn, Meets}
 use Rattle.ports.specs.declared.event.Event.{Event}
 use Rattle.isa8080.specs.State.{State, Registers, high_byte, wrap}
-use Rattle.isa8080.specs.Step.{running}
 use Rattle.asm8080.specs.Runs.{Comes}
 use Rattle.asm8080.specs.Standing.{Keeps, below}
 use Rattle.machine_runs.proofs.Steps.{at, returned, step_then}
@@ -14,7 +13,7 @@ use Rattle.machine_runs.proofs.Kept.{Alike}
 use Rattle.machine_runs.proofs.Calls.{called, pushed, pushed_is_memory, pushed_is_pushed, pushed_keeps, returned_is}
 use Rattle.runtime8080.specs.declared.routine.Routine.{Routine}
 use Rattle.runtime8080.specs.declared.routine.Routine.TheVariants as routines
-use Rattle.runtime8080.specs.Routines.{SPARE_BYTES, Computes, HasReturned, HoldBytes, Leaves, MayCall, Returns, memory_after, most_steps}
+use Rattle.runtime8080.specs.Routines.{CALL_BYTES, Computes, HasReturned, HoldBytes, Leaves, MayCall, Returns, memory_after, most_steps}
 
 -- What a routine does that writes no memory, from its first byte to where it has returned.
 pub record Body
@@ -62,15 +61,15 @@ bytes_where r sp pc h =
 pub held : (r : Registers) (sp : ℕ) → HoldBytes r → HoldBytes (record r { sp = sp })
 held r sp h = record { a = h.a; b = h.b; c = h.c; d = h.d; e = h.e; h = h.h; l = h.l }
 
-pub in_spare : (level address : ℕ) → SPARE_BYTES ≤ level → level ≤ MEMORY_SIZE → level - 2 ≤ address → address < level → IsIn address (below level SPARE_BYTES)
+pub in_spare : (level address : ℕ) → CALL_BYTES ≤ level → level ≤ MEMORY_SIZE → level - 2 ≤ address → address < level → IsIn address (below level CALL_BYTES)
 in_spare level address room limit low high = (omega arith, omega arith)
 
 -- the code is apart from the return address
 code_apart :
     (from to level address : ℕ)
-    → SPARE_BYTES ≤ level
+    → CALL_BYTES ≤ level
     → level ≤ MEMORY_SIZE
-    → (Meets (record { start = from; len = to - from }) (below level SPARE_BYTES) → ⊥)
+    → (Meets (record { start = from; len = to - from }) (below level CALL_BYTES) → ⊥)
     → from ≤ address
     → address < to
     → level - 2 ≤ address
@@ -79,21 +78,21 @@ code_apart :
 code_apart from to level address room limit apart low high under over =
     apart (address, (omega arith, omega arith), in_spare level address room limit under over)
 
-one_of_two : (level address : ℕ) → 10 ≤ level → address ≡ level - 1 → level - 2 ≤ address
+one_of_two : (level address : ℕ) → 2 ≤ level → address ≡ level - 1 → level - 2 ≤ address
 one_of_two level address room e = omega arith
 
-one_of_two_high : (level address : ℕ) → 10 ≤ level → address ≡ level - 1 → address < level
+one_of_two_high : (level address : ℕ) → 2 ≤ level → address ≡ level - 1 → address < level
 one_of_two_high level address room e = omega arith
 
-two_of_two : (level address : ℕ) → 10 ≤ level → address ≡ level - 2 → level - 2 ≤ address
+two_of_two : (level address : ℕ) → 2 ≤ level → address ≡ level - 2 → level - 2 ≤ address
 two_of_two level address room e = omega arith
 
-two_of_two_high : (level address : ℕ) → 10 ≤ level → address ≡ level - 2 → address < level
+two_of_two_high : (level address : ℕ) → 2 ≤ level → address ≡ level - 2 → address < level
 two_of_two_high level address room e = omega arith
 
 pub pushed_elsewhere :
     (level word : ℕ) (memory : List ℕ) (address : ℕ)
-    → 10 ≤ level
+    → 2 ≤ level
     → (level - 2 ≤ address → address < level → ⊥)
     → byte_at (pushed level word memory) address ≡ byte_at memory address
 pushed_elsewhere level word memory address room out =
@@ -101,7 +100,7 @@ pushed_elsewhere level word memory address room out =
     (λ e. out (one_of_two level address room e) (one_of_two_high level address room e))
     (λ e. out (two_of_two level address room e) (two_of_two_high level address room e))
 
-pub two_fit : (level : ℕ) → SPARE_BYTES ≤ level → 2 ≤ level
+pub two_fit : (level : ℕ) → CALL_BYTES ≤ level → 2 ≤ level
 two_fit level h = omega arith
 
 pub wrapped_small : (n : ℕ) → wrap n < MEMORY_SIZE
@@ -137,7 +136,7 @@ has_returned script routine from to level s memory may quiet same body =
       computes = computes_where routine s.registers body.after (level - 2) (wrap level) word body.computes;
       leaves = leaves_where routine s.registers body.after (level - 2) (wrap level) word body.leaves;
       memory_is = pushed_is_memory level word s.memory (wrapped_small (s.registers.pc + 3)) may.memory;
-      memory = subst (λ (m : List ℕ). Keeps (λ address. IsIn address (below level SPARE_BYTES)) m (pushed level word s.memory))
+      memory = subst (λ (m : List ℕ). Keeps (λ address. IsIn address (below level CALL_BYTES)) m (pushed level word s.memory))
           (sym quiet)
           (record {
             size = outer ∙ inner;

@@ -1,11 +1,13 @@
 -- The labels of a routine: items that may be added, by the labels that they bind.
-use Rattle.std.proofs.Common.{◌≡◌, ◌≢◌, ℕ, ◌+◌, ◌≤◌, ◌==◌, Bool, true, false, not, ◌||◌, List, [], ◌∷◌, ◌++◌, IsTrue, refl, sym, subst, ◌∙◌}
+use Rattle.std.proofs.Common.{◌≡◌, ◌≢◌, ℕ, ◌≤◌, ◌==◌, Bool, true, false, not, ◌||◌, List, [], ◌∷◌, ◌++◌, All, IsTrue, refl, sym, subst, ◌∙◌}
 use Rattle.std.proofs.lemmas.Bool.{eqb-true, eq-eqb}
+use Rattle.std.proofs.lemmas.List.Elements.{All-nil, All-cons}
 use Rattle.asm8080.specs.declared.item.Item.{Item}
-use Rattle.asm8080.specs.declared.item.Item.TheVariants.{Plain, WithWord, Byte, Address, Mark}
+use Rattle.asm8080.specs.declared.item.Item.TheVariants.{Plain, WithWord, Byte, Address, Gap, Mark}
 use Rattle.asm8080.specs.Items.{BindsNew, KnowsLabels, is_bound, marks}
 use Rattle.asm8080.proofs.ItemLemmas.{bound_more}
 use Rattle.machine_runs.proofs.Loops.{not_equal}
+use Rattle.runtime8080.specs.Routines.{HasOwnLabels}
 use Rattle.runtime8080.specs.declared.parts.Part.{Part}
 use Rattle.runtime8080.specs.declared.parts.Part.TheVariants.{Here}
 use Rattle.runtime8080.specs.internal.Emission.{FitItems, item_of}
@@ -31,6 +33,15 @@ AllFrom first (label ∷ others) = (first ≤ label) × AllFrom first others
 abbrev pub AllKnown : ℕ → List Item → Type 0
 AllKnown labels [] = Unit {0}
 AllKnown labels (item ∷ others) = KnowsLabels labels item × AllKnown labels others
+
+abbrev pub AllOwn : (first past : ℕ) → List Item → Type 0
+AllOwn first past [] = Unit {0}
+AllOwn first past (item ∷ others) = HasOwnLabels first past item × AllOwn first past others
+
+pub all_own : (first past : ℕ) (items : List Item) → AllOwn first past items → All (HasOwnLabels first past) items
+all_own first past [] own = All-nil (HasOwnLabels first past)
+all_own first past (item ∷ others) own =
+    All-cons (HasOwnLabels first past) item others own.0 (all_own first past others own.1)
 
 abbrev pub NoneBound : List Item → List ℕ → Type 0
 NoneBound items [] = Unit {0}
@@ -102,6 +113,11 @@ fit_items labels items (Address reference ∷ others) known differ none = (
   (λ label m. no_mark label items m),
   fit_items labels (items ++ Address reference ∷ []) others known.1 differ (still_none items (Address reference) (bound_by others) (λ label. refl) none),
 )
+fit_items labels items (Gap count ∷ others) known differ none = (
+  known.0,
+  (λ label m. no_mark label items m),
+  fit_items labels (items ++ Gap count ∷ []) others known.1 differ (still_none items (Gap count) (bound_by others) (λ label. refl) none),
+)
 
 either_false : (here others : Bool) → here ≡ false → others ≡ false → (here || others) ≡ false
 either_false false others h g = g
@@ -117,6 +133,7 @@ not_bound label (Plain i ∷ others) h = not_bound label others h
 not_bound label (WithWord form reference ∷ others) h = not_bound label others h
 not_bound label (Byte value ∷ others) h = not_bound label others h
 not_bound label (Address reference ∷ others) h = not_bound label others h
+not_bound label (Gap count ∷ others) h = not_bound label others h
 
 first_false : (here others : Bool) → (here || others) ≡ false → here ≡ false
 first_false false others h = refl
@@ -141,6 +158,7 @@ unbound_differs label (Plain i ∷ others) h = unbound_differs label others h
 unbound_differs label (WithWord form reference ∷ others) h = unbound_differs label others h
 unbound_differs label (Byte value ∷ others) h = unbound_differs label others h
 unbound_differs label (Address reference ∷ others) h = unbound_differs label others h
+unbound_differs label (Gap count ∷ others) h = unbound_differs label others h
 
 pub true_unless : (b : Bool) → (b ≡ false → ⊥) → IsTrue b
 true_unless true h = refl

@@ -7,6 +7,7 @@ pub mod LeftShift
 pub mod Copies
 pub mod MoveLoop
 pub mod MoveReturns
+pub mod Meant
 pub mod Turns
 pub mod Products
 pub mod RightShift
@@ -16,3 +17,4 @@ pub mod Wide
 pub mod DivideBody
 pub mod Labels
 pub mod Added
+pub mod Several

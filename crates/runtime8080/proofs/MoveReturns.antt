@@ -24,7 +24,7 @@ use Rattle.machine_runs.proofs.Loops.{not_zero, word_is}
 use Rattle.machine_runs.proofs.Kept.{stands_size, stands_still}
 use Rattle.machine_runs.proofs.Calls.{IsPushed, called, pushed, pushed_is_memory, pushed_is_pushed, returned_is}
 use Rattle.runtime8080.specs.declared.routine.Routine.TheVariants as routines
-use Rattle.runtime8080.specs.Routines.{BlockMisses, HoldBytes, IsRoutine, SPARE_BYTES, copied}
+use Rattle.runtime8080.specs.Routines.{BlockMisses, HoldBytes, IsRoutine, CALL_BYTES, copied}
 use Rattle.runtime8080.specs.internal.Listings.{move_bytes}
 use Rattle.runtime8080.proofs.Bodies.{bytes_where, code_stays, held, in_spare, pushed_elsewhere, two_fit, wrapped_small}
 use Rattle.runtime8080.proofs.Copies.{copied_differ, copied_is_memory, copied_keeps}
@@ -242,9 +242,9 @@ copies script layout first from to memory events r (suc left) b c h =
 
 returned_on_top :
     (level word : ℕ) (memory left : List ℕ)
-    → SPARE_BYTES ≤ level
+    → CALL_BYTES ≤ level
     → level ≤ MEMORY_SIZE
-    → ((address : ℕ) → IsIn address (below level SPARE_BYTES) → byte_at left address ≡ byte_at memory address)
+    → ((address : ℕ) → IsIn address (below level CALL_BYTES) → byte_at left address ≡ byte_at memory address)
     → IsPushed level word memory
     → IsPushed level word left
 returned_on_top level word memory left room limit same is = record {
@@ -276,11 +276,11 @@ moves first layout from to script level s limit stands may =
     (code_stays routines.Move from to level there s may) stands in
     let done =
     copies script layout first from to memory s.events (record r { sp = level - 2 }) r.c r.b refl refl limit still.1.1.1.1.0 still memory_is
-    (held r (level - 2) may.registers) may.kept in
+    (held r (level - 2) may.registers) may.copy_misses_code in
     let after = at there (record done.after { sp = wrap level }) left s.events in
     let on_top =
     returned_on_top level there memory left may.room may.stack.limit
-    (copied_keeps count source destination memory (below level SPARE_BYTES) may.outside.1)
+    (copied_keeps count source destination memory (below level CALL_BYTES) may.blocks_miss_stack.1)
     (pushed_is_pushed level there s.memory two may.stack.limit may.memory.size) in
     record {
       count = suc done.steps;
@@ -302,8 +302,8 @@ moves first layout from to script level s limit stands may =
         memory_is = copied_is_memory count source destination memory memory_is;
         memory = record {
           size = copied_size count source destination s.memory memory may.memory memory_is;
-          bytes = copied_differ (below level SPARE_BYTES) count source destination s.memory memory may.memory.size memory_is.size
-              may.outside.0
+          bytes = copied_differ (below level CALL_BYTES) count source destination s.memory memory may.memory.size memory_is.size
+              may.blocks_miss_stack.0
               (λ address out.
               pushed_elsewhere level there s.memory address may.room
               (λ low high. out (in_spare level address may.room may.stack.limit low high)));

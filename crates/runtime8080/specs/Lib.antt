@@ -1,2 +1,3 @@
 pub mod Routines
+pub mod Moves
 pub mod internal

@@ -1,5 +1,5 @@
 -- What each routine promises to who calls it.
-use Rattle.std.specs.Prelude.{◌≡◌, ℕ, zero, suc, ◌+◌, ◌-◌, ◌*◌, ◌<◌, ◌≤◌, List, ◌++◌, Some, slice_set, false, not, IsTrue}
+use Rattle.std.specs.Prelude.{◌≡◌, ℕ, zero, suc, ◌+◌, ◌-◌, ◌*◌, ◌<◌, ◌≤◌, List, ◌++◌, All, Some, slice_set, not, IsTrue}
 use Rattle.trees.specs.declared.declaration.ScalarType.TheVariants.{Byte, Address}
 use Rattle.trees.specs.declared.expression.BinaryOperator.TheVariants.{Multiply, Divide, Modulo}
 use Rattle.typed_trees.specs.declared.parts.ShiftFunction.TheVariants.{ShiftLeft, ShiftRight, RotateLeft, RotateRight}
@@ -12,16 +12,19 @@ use Rattle.isa8080.specs.declared.instr.Pair.TheVariants.{Bc, De, Hl}
 use Rattle.isa8080.specs.declared.instr.Instr.TheVariants.{Call}
 use Rattle.isa8080.specs.declared.registers.Status.TheVariants.{Running}
 use Rattle.isa8080.specs.State.{State, Registers, pair_of, wrap}
+use Rattle.asm8080.specs.declared.item.Reference.{Reference}
+use Rattle.asm8080.specs.declared.item.Reference.TheVariants.{AtLabel, AtTarget}
 use Rattle.asm8080.specs.declared.item.Item.{Item}
+use Rattle.asm8080.specs.declared.item.Item.TheVariants as item_variants
 use Rattle.asm8080.specs.Items.{Assembly, Layout, Stands, is_bound, size_of_items}
 use Rattle.asm8080.specs.Runs.{Comes}
 use Rattle.asm8080.specs.Standing.{InstructionStands, Keeps, StackIsAt, below}
 use Rattle.runtime8080.specs.declared.routine.Routine.{Routine}
 use Rattle.runtime8080.specs.declared.routine.Routine.TheVariants as routines
 
--- how many bytes below the stack a call of a routine may write: its return address, and eight below that
-abbrev pub SPARE_BYTES : ℕ
-SPARE_BYTES = 10
+-- how many bytes below the end of the stack a CALL of a routine writes: its return address
+abbrev pub CALL_BYTES : ℕ
+CALL_BYTES = 2
 
 -- registers that hold bytes, as those of a machine do
 pub record HoldBytes (registers : Registers) : Type 0 where
@@ -84,24 +87,25 @@ pub record LeavesBcAndD (before after : Registers) : Type 0 where
   pub c : after.c ≡ before.c
   pub d : after.d ≡ before.d
 
--- what memory is to be after a routine, but for its own bytes: MOVE copies BC bytes from DE on to HL on
+-- what memory is to be after a routine, but for the bytes below the stack: MOVE copies BC bytes from DE on to
+-- HL on
 abbrev pub memory_after : Routine → State → List ℕ
 memory_after routines.Move s =
     copied (pair_of Bc s.registers) (pair_of De s.registers) (pair_of Hl s.registers) s.memory
 memory_after routine s = s.memory
 
--- a block that is moved, and that which it is moved to, have no byte in a range
-abbrev pub MovesOutside : Routine → State → Range → Type 0
-MovesOutside routines.Move s range =
+-- of a block and its copy, both have no byte in a range
+abbrev pub BlocksMiss : Routine → State → Range → Type 0
+BlocksMiss routines.Move s range =
     BlockMisses (pair_of Bc s.registers) (pair_of De s.registers) range
     × BlockMisses (pair_of Bc s.registers) (pair_of Hl s.registers) range
-MovesOutside routine s range = Unit {0}
+BlocksMiss routine s range = Unit {0}
 
--- a block is not moved to a range
-abbrev pub KeepsOutside : Routine → State → Range → Type 0
-KeepsOutside routines.Move s range =
+-- and here the copy alone
+abbrev pub CopyMisses : Routine → State → Range → Type 0
+CopyMisses routines.Move s range =
     BlockMisses (pair_of Bc s.registers) (pair_of Hl s.registers) range
-KeepsOutside routine s range = Unit {0}
+CopyMisses routine s range = Unit {0}
 
 -- what a routine leaves as it was, of the registers that don't hold its value
 abbrev pub Leaves : Routine → (before after : Registers) → Type 0
@@ -145,10 +149,10 @@ pub record MayCall
   pub memory : IsMemory s.memory
   pub call : InstructionStands s.memory s.registers.pc (Call entry)
   pub stack : StackIsAt level s
-  pub room : SPARE_BYTES ≤ level
-  pub apart : Meets code (below level SPARE_BYTES) → ⊥
-  pub outside : MovesOutside routine s (below level SPARE_BYTES)
-  pub kept : KeepsOutside routine s code
+  pub room : CALL_BYTES ≤ level
+  pub apart : Meets code (below level CALL_BYTES) → ⊥
+  pub blocks_miss_stack : BlocksMiss routine s (below level CALL_BYTES)
+  pub copy_misses_code : CopyMisses routine s code
 
 -- The machine is after that CALL again.
 pub record HasReturned (routine : Routine) (level : ℕ) (before after : State) : Type 0 where
@@ -161,7 +165,7 @@ pub record HasReturned (routine : Routine) (level : ℕ) (before after : State) 
   pub leaves : Leaves routine before.registers after.registers
   pub memory_is : IsMemory after.memory
   pub memory :
-      Keeps (λ address. IsIn address (below level SPARE_BYTES)) (memory_after routine before) after.memory
+      Keeps (λ address. IsIn address (below level CALL_BYTES)) (memory_after routine before) after.memory
 
 -- A run from the CALL to where the machine is after it.
 pub record Returns
@@ -182,17 +186,32 @@ IsRoutine routine items =
     → MayCall routine from (record { start = from; len = to - from }) level s
     → Returns script routine level s
 
--- no label from the number of labels on is bound
-pub record IsFresh (assembly : Assembly) : Type 0 where
-  pub unbound : (label : ℕ) → assembly.labels ≤ label → is_bound label assembly.items ≡ false
+-- labels from a number on, and before another
+abbrev pub IsOwnLabel : (first past label : ℕ) → Type 0
+IsOwnLabel first past label = (first ≤ label) × (label < past)
 
--- an assembly with a routine added, all of whose own labels are bound
+abbrev pub IsOwnReference : (first past : ℕ) → Reference → Type 0
+IsOwnReference first past (AtLabel label) = IsOwnLabel first past label
+IsOwnReference first past (AtTarget target offset) = ⊥
+
+-- what an item binds or refers to is one of these labels
+abbrev pub HasOwnLabels : (first past : ℕ) → Item → Type 0
+HasOwnLabels first past (item_variants.Plain instruction) = Unit {0}
+HasOwnLabels first past (item_variants.WithWord form reference) = IsOwnReference first past reference
+HasOwnLabels first past (item_variants.Byte value) = Unit {0}
+HasOwnLabels first past (item_variants.Address reference) = IsOwnReference first past reference
+HasOwnLabels first past (item_variants.Gap count) = Unit {0}
+HasOwnLabels first past (item_variants.Mark label) = IsOwnLabel first past label
+
+-- An assembly with a routine added.
 pub record AddsRoutine (routine : Routine) (before after : Assembly) : Type 0 where
   pub items : List Item
   pub added : after.items ≡ before.items ++ items
   pub more : before.labels ≤ after.labels
+  -- all labels that are new are bound by it, and no other is bound or referred to
   pub bound :
       (label : ℕ) → before.labels ≤ label → label < after.labels → IsTrue (is_bound label items)
   pub new : (label : ℕ) → label < before.labels → IsTrue (not (is_bound label items))
+  pub own : All (HasOwnLabels before.labels after.labels) items
   pub size : size_of_items items ≡ size_of_routine routine
   pub is_routine : IsRoutine routine items

@@ -3,7 +3,7 @@
 ghost use Rattle.std.specs.Prelude.{◌≡◌, IfOk, OnOk};
 ghost use Rattle.isa8080.specs.declared.instr.Instr.TheVariants.{Rlc, Rrc};
 ghost use Rattle.runtime8080.specs.declared.routine.Routine.TheVariants.{RotateLeft, RotateRight, ShiftLeftByte, ShiftRightByte, ShiftLeftAddress, ShiftRightAddress};
-ghost use Rattle.runtime8080.specs.Routines.{AddsRoutine, IsFresh};
+ghost use Rattle.runtime8080.specs.Routines.{AddsRoutine};
 ghost use Rattle.runtime8080.specs.internal.Emission.{with_routine};
 
 use crate::moves::move_bytes;
@@ -15,11 +15,10 @@ use asm8080::{Code, WordForm};
 use isa8080::{Condition, Instr, Operand, Operation, Pair, Register};
 use std::alloc::AllocError;
 
-/// Adds a routine to code, with labels of its own. It is to be called at its first byte. Where there is no
-/// memory for it, the code is dropped.
+/// Adds a routine to code, with labels of its own. It is to be called at its first byte. Each call adds a copy:
+/// who emits code keeps which routines are in it, and where. Where there is no memory for it, the code is dropped.
 #[tactic(auto, using(crate::proofs::Added::adds_rotate_left, crate::proofs::Added::adds_rotate_right, crate::proofs::Added::adds_shift_left_byte, crate::proofs::Added::adds_shift_right_byte, crate::proofs::Added::adds_shift_left_address, crate::proofs::Added::adds_shift_right_address, crate::proofs::Added::adds_multiply, crate::proofs::Added::adds_divide, crate::proofs::Added::adds_move))]
 pub fn emit_routine(code: Code, routine: Routine) -> Result<Code, AllocError>
-    requires fresh { IsFresh code }
     ensures ok { IfOk result (λ after. AddsRoutine routine code after) }
 {
     let mut code = code;
@@ -38,9 +37,8 @@ pub fn emit_routine(code: Code, routine: Routine) -> Result<Code, AllocError>
 }
 
 // The lowest three bits of E are put into E, and A is kept in D meanwhile.
-#[tactic(auto, using(crate::proofs::Added::fits_rotate_left, crate::proofs::Added::done_rotate_left))]
+#[tactic(auto, using(crate::proofs::Added::done_rotate_left))]
 fn rotate_left(code: &mut Code) -> Result<(), AllocError>
-    requires fresh { IsFresh code.old }
     ensures ok { OnOk result (code.new ≡ with_routine RotateLeft code.old) }
 {
     let turn = code.label()?;
@@ -62,9 +60,8 @@ fn rotate_left(code: &mut Code) -> Result<(), AllocError>
     )
 }
 
-#[tactic(auto, using(crate::proofs::Added::fits_rotate_right, crate::proofs::Added::done_rotate_right))]
+#[tactic(auto, using(crate::proofs::Added::done_rotate_right))]
 fn rotate_right(code: &mut Code) -> Result<(), AllocError>
-    requires fresh { IsFresh code.old }
     ensures ok { OnOk result (code.new ≡ with_routine RotateRight code.old) }
 {
     let turn = code.label()?;
@@ -86,9 +83,8 @@ fn rotate_right(code: &mut Code) -> Result<(), AllocError>
     )
 }
 
-#[tactic(auto, using(crate::proofs::Added::fits_shift_left_byte, crate::proofs::Added::done_shift_left_byte))]
+#[tactic(auto, using(crate::proofs::Added::done_shift_left_byte))]
 fn shift_left_byte(code: &mut Code) -> Result<(), AllocError>
-    requires fresh { IsFresh code.old }
     ensures ok { OnOk result (code.new ≡ with_routine ShiftLeftByte code.old) }
 {
     let few = code.label()?;
@@ -111,9 +107,8 @@ fn shift_left_byte(code: &mut Code) -> Result<(), AllocError>
     )
 }
 
-#[tactic(auto, using(crate::proofs::Added::fits_shift_right_byte, crate::proofs::Added::done_shift_right_byte))]
+#[tactic(auto, using(crate::proofs::Added::done_shift_right_byte))]
 fn shift_right_byte(code: &mut Code) -> Result<(), AllocError>
-    requires fresh { IsFresh code.old }
     ensures ok { OnOk result (code.new ≡ with_routine ShiftRightByte code.old) }
 {
     let few = code.label()?;
@@ -138,9 +133,8 @@ fn shift_right_byte(code: &mut Code) -> Result<(), AllocError>
 }
 
 // HL is doubled once for each that E counts, and 0 from 16 on.
-#[tactic(auto, using(crate::proofs::Added::fits_shift_left_address, crate::proofs::Added::done_shift_left_address))]
+#[tactic(auto, using(crate::proofs::Added::done_shift_left_address))]
 fn shift_left_address(code: &mut Code) -> Result<(), AllocError>
-    requires fresh { IsFresh code.old }
     ensures ok { OnOk result (code.new ≡ with_routine ShiftLeftAddress code.old) }
 {
     let few = code.label()?;
@@ -163,9 +157,8 @@ fn shift_left_address(code: &mut Code) -> Result<(), AllocError>
 
 // The bits of A, H and L are shifted to the left by 8 less the count; the higher 16 of them are the value. By 8 or
 // more H takes the place of L first.
-#[tactic(auto, using(crate::proofs::Added::fits_shift_right_address, crate::proofs::Added::done_shift_right_address))]
+#[tactic(auto, using(crate::proofs::Added::done_shift_right_address))]
 fn shift_right_address(code: &mut Code) -> Result<(), AllocError>
-    requires fresh { IsFresh code.old }
     ensures ok { OnOk result (code.new ≡ with_routine ShiftRightAddress code.old) }
 {
     let (few, shift) = two_labels(code)?;

@@ -2,7 +2,6 @@
 
 ghost use Rattle.std.specs.Prelude.{◌≡◌, OnOk};
 ghost use Rattle.runtime8080.specs.declared.routine.Routine.TheVariants as routines;
-ghost use Rattle.runtime8080.specs.Routines.{IsFresh};
 ghost use Rattle.runtime8080.specs.internal.Emission.{with_routine};
 
 use crate::parts::{Part, emit_parts, two_labels};
@@ -11,9 +10,8 @@ use isa8080::{Condition, IndexPair, Instr, Operand, Pair, Register};
 use std::alloc::AllocError;
 
 // C counts the bytes of a page of 256, and B the pages.
-#[tactic(auto, using(crate::proofs::Added::fits_move, crate::proofs::Added::done_move))]
+#[tactic(auto, using(crate::proofs::Added::done_move))]
 pub(crate) fn move_bytes(code: &mut Code) -> Result<(), AllocError>
-    requires fresh { IsFresh code.old }
     ensures ok { OnOk result (code.new ≡ with_routine routines.Move code.old) }
 {
     let (next, whole) = two_labels(code)?;

@@ -1,7 +1,7 @@
 //! Parts of which routines are made.
 
 ghost use Rattle.std.specs.Prelude.{◌≡◌, ◌+◌, ◌∷◌, ◌++◌, [], map, IfOk, OnOk};
-ghost use Rattle.asm8080.specs.Items.{BindsNew, KnowsLabels};
+ghost use Rattle.asm8080.specs.Items.{BindsNew, IsAssembly, KnowsLabels};
 ghost use Rattle.runtime8080.specs.internal.Emission.{Fits, item_of};
 
 use asm8080::{Code, Label, WordForm};
@@ -53,8 +53,30 @@ pub(crate) fn two_labels(code: &mut Code) -> Result<(Label, Label), AllocError>
     ensures first { IfOk result (λ labels. labels.0 ≡ code.old.labels) }
     ensures second { IfOk result (λ labels. labels.1 ≡ code.old.labels + 1) }
     ensures more { OnOk result (code.new ≡ record code.old { labels = code.old.labels + 2 }) }
+    ensures valid { IsAssembly code.old }
 {
     let first = code.label()?;
     let second = code.label()?;
     Ok((first, second))
+}
+
+/// The next five labels.
+#[tactic(auto, using(crate::proofs::Added::five_more))]
+pub(crate) fn five_labels(
+    code: &mut Code,
+) -> Result<(Label, Label, Label, Label, Label), AllocError>
+    ensures first { IfOk result (λ labels. labels.0 ≡ code.old.labels) }
+    ensures second { IfOk result (λ labels. labels.1 ≡ code.old.labels + 1) }
+    ensures third { IfOk result (λ labels. labels.2 ≡ code.old.labels + 2) }
+    ensures fourth { IfOk result (λ labels. labels.3 ≡ code.old.labels + 3) }
+    ensures fifth { IfOk result (λ labels. labels.4 ≡ code.old.labels + 4) }
+    ensures more { OnOk result (code.new ≡ record code.old { labels = code.old.labels + 5 }) }
+    ensures valid { IsAssembly code.old }
+{
+    let first = code.label()?;
+    let second = code.label()?;
+    let third = code.label()?;
+    let fourth = code.label()?;
+    let fifth = code.label()?;
+    Ok((first, second, third, fourth, fifth))
 }

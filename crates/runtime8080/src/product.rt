@@ -1,39 +1,17 @@
 //! The product.
 
-ghost use Rattle.std.specs.Prelude.{◌≡◌, ◌+◌, OnOk, IfOk};
+ghost use Rattle.std.specs.Prelude.{◌≡◌, OnOk};
 ghost use Rattle.runtime8080.specs.declared.routine.Routine.TheVariants.{Multiply};
-ghost use Rattle.runtime8080.specs.Routines.{IsFresh};
 ghost use Rattle.runtime8080.specs.internal.Emission.{with_routine};
 
-use crate::parts::{Part, emit_parts};
-use asm8080::{Code, Label, WordForm};
+use crate::parts::{Part, emit_parts, five_labels};
+use asm8080::{Code, WordForm};
 use isa8080::{Condition, Instr, Operand, Operation, Pair, Register};
 use std::alloc::AllocError;
 
-/// The next five labels.
-#[tactic(auto, using(crate::proofs::Added::five_more))]
-pub(crate) fn five_labels(
-    code: &mut Code,
-) -> Result<(Label, Label, Label, Label, Label), AllocError>
-    ensures first { IfOk result (λ labels. labels.0 ≡ code.old.labels) }
-    ensures second { IfOk result (λ labels. labels.1 ≡ code.old.labels + 1) }
-    ensures third { IfOk result (λ labels. labels.2 ≡ code.old.labels + 2) }
-    ensures fourth { IfOk result (λ labels. labels.3 ≡ code.old.labels + 3) }
-    ensures fifth { IfOk result (λ labels. labels.4 ≡ code.old.labels + 4) }
-    ensures more { OnOk result (code.new ≡ record code.old { labels = code.old.labels + 5 }) }
-{
-    let first = code.label()?;
-    let second = code.label()?;
-    let third = code.label()?;
-    let fourth = code.label()?;
-    let fifth = code.label()?;
-    Ok((first, second, third, fourth, fifth))
-}
-
 // HL and DE are multiplied bit by bit: first those of D, where it has any, and then those of E.
-#[tactic(auto, using(crate::proofs::Added::fits_multiply, crate::proofs::Added::done_multiply))]
+#[tactic(auto, using(crate::proofs::Added::done_multiply))]
 pub(crate) fn multiply(code: &mut Code) -> Result<(), AllocError>
-    requires fresh { IsFresh code.old }
     ensures ok { OnOk result (code.new ≡ with_routine Multiply code.old) }
 {
     let (high, low, high_skip, low_bits, low_skip) = five_labels(code)?;

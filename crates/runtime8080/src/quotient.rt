@@ -1,21 +1,20 @@
 //! Quotient and remainder.
 
-ghost use Rattle.std.specs.Prelude.{◌≡◌, ◌+◌, OnOk, IfOk};
+ghost use Rattle.std.specs.Prelude.{◌≡◌, OnOk};
 ghost use Rattle.runtime8080.specs.declared.routine.Routine.TheVariants.{Divide};
-ghost use Rattle.runtime8080.specs.Routines.{IsFresh};
 ghost use Rattle.runtime8080.specs.internal.Emission.{with_routine};
 
-use crate::parts::{Part, emit_parts, two_labels};
-use crate::product::five_labels;
+use crate::parts::{Part, emit_parts, five_labels, two_labels};
 use asm8080::{Code, WordForm};
 use isa8080::{Condition, Instr, Operand, Operation, Pair, Register};
 use std::alloc::AllocError;
 
-// By a byte HL is doubled into A, and by more than a byte HL and B are doubled together; where the divisor fits into
-// what is higher it is taken away, and what is lower gains a bit.
-#[tactic(auto, using(crate::proofs::Added::fits_divide, crate::proofs::Added::done_divide))]
+// Long division, a bit a turn. A divisor below 256, in E: 16 times A and HL are doubled as one number of 24 bits,
+// with A the higher, and where E fits into A it is taken away and L gains a bit. Then A is the remainder, and HL
+// the quotient. Any other divisor, in DE: 8 times HL and B are doubled as one number, with HL the higher, and
+// where DE fits into HL it is taken away and B gains a bit. Then HL is the remainder, and B the quotient.
+#[tactic(auto, using(crate::proofs::Added::done_divide))]
 pub(crate) fn divide(code: &mut Code) -> Result<(), AllocError>
-    requires fresh { IsFresh code.old }
     ensures ok { OnOk result (code.new ≡ with_routine Divide code.old) }
 {
     let (narrow, fits, skip, wide, next) = five_labels(code)?;

@@ -5,15 +5,16 @@
 pub enum Routine {
     /// HL becomes HL times DE, modulo 65536.
     Multiply,
-    /// HL becomes HL divided by DE, and DE the remainder.
+    /// HL becomes HL divided by DE, and DE the remainder. A division by 0 returns too, with no particular
+    /// values.
     Divide,
-    /// A is shifted to the left by the count in E.
+    /// A is shifted to the left by the count in E; from 8 on it becomes 0.
     ShiftLeftByte,
-    /// A is shifted to the right by the count in E.
+    /// A is shifted to the right by the count in E; from 8 on it becomes 0.
     ShiftRightByte,
-    /// HL is shifted to the left by the count in E.
+    /// HL is shifted to the left by the count in E; from 16 on it becomes 0.
     ShiftLeftAddress,
-    /// HL is shifted to the right by the count in E.
+    /// HL is shifted to the right by the count in E; from 16 on it becomes 0.
     ShiftRightAddress,
     /// A is rotated to the left by the count in E, modulo 8.
     RotateLeft,

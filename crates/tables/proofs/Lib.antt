@@ -1,1 +1,1 @@
-mod Fresh
+mod Labels

@@ -8,6 +8,7 @@
 //! counting the ones of the byte as text.
 
 use crate::events::word_of;
+use crate::page::Page;
 use crate::runs::put_bytes;
 use anyhow::Result;
 use cpu8080::Machine;
@@ -15,7 +16,6 @@ use isa8080::Registers;
 use mem80::Memory;
 use ports::{Event, Script};
 use std::alloc::Global;
-use std::io::Write;
 
 // Where programs start.
 const START: u16 = 0x100;
@@ -69,48 +69,59 @@ const ROWS: [Row; 7] = [
 ];
 
 // Prints the bytes that were written, two a column and sixteen columns a line.
-fn print_table<W: Write>(out: &mut W, events: &[Event]) -> Result<()> {
+fn print_table(page: &mut Page, events: &[Event]) {
     for (place, event) in events.iter().enumerate() {
-        write!(out, "{:02X}", event.value)?;
+        page.byte("", event.value);
         if event.port == 1 {
-            let gap = if place % 32 == 31 { "\n" } else { " " };
-            write!(out, "{gap}")?;
+            page.text(if place % 32 == 31 { "\n" } else { " " });
         }
     }
-    Ok(())
 }
 
 // Runs DAA for every byte, with the carries of a flag byte.
-fn adjust_all<W: Write>(alloc: Global, out: &mut W, flags: u8) -> Result<()> {
+fn adjust_all(alloc: Global, page: &mut Page, flags: u8) -> Result<()> {
     let mut memory = Memory::new(alloc)?;
-    memory.load(START, &DAA);
+    put_bytes(&mut memory, START, &DAA);
     memory.set(DAA_FLAGS, flags);
     let mut machine = Machine::new(memory, Script::new(alloc), START);
     let end = word_of(machine.run(10_000));
-    writeln!(out, "DAA of 00 to FF, flags {flags:02X} before: {end}")?;
-    print_table(out, machine.ports().events())
+    page.byte("DAA of 00 to FF, flags ", flags);
+    page.text(" before: ");
+    page.text(end);
+    page.text("\n");
+    print_table(page, machine.ports().events());
+    Ok(())
 }
 
-// Runs a row's program, and prints the registers that it sets.
-fn print_row<W: Write>(alloc: Global, out: &mut W, row: &Row) -> Result<()> {
+// Prints the registers that a row sets.
+fn print_registers(page: &mut Page, what: &str, registers: Registers, end: &str) {
+    let Registers { a, h, flags, .. } = registers;
+    page.text(what);
+    page.byte(": A=", a);
+    page.byte(" H=", h);
+    page.byte(" flags=", flags.byte());
+    page.text(", ");
+    page.text(end);
+    page.text("\n");
+}
+
+// Runs a row's program, and prints what it set.
+fn print_row(alloc: Global, page: &mut Page, row: &Row) -> Result<()> {
     let mut memory = Memory::new(alloc)?;
     put_bytes(&mut memory, START, &row.bytes);
     let mut machine = Machine::new(memory, Script::new(alloc), START);
     let end = word_of(machine.run(10));
-    let Registers { a, h, flags, .. } = machine.registers();
-    let flags = flags.byte();
-    let what = row.what;
-    writeln!(out, "{what}: A={a:02X} H={h:02X} flags={flags:02X}, {end}")?;
+    print_registers(page, row.what, machine.registers(), end);
     Ok(())
 }
 
 /// Prints the rows, and then a table for each pair of carries.
-pub fn print_adjusting<W: Write>(alloc: Global, out: &mut W) -> Result<()> {
+pub fn print_adjusting(alloc: Global, page: &mut Page) -> Result<()> {
     for row in &ROWS {
-        print_row(alloc, out, row)?;
+        print_row(alloc, page, row)?;
     }
     for flags in [0x00, 0x01, 0x10, 0x11] {
-        adjust_all(alloc, out, flags)?;
+        adjust_all(alloc, page, flags)?;
     }
     Ok(())
 }

@@ -1,11 +1,11 @@
 //! A command line with its files, what is said of its answer, and what it answers.
 
 use crate::memory_files::{File, MemoryFiles};
+use crate::page::Page;
 use crate::texts::{add_line, add_often};
 use anyhow::Result;
 use commands::run_command;
 use std::alloc::Global;
-use std::fmt;
 
 /// A command line as far as it was read, with the line of standard input on which it stands.
 #[derive(Drop)]
@@ -149,23 +149,19 @@ impl Answer {
             && block.out.is_of(self.out.as_slice())
             && block.err.is_of(self.err.as_slice())
     }
+
+    /// Prints it.
+    pub fn print(&self, page: &mut Page) {
+        page.number("status ", u64::from(self.status));
+        page.number(", ", self.failed);
+        page.number(" calls of files failed, ", self.written.len() as u64);
+        page.text(" files written\n");
+        page.text(text(self.out.as_slice()));
+        page.text(text(self.err.as_slice()));
+    }
 }
 
 // Bytes as a text.
 fn text(bytes: &[u8]) -> &str {
     std::str::from_utf8(bytes).unwrap_or("other bytes than text")
-}
-
-impl fmt::Display for Answer {
-    fn fmt<W: fmt::Write>(&self, f: &mut fmt::Formatter<W>) -> fmt::Result {
-        write!(
-            f,
-            "status {}, {} calls of files failed, {} files written\n{}{}",
-            self.status,
-            self.failed,
-            self.written.len(),
-            text(self.out.as_slice()),
-            text(self.err.as_slice())
-        )
-    }
 }

@@ -1,8 +1,7 @@
 //! Instructions as texts, from the manual's examples.
 
-use anyhow::Result;
-use isa8080::{decode, encode};
-use std::io::Write;
+use crate::page::Page;
+use isa8080::{Instr, decode, encode};
 
 // The bytes of instructions, with zeros after those that have less than three, and at last a code that is none.
 const CODES: [[u8; 3]; 38] = [
@@ -46,19 +45,24 @@ const CODES: [[u8; 3]; 38] = [
     [0x08, 0x00, 0x00],
 ];
 
-/// Prints the text of each instruction, how many bytes it takes, and the bytes that it is written as again.
-pub fn print_codes<W: Write>(out: &mut W) -> Result<()> {
+// Prints the text of an instruction, how many bytes it takes, and the bytes that it is written as again.
+fn print_code(page: &mut Page, instr: Instr, size: u8) {
+    let ([first, second, third], count) = encode(instr);
+    page.value(&instr);
+    page.number(": ", u64::from(size));
+    page.byte(", ", first);
+    page.byte(" ", second);
+    page.byte(" ", third);
+    page.number(" ", u64::from(count));
+    page.text("\n");
+}
+
+/// Prints each instruction.
+pub fn print_codes(page: &mut Page) {
     for bytes in CODES {
         match decode(bytes) {
-            Some((instr, size)) => {
-                let ([first, second, third], count) = encode(instr);
-                writeln!(
-                    out,
-                    "{instr}: {size}, {first:02X} {second:02X} {third:02X} {count}"
-                )?;
-            }
-            None => writeln!(out, "none")?,
+            Some((instr, size)) => print_code(page, instr, size),
+            None => page.text("none\n"),
         }
     }
-    Ok(())
 }

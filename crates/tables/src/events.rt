@@ -1,9 +1,8 @@
 //! What runs print: their ends and their events.
 
-use anyhow::Result;
+use crate::page::Page;
 use cpu8080::{End, Step};
 use ports::Event;
-use std::io::Write;
 
 /// How a run ended, in words.
 pub fn word_of(end: End) -> &'static str {
@@ -26,13 +25,11 @@ pub fn word_of_step(step: Step) -> &'static str {
 }
 
 /// Prints events on a line: `<` or `>`, the port and the value of each.
-pub fn print_events<W: Write>(out: &mut W, events: &[Event]) -> Result<()> {
-    write!(out, "events:")?;
+pub fn print_events(page: &mut Page, events: &[Event]) {
+    page.text("events:");
     for event in events {
-        let way = if event.write { '>' } else { '<' };
-        let Event { port, value, .. } = *event;
-        write!(out, " {way}{port:02X} {value:02X}")?;
+        page.byte(if event.write { " >" } else { " <" }, event.port);
+        page.byte(" ", event.value);
     }
-    writeln!(out)?;
-    Ok(())
+    page.text("\n");
 }

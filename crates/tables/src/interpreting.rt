@@ -2,13 +2,13 @@
 
 use crate::events::print_events;
 use crate::faulty::FaultyPorts;
+use crate::page::Page;
 use failure::Failure;
 use interpretation::read_program;
 use interpreter::{RunFault, SourceEnd, interpret};
 use mem80::Memory;
 use ports::{Ports, Script};
 use std::alloc::Global;
-use std::io::Write;
 use tool::{Built, Plan, Source, ToolFault, build};
 
 // How a source ends that is interpreted over these ports, or why it is no program.
@@ -51,40 +51,40 @@ fn word_of_end<P: Ports>(alloc: Global, text: &[u8], ports: &mut P) -> &'static 
 const READS_TWICE: &[u8] = b"M: DO; OUTPUT(5) = INPUT(1) - INPUT(1); END M;";
 
 // Prints how the program ends on ports of which a read may fail.
-fn print_faulty_run<W: Write>(
-    alloc: Global,
-    out: &mut W,
-    ports: &mut FaultyPorts,
-) -> anyhow::Result<()> {
-    let end = word_of_end(alloc, READS_TWICE, ports);
-    let failures = ports.failed;
-    writeln!(out, "{end}, failures: {failures}")?;
-    print_events(out, ports.script.events())
+fn print_faulty_run(alloc: Global, page: &mut Page, ports: &mut FaultyPorts) {
+    page.text(word_of_end(alloc, READS_TWICE, ports));
+    page.number(", failures: ", ports.failed);
+    page.text("\n");
+    print_events(page, ports.script.events());
 }
 
 // A program on ports whose second read fails, and then once more from its beginning on.
-fn print_port_fault<W: Write>(alloc: Global, out: &mut W) -> anyhow::Result<()> {
+fn print_port_fault(alloc: Global, page: &mut Page) -> anyhow::Result<()> {
     let mut ports = FaultyPorts::with_two_inputs(alloc)?;
-    print_faulty_run(alloc, out, &mut ports)?;
-    print_faulty_run(alloc, out, &mut ports)
+    print_faulty_run(alloc, page, &mut ports);
+    print_faulty_run(alloc, page, &mut ports);
+    Ok(())
 }
 
 const CALLS: &[u8] =
-    b"M: DO; DECLARE A(2) BYTE INITIAL (1, 2), P ADDRESS, X BASED P BYTE; F: PROCEDURE (N) BYTE REENTRANT; DECLARE (N, V) BYTE; \
-V = N; IF N = 0 THEN RETURN 0; RETURN F(N - 1) + V; END F; P = .(7, 'AB'); OUTPUT(0) = X; OUTPUT(0) = F(3) + A(1); END M;";
+    b"M: DO; DECLARE A(2) BYTE PUBLIC INITIAL (1, 'X'), K BYTE DATA (3), R STRUCTURE (B BYTE, C(2) ADDRESS), S LITERALLY 'A(0) + 1', \
+P ADDRESS, X BASED P BYTE; F: PROCEDURE (N) BYTE REENTRANT; DECLARE (N, V) BYTE; V = N; IF N = 0 THEN RETURN 0; RETURN F(N - 1) + V; END F; \
+G: PROCEDURE (Q) PUBLIC; DECLARE Q ADDRESS; P = Q; IF X THEN RETURN; HALT; END G; \
+DO WHILE S < 3; A(0), R.C(1) = -(A(0) := S) * 2; CALL G(.(7, 'AB')); END; OUTPUT(0) = X; OUTPUT(0) = F(3) + HIGH(R.C(1)); GOTO L; HALT; \
+L: DO CASE K - 3; OUTPUT(0) = A(0); HALT; END; END M;";
 
 // Prints how the program ends, and its events.
-fn print_calls<W: Write>(alloc: Global, out: &mut W) -> anyhow::Result<()> {
+fn print_calls(alloc: Global, page: &mut Page) {
     let mut script = Script::new(alloc);
-    let end = word_of_end(alloc, CALLS, &mut script);
-    writeln!(out, "{end}")?;
-    print_events(out, script.events())
+    page.text(word_of_end(alloc, CALLS, &mut script));
+    page.text("\n");
+    print_events(page, script.events());
 }
 
 // The program twice: to be run with each allocation refused in turn, of which at most one is.
-fn print_second_run<W: Write>(alloc: Global, out: &mut W) -> anyhow::Result<()> {
-    print_calls(alloc, out)?;
-    print_calls(alloc, out)
+fn print_second_run(alloc: Global, page: &mut Page) {
+    print_calls(alloc, page);
+    print_calls(alloc, page);
 }
 
 // How a build ends, in a word.
@@ -97,17 +97,18 @@ fn word_of_build(answer: &Result<Built, Failure<ToolFault>>) -> &'static str {
 }
 
 // What is said of a program of no sources.
-fn print_no_sources<W: Write>(alloc: Global, out: &mut W) -> anyhow::Result<()> {
+fn print_no_sources(alloc: Global, page: &mut Page) {
     let plan = Plan::usual();
     let answer = build(alloc, &[], &plan);
-    let word = word_of_build(&answer);
-    writeln!(out, "no sources: {word}")?;
-    Ok(())
+    page.text("no sources: ");
+    page.text(word_of_build(&answer));
+    page.text("\n");
 }
 
 /// Prints how these programs end.
-pub fn print_programs<W: Write>(alloc: Global, out: &mut W) -> anyhow::Result<()> {
-    print_port_fault(alloc, out)?;
-    print_second_run(alloc, out)?;
-    print_no_sources(alloc, out)
+pub fn print_programs(alloc: Global, page: &mut Page) -> anyhow::Result<()> {
+    print_port_fault(alloc, page)?;
+    print_second_run(alloc, page);
+    print_no_sources(alloc, page);
+    Ok(())
 }

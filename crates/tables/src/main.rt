@@ -11,6 +11,7 @@
 //! are, made of modules and of files; objects that are read, placed and loaded, texts of Intel HEX that are read, and how
 //! commands end whose output fails part way; what long code and code with many labels is; and at last whether the document
 //! of the routines, the file `runtime.md` where the program runs, is as it is made here, or else that document.
+//! With words it reads no standard input: it does what the words order, and prints how long that took. `measures` says which there are.
 //!
 //! What is said was written by hand from the rules of the language in `docs/language.md`, of object files in
 //! `docs/object-format.md` and of the commands in `docs/commands.md`, or computed from them by other programs that share
@@ -26,11 +27,19 @@ mod codes;
 mod events;
 mod faulty;
 mod interpreting;
+mod made_objects;
+mod made_sources;
+mod measured_machine;
+mod measured_objects;
+mod measured_text;
+mod measures;
 mod memory_files;
 mod merging;
 mod objects;
 mod operations;
+mod page;
 mod readers;
+mod reports;
 mod routines;
 mod runs;
 mod scripts;
@@ -44,15 +53,18 @@ use block::{Answer, Block};
 use codes::print_codes;
 use files::HostFiles;
 use interpreting::print_programs;
+use measures::measure;
 use merging::print_merges;
 use objects::print_objects;
 use operations::print_operations;
+use page::Page;
 use routines::print_routines;
 use runs::print_runs;
 use scripts::print_scripts;
 use shorter::print_shorter;
 use std::alloc::Global;
-use std::io::{Write, read_to_string};
+use std::env;
+use std::io::read_to_string;
 
 // The line after a block.
 const END_OF_BLOCK: &str = "====";
@@ -64,57 +76,118 @@ struct Counts {
     differ: u64,
 }
 
-// Whether a command line has the answer that is said of it; where not, prints both.
-fn is_as_said(rt: &HostRuntime, block: &Block) -> Result<bool> {
-    let answer = Answer::of(rt.alloc(), block)?;
+impl Counts {
+    // Counts a block.
+    fn add(&mut self, is_as_said: bool) {
+        self.blocks = self.blocks.saturating_add(1);
+        if !is_as_said {
+            self.differ = self.differ.saturating_add(1);
+        }
+    }
+
+    // Prints both.
+    fn print(&self, page: &mut Page) {
+        page.number("", self.blocks);
+        page.number(" command lines, ", self.differ);
+        page.text(" differ\n");
+    }
+}
+
+// Whether a command line has the answer that is said of it; where not, prints what it has.
+fn is_as_said(alloc: Global, page: &mut Page, block: &Block) -> Result<bool> {
+    let answer = Answer::of(alloc, block)?;
     let is_as_said = answer.is_as_said(block);
     if !is_as_said {
-        println!(rt; "line {}: {answer}", block.place())?;
+        page.number("line ", block.place() as u64);
+        page.text(": ");
+        answer.print(page);
+        page.text("\n");
     }
     Ok(is_as_said)
 }
 
-// Carries out the command lines of standard input.
-fn print_command_lines(rt: &HostRuntime) -> Result<()> {
+// Takes in the line of a place, and carries out the block that it ends, if it ends one.
+fn read_line(
+    alloc: Global,
+    page: &mut Page,
+    counts: &mut Counts,
+    block: &mut Block,
+    place: usize,
+    line: &str,
+) -> Result<()> {
+    if line != END_OF_BLOCK {
+        return block.read(alloc, place, line);
+    }
+    counts.add(is_as_said(alloc, page, block)?);
+    *block = Block::new(alloc);
+    Ok(())
+}
+
+// Carries out the command lines of rows.
+fn print_blocks(alloc: Global, page: &mut Page, rows: &str) -> Result<()> {
     let mut counts = Counts {
         blocks: 0,
         differ: 0,
     };
-    let mut block = Block::new(rt.alloc());
-    let rows = read_to_string(rt.alloc(), rt.reader())?;
+    let mut block = Block::new(alloc);
     for (before, line) in rows.lines().enumerate() {
-        if line == END_OF_BLOCK {
-            counts.blocks = counts.blocks.saturating_add(1);
-            if !is_as_said(rt, &block)? {
-                counts.differ = counts.differ.saturating_add(1);
-            }
-            block = Block::new(rt.alloc());
-        } else {
-            block.read(rt.alloc(), before.saturating_add(1), line)?;
-        }
+        let place = before.saturating_add(1);
+        read_line(alloc, page, &mut counts, &mut block, place, line)?;
     }
-    println!(rt; "{} command lines, {} differ", counts.blocks, counts.differ)?;
+    counts.print(page);
     Ok(())
 }
 
 // Prints what the parts of the machine do, the interpreter, and what reads and places objects.
-fn print_parts<W: Write>(alloc: Global, out: &mut W) -> Result<()> {
-    print_codes(out)?;
-    print_operations(out)?;
-    print_runs(alloc, out)?;
-    print_scripts(alloc, out)?;
-    print_programs(alloc, out)?;
-    print_merges(alloc, out)?;
-    print_adjusting(alloc, out)?;
-    print_objects(alloc, out)?;
-    print_shorter(alloc, out)
+fn print_parts(alloc: Global, page: &mut Page) -> Result<()> {
+    print_codes(page);
+    print_operations(page);
+    print_runs(alloc, page)?;
+    print_scripts(alloc, page)?;
+    print_programs(alloc, page)?;
+    print_merges(alloc, page)?;
+    print_adjusting(alloc, page)?;
+    print_objects(alloc, page)?;
+    print_shorter(alloc, page)
+}
+
+// Prints the answers to the command lines of standard input, what the parts do, what code is, and the routines.
+fn print_all(rt: &HostRuntime, page: &mut Page) -> Result<()> {
+    let rows = read_to_string(rt.alloc(), rt.reader())?;
+    print_blocks(rt.alloc(), page, rows.as_str())?;
+    print_parts(rt.alloc(), page)?;
+    print_assemblies(rt.alloc(), page)?;
+    let mut files = HostFiles::new(rt);
+    print_routines(rt.alloc(), &mut files, page)
+}
+
+// Measures what words order, or prints the rows where only the program's name is given.
+fn measure_or_print(rt: &HostRuntime, page: &mut Page, words: &[&str]) -> Result<()> {
+    if words.len() > 1 {
+        measure(rt, page, words)
+    } else {
+        print_all(rt, page)
+    }
+}
+
+// Does what the words order, and writes what that printed, as far as it came.
+fn print_page(rt: &HostRuntime, words: &[&str]) -> Result<()> {
+    let mut page = Page::new(rt.alloc());
+    let ended = measure_or_print(rt, &mut page, words);
+    let written = page.write(&mut rt.stdout());
+    if ended.is_ok() { written } else { ended }
+}
+
+// Does what the words order that the program was given.
+fn carry_out(rt: &HostRuntime, given: &[String]) -> Result<()> {
+    let mut words = Vec::new(rt.alloc());
+    for word in given {
+        words.push(word.as_str())?;
+    }
+    print_page(rt, words.as_slice())
 }
 
 fn main(rt: HostRuntime) -> Result<()> {
-    print_command_lines(&rt)?;
-    let mut out = rt.stdout();
-    print_parts(rt.alloc(), &mut out)?;
-    print_assemblies(rt.alloc(), &mut out)?;
-    let mut files = HostFiles::new(&rt);
-    print_routines(rt.alloc(), &mut files, &mut out)
+    let given: Vec<String> = env::args(&rt)?.collect(rt.alloc())?;
+    carry_out(&rt, given.as_slice())
 }

@@ -42,13 +42,7 @@ impl File {
             return add_bytes(&mut self.bytes, digits);
         }
         let mut text = String::new(alloc);
-        if let Some(pieces) = line.strip_prefix("* ") {
-            add_often(&mut text, pieces, "")?;
-        } else if let Some(start) = line.strip_suffix("\\") {
-            text.push_str(start)?;
-        } else {
-            add_line(&mut text, line)?;
-        }
+        add_text(&mut text, line)?;
         self.bytes.extend_from_slice(text.as_bytes())?;
         Ok(())
     }
@@ -56,6 +50,18 @@ impl File {
     /// Whether it has this name and these bytes.
     pub fn is_same(&self, other: &File) -> bool {
         self.name.as_str() == other.name.as_str() && self.bytes.as_slice() == other.bytes.as_slice()
+    }
+}
+
+// Adds what a line of a text stands for.
+fn add_text(text: &mut String, line: &str) -> anyhow::Result<()> {
+    if let Some(pieces) = line.strip_prefix("* ") {
+        add_often(text, pieces, "")
+    } else if let Some(start) = line.strip_suffix("\\") {
+        text.push_str(start)?;
+        Ok(())
+    } else {
+        add_line(text, line)
     }
 }
 

@@ -1,10 +1,10 @@
 //! Object files merged in two ways, as modules and as files: both write the same bytes.
 
+use crate::page::Page;
 use crate::texts::add_bytes;
 use anyhow::{Result, bail};
 use link_records::link_records;
 use std::alloc::Global;
-use std::io::Write;
 
 // A main module that calls S, which the other one has.
 const CALLER: [&str; 6] = [
@@ -71,32 +71,36 @@ fn merged_files(alloc: Global, first: &[u8], second: &[u8]) -> Result<Vec<u8>> {
     Ok(bytes)
 }
 
-// Prints the merge of two files, and whether their modules have the same.
-fn print_merge<W: Write>(
-    alloc: Global,
-    first: &[&str],
-    second: &[&str],
-    out: &mut W,
-) -> Result<()> {
-    let first = file_of(alloc, first)?;
-    let second = file_of(alloc, second)?;
-    let merged = merged_files(alloc, first.as_slice(), second.as_slice())?;
-    write!(out, "merge")?;
-    for byte in &merged {
-        write!(out, " {byte:02X}")?;
+// Prints a merge of files, and whether the merge of their modules is the same.
+fn print_bytes(page: &mut Page, merged: &[u8], modules: &[u8]) {
+    page.text("merge");
+    for byte in merged {
+        page.byte(" ", *byte);
     }
-    let modules = merged_modules(alloc, first.as_slice(), second.as_slice())?;
-    let same = if merged == modules {
-        "the same"
+    page.text(if merged == modules {
+        ", the same of the modules\n"
     } else {
-        "other bytes"
-    };
-    writeln!(out, ", {same} of the modules")?;
+        ", other bytes of the modules\n"
+    });
+}
+
+// Prints the merge of two files beside that of their modules.
+fn print_merges_of(alloc: Global, page: &mut Page, first: &[u8], second: &[u8]) -> Result<()> {
+    let merged = merged_files(alloc, first, second)?;
+    let modules = merged_modules(alloc, first, second)?;
+    print_bytes(page, merged.as_slice(), modules.as_slice());
     Ok(())
 }
 
+// The same of files that are given record by record.
+fn print_merge(alloc: Global, page: &mut Page, first: &[&str], second: &[&str]) -> Result<()> {
+    let first = file_of(alloc, first)?;
+    let second = file_of(alloc, second)?;
+    print_merges_of(alloc, page, first.as_slice(), second.as_slice())
+}
+
 /// Prints what merges are.
-pub fn print_merges<W: Write>(alloc: Global, out: &mut W) -> Result<()> {
-    print_merge(alloc, &CALLER, &CALLED, out)?;
-    print_merge(alloc, &HALVES, &PAGE, out)
+pub fn print_merges(alloc: Global, page: &mut Page) -> Result<()> {
+    print_merge(alloc, page, &CALLER, &CALLED)?;
+    print_merge(alloc, page, &HALVES, &PAGE)
 }

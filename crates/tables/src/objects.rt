@@ -1,5 +1,6 @@
 //! Objects read from a reader and loaded into a memory, and pieces read from Intel HEX.
 
+use crate::page::Page;
 use crate::readers::BrokenReader;
 use anyhow::Result;
 use failure::Failure;
@@ -8,7 +9,7 @@ use locate::{Plan, locate};
 use mem80::{Memory, Piece};
 use objmod::{ObjectModule, Segment, read_from};
 use std::alloc::Global;
-use std::io::{Read, Write};
+use std::io::Read;
 
 // The object A of `docs/object-format.md`: CALL S and HLT, where S is an external name.
 const CALLING: [u8; 51] = [
@@ -64,129 +65,142 @@ const TEXTS: [Row; 7] = [
     },
 ];
 
-// Prints a line.
-fn print_line<W: Write>(out: &mut W, line: &str) -> Result<()> {
-    writeln!(out, "{line}")?;
-    Ok(())
-}
-
-// Prints bytes after the address of the first.
-fn print_bytes<W: Write>(out: &mut W, address: u16, bytes: &[u8]) -> Result<()> {
-    write!(out, "{address:04X}:")?;
+// Prints bytes on a line.
+fn print_bytes(page: &mut Page, bytes: &[u8]) {
     for byte in bytes {
-        write!(out, " {byte:02X}")?;
+        page.byte(" ", *byte);
     }
-    writeln!(out)?;
-    Ok(())
+    page.text("\n");
 }
 
 // Prints the bytes of the code of an object.
-fn print_code<W: Write>(out: &mut W, object: &ObjectModule) -> Result<()> {
+fn print_code(page: &mut Page, object: &ObjectModule) {
     for run in object.runs(Segment::Code) {
-        print_bytes(out, run.offset(), run.bytes())?;
+        page.word("", run.offset());
+        page.text(":");
+        print_bytes(page, run.bytes());
     }
-    Ok(())
 }
 
 // Prints where words of the code of an object are fixed.
-fn print_fixes<W: Write>(out: &mut W, object: &ObjectModule) -> Result<()> {
+fn print_fixes(page: &mut Page, object: &ObjectModule) {
     for fix in object.fixes(Segment::Code) {
-        writeln!(out, "fixed at {:04X}", fix.offset)?;
+        page.word("fixed at ", fix.offset);
+        page.text("\n");
     }
-    Ok(())
 }
 
 // Prints the external names of an object.
-fn print_externals<W: Write>(out: &mut W, object: &ObjectModule) -> Result<()> {
+fn print_externals(page: &mut Page, object: &ObjectModule) {
     for name in object.externals() {
-        writeln!(out, "external {name}")?;
+        page.text("external ");
+        page.value(name);
+        page.text("\n");
     }
-    Ok(())
+}
+
+// Prints the lengths of an object, and where it starts.
+fn print_lengths(page: &mut Page, object: &ObjectModule) {
+    page.number("code ", u64::from(object.length(Segment::Code)));
+    page.number(", data ", u64::from(object.length(Segment::Data)));
+    page.number(", stack ", u64::from(object.length(Segment::Stack)));
+    page.text("\n");
+    if let Some(start) = object.start() {
+        page.word("start ", start);
+        page.text("\n");
+    }
 }
 
 // Prints an object.
-fn print_object<W: Write>(out: &mut W, object: &ObjectModule) -> Result<()> {
-    let code = object.length(Segment::Code);
-    let rest = object.length(Segment::Data);
-    let stack = object.length(Segment::Stack);
-    writeln!(out, "code {code}, data {rest}, stack {stack}")?;
-    if let Some(start) = object.start() {
-        writeln!(out, "start {start:04X}")?;
-    }
-    print_externals(out, object)?;
-    print_code(out, object)?;
-    print_fixes(out, object)
+fn print_object(page: &mut Page, object: &ObjectModule) {
+    print_lengths(page, object);
+    print_externals(page, object);
+    print_code(page, object);
+    print_fixes(page, object);
+}
+
+// Prints a word on a line.
+fn print_line(page: &mut Page, word: &str) {
+    page.text(word);
+    page.text("\n");
 }
 
 // Prints what a reader gives.
-fn print_read<R: Read, W: Write>(alloc: Global, out: &mut W, from: &mut R) -> Result<()> {
+fn print_read<R: Read>(alloc: Global, page: &mut Page, from: &mut R) {
     match read_from(alloc, from) {
-        Ok(object) => print_object(out, &object),
-        Err(Failure::Fault(fault)) => print_line(out, fault.number()),
-        Err(Failure::Memory) => print_line(out, "MEMORY"),
+        Ok(object) => print_object(page, &object),
+        Err(Failure::Fault(fault)) => print_line(page, fault.number()),
+        Err(Failure::Memory) => print_line(page, "MEMORY"),
     }
 }
 
 // An object, one that is cut off, and one whose reader fails.
-fn print_readers<W: Write>(alloc: Global, out: &mut W) -> Result<()> {
+fn print_readers(alloc: Global, page: &mut Page) {
     let mut whole = CALLING.as_slice();
-    print_read(alloc, out, &mut whole)?;
+    print_read(alloc, page, &mut whole);
     let mut shorter = &CALLING[..50];
-    print_read(alloc, out, &mut shorter)?;
+    print_read(alloc, page, &mut shorter);
     let mut broken = BrokenReader {
         bytes: &CALLING[..12],
     };
-    print_read(alloc, out, &mut broken)
+    print_read(alloc, page, &mut broken);
 }
 
-// A memory with the merge, placed as usual, over other bytes.
+// Loads the merge, placed as usual.
+fn load_merged(alloc: Global, memory: &mut Memory) -> Result<()> {
+    let mut bytes = MERGED.as_slice();
+    let object = read_from(alloc, &mut bytes)?;
+    let absolute = locate(alloc, &object, &Plan::usual())?;
+    absolute.load(memory);
+    Ok(())
+}
+
+// A memory with the merge, over other bytes.
 fn loaded(alloc: Global) -> Result<Memory> {
     let mut memory = Memory::new(alloc)?;
     for address in 0xFF..0x10A_u16 {
         memory.set(address, 0x11);
     }
-    let mut bytes = MERGED.as_slice();
-    let object = read_from(alloc, &mut bytes)?;
-    let absolute = locate(alloc, &object, &Plan::usual())?;
-    absolute.load(&mut memory);
+    load_merged(alloc, &mut memory)?;
     Ok(memory)
 }
 
 // Prints the bytes of a memory from 0FFH to 109H.
-fn print_memory<W: Write>(out: &mut W, memory: &Memory) -> Result<()> {
-    write!(out, "loaded:")?;
+fn print_memory(page: &mut Page, memory: &Memory) {
+    page.text("loaded:");
     for address in 0xFF..0x10A_u16 {
-        write!(out, " {:02X}", memory.get(address))?;
+        page.byte(" ", memory.get(address));
     }
-    writeln!(out)?;
-    Ok(())
+    page.text("\n");
 }
 
 // Prints pieces of memory.
-fn print_pieces<W: Write>(out: &mut W, pieces: &[Piece]) -> Result<()> {
+fn print_pieces(page: &mut Page, pieces: &[Piece]) {
     for piece in pieces {
-        print_bytes(out, piece.start, piece.bytes.as_slice())?;
+        page.word("", piece.start);
+        page.text(":");
+        print_bytes(page, piece.bytes.as_slice());
     }
-    Ok(())
 }
 
 // Prints the pieces of a text, or its fault.
-fn print_row<W: Write>(alloc: Global, out: &mut W, row: &Row) -> Result<()> {
-    write!(out, "{}: ", row.what)?;
+fn print_row(alloc: Global, page: &mut Page, row: &Row) {
+    page.text(row.what);
+    page.text(": ");
     match read_hex(alloc, row.text.as_bytes()) {
-        Ok(pieces) => print_pieces(out, pieces.as_slice()),
-        Err(Failure::Fault(fault)) => print_line(out, fault.number()),
-        Err(Failure::Memory) => print_line(out, "MEMORY"),
+        Ok(pieces) => print_pieces(page, pieces.as_slice()),
+        Err(Failure::Fault(fault)) => print_line(page, fault.number()),
+        Err(Failure::Memory) => print_line(page, "MEMORY"),
     }
 }
 
 /// Prints objects that are read and loaded, and the pieces of texts.
-pub fn print_objects<W: Write>(alloc: Global, out: &mut W) -> Result<()> {
-    print_readers(alloc, out)?;
+pub fn print_objects(alloc: Global, page: &mut Page) -> Result<()> {
+    print_readers(alloc, page);
     let memory = loaded(alloc)?;
-    print_memory(out, &memory)?;
+    print_memory(page, &memory);
     for row in &TEXTS {
-        print_row(alloc, out, row)?;
+        print_row(alloc, page, row);
     }
     Ok(())
 }

@@ -2,13 +2,13 @@
 
 use crate::arguments::{Arguments, Kind};
 use crate::calls::{Tally, tally_of};
+use crate::page::Page;
 use anyhow::{Result, bail};
 use asm8080::{Code, CodeBytes};
 use files::Files;
 use isa8080::decode;
 use runtime8080::{Routine, emit_routine};
 use std::alloc::Global;
-use std::io::Write;
 
 // A routine, and what is said of it.
 struct Row {
@@ -123,30 +123,31 @@ with random arguments, by bytes of as many with random words and a byte in DE. `
 memory, that are others than plain arithmetic gives. Addresses in the listings count from the first byte.
 ";
 
-// Prints a line.
-fn print_line<W: Write>(out: &mut W, line: &str) -> Result<()> {
-    writeln!(out, "{line}")?;
-    Ok(())
-}
-
 // Prints a fact of a routine.
-fn print_fact<W: Write>(out: &mut W, name: &str, fact: &str) -> Result<()> {
-    writeln!(out, "- {name}: {fact}")?;
-    Ok(())
+fn print_fact(page: &mut Page, name: &str, fact: &str) {
+    page.text("- ");
+    page.text(name);
+    page.text(": ");
+    page.text(fact);
+    page.text("\n");
 }
 
 // Prints a number of a routine.
-fn print_number<W: Write>(out: &mut W, name: &str, number: u64) -> Result<()> {
-    writeln!(out, "- {name}: {number}")?;
-    Ok(())
+fn print_number(page: &mut Page, name: &str, number: u64) {
+    page.text("- ");
+    page.text(name);
+    page.number(": ", number);
+    page.text("\n");
 }
 
 // Prints a number of hundredths.
-fn print_hundredths<W: Write>(out: &mut W, name: &str, number: u64) -> Result<()> {
-    let whole = number / 100;
-    let part = number % 100;
-    writeln!(out, "- {name}: {whole}.{part:02}")?;
-    Ok(())
+fn print_hundredths(page: &mut Page, name: &str, number: u64) {
+    page.text("- ");
+    page.text(name);
+    page.number(": ", number / 100);
+    page.number(".", number / 10 % 10);
+    page.number("", number % 10);
+    page.text("\n");
 }
 
 // The code of a routine alone.
@@ -167,12 +168,18 @@ fn byte_at(bytes: &[u8], offset: usize) -> u8 {
 }
 
 // Prints an instruction, and answers its length.
-fn print_instruction<W: Write>(out: &mut W, bytes: &[u8], offset: usize) -> Result<usize> {
+fn print_instruction(page: &mut Page, bytes: &[u8], offset: usize) -> Result<usize> {
     let second = byte_at(bytes, offset.saturating_add(1));
     let third = byte_at(bytes, offset.saturating_add(2));
+    let Ok(place) = u16::try_from(offset) else {
+        bail!("no offset of code");
+    };
     match decode([byte_at(bytes, offset), second, third]) {
         Some((instr, size)) => {
-            writeln!(out, "    {offset:04X}  {instr}")?;
+            page.word("    ", place);
+            page.text("  ");
+            page.value(&instr);
+            page.text("\n");
             Ok(size as usize)
         }
         None => bail!("no instruction"),
@@ -180,11 +187,11 @@ fn print_instruction<W: Write>(out: &mut W, bytes: &[u8], offset: usize) -> Resu
 }
 
 // Prints the instructions.
-fn print_listing<W: Write>(out: &mut W, bytes: &[u8]) -> Result<()> {
+fn print_listing(page: &mut Page, bytes: &[u8]) -> Result<()> {
     let mut next = 0;
     for offset in 0..bytes.len() {
         if offset == next {
-            let size = print_instruction(out, bytes, offset)?;
+            let size = print_instruction(page, bytes, offset)?;
             next = offset.saturating_add(size);
         }
     }
@@ -197,19 +204,19 @@ fn mean_of(tally: &Tally) -> u64 {
 }
 
 // Prints the steps of calls with random arguments.
-fn print_steps<W: Write>(out: &mut W, tally: &Tally) -> Result<()> {
-    print_number(out, "Wrong of random ones", tally.wrong)?;
-    print_number(out, "Least steps", tally.least)?;
-    print_hundredths(out, "Mean steps", mean_of(tally))?;
-    print_number(out, "Greatest steps", tally.greatest)
+fn print_steps(page: &mut Page, tally: &Tally) {
+    print_number(page, "Wrong of random ones", tally.wrong);
+    print_number(page, "Least steps", tally.least);
+    print_hundredths(page, "Mean steps", mean_of(tally));
+    print_number(page, "Greatest steps", tally.greatest);
 }
 
 // Prints the steps of calls with random arguments of which DE is a byte.
-fn print_steps_by_bytes<W: Write>(out: &mut W, tally: &Tally) -> Result<()> {
-    print_number(out, "Wrong by bytes", tally.wrong)?;
-    print_number(out, "Least steps by bytes", tally.least)?;
-    print_hundredths(out, "Mean steps by bytes", mean_of(tally))?;
-    print_number(out, "Greatest steps by bytes", tally.greatest)
+fn print_steps_by_bytes(page: &mut Page, tally: &Tally) {
+    print_number(page, "Wrong by bytes", tally.wrong);
+    print_number(page, "Least steps by bytes", tally.least);
+    print_hundredths(page, "Mean steps by bytes", mean_of(tally));
+    print_number(page, "Greatest steps by bytes", tally.greatest);
 }
 
 // What calls with some arguments give.
@@ -223,58 +230,70 @@ fn tally_with(alloc: Global, row: &Row, code: &CodeBytes, kind: Kind, mask: u16)
 }
 
 // Prints what calls give.
-fn print_tallies<W: Write>(alloc: Global, out: &mut W, row: &Row, code: &CodeBytes) -> Result<()> {
+fn print_tallies(alloc: Global, page: &mut Page, row: &Row, code: &CodeBytes) -> Result<()> {
     let edges = tally_with(alloc, row, code, Kind::Edges, row.mask)?;
-    print_number(out, "Wrong at edges", edges.wrong)?;
-    print_number(out, "Greatest steps at edges", edges.greatest)?;
+    print_number(page, "Wrong at edges", edges.wrong);
+    print_number(page, "Greatest steps at edges", edges.greatest);
     let random = tally_with(alloc, row, code, Kind::Random, row.mask)?;
-    print_fact(out, "Random arguments", row.random)?;
-    print_steps(out, &random)?;
+    print_fact(page, "Random arguments", row.random);
+    print_steps(page, &random);
     if row.routine == Routine::Multiply || row.routine == Routine::Divide {
         let narrow = tally_with(alloc, row, code, Kind::Random, 0xFF)?;
-        print_steps_by_bytes(out, &narrow)?;
+        print_steps_by_bytes(page, &narrow);
     }
     Ok(())
 }
 
 // Prints what is said of a routine.
-fn print_facts<W: Write>(out: &mut W, row: &Row) -> Result<()> {
-    print_line(out, "")?;
-    writeln!(out, "## {}", row.name)?;
-    print_line(out, "")?;
-    print_fact(out, "Takes", row.takes)?;
-    print_fact(out, "Gives", row.gives)?;
-    print_fact(out, "Changes", row.changes)
+fn print_facts(page: &mut Page, row: &Row) {
+    page.text("\n## ");
+    page.text(row.name);
+    page.text("\n\n");
+    print_fact(page, "Takes", row.takes);
+    print_fact(page, "Gives", row.gives);
+    print_fact(page, "Changes", row.changes);
+}
+
+// Prints what is said of a routine, and its code.
+fn print_code(alloc: Global, page: &mut Page, row: &Row, code: &CodeBytes) -> Result<()> {
+    print_facts(page, row);
+    print_number(page, "Bytes", code.bytes().len() as u64);
+    print_tallies(alloc, page, row, code)?;
+    page.text("\n");
+    print_listing(page, code.bytes())
 }
 
 // Prints the section of a routine.
-fn print_routine<W: Write>(alloc: Global, out: &mut W, row: &Row) -> Result<()> {
+fn print_routine(alloc: Global, page: &mut Page, row: &Row) -> Result<()> {
     let code = code_of(alloc, row.routine)?;
-    print_facts(out, row)?;
-    print_number(out, "Bytes", code.bytes().len() as u64)?;
-    print_tallies(alloc, out, row, &code)?;
-    print_line(out, "")?;
-    print_listing(out, code.bytes())
+    print_code(alloc, page, row, &code)
 }
 
 // Prints the document.
-fn print_document<W: Write>(alloc: Global, out: &mut W) -> Result<()> {
-    write!(out, "{HEAD}")?;
+fn print_document(alloc: Global, page: &mut Page) -> Result<()> {
+    page.text(HEAD);
     for row in &ROWS {
-        print_routine(alloc, out, row)?;
+        print_routine(alloc, page, row)?;
     }
     Ok(())
 }
 
-/// Prints that the document is kept as a file, or else the document.
-pub fn print_routines<F: Files, W: Write>(alloc: Global, files: &mut F, out: &mut W) -> Result<()> {
-    let mut document = Vec::new(alloc);
-    print_document(alloc, &mut document)?;
+// Whether a file has what is on a page.
+fn is_kept<F: Files>(files: &mut F, document: &Page) -> bool {
     match files.read_file(DOCUMENT) {
-        Ok(kept) if kept == document => print_line(out, "the routines are as runtime.md has them"),
-        _ => {
-            out.write_all(document.as_slice())?;
-            Ok(())
-        }
+        Ok(kept) => document.has(kept.as_slice()),
+        Err(_) => false,
     }
+}
+
+/// Prints that the document is kept as a file, or else the document.
+pub fn print_routines<F: Files>(alloc: Global, files: &mut F, page: &mut Page) -> Result<()> {
+    let mut document = Page::new(alloc);
+    print_document(alloc, &mut document)?;
+    if is_kept(files, &document) {
+        page.text("the routines are as runtime.md has them\n");
+    } else {
+        page.page(&document);
+    }
+    Ok(())
 }

@@ -2,11 +2,11 @@
 
 use crate::memory_files::{File, MemoryFiles};
 use crate::objects::MERGED;
+use crate::page::Page;
 use crate::readers::ShortWriter;
 use anyhow::Result;
 use commands::run_command;
 use std::alloc::Global;
-use std::io::Write;
 
 // The words of a command, the last of which is its file, the bytes of that file, and what is printed.
 struct Row {
@@ -57,28 +57,32 @@ fn is_refused(alloc: Global, row: &Row, files: &[File], room: usize) -> bool {
         && row.printed.as_bytes().get(..room) == Some(out.taken.as_slice())
 }
 
-// Prints how often a command is refused, with each output that is too short.
-fn print_row<W: Write>(alloc: Global, out: &mut W, row: &Row) -> Result<()> {
-    let files = files_of(alloc, row)?;
-    let mut refused = 0_u32;
+// How often a command is refused, with each output that is too short.
+fn refusals(alloc: Global, row: &Row, files: &[File]) -> u64 {
+    let mut refused = 0_u64;
     for room in 0..row.printed.len() {
-        if is_refused(alloc, row, files.as_slice(), room) {
+        if is_refused(alloc, row, files, room) {
             refused = refused.saturating_add(1);
         }
     }
+    refused
+}
+
+// Prints how often a command is refused.
+fn print_row(alloc: Global, page: &mut Page, row: &Row) -> Result<()> {
+    let files = files_of(alloc, row)?;
     let [_, command, _] = row.words;
-    let all = row.printed.len();
-    writeln!(
-        out,
-        "{command}: {refused} of {all} shorter outputs are refused"
-    )?;
+    page.text(command);
+    page.number(": ", refusals(alloc, row, files.as_slice()));
+    page.number(" of ", row.printed.len() as u64);
+    page.text(" shorter outputs are refused\n");
     Ok(())
 }
 
 /// Prints how often commands are refused whose output is too short.
-pub fn print_shorter<W: Write>(alloc: Global, out: &mut W) -> Result<()> {
+pub fn print_shorter(alloc: Global, page: &mut Page) -> Result<()> {
     for row in &ROWS {
-        print_row(alloc, out, row)?;
+        print_row(alloc, page, row)?;
     }
     Ok(())
 }

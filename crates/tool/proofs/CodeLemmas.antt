@@ -3,7 +3,7 @@ use Rattle.std.proofs.Common.{◌≡◌, ℕ, ◌+◌, ◌*◌, ◌<◌, Bool, t
 use Rattle.typed_trees.specs.TypedTrees.{TypedModule}
 use Rattle.source_meaning.specs.declared.outputs.Output.{Output}
 use Rattle.source_meaning.specs.Outputs.{outputs_from, outputs_of}
-use Rattle.placing.specs.declared.plan.Plan.{Plan}
+use Rattle.plans.specs.declared.Plan.{Plan}
 use Rattle.tool.specs.Code.{outputs_code, code_bytes, code_of, segment_of, module_code}
 
 -- four bytes an output, and the halt

@@ -1,5 +1,5 @@
 -- Sources that are compiled, one by one.
-use Rattle.std.proofs.Common.{◌≡◌, ℕ, suc, ◌+◌, ◌<◌, ◌≤◌, ◌⊎◌, Bool, true, false, List, [], ◌∷◌, ◌++◌, length, drop, get_or, flat_map, map, Option, Some, None, is_some, All, slice_get, arith, refl, sym, ap, ◌∙◌, subst, add-one, append-nil, append_assoc, ⊎_elim}
+use Rattle.std.proofs.Common.{◌≡◌, Err, Ok, ℕ, suc, ◌+◌, ◌<◌, ◌≤◌, ◌⊎◌, Bool, true, false, List, [], ◌∷◌, ◌++◌, length, drop, get_or, flat_map, map, Option, Some, None, is_some, All, slice_get, arith, refl, sym, ap, ◌∙◌, subst, add-one, append-nil, append_assoc, ⊎_elim}
 use Rattle.std.proofs.Math.ListN.{drop_of_length-le}
 use Rattle.std.proofs.Math.Seq.{drop-cons}
 use Rattle.std.proofs.lemmas.Bool.{cases_lt}
@@ -9,11 +9,15 @@ use Rattle.typed_trees.specs.TypedTrees.{TypedModule}
 use Rattle.typed_trees.specs.Storable.{IsStorable}
 use Rattle.layout.specs.Storage.{storage_with}
 use Rattle.layout.specs.Views.{layout_view}
-use Rattle.placing.specs.declared.plan.Plan.{Plan}
+use Rattle.plans.specs.declared.Plan.{Plan}
 use Rattle.source_meaning.specs.Outputs.{outputs_of}
 use Rattle.frontend.specs.Causes.{HasReadCause}
 use Rattle.frontend.specs.Reading.{IsSourceOf}
 use Rattle.tool.specs.declared.code.TheConstants.{MOST_CODE}
+use Rattle.std.specs.Prelude.{IsErrAnd, Result}
+use Rattle.failure.specs.Failure.{IfFault}
+use Rattle.failure.specs.declared.Failure.{Failure}
+use Rattle.failure.specs.declared.Failure.TheVariants.{Fault, Memory}
 use Rattle.tool.specs.declared.compiled.Compiled.{Compiled}
 use Rattle.tool.specs.declared.fault.ToolFault.{ToolFault}
 use Rattle.tool.specs.declared.fault.ToolFault.TheVariants.{TooManySources, Source, CodeTooLong, NotServed, Join, Placement}
@@ -92,3 +96,25 @@ order_of_one (CodeTooLong place) file text texts plan cause before = subst (λ k
 order_of_one (NotServed place line) file text texts plan cause before = absurd cause
 order_of_one (Join fault) file text texts plan cause before = absurd cause
 order_of_one (Placement fault) file text texts plan cause before = absurd cause
+
+-- a failure that is handed on
+pub passed : {A F : Type 0} (result : Result A F) (failure : F) → IsErrAnd result (λ given. given ≡ failure) → result ≡ Err failure
+passed (Ok value) failure is = absurd is
+passed (Err given) failure is = ap Err is
+
+-- the failure of one source is that of all
+pub cause_of_all : {A : Type 0} (texts : List (List ℕ)) (plan : Plan) (file : ℕ) (text : List ℕ) (result : Result A (Failure ToolFault)) (failure : Failure ToolFault) → result ≡ Err failure → file < length texts
+    → text ≡ text_of texts file → IfFault {A = Compiled} (Err failure) (λ fault. HasCompileCause fault file text plan) → IfFault result (λ fault. HasCause fault texts plan)
+cause_of_all {A} texts plan file text result (Fault fault) is below at has =
+    subst (λ (r : Result A (Failure ToolFault)). IfFault r (λ other. HasCause other texts plan)) (sym is)
+    (cause_of_one fault file texts plan below (subst (λ given. HasCompileCause fault file given plan) at has))
+cause_of_all {A} texts plan file text result Memory is below at has =
+    subst (λ (r : Result A (Failure ToolFault)). IfFault r (λ other. HasCause other texts plan)) (sym is) tt
+
+-- and in order where those before it have none
+pub order_of_all : {A : Type 0} (texts : List (List ℕ)) (plan : Plan) (file : ℕ) (text : List ℕ) (result : Result A (Failure ToolFault)) (failure : Failure ToolFault) → result ≡ Err failure
+    → IfFault {A = Compiled} (Err failure) (λ fault. HasCompileCause fault file text plan) → AreWithoutFault file texts plan → IfFault result (λ fault. IsInOrder fault texts plan)
+order_of_all {A} texts plan file text result (Fault fault) is has before =
+    subst (λ (r : Result A (Failure ToolFault)). IfFault r (λ other. IsInOrder other texts plan)) (sym is) (order_of_one fault file text texts plan has before)
+order_of_all {A} texts plan file text result Memory is has before =
+    subst (λ (r : Result A (Failure ToolFault)). IfFault r (λ other. IsInOrder other texts plan)) (sym is) tt

@@ -10,7 +10,7 @@ use Rattle.layout.specs.declared.slot.TheConstants.{SEGMENT_LIMIT}
 use Rattle.layout.specs.Joined.{IsJoined, NotOneMain, JoinRefusal, is_main, join_refusal, not_one_main, declared_otherwise, public_twice, without_public}
 use Rattle.layout.specs.Placement.{Placement, range_of}
 use Rattle.layout.specs.Placing.{PlacingRefusal, SegmentTooLarge, code_range, data_range, stack_range, first_misplaced, overlapping, past_memory, placement_by, placing_refusal, segment_too_large}
-use Rattle.placing.specs.declared.plan.Plan.{Plan}
+use Rattle.plans.specs.declared.Plan.{Plan}
 use Rattle.placing.specs.Views.{plan_view}
 use Rattle.tool.specs.Code.{code_lengths, module_code, program_code}
 

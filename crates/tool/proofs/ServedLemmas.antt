@@ -9,7 +9,7 @@ use Rattle.typed_trees.specs.TypedTrees.{TypedObject, TypedStatement, TypedState
 use Rattle.typed_trees.specs.Storable.{IsStorable, LooksBack, list_in, numbered_constant, numbers_from, object_in}
 use Rattle.typed_trees.specs.Weight.{constant_bytes, size_of_constant}
 use Rattle.layout.specs.Joined.{has_statement, is_main}
-use Rattle.placing.specs.declared.plan.Plan.{Plan}
+use Rattle.plans.specs.declared.Plan.{Plan}
 use Rattle.placing.specs.Segments.{HoldsConstants, HaveStorage}
 use Rattle.source_meaning.specs.declared.outputs.Output.{Output}
 use Rattle.source_meaning.specs.Outputs.{declares_nothing, output_before, output_of, outputs_from, outputs_in, outputs_of, outputs_of_list, program_outputs}

@@ -12,7 +12,7 @@ use Rattle.typed_trees.specs.Views.{module_view}
 use Rattle.layout.specs.declared.slot.Layout.{Layout}
 use Rattle.layout.specs.Storage.{storage_with}
 use Rattle.layout.specs.Views.{layout_view}
-use Rattle.placing.specs.declared.plan.Plan.{Plan}
+use Rattle.plans.specs.declared.Plan.{Plan}
 use Rattle.source_meaning.specs.declared.outputs.Output.{Output}
 use Rattle.source_meaning.specs.Outputs.{outputs_of}
 use Rattle.frontend.specs.declared.read.ReadFault.{ReadFault}

@@ -10,8 +10,8 @@ use Rattle.isa8080.specs.declared.instr.Instr.{Instr}
 use Rattle.isa8080.specs.declared.instr.Instr.TheVariants.{Lxi, Mvi, Out, Hlt}
 use Rattle.isa8080.specs.State.{low_byte}
 use Rattle.isa8080.specs.Code.{bytes_of}
-use Rattle.placing.specs.declared.plan.Plan.{Plan}
-use Rattle.placing.specs.Views.{stack_end_of}
+use Rattle.plans.specs.declared.Plan.{Plan}
+use Rattle.plans.specs.Plans.{stack_end_of}
 
 -- the code of an output, and after it other code
 abbrev pub output_code : Output → List Instr → List Instr

@@ -9,7 +9,7 @@ use Rattle.layout.specs.Placing.{placement_by}
 use Rattle.join.specs.declared.joined.Joined.{Joined}
 use Rattle.join.specs.Views.{modules_of}
 use Rattle.placing.specs.declared.placement.ByteKind.{ByteKind}
-use Rattle.placing.specs.declared.plan.Plan.{Plan}
+use Rattle.plans.specs.declared.Plan.{Plan}
 use Rattle.placing.specs.Tables.{IsTableOf}
 use Rattle.placing.specs.Views.{plan_view}
 use Rattle.tool.specs.declared.code.TheConstants.{MOST_CODE}

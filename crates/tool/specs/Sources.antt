@@ -6,7 +6,7 @@ use Rattle.layout.specs.Placing.{placing_refusal}
 use Rattle.join.specs.declared.fault.Fault as join_fault
 use Rattle.join.specs.Views as of_joining
 use Rattle.placing.specs.declared.fault.Fault as placing_fault
-use Rattle.placing.specs.declared.plan.Plan.{Plan}
+use Rattle.plans.specs.declared.Plan.{Plan}
 use Rattle.placing.specs.Views as of_placement
 use Rattle.source_meaning.specs.declared.outputs.Output.{Output}
 use Rattle.source_meaning.specs.Outputs.{outputs_of}

@@ -13,7 +13,8 @@ ghost use Rattle.tool.specs.Sources.{IsServed};
 
 use join::Joined;
 use mem80::{Bytes, Piece};
-use placing::{Placement, Plan};
+use placing::Placement;
+use plans::Plan;
 use std::marker::Model;
 
 /// The bytes of a program at their places.

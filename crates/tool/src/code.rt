@@ -9,7 +9,7 @@ ghost use Rattle.tool.specs.Code.{code_bytes, code_of, module_code, output_code,
 
 use failure::Failure;
 use isa8080::{Instr, Operand, Pair, Register, encode};
-use placing::Plan;
+use plans::Plan;
 use source_meaning::{Output, outputs_of};
 use std::alloc::{AllocError, Global};
 use thiserror::Error;

@@ -1,6 +1,6 @@
 //! Sources alone: what each is compiled to.
 
-ghost use Rattle.std.specs.Prelude.{◌≡◌, ◌≤◌, length, map, flat_map, option_map, All, IfOk};
+ghost use Rattle.std.specs.Prelude.{◌≡◌, ◌≤◌, ◌∷◌, ◌++◌, [], length, map, flat_map, option_map, All, IfOk, OnOk};
 ghost use Rattle.failure.specs.Failure.{IfFault};
 ghost use Rattle.tool.specs.Sources.{AreWithoutFault, HasCause, IsInOrder, texts_of};
 ghost use Rattle.tool.specs.declared.code.TheConstants.{MOST_CODE};
@@ -12,7 +12,7 @@ use crate::sources::Source;
 use failure::Failure;
 use frontend::{SourceModule, read_source};
 use layout::Layout;
-use placing::Plan;
+use plans::Plan;
 use std::alloc::{AllocError, Global};
 use typed_trees::Typed;
 
@@ -25,7 +25,6 @@ pub struct Compiled {
 }
 
 /// Reads each source and makes its code, in the order given.
-#[tactic(auto, using(crate::proofs::CompiledLemmas::none_without_fault, crate::proofs::CompiledLemmas::one_more_without_fault, crate::proofs::CompiledLemmas::goes_on, crate::proofs::CompiledLemmas::all_compiled, crate::proofs::CompiledLemmas::cause_of_one, crate::proofs::CompiledLemmas::order_of_one, crate::proofs::CompiledLemmas::text_at, crate::proofs::CompiledLemmas::within_texts))]
 pub fn compile_all(
     alloc: Global,
     sources: &[Source],
@@ -100,6 +99,34 @@ pub struct Parts {
     pub code: Vec<u8>,
 }
 
+impl Parts {
+    // Adds what one source is taken apart to, with the length of its code.
+    fn add(&mut self, one: Compiled, length: u32) -> Result<(), AllocError>
+        ensures modules { OnOk result
+            (self.new.modules.items ≡ self.old.modules.items ++ one.source.typed ∷ []) }
+        ensures storages { OnOk result
+            (self.new.storages.items ≡ self.old.storages.items ++ one.source.storage ∷ []) }
+        ensures lengths { OnOk result (self.new.lengths.items ≡ self.old.lengths.items ++ length ∷ []) }
+        ensures code { OnOk result (self.new.code.items ≡ self.old.code.items ++ one.code.items) }
+    {
+        let Compiled {
+            source,
+            is_served: _,
+            code,
+        } = one;
+        self.code.extend_from_slice(code.as_slice())?;
+        self.lengths.push(length)?;
+        let SourceModule {
+            typed,
+            storage,
+            unserved_line: _,
+        } = source;
+        self.modules.push(typed)?;
+        self.storages.push(storage)?;
+        Ok(())
+    }
+}
+
 /// Takes sources apart.
 pub fn parts_of(alloc: Global, compiled: Vec<Compiled>) -> Result<Parts, AllocError>
     requires { All (λ one. length one.code.items ≤ MOST_CODE) compiled.items }
@@ -112,30 +139,15 @@ pub fn parts_of(alloc: Global, compiled: Vec<Compiled>) -> Result<Parts, AllocEr
     ensures code { IfOk result
         (λ parts. parts.code.items ≡ flat_map (λ one. one.code.items) compiled.items) }
 {
-    let mut modules = Vec::with_capacity(alloc, compiled.len())?;
-    let mut storages = Vec::with_capacity(alloc, compiled.len())?;
-    let mut lengths = Vec::with_capacity(alloc, compiled.len())?;
-    let mut code = Vec::new(alloc);
+    let mut parts = Parts {
+        modules: Vec::new(alloc),
+        storages: Vec::new(alloc),
+        lengths: Vec::new(alloc),
+        code: Vec::new(alloc),
+    };
     for one in compiled {
-        let Compiled {
-            source,
-            is_served: _,
-            code: bytes,
-        } = one;
-        let SourceModule {
-            typed,
-            storage,
-            unserved_line: _,
-        } = source;
-        lengths.push(bytes.len() as u32)?;
-        code.extend_from_slice(bytes.as_slice())?;
-        modules.push(typed)?;
-        storages.push(storage)?;
+        let length = one.code.len() as u32;
+        parts.add(one, length)?;
     }
-    Ok(Parts {
-        modules,
-        storages,
-        lengths,
-        code,
-    })
+    Ok(parts)
 }

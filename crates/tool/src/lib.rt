@@ -12,5 +12,5 @@ pub use built::{Built, Image};
 pub use execution::execute;
 pub use fault::ToolFault;
 pub use frontend::ReadFault;
-pub use placing::Plan;
+pub use plans::Plan;
 pub use sources::{MOST_SOURCES, Source, build};

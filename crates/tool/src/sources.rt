@@ -19,7 +19,8 @@ use crate::compiled::{Parts, compile_all, first_unserved, parts_of};
 use crate::fault::ToolFault;
 use failure::Failure;
 use join::join;
-use placing::{Plan, place};
+use placing::place;
+use plans::Plan;
 use std::alloc::Global;
 
 /// The greatest number of sources.
@@ -57,7 +58,6 @@ pub fn build(alloc: Global, sources: &[Source], plan: &Plan) -> Result<Built, Fa
 }
 
 // Builds the program of at most as many sources as there may be.
-#[tactic(auto, using(crate::proofs::SourcesLemmas::unserved_cause, crate::proofs::SourcesLemmas::parts_fit, crate::proofs::SourcesLemmas::storages_fit, crate::proofs::SourcesLemmas::lengths_fit, crate::proofs::SourcesLemmas::code_fits, crate::proofs::SourcesLemmas::served_all, crate::proofs::SourcesLemmas::storable_all, crate::proofs::SourcesLemmas::program_built, crate::proofs::SourcesLemmas::program_cause, crate::proofs::SourcesLemmas::program_order))]
 fn build_few(alloc: Global, sources: &[Source], plan: &Plan) -> Result<Built, Failure<ToolFault>>
     ensures program { IfOk result
         (λ built. IsProgramOf (texts_of sources.now) (program_modules built.program)) }

@@ -1,5 +1,5 @@
 -- Arguments that are typed one after another.
-use Rattle.std.proofs.Common.{◌≡◌, ℕ, suc, ◌+◌, ◌<◌, ◌≤◌, List, [], ◌∷◌, ◌++◌, length, drop, get_or, slice_get, zero, Ok, refl, ap, sym, ◌∙◌, add-one, arith}
+use Rattle.std.proofs.Common.{◌≡◌, ℕ, suc, ◌+◌, ◌<◌, ◌≤◌, List, [], ◌∷◌, ◌++◌, length, drop, get_or, slice_get, zero, Option, Ok, refl, ap, sym, ◌∙◌, add-one, arith}
 use Rattle.std.proofs.lemmas.List.{length-append}
 use Rattle.trees.specs.declared.expression.Expression.{Expression}
 use Rattle.trees.specs.Views.{argument_trees, expression_tree}
@@ -10,8 +10,9 @@ use Rattle.typing.specs.Checks.{Checked}
 use Rattle.typing.specs.References.{Known}
 use Rattle.typing.specs.Expressions.{arguments, expression}
 use Rattle.typing.specs.Nodes.{arguments_as}
-use Rattle.typing.specs.Results.{in_front as put_in_front}
-use Rattle.typing.proofs.Loops.{made_goes_on, made_ended}
+use Rattle.typing.specs.declared.fault.Fault.{Fault}
+use Rattle.typing.specs.Results.{FailsBy, in_front as put_in_front}
+use Rattle.typing.proofs.Loops.{made_goes_on, made_fails, made_ended}
 use Rattle.typed_expressions.specs.internal.Fronts.{in_front}
 use Rattle.typed_expressions.specs.internal.Given.{as_given}
 use Rattle.trees.specs.declared.declaration.ScalarType.{ScalarType}
@@ -45,6 +46,12 @@ module _ (known : Known) where
   goes_on trees i tree made before total within is left next after given =
       sym (made_goes_on first_typed all_typed grown (λ first others state. refl) trees i tree before after (expression_view next) (after_made made) (after_made (made ++ next ∷ [])) total
       within is (sym left) given (λ rest. ap (λ all. (all, rest.1)) (in_front_more made next rest.0)))
+
+  pub fails : (trees : List Expression) (i : ℕ) (tree : Expression) (made : List Typed) (before : Constants) (total : Checked (TypedArguments × Constants)) (fault : Option Fault)
+      → i < length trees → tree ≡ get_or trees i tree → total ≡ put_in_front (after_made made) (all_typed (drop i trees) before)
+      → FailsBy fault (expression known (expression_tree tree) before) → FailsBy fault total
+  fails trees i tree made before total fault within is left given =
+      made_fails first_typed all_typed grown (λ first others state. refl) trees i tree before (after_made made) total fault within is (sym left) given
 
   pub ended : (trees : List Expression) (i : ℕ) (made : List Typed) (now : Constants) (total : Checked (TypedArguments × Constants))
       → length trees ≤ i → total ≡ put_in_front (after_made made) (all_typed (drop i trees) now) → total ≡ Ok (arguments_view made, now)

@@ -1,10 +1,10 @@
 -- Code as it is assembled: labels count from the start of the code, and the words of targets from 0.
-use Rattle.std.specs.Prelude.{ℕ, ◌+◌, Bool, List, [], ◌∷◌, ◌++◌, length, replicate, Option, Some, None, is_some, unwrap_or, slice_get, slice_set}
+use Rattle.std.specs.Prelude.{ℕ, ◌+◌, Bool, List, [], ◌∷◌, ◌++◌, length, replicate, Option, Some, None, is_some, unwrap_or, slice_set}
 use Rattle.std.specs.List.{list_all}
 use Rattle.object_modules.specs.declared.segment.Fix.{Fix}
 use Rattle.asm8080.specs.declared.item.Item.{Item}
-use Rattle.asm8080.specs.declared.item.Item.TheVariants.{Plain, WithWord, Byte, Address, Mark}
-use Rattle.asm8080.specs.Items.{Layout, bytes_of_item, offset_of, size_of}
+use Rattle.asm8080.specs.declared.item.Item.TheVariants.{Plain, WithWord, Byte, Address, Gap, Mark}
+use Rattle.asm8080.specs.Items.{Layout, bytes_of_item, is_set, offset_of, size_of}
 use Rattle.asm8080.specs.Assembled.{Assembled, fix_at, fixes_of_items}
 
 -- labels at these places, and each target at 0
@@ -20,11 +20,21 @@ abbrev pub bytes_of_items : Layout → List Item → List ℕ
 bytes_of_items layout [] = []
 bytes_of_items layout (item ∷ others) = bytes_of_item layout item ++ bytes_of_items layout others
 
--- the code of items
-abbrev pub code_of : List Item → Assembled
-code_of items = record {
+-- which bytes of items are set
+abbrev pub flags_of_item : Item → List Bool
+flags_of_item item = replicate (size_of item) (is_set item)
+
+abbrev pub flags_of_items : List Item → List Bool
+flags_of_items [] = []
+flags_of_items (item ∷ others) = flags_of_item item ++ flags_of_items others
+
+-- the code of items whose labels lie at places
+abbrev pub code_of : (places : List (Option ℕ)) → List Item → Assembled
+code_of places items = record {
   bytes = bytes_of_items (layout_from (offset_in items)) items;
+  is_set = flags_of_items items;
   fixes = fixes_of_items 0 items;
+  places = places;
 }
 
 -- A table of places, by the numbers of labels: none where a label is not bound.
@@ -41,15 +51,6 @@ places_after offset (item ∷ others) places =
 abbrev pub places_of : (labels : ℕ) → List Item → List (Option ℕ)
 places_of labels items = places_after 0 items (replicate labels None)
 
-abbrev pub place_or_start : Option (Option ℕ) → ℕ
-place_or_start None = 0
-place_or_start (Some None) = 0
-place_or_start (Some (Some place)) = place
-
--- where a label is by a table
-abbrev pub place_in : List (Option ℕ) → (label : ℕ) → ℕ
-place_in places label = place_or_start (slice_get places label)
-
 abbrev pub all_placed : List (Option ℕ) → Bool
 all_placed places = list_all is_some places
 
@@ -59,12 +60,14 @@ fixes_of_item offset (Plain instruction) = []
 fixes_of_item offset (WithWord form reference) = fix_at (offset + 1) reference ∷ []
 fixes_of_item offset (Byte value) = []
 fixes_of_item offset (Address reference) = fix_at offset reference ∷ []
+fixes_of_item offset (Gap count) = []
 fixes_of_item offset (Mark label) = []
 
 -- code with an item more
 abbrev pub with_item : Layout → Assembled → Item → Assembled
-with_item layout code item = record {
+with_item layout code item = record code {
   bytes = code.bytes ++ bytes_of_item layout item;
+  is_set = code.is_set ++ flags_of_item item;
   fixes = code.fixes ++ fixes_of_item (length code.bytes) item;
 }
 
@@ -74,4 +77,8 @@ with_items layout code [] = code
 with_items layout code (item ∷ others) = with_items layout (with_item layout code item) others
 
 abbrev pub no_code : Assembled
-no_code = record { bytes = []; fixes = [] }
+no_code = record { bytes = []; is_set = []; fixes = []; places = [] }
+
+-- code with its labels where a table has them
+abbrev pub with_places : List (Option ℕ) → Assembled → Assembled
+with_places places code = record code { places = places }

@@ -9,7 +9,7 @@ use Rattle.layout.specs.Views.{layout_view}
 use Rattle.layout.specs.Joined.{IsJoined, join_refusal}
 use Rattle.layout.specs.Placing.{placing_refusal}
 use Rattle.join.specs.Views as of_joining
-use Rattle.placing.specs.declared.plan.Plan.{Plan}
+use Rattle.plans.specs.declared.Plan.{Plan}
 use Rattle.placing.specs.Views as of_placement
 use Rattle.frontend.specs.Causes.{HasReadCause}
 use Rattle.frontend.specs.Reading.{IsSourceOf}

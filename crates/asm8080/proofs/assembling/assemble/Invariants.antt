@@ -1,7 +1,8 @@
 use Rattle.std.proofs.Common.{◌≡◌, ◌+◌, ◌≤◌, drop, length}
 use Rattle.object_modules.specs.declared.segment.TheConstants.{SEGMENT_LIMIT}
 use Rattle.asm8080.specs.Items.{size_of_items}
-use Rattle.asm8080.specs.internal.Assembling.{layout_from, no_code, place_in, with_items}
+use Rattle.asm8080.specs.Assembled.{place_in}
+use Rattle.asm8080.specs.internal.Assembling.{layout_from, no_code, with_items}
 use Rattle.asm8080.proofs.assembling.assemble.Given as goal
 
 abbrev pub invariant-loop-item : goal.invariant-loop-item

@@ -1,11 +1,11 @@
-use Rattle.std.proofs.Common.{rules, None, ◌∙◌}
+use Rattle.std.proofs.Common.{rules, None, ◌∙◌, arith}
 use Rattle.trees.specs.declared.expression.Expression.{Expression}
 use Rattle.trees.specs.Views.{expression_tree, argument_trees}
 use Rattle.names.specs.Uses.{names_in_expression, names_in_arguments}
 use Rattle.binding.specs.internal.Walks.{bound_at, fault_in}
 use Rattle.binding.proofs.Loops.{goes_on, fails_within, ended, hands_on}
-use Rattle.binding.proofs.Walks.{bind_more_append, bound_none}
-use Rattle.binding.proofs.References.{reference_fails, member_bound}
+use Rattle.binding.proofs.Walks.{bind_more_append, bound_none, bound_append_ok, fails_append, fails_cons}
+use Rattle.binding.proofs.References.{reference_fails, reference_names, member_bound}
 use Rattle.binding.proofs.uses.+uses.Goals as goal
 
 pub bind_arguments-loop-argument-preserved : goal.bind_arguments-loop-argument-preserved
@@ -53,3 +53,24 @@ bind_reference-returns-in-Some t c =
     let a = member_bound c.args.scopes.now c.args.reference.now c.as_slice.result.now c.args.bindings.now.items c.bind_name.new.bindings.items c.as_slice.ensures.value c.in_ok-bind_name.ensures
     c.bind_arguments.new.bindings.items _ c.in_ok-bind_arguments.ensures c.in-Some.is in
     rw a (rw (← c.deref.ensures, ← c.as_slice-in-Some.ensures.value) c.bind_arguments-in-Some.ensures)
+
+pub bind_expression-returns-in_err-bind_reference-in-Assignment : goal.bind_expression-returns-in_err-bind_reference-in-Assignment
+bind_expression-returns-in_err-bind_reference-in-Assignment t c = grind (arith, fails_append)
+
+pub bind_expression-returns-in_err-bind_expression-in-Binary : goal.bind_expression-returns-in_err-bind_expression-in-Binary
+bind_expression-returns-in_err-bind_expression-in-Binary t c = grind (arith, fails_append)
+
+pub bind_expression-returns-in_ok-bind_reference-in-Assignment : goal.bind_expression-returns-in_ok-bind_reference-in-Assignment
+bind_expression-returns-in_ok-bind_reference-in-Assignment t c = grind (arith, bound_append_ok)
+
+pub bind_expression-returns-in_ok-bind_expression-in-Binary : goal.bind_expression-returns-in_ok-bind_expression-in-Binary
+bind_expression-returns-in_ok-bind_expression-in-Binary t c = grind (arith, bound_append_ok)
+
+pub bind_expression-returns-in-Constant : goal.bind_expression-returns-in-Constant
+bind_expression-returns-in-Constant t c = grind (arith, bound_none)
+
+pub bind_expression-returns-in-Constant-2 : goal.bind_expression-returns-in-Constant-2
+bind_expression-returns-in-Constant-2 t c = grind (arith, bound_none)
+
+pub bind_reference-returns-in_err-bind_name : goal.bind_reference-returns-in_err-bind_name
+bind_reference-returns-in_err-bind_name t c = grind (arith, fails_cons, reference_names)

@@ -4,7 +4,7 @@ use Rattle.typed_trees.specs.Views.{module_view}
 use Rattle.placing.specs.Views.{placement_view}
 use Rattle.declared.specs.Access.{modules_in}
 use Rattle.interpreter.specs.internal.MainModules.{found_from, found_view}
-use Rattle.interpreter.proofs.Runs.{begun, if_ok, meant, on_err, started, tables}
+use Rattle.interpreter.proofs.Runs.{begins_same, begun, either, if_ok, kept_reached, kept_stopped, meant, on_err, started, tables}
 use Rattle.interpreter.proofs.program.interpret.Goals as goal
 
 pub returns-in_default-clause-beginning : goal.returns-in_default-clause-beginning
@@ -42,3 +42,19 @@ returns-in-Some-clause-beginning g c =
     (g.P.Ports.script c.args.ports.now) (g.P.Ports.events c.args.ports.now) _ c.args.budget c.in-Some.found.number (module_view c.in-Some.found.typed.now)
     c.in-Ok-compile.program found c.requires.jumps c.in-Ok-compile.ensures c.in-Ok.ensures reaches)
     c.run.ensures.reached
+
+pub returns-in_default-clause-kept : goal.returns-in_default-clause-kept
+returns-in_default-clause-kept g c = begins_same (g.P.Ports.events c.args.ports.now)
+
+pub returns-in_default-compile-clause-kept : goal.returns-in_default-compile-clause-kept
+returns-in_default-compile-clause-kept g c = begins_same (g.P.Ports.events c.args.ports.now)
+
+pub returns-in-None-clause-kept : goal.returns-in-None-clause-kept
+returns-in-None-clause-kept g c = begins_same (g.P.Ports.events c.args.ports.now)
+
+pub returns-in-Some-clause-kept : goal.returns-in-Some-clause-kept
+returns-in-Some-clause-kept g c =
+    either _ _ _ c.run.result
+    (λ end stops. kept_stopped _ (module_view c.in-Some.found.typed.now) _ _ (g.P.Ports.events c.args.ports.now) _ c.args.budget _ stops)
+    (λ reaches. kept_reached _ (module_view c.in-Some.found.typed.now) _ _ (g.P.Ports.events c.args.ports.now) _ c.args.budget reaches)
+    c.run.ensures.ended c.run.ensures.reached

@@ -1,5 +1,4 @@
 use Rattle.std.proofs.Common.{◌≡◌, ◌++◌, length, map}
-use Rattle.asm8080.specs.Items.{Assembly}
 use Rattle.runtime8080.specs.internal.Emission.{Fits, item_of}
 use Rattle.runtime8080.proofs.parts.emit_parts.Given as goal
 

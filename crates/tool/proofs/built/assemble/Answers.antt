@@ -1,6 +1,7 @@
 use Rattle.std.proofs.Common.{◌≡◌, ◌+◌, ◌%◌, ◌≤◌, refl, sym, ap, ◌∙◌, subst, arith, length}
 use Rattle.layout.specs.Placement.{Placement}
-use Rattle.placing.specs.Views.{placement_view, stack_end_of}
+use Rattle.placing.specs.Views.{placement_view}
+use Rattle.plans.specs.Plans.{stack_end_of}
 use Rattle.mem80.specs.declared.range.Range.{Range}
 use Rattle.tool.specs.Construction.{program_modules}
 use Rattle.tool.proofs.BuiltLemmas.{code_agrees}

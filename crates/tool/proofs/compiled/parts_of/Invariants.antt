@@ -5,8 +5,8 @@ use Rattle.tool.proofs.compiled.parts_of.Given as goal
 -- what was taken apart
 abbrev pub invariant-loop-one : goal.invariant-loop-one
 invariant-loop-one l = record {
-  modules : l.modules.items ≡ map (λ (one : Compiled). one.source.typed) l.yielded;
-  storages : l.storages.items ≡ map (λ (one : Compiled). one.source.storage) l.yielded;
-  lengths : l.lengths.items ≡ map (λ (one : Compiled). length one.code.items) l.yielded;
-  code : l.code.items ≡ flat_map (λ (one : Compiled). one.code.items) l.yielded;
+  modules : l.parts.modules.items ≡ map (λ (one : Compiled). one.source.typed) l.yielded;
+  storages : l.parts.storages.items ≡ map (λ (one : Compiled). one.source.storage) l.yielded;
+  lengths : l.parts.lengths.items ≡ map (λ (one : Compiled). length one.code.items) l.yielded;
+  code : l.parts.code.items ≡ flat_map (λ (one : Compiled). one.code.items) l.yielded;
 }

@@ -1,5 +1,5 @@
 use Rattle.std.proofs.Common.{sym, subst, refl, ◌<◌}
-use Rattle.asm8080.proofs.ItemLemmas.{other_more, of_fields_back}
+use Rattle.asm8080.proofs.ItemLemmas.{bound_kept, other_more, of_fields_back}
 use Rattle.asm8080.proofs.code.Code.jump.Goals as goal
 
 pub invariant_of-self-2 : goal.invariant_of-self-2
@@ -9,3 +9,7 @@ invariant_of-self-2 c =
     (of_fields_back _ _ (λ a. c.args.label < a.labels) c.self.view_is c.requires.known))
     (λ label. refl)
     c.in_ok-push.ensures.items
+
+pub returns-clause-bound : goal.returns-clause-bound
+returns-clause-bound c =
+    bound_kept c.args.self.now _ _ _ c.self.view_is (λ label. refl) c.in_ok-push.ensures.items

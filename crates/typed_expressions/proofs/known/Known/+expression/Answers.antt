@@ -1,6 +1,7 @@
 use Rattle.typed_expressions.specs.Views.{constants_view, known_view}
 use Rattle.std.proofs.Common.{rules}
-use Rattle.typed_expressions.proofs.ArgumentLoops.{goes_on, ended}
+use Rattle.typing.specs.Results.{fault_in}
+use Rattle.typed_expressions.proofs.ArgumentLoops.{goes_on, fails, ended}
 use Rattle.typed_expressions.proofs.GivenParts.{given_is}
 use Rattle.typed_expressions.proofs.known.Known.+expression.Goals as goal
 
@@ -29,3 +30,9 @@ expression-returns-in_err-value-in-Assignment t c = search (rules, given_is)
 
 pub expression-returns-in_ok-assignment-in-Assignment : goal.expression-returns-in_ok-assignment-in-Assignment
 expression-returns-in_ok-assignment-in-Assignment t c = search (rules, given_is)
+
+pub arguments-returns-in_err-argument : goal.arguments-returns-in_err-argument
+arguments-returns-in_err-argument t c =
+    let failed = fails (known_view c.args.self.now) c.args.trees.now c.loop-tree.tree-index c.tree-item.result c.loop-tree.made.items (constants_view c.loop-tree.constants) _
+    (fault_in c.in_err-argument.field-0.0) c.loop-tree-test.true c.tree-item.is c.loop-tree.invariant c.in_err-argument.ensures in
+    search rules
