@@ -3,8 +3,8 @@ use Rattle.std.specs.Prelude.{◌≡◌, ◌⊎◌, ℕ, List, [], ◌∷◌, �
 use Rattle.ports.specs.Events.{CountsFailure}
 use Rattle.writing.specs.Writing.{AppendsBeginning, IsBeginning}
 
--- the line of a refusal: the number of the fault, a place and the line of a text, with spaces (32) between them and
--- a line feed (10) at the end
+-- the line of a refusal: the number of the fault, a place and the line of a text, with spaces (32) between
+-- them and a line feed (10) at the end
 unfoldable pub refusal_line : (number place : List ℕ) → (line : ℕ) → List ℕ
 refusal_line number place line = number ++ (32 ∷ (place ++ (32 ∷ (decimal line ++ 10 ∷ []))))
 
@@ -26,7 +26,8 @@ pub record TellsOther (old new : Option (List ℕ)) : Type 0 where
   pub of_no_file : IsOfNoFile line
   pub told : Tells line old new
 
--- a command was refused: for a file, whose failure was counted, or for another fault, and no failure was counted
+-- a command was refused: for a file, whose failure was counted, or for another fault, where no failure was
+-- counted
 unfoldable pub TellsRefusal : (before after : ℕ) → (old new : Option (List ℕ)) → Type 0
 TellsRefusal before after old new =
     (CountsFailure before after × ((name : List ℕ) × Tells (file_line name) old new))

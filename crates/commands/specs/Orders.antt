@@ -21,8 +21,8 @@ LinksAsWanted (wants_link link) old new = LinksFiles old new link.objects link.o
 LinksAsWanted (wants_program program) old new = Unit {0}
 LinksAsWanted (wants_place place) old new = Unit {0}
 
--- where an order is not carried out, no file changes, but that of an order to link may have a beginning of the
--- merge
+-- where an order is not carried out, no file changes, but that of an order to link may have a beginning of
+-- the merge
 abbrev pub StopsAsWanted : Wanted → Option Directory → Option Directory → Type 0
 StopsAsWanted (wants_link link) old new = StopsLinking old new link.objects link.out
 StopsAsWanted (wants_program program) old new = KeepsFiles old new
