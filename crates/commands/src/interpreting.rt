@@ -24,7 +24,6 @@ use std::io::Write;
 use tool::Source;
 
 /// Reads the program of sources, and interprets it from a memory of zeros.
-#[tactic(auto, using(interpretation::proofs::Programs::has_table, interpretation::proofs::Programs::has_sound_jumps))]
 pub(crate) fn interpret_sources<O: Write, E: Write>(
     alloc: Global,
     order: &ProgramOrder,
