@@ -38,10 +38,10 @@ fn file_of<'a>(fault: &ToolFault, files: &[&'a str]) -> &'a str {
     }
 }
 
-/// Prints that an option has a text that is none of its values.
+/// Prints that an option has a text that is none of its values, or that a file is one too many.
 pub(crate) fn refuse_value<E: Write>(fault: &ValueFault, err: &mut E) -> Ending
     ensures { result ≡ Ending.WrongLine }
 {
-    let _refused = refuse(fault.number(), "-", 0, err);
+    let _refused = refuse(fault.number(), fault.text, 0, err);
     Ending::WrongLine
 }
