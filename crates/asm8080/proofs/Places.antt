@@ -10,9 +10,9 @@ use Rattle.object_modules.specs.declared.segment.TheConstants.{SEGMENT_LIMIT}
 use Rattle.asm8080.specs.declared.fault.Fault.TheVariants.{UnboundLabel, TooLong}
 use Rattle.asm8080.specs.declared.item.Item.{Item}
 use Rattle.asm8080.specs.declared.item.Item.TheVariants.{Plain, WithWord, Byte, Address, Gap, Mark}
-use Rattle.asm8080.specs.Items.{Assembly, BoundOnce, IsAssembly, KnowsLabels, Layout, bytes_of_item, is_bound, marks, offset_of, size_of, size_of_items}
+use Rattle.asm8080.specs.Items.{Assembly, BoundOnce, IsAssembly, KnowsLabels, Layout, bytes_of_item, flags_of_item, flags_of_items, is_bound, marks, offset_of, size_of, size_of_items}
 use Rattle.asm8080.specs.Assembled.{AllBound, Assembled, Assembles, IsFinished, fixes_of_items, place_in}
-use Rattle.asm8080.specs.internal.Assembling.{all_placed, bytes_of_items, code_of, fixes_of_item, flags_of_item, flags_of_items, layout_from, no_code, offset_in, places_after, places_of, with_item, with_items, with_mark, with_places}
+use Rattle.asm8080.specs.internal.Assembling.{all_placed, bytes_of_items, code_of, fixes_of_item, layout_from, no_code, offset_in, places_after, places_of, with_item, with_items, with_mark, with_places}
 use Rattle.asm8080.proofs.Words.{item_length}
 use Rattle.asm8080.proofs.Assemblies.{assembles}
 

@@ -4,9 +4,9 @@ ghost use Rattle.std.specs.Prelude.{◌≡◌, ◌+◌, ◌≤◌, length, repli
 ghost use Rattle.object_modules.specs.declared.segment.TheConstants.{SEGMENT_LIMIT};
 ghost use Rattle.isa8080.specs.State.{high_byte, low_byte, wrap};
 ghost use Rattle.isa8080.specs.Code.{bytes_of};
-ghost use Rattle.asm8080.specs.Items.{instruction_with, is_set, size_of, size_of_items, word_of};
+ghost use Rattle.asm8080.specs.Items.{flags_of_item, instruction_with, is_set, size_of, size_of_items, word_of};
 ghost use Rattle.asm8080.specs.Assembled.{fix_at, place_in, target_of};
-ghost use Rattle.asm8080.specs.internal.Assembling.{all_placed, flags_of_item, layout_from, no_code, places_of, with_item, with_items, with_mark};
+ghost use Rattle.asm8080.specs.internal.Assembling.{all_placed, layout_from, no_code, places_of, with_item, with_items, with_mark};
 
 use crate::bytes::CodeBytes;
 use crate::item::{Item, Reference, WordForm};

@@ -62,7 +62,7 @@ impl CodeBytes {
         place_word(self.places.as_slice(), label.number)
     }
 
-    /// The bytes, with nothing added to the words that are fixed, and 0 for each that stays unset.
+    /// The bytes, with nothing added to the words that are fixed.
     pub fn bytes(&self) -> &[u8]
         ensures { result.now ≡ self.now.bytes }
     {
