@@ -63,7 +63,8 @@ fixed_bytes fixes offset (byte ∷ others) =
 abbrev pub places_of : Assembled → List (Option SetByte)
 places_of code = fixed_bytes code.fixes 0 (set_bytes code.bytes code.is_set)
 
--- the segment that an object module keeps of it: the longest runs of bytes that are set
+-- the segment that an object module keeps of it: the longest runs of bytes that are set. No function here makes
+-- it: laws say that it is one as object modules keep them, with the places of the code.
 abbrev pub segment_of : Assembled → StoredSegment
 segment_of code = record {
   size = length code.bytes;
@@ -101,6 +102,14 @@ layout_at address_of assembly = record {
   place_of = λ label. address_of (InSegment Code) + unwrap_or (offset_of label assembly.items) 0;
   address_of = address_of;
 }
+
+-- What code that was assembled keeps to: it has no more bytes than a segment, of each byte it says whether it
+-- is set, no fix begins before the one before it ends, and each ends within the bytes.
+pub record FitsSegment (code : Assembled) : Type 0 where
+  pub few : length code.bytes ≤ SEGMENT_LIMIT
+  pub told : length code.is_set ≡ length code.bytes
+  pub ascending : IsTrue (fixes_ascend code.fixes)
+  pub within : IsTrue (list_all (λ (fix : Fix). nat_le (fix_end fix) (length code.bytes)) code.fixes)
 
 -- A segment whose bytes, resolved anywhere in memory, are the code.
 pub record Assembles (assembly : Assembly) (code : Assembled) : Type 0 where
