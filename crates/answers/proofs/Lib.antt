@@ -1,2 +1,2 @@
-pub mod FilesRead
 pub mod LinesPrinted
+pub mod FilesRead

@@ -1,5 +1,5 @@
 -- Lines that are printed piece by piece, and what they do not begin with.
-use Rattle.std.proofs.Common.{◌≡◌, ℕ, ◌-◌, ◌≤◌, ◌<◌, Bool, true, false, List, [], ◌∷◌, ◌++◌, Option, None, Some, Bor, inl, inr, codes, decimal, length, drop, take, get_or, refl, sym, ap, subst, ◌∙◌, true≢false, arith}
+use Rattle.std.proofs.Common.{◌≡◌, ℕ, suc, ◌-◌, ◌≤◌, ◌<◌, Bool, true, false, List, [], ◌∷◌, ◌++◌, Option, None, Some, Bor, inl, inr, codes, decimal, length, drop, take, get_or, refl, sym, ap, subst, ◌∙◌, true≢false, arith}
 use Rattle.std.specs.Prelude.{◌==◌, ◌&&◌, not}
 use Rattle.std.specs.List.{flat_map}
 use Rattle.std.proofs.Math.Seq.{take-length}
@@ -8,7 +8,8 @@ use Rattle.std.specs.Io.KnownBytes.{Appends}
 use Rattle.writing.specs.Writing.{AppendsBeginning, IsBeginning}
 use Rattle.writing.proofs.WritingLemmas.{beginning_after}
 use Rattle.ports.specs.Events.{CountsFailure}
-use Rattle.answers.specs.Refusals.{IsOfNoFile, Tells, TellsOther, TellsRefusal, file_line, refusal_line}
+use Rattle.answers.specs.Reading.{IsOneOf}
+use Rattle.answers.specs.Refusals.{IsOfNoFile, Tells, TellsOther, TellsRefusal, file_line, output_line, refusal_line}
 
 -- a writer that nothing was sent to
 appends_nothing : (known : Option (List ℕ)) → Appends known known []
@@ -86,19 +87,45 @@ other_line number place line other = inr (begins_otherwise number _ other)
 
 -- the line of another number
 pub tells_other : (number place : List ℕ) (line : ℕ) (old new : Option (List ℕ)) → is_other number ≡ true → Tells (refusal_line number place line) old new → TellsOther old new
-tells_other number place line old new other told = record { line = refusal_line number place line; of_no_file = other_line number place line other; told = told }
+tells_other number place line old new other told = record { number = number; place = place; line = line; of_no_file = other_line number place line other; told = told }
+
+-- a number and a line, as they are told
+pub same_line : (number is place : List ℕ) (line at : ℕ) (old new : Option (List ℕ)) → number ≡ is → line ≡ at → Tells (refusal_line number place line) old new
+    → Tells (refusal_line is place at) old new
+same_line number is place line at old new is_number is_at told =
+    subst (λ (k : ℕ). Tells (refusal_line is place k) old new) is_at (subst (λ (n : List ℕ). Tells (refusal_line n place line) old new) is_number told)
 
 -- the line of standard output
-pub tells_output : (old new : Option (List ℕ)) → Tells (file_line (codes "-")) old new → TellsOther old new
-tells_output old new told = record { line = file_line (codes "-"); of_no_file = inl refl; told = told }
+pub tells_output : (old new : Option (List ℕ)) → Tells output_line old new → TellsOther old new
+tells_output old new told = record { number = codes "U3"; place = codes "-"; line = 0; of_no_file = inl refl; told = told }
 
 -- a file whose failure was counted, after calls that did not fail
-pub tells_file : (before now after : ℕ) (name : List ℕ) (old new : Option (List ℕ)) → now ≡ before → CountsFailure now after → Tells (file_line name) old new
-    → TellsRefusal before after old new
+pub tells_file : (names : List (List ℕ)) (before now after : ℕ) (name : List ℕ) (old new : Option (List ℕ)) → now ≡ before → CountsFailure now after → IsOneOf names name
+    → Tells (file_line name) old new → TellsRefusal names before after old new
 unfolding TellsRefusal
-tells_file before now after name old new same counted told = inl (subst (λ (n : ℕ). CountsFailure n after) same counted, (name, told))
+tells_file names before now after name old new same counted named told = inl (subst (λ (n : ℕ). CountsFailure n after) same counted, (name, named, told))
 
 -- another fault, where no failure was counted
-pub tells_no_file : (before after : ℕ) (old new : Option (List ℕ)) → after ≡ before → TellsOther old new → TellsRefusal before after old new
+pub tells_no_file : (names : List (List ℕ)) (before after : ℕ) (old new : Option (List ℕ)) → after ≡ before → TellsOther old new → TellsRefusal names before after old new
 unfolding TellsRefusal
-tells_no_file before after old new same other = inr (same, other)
+tells_no_file names before after old new same other = inr (same, other)
+
+-- one of some files is one of more
+pub tells_more : (names more : List (List ℕ)) (before after : ℕ) (old new : Option (List ℕ)) → ((name : List ℕ) → IsOneOf names name → IsOneOf more name)
+    → TellsRefusal names before after old new → TellsRefusal more before after old new
+unfolding TellsRefusal
+tells_more names more before after old new are (inl (counted, (name, named, told))) = inl (counted, (name, are name named, told))
+tells_more names more before after old new are (inr other) = inr other
+
+-- the first of some names, and one that is not the first
+pub is_first : (name : List ℕ) (more : List (List ℕ)) → IsOneOf (name ∷ more) name
+unfolding IsOneOf
+is_first name more = (0, omega arith, refl)
+
+pub is_later : (first : List ℕ) (more : List (List ℕ)) (name : List ℕ) → IsOneOf more name → IsOneOf (first ∷ more) name
+unfolding IsOneOf
+is_later first more name (k, below, is) = (suc k, omega arith, is)
+
+-- a name that is another's
+pub named_as : (names : List (List ℕ)) (name was : Bor (List ℕ)) → name ≡ was → IsOneOf names was.now → IsOneOf names name.now
+named_as names name was e named = subst (λ (x : Bor (List ℕ)). IsOneOf names x.now) (sym e) named

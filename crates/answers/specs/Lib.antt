@@ -1,5 +1,5 @@
 pub use Rattle.files.specs.Files
 pub use Rattle.writing.specs.Writing
 pub mod Endings
-pub mod Refusals
 pub mod Reading
+pub mod Refusals

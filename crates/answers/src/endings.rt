@@ -3,14 +3,15 @@
 ghost use Rattle.std.specs.Prelude.{◌≡◌};
 ghost use Rattle.std.specs.List.{flat_map};
 ghost use Rattle.answers.specs.Endings.{status_of};
-ghost use Rattle.answers.specs.Refusals.{Tells, TellsOther, file_line, refusal_line};
+ghost use Rattle.std.specs.IoError.{error_kind};
+ghost use Rattle.answers.specs.Refusals.{Tells, TellsOther, file_line, memory_line, output_line, refusal_line};
 ghost use Rattle.writing.specs.Writing.{AppendsBeginning};
 
 use files::FileFault;
 use itoa::Buffer;
 use std::io;
-use std::io::Write;
-use writing::write_bytes;
+use std::io::{ErrorKind, Write};
+use writing::{WriteFault, write_bytes};
 
 /// How a command ended.
 #[derive(Clone, Copy, PartialEq, Eq)]
@@ -56,18 +57,23 @@ pub fn refuse_file<E: Write>(fault: FileFault, name: &str, err: &mut E) -> Endin
 /// Standard output could not be written.
 pub fn refuse_output<E: Write>(err: &mut E) -> Ending
     ensures ending { result ≡ Ending.Refused }
+    ensures line { Tells output_line (E.contents err.old) (E.contents err.new) }
     ensures told { TellsOther (E.contents err.old) (E.contents err.new) }
 {
-    refuse("U3", "-", 0, err)
+    refuse(WriteFault.number(), "-", 0, err)
 }
 
 /// What was written to standard output was not taken, or memory ran out there.
 pub fn refuse_write<E: Write>(error: &io::Error, err: &mut E) -> Ending
     ensures ending { result ≡ Ending.Refused }
+    ensures memory { error_kind error.now ≡ ErrorKind.OutOfMemory →
+        Tells memory_line (E.contents err.old) (E.contents err.new) }
+    ensures output { (error_kind error.now ≡ ErrorKind.OutOfMemory → ⊥) →
+        Tells output_line (E.contents err.old) (E.contents err.new) }
     ensures told { TellsOther (E.contents err.old) (E.contents err.new) }
 {
     match error.kind() {
-        io::ErrorKind::OutOfMemory => refuse_memory(err),
+        ErrorKind::OutOfMemory => refuse_memory(err),
         _ => refuse_output(err),
     }
 }
@@ -75,6 +81,7 @@ pub fn refuse_write<E: Write>(error: &io::Error, err: &mut E) -> Ending
 /// Memory ran out.
 pub fn refuse_memory<E: Write>(err: &mut E) -> Ending
     ensures ending { result ≡ Ending.Refused }
+    ensures line { Tells memory_line (E.contents err.old) (E.contents err.new) }
     ensures told { TellsOther (E.contents err.old) (E.contents err.new) }
 {
     refuse("MEMORY", "-", 0, err)

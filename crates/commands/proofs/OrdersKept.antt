@@ -1,12 +1,16 @@
 -- Files after a command line was carried out.
-use Rattle.std.proofs.Common.{◌≡◌, ◌≤◌, ℕ, List, Option, None, Some, inl, refl, arith}
+use Rattle.std.proofs.Common.{◌≡◌, ◌≤◌, ℕ, List, [], ◌∷◌, map, Bor, Ok, Option, None, Some, inl, refl, subst, arith}
+use Rattle.clap.specs.Walk.{texts}
 use Rattle.files.specs.Files.{Directory, KeepsFiles}
 use Rattle.answers.specs.Endings.{status_of}
+use Rattle.answers.specs.Reading.{IsOneOf}
+use Rattle.answers.specs.Refusals.{TellsRefusal}
 use Rattle.answers.specs.declared.endings.Ending.{Ending}
 use Rattle.answers.specs.declared.endings.Ending.TheVariants.{Done, Refused, WrongLine, Limit, Stopped, Outside}
 use Rattle.command_line.specs.Command.{Wanted, wants_link, wants_place, wants_program}
+use Rattle.command_line.specs.Settings.{only_file}
 use Rattle.object_commands.proofs.FilesWritten.{kept_others}
-use Rattle.commands.specs.Orders.{ChangesAsWanted, ChangesByWords, LinksAsWanted, LinksByWords, PrintsAsWanted, PrintsByWords, StopsAsWanted, StopsByWords}
+use Rattle.commands.specs.Orders.{ChangesAsWanted, ChangesByWords, LinksAsWanted, LinksByWords, PrintsAsWanted, PrintsByWords, StopsAsWanted, StopsByWords, names_by_words, names_of}
 
 -- where no file changed, none changed but what was wanted
 pub kept_as_wanted : (wanted : Wanted) (old new : Option Directory) → KeepsFiles old new → ChangesAsWanted wanted old new
@@ -42,11 +46,31 @@ pub prints_by_words : (found : Option Wanted) (wanted : Wanted) (files : Option 
     → PrintsByWords found files old new
 prints_by_words found wanted files old new e prints = rw e prints
 
+-- the names of files that are told
+pub told_by_words : (found : Option Wanted) (wanted : Wanted) (before after : ℕ) (old new : Option (List ℕ)) → found ≡ Some wanted → TellsRefusal (names_of wanted) before after old new
+    → TellsRefusal (names_by_words found) before after old new
+told_by_words found wanted before after old new e told = rw e told
+
+one_alone : (files : List (List ℕ)) (file : List ℕ) → only_file files ≡ Ok file → file ∷ [] ≡ files
+one_alone [] file e = cc
+one_alone (one ∷ []) file e = cc
+one_alone (one ∷ second ∷ more) file e = cc
+
+pub told_of_only : (files : List (List ℕ)) (file : List ℕ) (before after : ℕ) (old new : Option (List ℕ)) → only_file files ≡ Ok file → TellsRefusal (file ∷ []) before after old new
+    → TellsRefusal files before after old new
+told_of_only files file before after old new e told = subst (λ (l : List (List ℕ)). TellsRefusal l before after old new) (one_alone files file e) told
+
+pub one_of_files : (names files : List (Bor (List ℕ))) (name : List ℕ) → names ≡ files → IsOneOf (map (λ n. n.now) names) name → IsOneOf (texts files) name
+one_of_files names files name e named = subst (λ (l : List (Bor (List ℕ))). IsOneOf (map (λ n. n.now) l) name) e named
+
 pub not_done : (ending : Ending) → (status_of ending ≡ 0 → ⊥) → ending ≡ Done → ⊥
 not_done ending other done = other (rw done refl)
 
 pub not_refused : (ending : Ending) → (status_of ending ≡ 1 → ⊥) → ending ≡ Refused → ⊥
 not_refused ending other refused = other (rw refused refl)
+
+pub not_wrong : (ending : Ending) → (status_of ending ≡ 2 → ⊥) → ending ≡ WrongLine → ⊥
+not_wrong ending other wrong = other (rw wrong refl)
 
 pub refused_is : (ending : Ending) → status_of ending ≡ 1 → ending ≡ Refused
 refused_is Done e = absurd (omega arith)

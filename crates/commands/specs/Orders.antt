@@ -1,5 +1,5 @@
 -- What orders make of files, and what they print of them.
-use Rattle.std.specs.Prelude.{◌≡◌, ℕ, List, Ok, Option, None, Some}
+use Rattle.std.specs.Prelude.{◌≡◌, ℕ, List, [], ◌∷◌, Ok, Option, None, Some}
 use Rattle.files.specs.Files.{Directory, KeepsFiles}
 use Rattle.command_line.specs.Command.{PlaceWanted, Wanted, wants_link, wants_place, wants_program}
 use Rattle.command_line.specs.Settings.{only_file, plan_read}
@@ -49,10 +49,20 @@ PrintsAsWanted (wants_place place) files old new = PrintsWanted place files old 
 PrintsAsWanted (wants_link link) files old new = Unit {0}
 PrintsAsWanted (wants_program program) files old new = Unit {0}
 
+-- the files that an order reads, and that it writes
+abbrev pub names_of : Wanted → List (List ℕ)
+names_of (wants_program program) = program.files
+names_of (wants_link link) = link.out ∷ link.objects
+names_of (wants_place place) = place.files
+
 -- the same of what words want; those that give no order change no file
 abbrev pub ChangesByWords : Option Wanted → Option Directory → Option Directory → Type 0
 ChangesByWords None old new = KeepsFiles old new
 ChangesByWords (Some wanted) old new = ChangesAsWanted wanted old new
+
+abbrev pub names_by_words : Option Wanted → List (List ℕ)
+names_by_words None = []
+names_by_words (Some wanted) = names_of wanted
 
 abbrev pub LinksByWords : Option Wanted → Option Directory → Option Directory → Type 0
 LinksByWords None old new = Unit {0}

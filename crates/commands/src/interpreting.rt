@@ -32,7 +32,8 @@ pub(crate) fn interpret_sources<O: Write, E: Write>(
     out: &mut O,
     err: &mut E,
 ) -> Ending
-    ensures { result ≡ Ending.Refused → TellsOther (E.contents err.old) (E.contents err.new) }
+    ensures told { result ≡ Ending.Refused → TellsOther (E.contents err.old) (E.contents err.new) }
+    ensures quiet { (result ≡ Ending.Refused → ⊥) → E.contents err.new ≡ E.contents err.old }
 {
     match read_program(alloc, sources, &settings.plan) {
         Ok(readied) => interpret_program(alloc, order, settings, &readied, out, err),
@@ -54,7 +55,8 @@ fn interpret_program<O: Write, E: Write>(
         (pieces_of (program_modules readied.now.program) (placement_view readied.now.placement))
         readied.now.placement.kinds.value }
     requires jumps { All JumpsAreSound (program_modules readied.now.program) }
-    ensures { result ≡ Ending.Refused → TellsOther (E.contents err.old) (E.contents err.new) }
+    ensures told { result ≡ Ending.Refused → TellsOther (E.contents err.old) (E.contents err.new) }
+    ensures quiet { (result ≡ Ending.Refused → ⊥) → E.contents err.new ≡ E.contents err.old }
 {
     if order.map
         && let Err(error) = print_map(&readied.program, &readied.placement, out)

@@ -25,7 +25,8 @@ pub(crate) fn run_sources<O: Write, E: Write>(
     out: &mut O,
     err: &mut E,
 ) -> Ending
-    ensures { result ≡ Ending.Refused → TellsOther (E.contents err.old) (E.contents err.new) }
+    ensures told { result ≡ Ending.Refused → TellsOther (E.contents err.old) (E.contents err.new) }
+    ensures quiet { (result ≡ Ending.Refused → ⊥) → E.contents err.new ≡ E.contents err.old }
 {
     match build(alloc, sources, &settings.plan) {
         Ok(built) => run_built(alloc, order, settings, &built, out, err),
@@ -43,7 +44,8 @@ fn run_built<O: Write, E: Write>(
     out: &mut O,
     err: &mut E,
 ) -> Ending
-    ensures { result ≡ Ending.Refused → TellsOther (E.contents err.old) (E.contents err.new) }
+    ensures told { result ≡ Ending.Refused → TellsOther (E.contents err.old) (E.contents err.new) }
+    ensures quiet { (result ≡ Ending.Refused → ⊥) → E.contents err.new ≡ E.contents err.old }
 {
     if order.map
         && let Err(error) = print_map(built.program(), built.placement(), out)

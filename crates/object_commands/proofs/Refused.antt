@@ -46,5 +46,5 @@ pub place_told : (refusal : PlacementRefusal) (number name : List ℕ) (line : �
 place_told refusal number name line old new is told = tells_other number name line old new (ap is_other is ∙ place_other refusal) told
 
 -- another fault, after calls that neither failed nor printed
-pub tells_later : (before after : ℕ) (old now new : Option (List ℕ)) → now ≡ old → after ≡ before → TellsOther now new → TellsRefusal before after old new
-tells_later before after old now new silent same other = tells_no_file before after old new same (subst (λ (b : Option (List ℕ)). TellsOther b new) silent other)
+pub tells_later : (names : List (List ℕ)) (before after : ℕ) (old now new : Option (List ℕ)) → now ≡ old → after ≡ before → TellsOther now new → TellsRefusal names before after old new
+tells_later names before after old now new silent same other = tells_no_file names before after old new same (subst (λ (b : Option (List ℕ)). TellsOther b new) silent other)
