@@ -47,7 +47,8 @@ pub fn run_command<F: Files, O: Write, E: Write>(
     ensures told { result ≡ 1 → TellsRefusal (names_by_words (wanted_by (texts words.now)))
         (F.failures files.old) (F.failures files.new) (E.contents err.old) (E.contents err.new) }
     ensures count { (result ≡ 1 → ⊥) → F.failures files.new ≡ F.failures files.old }
-    ensures quiet { (result ≡ 1 → ⊥) → (result ≡ 2 → ⊥) → E.contents err.new ≡ E.contents err.old }
+    ensures quiet { (result ≡ 1 → ⊥) → (result ≡ 2 → ⊥) →
+        E.contents err.new ≡ E.contents err.old }
 {
     let ending = end_words(alloc, words, files, out, err);
     ending.status()
