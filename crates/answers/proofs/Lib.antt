@@ -1,1 +1,2 @@
+pub mod LinesPrinted
 pub mod FilesRead

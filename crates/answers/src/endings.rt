@@ -1,10 +1,17 @@
 //! How commands end, and what they print where they are refused.
 
 ghost use Rattle.std.specs.Prelude.{◌≡◌};
+ghost use Rattle.std.specs.List.{flat_map};
 ghost use Rattle.answers.specs.Endings.{status_of};
+ghost use Rattle.std.specs.IoError.{error_kind};
+ghost use Rattle.answers.specs.Refusals.{Tells, TellsOther, file_line, memory_line, output_line, refusal_line};
+ghost use Rattle.writing.specs.Writing.{AppendsBeginning};
 
+use files::FileFault;
+use itoa::Buffer;
 use std::io;
-use std::io::Write;
+use std::io::{ErrorKind, Write};
+use writing::{WriteFault, write_bytes};
 
 /// How a command ended.
 #[derive(Clone, Copy, PartialEq, Eq)]
@@ -39,34 +46,82 @@ impl Ending {
     }
 }
 
+/// A file could not be read or written.
+pub fn refuse_file<E: Write>(fault: FileFault, name: &str, err: &mut E) -> Ending
+    ensures ending { result ≡ Ending.Refused }
+    ensures told { Tells (file_line name.now) (E.contents err.old) (E.contents err.new) }
+{
+    refuse(fault.number(), name, 0, err)
+}
+
 /// Standard output could not be written.
 pub fn refuse_output<E: Write>(err: &mut E) -> Ending
-    ensures { result ≡ Ending.Refused }
+    ensures ending { result ≡ Ending.Refused }
+    ensures line { Tells output_line (E.contents err.old) (E.contents err.new) }
+    ensures told { TellsOther (E.contents err.old) (E.contents err.new) }
 {
-    refuse("U3", "-", 0, err)
+    refuse(WriteFault.number(), "-", 0, err)
 }
 
 /// What was written to standard output was not taken, or memory ran out there.
 pub fn refuse_write<E: Write>(error: &io::Error, err: &mut E) -> Ending
-    ensures { result ≡ Ending.Refused }
+    ensures ending { result ≡ Ending.Refused }
+    ensures memory { error_kind error.now ≡ ErrorKind.OutOfMemory →
+        Tells memory_line (E.contents err.old) (E.contents err.new) }
+    ensures output { (error_kind error.now ≡ ErrorKind.OutOfMemory → ⊥) →
+        Tells output_line (E.contents err.old) (E.contents err.new) }
+    ensures told { TellsOther (E.contents err.old) (E.contents err.new) }
 {
     match error.kind() {
-        io::ErrorKind::OutOfMemory => refuse_memory(err),
+        ErrorKind::OutOfMemory => refuse_memory(err),
         _ => refuse_output(err),
     }
 }
 
 /// Memory ran out.
 pub fn refuse_memory<E: Write>(err: &mut E) -> Ending
-    ensures { result ≡ Ending.Refused }
+    ensures ending { result ≡ Ending.Refused }
+    ensures line { Tells memory_line (E.contents err.old) (E.contents err.new) }
+    ensures told { TellsOther (E.contents err.old) (E.contents err.new) }
 {
     refuse("MEMORY", "-", 0, err)
 }
 
 /// Prints a number, where it was found and the line.
 pub fn refuse<E: Write>(number: &str, place: &str, line: u32, err: &mut E) -> Ending
-    ensures { result ≡ Ending.Refused }
+    ensures ending { result ≡ Ending.Refused }
+    ensures told { Tells (refusal_line number.now place.now line)
+        (E.contents err.old) (E.contents err.new) }
 {
-    let _ = writeln!(err, "{number} {place} {line}");
+    refuse_name(number, place.as_bytes(), line, err)
+}
+
+/// Prints a number, the name that the fault is about, and the line. A failure of `err` ends the line.
+pub fn refuse_name<E: Write>(number: &str, name: &[u8], line: u32, err: &mut E) -> Ending
+    ensures ending { result ≡ Ending.Refused }
+    ensures told { Tells (refusal_line number.now name.now line)
+        (E.contents err.old) (E.contents err.new) }
+{
+    let mut digits = Buffer::new();
+    let line = digits.format(line);
+    write_pieces(
+        &[number.as_bytes(), b" ", name, b" ", line.as_bytes(), b"\n"],
+        err,
+    );
     Ending::Refused
+}
+
+// Writes pieces one after another, up to one that is not taken whole.
+#[tactic(auto, using(crate::proofs::LinesPrinted::all_sent))]
+fn write_pieces<E: Write>(pieces: &[&[u8]], err: &mut E)
+    ensures { AppendsBeginning (E.contents err.old) (E.contents err.new)
+        (flat_map (λ piece. piece.now) pieces.now) }
+{
+    let mut rest = pieces;
+    while let [piece, more @ ..] = rest {
+        match write_bytes(err, piece) {
+            Ok(()) => rest = more,
+            Err(_) => return,
+        }
+    }
 }

@@ -4,5 +4,7 @@
 mod endings;
 mod reading;
 
-pub use endings::{Ending, refuse, refuse_memory, refuse_output, refuse_write};
+pub use endings::{
+    Ending, refuse, refuse_file, refuse_memory, refuse_name, refuse_output, refuse_write,
+};
 pub use reading::read_files;

@@ -1,15 +1,16 @@
 //! The files that a command reads.
 
-ghost use Rattle.std.specs.Prelude.{IfOk, map};
-ghost use Rattle.files.specs.Files.{KeepsFiles};
-ghost use Rattle.answers.specs.Reading.{HasFiles};
+ghost use Rattle.std.specs.Prelude.{◌≡◌, IfErr, IfOk, OnOk, map};
+ghost use Rattle.failure.specs.Failure.{IfFault};
+ghost use Rattle.files.specs.Files.{Counts, KeepsFiles};
+ghost use Rattle.answers.specs.Reading.{HasFiles, IsOneOf};
 
 use failure::Failure;
 use files::{FileFault, Files};
 use std::alloc::Global;
 
-/// Reads files, in the order given. A fault comes with the name of its file.
-#[tactic(auto, using(crate::proofs::FilesRead::stays, crate::proofs::FilesRead::stays_on, crate::proofs::FilesRead::was_there, crate::proofs::FilesRead::read_step, crate::proofs::FilesRead::all_read))]
+/// Reads files, in the order given. A fault comes with the name of its file, and is one failure that was counted.
+#[tactic(auto, using(crate::proofs::FilesRead::stays, crate::proofs::FilesRead::all_read, crate::proofs::FilesRead::within_itself, crate::proofs::FilesRead::within_first))]
 pub fn read_files<'a, F: Files>(
     alloc: Global,
     names: &[&'a str],
@@ -18,6 +19,9 @@ pub fn read_files<'a, F: Files>(
     ensures kept { KeepsFiles (F.files files.old) (F.files files.new) }
     ensures texts { IfOk result (λ texts.
         HasFiles (F.files files.old) (map (λ name. name.now) names.now) (map (λ text. text.items) texts.items)) }
+    ensures count { OnOk result (F.failures files.new ≡ F.failures files.old) }
+    ensures named { IfFault result (λ fault. IsOneOf (map (λ name. name.now) names.now) fault.1.now) }
+    ensures failed { IfErr result (λ failure. Counts failure (F.failures files.old) (F.failures files.new)) }
 {
     let mut texts = Vec::new(alloc);
     let mut rest = names;

@@ -19,9 +19,9 @@ use Rattle.asm8080.specs.declared.item.Reference.TheVariants.{AtLabel, AtTarget}
 use Rattle.asm8080.specs.declared.item.Item.{Item}
 use Rattle.asm8080.specs.declared.item.Item.TheVariants.{Plain, WithWord, Byte, Address, Gap, Mark}
 use Rattle.asm8080.specs.Standing.{BytesStand, SetBytesStand}
-use Rattle.asm8080.specs.Items.{Assembly, BoundOnce, IsAssembly, IsKnown, IsListed, KnowsLabels, Layout, ListsExternals, Stands, bytes_of_item, is_bound, is_set, marks, offset_of, size_of, size_of_items}
+use Rattle.asm8080.specs.Items.{Assembly, BoundOnce, IsAssembly, IsKnown, IsListed, KnowsLabels, Layout, ListsExternals, Stands, bytes_of_item, flags_of_item, flags_of_items, is_bound, is_set, marks, offset_of, size_of, size_of_items}
 use Rattle.asm8080.specs.Assembled.{AllBound, Assembles, fix_at, fixed_bytes, fixes_of_items, layout_at, place_in, target_of}
-use Rattle.asm8080.specs.internal.Assembling.{bytes_of_items, code_of, flags_of_item, flags_of_items, layout_from, offset_in}
+use Rattle.asm8080.specs.internal.Assembling.{bytes_of_items, code_of, layout_from, offset_in}
 use Rattle.asm8080.proofs.Words.{item_length}
 use Rattle.asm8080.proofs.Fixing.{cells_are, cells_of_items, fixed_items, some_length, whole_items}
 use Rattle.asm8080.proofs.Filling.{items_filled}
@@ -353,10 +353,10 @@ assembles assembly places is bound fits placed =
     let size : length (bytes_of_items layout items) ≡ size_of_items items = items_length layout items in
     record {
       size = size;
+      set = refl;
       fixes = refl;
       ascending = items_ascend 0 items;
       within = items_within 0 (length (bytes_of_items layout items)) items (omega (arith, size));
-      told = flags_length items ∙ sym size;
       filled =
           ap (λ cells. list_all (is_in_a_run Code (runs_from 0 cells)) (fixes_of_items 0 items)) (cells_are layout items)
           ∙ items_filled layout 0 items;

@@ -12,9 +12,9 @@ use Rattle.isa8080.specs.Code.{bytes_of}
 use Rattle.asm8080.specs.declared.item.Reference.{Reference}
 use Rattle.asm8080.specs.declared.item.Item.{Item}
 use Rattle.asm8080.specs.declared.item.Item.TheVariants.{Plain, WithWord, Byte, Address, Gap, Mark}
-use Rattle.asm8080.specs.Items.{Layout, bytes_of_item, size_of, word_of}
+use Rattle.asm8080.specs.Items.{Layout, bytes_of_item, flags_of_items, size_of, word_of}
 use Rattle.asm8080.specs.Assembled.{fix_at, fixed_bytes, fixes_of_items, set_bytes, target_of}
-use Rattle.asm8080.specs.internal.Assembling.{bytes_of_items, flags_of_items}
+use Rattle.asm8080.specs.internal.Assembling.{bytes_of_items}
 use Rattle.asm8080.proofs.Words.{form_bytes, item_length, opcode}
 
 -- a byte at which no fix begins, and the first byte of a word that is a reference

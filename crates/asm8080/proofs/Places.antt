@@ -10,11 +10,11 @@ use Rattle.object_modules.specs.declared.segment.TheConstants.{SEGMENT_LIMIT}
 use Rattle.asm8080.specs.declared.fault.Fault.TheVariants.{UnboundLabel, TooLong}
 use Rattle.asm8080.specs.declared.item.Item.{Item}
 use Rattle.asm8080.specs.declared.item.Item.TheVariants.{Plain, WithWord, Byte, Address, Gap, Mark}
-use Rattle.asm8080.specs.Items.{Assembly, BoundOnce, IsAssembly, KnowsLabels, Layout, bytes_of_item, is_bound, marks, offset_of, size_of, size_of_items}
-use Rattle.asm8080.specs.Assembled.{AllBound, Assembled, Assembles, IsFinished, fixes_of_items, place_in}
-use Rattle.asm8080.specs.internal.Assembling.{all_placed, bytes_of_items, code_of, fixes_of_item, flags_of_item, flags_of_items, layout_from, no_code, offset_in, places_after, places_of, with_item, with_items, with_mark, with_places}
+use Rattle.asm8080.specs.Items.{Assembly, BoundOnce, IsAssembly, KnowsLabels, Layout, bytes_of_item, flags_of_item, flags_of_items, is_bound, marks, offset_of, size_of, size_of_items}
+use Rattle.asm8080.specs.Assembled.{AllBound, Assembled, Assembles, FitsSegment, IsFinished, fixes_of_items, place_in}
+use Rattle.asm8080.specs.internal.Assembling.{all_placed, bytes_of_items, code_of, fixes_of_item, layout_from, no_code, offset_in, places_after, places_of, with_item, with_items, with_mark, with_places}
 use Rattle.asm8080.proofs.Words.{item_length}
-use Rattle.asm8080.proofs.Assemblies.{assembles}
+use Rattle.asm8080.proofs.Assemblies.{assembles, flags_length}
 
 -- the place of a label in a table, if there is one
 abbrev place_at : List (Option ℕ) → (label : ℕ) → Option ℕ
@@ -412,3 +412,15 @@ too_long view slice places placed size t test holds sum long =
       all_bound view t.is (ap (λ them. all_placed them) (sym t.table) ∙ sym test ∙ holds),
       omega (arith, over),
     )
+
+-- and what was made keeps to what a segment does
+pub fits_segment : (view : Assembly) (code : Assembled) → IsFinished view (Ok code) → FitsSegment code
+fits_segment view code is =
+    let size : length code.bytes ≡ size_of_items view.items = is.2.size in
+    let few : size_of_items view.items ≤ SEGMENT_LIMIT = is.1 in
+    record {
+      few = omega (arith, size, few);
+      told = ap (λ (flags : List Bool). length flags) is.2.set ∙ flags_length view.items ∙ sym size;
+      ascending = is.2.ascending;
+      within = is.2.within;
+    }

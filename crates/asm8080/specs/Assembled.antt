@@ -22,11 +22,11 @@ use Rattle.asm8080.specs.declared.item.Item.{Item}
 use Rattle.asm8080.specs.declared.item.Item.TheVariants.{WithWord, Address}
 use Rattle.asm8080.specs.declared.item.Reference.{Reference}
 use Rattle.asm8080.specs.declared.item.Reference.TheVariants.{AtLabel, AtTarget}
-use Rattle.asm8080.specs.Items.{Assembly, Layout, ListsExternals, Stands, is_bound, offset_of, size_of, size_of_items}
+use Rattle.asm8080.specs.Items.{Assembly, Layout, ListsExternals, Stands, flags_of_items, is_bound, offset_of, size_of, size_of_items}
 use Rattle.asm8080.specs.Standing.{SetBytesStand}
 
--- the bytes of a code segment, with 0 for each that stays unset, which of them are set, its fixes in the
--- order of their offsets, and how far its labels are from its start, by their numbers
+-- the bytes of a code segment, which of them are set, its fixes in the order of their offsets, and how far its
+-- labels are from its start, by their numbers
 pub record Assembled : Type 0 where
   pub bytes : List ℕ
   pub is_set : List Bool
@@ -63,7 +63,8 @@ fixed_bytes fixes offset (byte ∷ others) =
 abbrev pub places_of : Assembled → List (Option SetByte)
 places_of code = fixed_bytes code.fixes 0 (set_bytes code.bytes code.is_set)
 
--- the segment that an object module keeps of it: the longest runs of bytes that are set
+-- the segment that an object module keeps of it: the longest runs of bytes that are set. No function here makes
+-- it: laws say that it is one as object modules keep them, with the places of the code.
 abbrev pub segment_of : Assembled → StoredSegment
 segment_of code = record {
   size = length code.bytes;
@@ -102,12 +103,20 @@ layout_at address_of assembly = record {
   address_of = address_of;
 }
 
+-- What code that was assembled keeps to: it has no more bytes than a segment, of each byte it says whether it
+-- is set, no fix begins before the one before it ends, and each ends within the bytes.
+pub record FitsSegment (code : Assembled) : Type 0 where
+  pub few : length code.bytes ≤ SEGMENT_LIMIT
+  pub told : length code.is_set ≡ length code.bytes
+  pub ascending : IsTrue (fixes_ascend code.fixes)
+  pub within : IsTrue (list_all (λ (fix : Fix). nat_le (fix_end fix) (length code.bytes)) code.fixes)
+
 -- A segment whose bytes, resolved anywhere in memory, are the code.
 pub record Assembles (assembly : Assembly) (code : Assembled) : Type 0 where
   -- it has as many bytes as the items take
   pub size : length code.bytes ≡ size_of_items assembly.items
-  -- of each byte it says whether it is set
-  pub told : length code.is_set ≡ length code.bytes
+  -- of each byte it says whether it is set: those of gaps are not, and all others are
+  pub set : code.is_set ≡ flags_of_items assembly.items
   -- each word that is a reference has a fix, and nothing else has one
   pub fixes : code.fixes ≡ fixes_of_items 0 assembly.items
   -- no fix begins before the one before it ends

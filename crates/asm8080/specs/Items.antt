@@ -1,5 +1,5 @@
 -- Code before it has a place: instructions with words that depend on where something will lie.
-use Rattle.std.specs.Prelude.{◌≡◌, ℕ, ◌+◌, ◌<◌, ◌==◌, Bool, true, false, if◌then◌else◌, IsTrue, List, [], ◌∷◌, All, replicate, Option, Some, None, option_map}
+use Rattle.std.specs.Prelude.{◌≡◌, ℕ, ◌+◌, ◌<◌, ◌==◌, Bool, true, false, if◌then◌else◌, IsTrue, List, [], ◌∷◌, ◌++◌, All, replicate, Option, Some, None, option_map}
 use Rattle.std.specs.List.{list_any}
 use Rattle.object_modules.specs.declared.segment.Target.{Target}
 use Rattle.object_modules.specs.declared.segment.Target.TheVariants.{InSegment, External}
@@ -134,6 +134,15 @@ bytes_of_item layout (Mark label) = []
 abbrev pub is_set : Item → Bool
 is_set (Gap count) = false
 is_set item = true
+
+-- of each byte of an item whether it is set: no byte of a gap is, and each of any other item is
+abbrev pub flags_of_item : Item → List Bool
+flags_of_item item = replicate (size_of item) (is_set item)
+
+-- and of each byte of items, one after another
+abbrev pub flags_of_items : List Item → List Bool
+flags_of_items [] = []
+flags_of_items (item ∷ others) = flags_of_item item ++ flags_of_items others
 
 -- Items stand in a memory from an address to another, and each label that they bind lies where it stands. Of
 -- bytes that stay unset nothing is said.

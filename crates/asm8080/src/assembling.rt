@@ -4,11 +4,11 @@ ghost use Rattle.std.specs.Prelude.{◌≡◌, ◌+◌, ◌≤◌, length, repli
 ghost use Rattle.object_modules.specs.declared.segment.TheConstants.{SEGMENT_LIMIT};
 ghost use Rattle.isa8080.specs.State.{high_byte, low_byte, wrap};
 ghost use Rattle.isa8080.specs.Code.{bytes_of};
-ghost use Rattle.asm8080.specs.Items.{instruction_with, is_set, size_of, size_of_items, word_of};
+ghost use Rattle.asm8080.specs.Items.{flags_of_item, instruction_with, is_set, size_of, size_of_items, word_of};
 ghost use Rattle.asm8080.specs.Assembled.{fix_at, place_in, target_of};
-ghost use Rattle.asm8080.specs.internal.Assembling.{all_placed, flags_of_item, layout_from, no_code, places_of, with_item, with_items, with_mark};
+ghost use Rattle.asm8080.specs.internal.Assembling.{all_placed, layout_from, no_code, places_of, with_item, with_items, with_mark};
 
-use crate::bytes::CodeBytes;
+use crate::bytes::CodeParts;
 use crate::item::{Item, Reference, WordForm};
 use isa8080::{Instr, encode};
 use object_modules::{Fix, FixKind, Segment, Target};
@@ -184,7 +184,7 @@ fn push_flags(flags: &mut Vec<bool>, item: Item) -> Result<(), AllocError>
 }
 
 // Adds an item, whose labels have places in a table.
-fn push_item(code: &mut CodeBytes, item: Item, places: &[Option<u128>]) -> Result<(), AllocError>
+fn push_item(code: &mut CodeParts, item: Item, places: &[Option<u128>]) -> Result<(), AllocError>
     requires { length code.old.bytes + size_of item ≤ SEGMENT_LIMIT }
     ensures { OnOk result (code.new ≡ with_item (layout_from (place_in places.now)) code.old item) }
 {
@@ -212,12 +212,12 @@ pub(crate) fn assemble(
     alloc: Global,
     items: &[Item],
     places: &[Option<u128>],
-) -> Result<CodeBytes, AllocError>
+) -> Result<CodeParts, AllocError>
     requires { size_of_items items.now ≤ SEGMENT_LIMIT }
     ensures { IfOk result (λ code.
         code ≡ with_items (layout_from (place_in places.now)) no_code items.now) }
 {
-    let mut code = CodeBytes::empty(alloc);
+    let mut code = CodeParts::empty(alloc);
     for item in items {
         push_item(&mut code, *item, places)?;
     }

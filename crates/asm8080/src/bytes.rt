@@ -1,7 +1,7 @@
 //! Assembled code.
 
 ghost use Rattle.std.specs.Prelude.{◌≡◌};
-ghost use Rattle.asm8080.specs.Assembled.{place_of};
+ghost use Rattle.asm8080.specs.Assembled.{FitsSegment, place_of};
 ghost use Rattle.asm8080.specs.internal.Assembling.{no_code, with_places};
 
 use crate::assembling::place_word;
@@ -10,49 +10,76 @@ use object_modules::Fix;
 use std::alloc::Global;
 use std::marker::Model;
 
-/// The bytes of a code segment, 65535 at most, which of them are set, its fixes in the order of their offsets,
-/// and where its labels lie. The words that are fixed to a segment are offsets in it.
+/// The bytes of code, which of them are set, and its fixes, as far as it is assembled.
 #[derive(Drop)]
-pub struct CodeBytes {
+pub(crate) struct CodeParts {
     pub(crate) bytes: Vec<u8>,
     pub(crate) is_set: Vec<bool>,
     pub(crate) fixes: Vec<Fix>,
-    places: Vec<Option<u128>>,
 }
 
-impl Model for CodeBytes {
+impl Model for CodeParts {
+    ghost use Rattle.std.specs.Prelude.{[]};
     ghost use Rattle.asm8080.specs.Assembled.{Assembled};
 
     ghost Value = { Assembled };
 
-    ghost view = { λ code. record {
-      bytes = code.bytes.items;
-      is_set = code.is_set.items;
-      fixes = code.fixes.items;
-      places = code.places.items;
+    ghost view = { λ parts. record {
+      bytes = parts.bytes.items;
+      is_set = parts.is_set.items;
+      fixes = parts.fixes.items;
+      places = [];
     } };
 }
 
-impl CodeBytes {
-    // No bytes.
-    pub(crate) fn empty(alloc: Global) -> CodeBytes
+impl CodeParts {
+    /// No bytes.
+    pub(crate) fn empty(alloc: Global) -> CodeParts
         ensures { result ≡ no_code }
     {
-        CodeBytes {
+        CodeParts {
             bytes: Vec::new(alloc),
             is_set: Vec::new(alloc),
             fixes: Vec::new(alloc),
-            places: Vec::new(alloc),
         }
     }
+}
 
-    // Its labels are where a table has them.
-    pub(crate) fn with_places(self, places: Vec<Option<u128>>) -> CodeBytes
-        ensures { result ≡ with_places places.items self }
+/// The bytes of a code segment, 65535 at most, which of them are set, its fixes in the order of their offsets,
+/// and where its labels lie. The words that are fixed to a segment are offsets in it.
+#[derive(Drop)]
+pub struct CodeBytes {
+    parts: CodeParts,
+    places: Vec<Option<u128>>,
+}
+
+impl Model for CodeBytes {
+    ghost use Rattle.asm8080.specs.Assembled.{Assembled, FitsSegment};
+
+    ghost Value = { Assembled };
+
+    ghost view = { λ code. record {
+      bytes = code.parts.bytes;
+      is_set = code.parts.is_set;
+      fixes = code.parts.fixes;
+      places = code.places.items;
+    } };
+
+    ghost invariant = { λ code. FitsSegment (record {
+      bytes = code.parts.bytes;
+      is_set = code.parts.is_set;
+      fixes = code.parts.fixes;
+      places = code.places.items;
+    }) };
+}
+
+impl CodeBytes {
+    /// What was assembled, with its labels where a table has them.
+    pub(crate) fn with_places(parts: CodeParts, places: Vec<Option<u128>>) -> CodeBytes
+        requires fits { FitsSegment (with_places places.items parts) }
+        ensures { result ≡ with_places places.items parts }
     {
-        let mut code = self;
-        code.places = places;
-        code
+        CodeBytes { parts, places }
     }
 
     /// How far a label is from the start of the bytes. The label is of the code that they were made of.
@@ -62,25 +89,26 @@ impl CodeBytes {
         place_word(self.places.as_slice(), label.number)
     }
 
-    /// The bytes, with nothing added to the words that are fixed, and 0 for each that stays unset.
+    /// The bytes, with nothing added to the words that are fixed. They are no more than a segment has.
     pub fn bytes(&self) -> &[u8]
-        ensures { result.now ≡ self.now.bytes }
+        ensures bytes { result.now ≡ self.now.bytes }
+        ensures fits { FitsSegment self.now }
     {
-        self.bytes.as_slice()
+        self.parts.bytes.as_slice()
     }
 
     /// Of each byte, whether it is set.
     pub fn is_set(&self) -> &[bool]
         ensures { result.now ≡ self.now.is_set }
     {
-        self.is_set.as_slice()
+        self.parts.is_set.as_slice()
     }
 
     /// The fixes, in the order of their offsets.
     pub fn fixes(&self) -> &[Fix]
         ensures { result.now ≡ self.now.fixes }
     {
-        self.fixes.as_slice()
+        self.parts.fixes.as_slice()
     }
 
     /// The bytes, which of them are set, and the fixes.
@@ -89,12 +117,12 @@ impl CodeBytes {
         ensures is_set { result.1.items ≡ self.is_set }
         ensures fixes { result.2.items ≡ self.fixes }
     {
-        let CodeBytes {
+        let CodeBytes { parts, .. } = self;
+        let CodeParts {
             bytes,
             is_set,
             fixes,
-            ..
-        } = self;
+        } = parts;
         (bytes, is_set, fixes)
     }
 }

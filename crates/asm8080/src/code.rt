@@ -218,6 +218,6 @@ impl Code {
             return Err(Failure::Fault(Fault::TooLong));
         }
         let code = assemble(alloc, items, places)?;
-        Ok(code.with_places(table))
+        Ok(CodeBytes::with_places(code, table))
     }
 }

@@ -72,7 +72,7 @@ Exit status:
   3  LIMIT
   4  ILLEGAL or PORT
 
-A refused source prints `number file line` to standard error, and a refused value `U4 - 0`.
+A refused source prints `number file line` to standard error, and a refused value `U4 text 0`.
 
 Example: a file with the line
   M: DO; OUTPUT(1) = 42; END M;
@@ -109,7 +109,7 @@ Exit status:
   4  PORT
   5  OUTSIDE
 
-A refused source prints `number file line` to standard error, and a refused value `U4 - 0`.
+A refused source prints `number file line` to standard error, and a refused value `U4 text 0`.
 
 Example: a file with the line
   M: DO; OUTPUT(1) = 42; END M;
@@ -153,7 +153,7 @@ Exit status:
   2  the command line is wrong, or a value in it
 
 A refused object prints `number file 0` to standard error, a refused place `number - 0`, and a
-refused value or a second file `U4 - 0`.
+refused value or a second file `U4 text 0`.
 
 Example: an object with nine bytes of code and a public name S at offset 4 prints
   CODE 0100 9
@@ -175,7 +175,7 @@ Exit status:
   2  the command line is wrong, or a value in it
 
 A refused object prints `number file 0` to standard error, a refused place `number - 0`, and a
-refused value or a second file `U4 - 0`.
+refused value or a second file `U4 text 0`.
 
 Example: an object with the code cd 04 00 76 3e 08 d3 04 c9, whose bytes 04 00 are an address in
 the code, prints

@@ -1,1 +1,2 @@
 pub mod OrdersKept
+pub mod Refused

@@ -1,15 +1,16 @@
 -- Files after a command line was carried out.
-use Rattle.std.proofs.Common.{◌≡◌, ◌≤◌, [], ◌∷◌, Option, None, Some, refl, arith}
-use Rattle.clap.specs.Words.{Kinds}
+use Rattle.std.proofs.Common.{◌≡◌, ◌≤◌, ℕ, List, [], ◌∷◌, map, Bor, Ok, Option, None, Some, inl, refl, subst, arith}
+use Rattle.clap.specs.Walk.{texts}
 use Rattle.files.specs.Files.{Directory, KeepsFiles}
 use Rattle.answers.specs.Endings.{status_of}
+use Rattle.answers.specs.Reading.{IsOneOf}
+use Rattle.answers.specs.Refusals.{TellsRefusal}
 use Rattle.answers.specs.declared.endings.Ending.{Ending}
 use Rattle.answers.specs.declared.endings.Ending.TheVariants.{Done, Refused, WrongLine, Limit, Stopped, Outside}
-use Rattle.command_line.specs.declared.reading.LineFault.{LineFault}
-use Rattle.command_line.specs.declared.reading.LineFault.TheVariants.{Help, Wrong}
-use Rattle.command_line.specs.Command.{IsFaultOf, Wanted, wants_link, wants_place, wants_program}
+use Rattle.command_line.specs.Command.{Wanted, wants_link, wants_place, wants_program}
+use Rattle.command_line.specs.Settings.{only_file}
 use Rattle.object_commands.proofs.FilesWritten.{kept_others}
-use Rattle.commands.specs.Orders.{ChangesAsWanted, ChangesByWords, LinksAsWanted, LinksByWords}
+use Rattle.commands.specs.Orders.{ChangesAsWanted, ChangesByWords, LinksAsWanted, LinksByWords, PrintsAsWanted, PrintsByWords, StopsAsWanted, StopsByWords, names_by_words, names_of}
 
 -- where no file changed, none changed but what was wanted
 pub kept_as_wanted : (wanted : Wanted) (old new : Option Directory) → KeepsFiles old new → ChangesAsWanted wanted old new
@@ -28,11 +29,56 @@ by_words found wanted old new e changes = rw e changes
 pub linked_by_words : (found : Option Wanted) (wanted : Wanted) (old new : Option Directory) → found ≡ Some wanted → LinksAsWanted wanted old new → LinksByWords found old new
 linked_by_words found wanted old new e links = rw e links
 
--- words with a fault give no order
-pub faulty_links : (kinds : Kinds) (fault : LineFault) (found : Option Wanted) (old new : Option Directory) → IsFaultOf kinds fault → kinds ≡ [] → LinksByWords found old new
-faulty_links [] (Help error) found old new (is, among) none = absurd among
-faulty_links [] (Wrong error) found old new (is, among) none = absurd among
-faulty_links (k ∷ kinds) fault found old new is none = cc
+-- where no file changed, and where the words give the order that was not carried out
+pub stops_as_wanted : (wanted : Wanted) (old new : Option Directory) → KeepsFiles old new → StopsAsWanted wanted old new
+stops_as_wanted (wants_program program) old new kept = kept
+stops_as_wanted (wants_link link) old new kept = inl kept
+stops_as_wanted (wants_place place) old new kept = kept
+
+pub kept_stops : (found : Option Wanted) (old new : Option Directory) → KeepsFiles old new → StopsByWords found old new
+kept_stops None old new kept = kept
+kept_stops (Some wanted) old new kept = stops_as_wanted wanted old new kept
+
+pub stops_by_words : (found : Option Wanted) (wanted : Wanted) (old new : Option Directory) → found ≡ Some wanted → StopsAsWanted wanted old new → StopsByWords found old new
+stops_by_words found wanted old new e stops = rw e stops
+
+pub prints_by_words : (found : Option Wanted) (wanted : Wanted) (files : Option Directory) (old new : Option (List ℕ)) → found ≡ Some wanted → PrintsAsWanted wanted files old new
+    → PrintsByWords found files old new
+prints_by_words found wanted files old new e prints = rw e prints
+
+-- the names of files that are told
+pub told_by_words : (found : Option Wanted) (wanted : Wanted) (before after : ℕ) (old new : Option (List ℕ)) → found ≡ Some wanted → TellsRefusal (names_of wanted) before after old new
+    → TellsRefusal (names_by_words found) before after old new
+told_by_words found wanted before after old new e told = rw e told
+
+one_alone : (files : List (List ℕ)) (file : List ℕ) → only_file files ≡ Ok file → file ∷ [] ≡ files
+one_alone [] file e = cc
+one_alone (one ∷ []) file e = cc
+one_alone (one ∷ second ∷ more) file e = cc
+
+pub told_of_only : (files : List (List ℕ)) (file : List ℕ) (before after : ℕ) (old new : Option (List ℕ)) → only_file files ≡ Ok file → TellsRefusal (file ∷ []) before after old new
+    → TellsRefusal files before after old new
+told_of_only files file before after old new e told = subst (λ (l : List (List ℕ)). TellsRefusal l before after old new) (one_alone files file e) told
+
+pub one_of_files : (names files : List (Bor (List ℕ))) (name : List ℕ) → names ≡ files → IsOneOf (map (λ n. n.now) names) name → IsOneOf (texts files) name
+one_of_files names files name e named = subst (λ (l : List (Bor (List ℕ))). IsOneOf (map (λ n. n.now) l) name) e named
+
+pub not_done : (ending : Ending) → (status_of ending ≡ 0 → ⊥) → ending ≡ Done → ⊥
+not_done ending other done = other (rw done refl)
+
+pub not_refused : (ending : Ending) → (status_of ending ≡ 1 → ⊥) → ending ≡ Refused → ⊥
+not_refused ending other refused = other (rw refused refl)
+
+pub not_wrong : (ending : Ending) → (status_of ending ≡ 2 → ⊥) → ending ≡ WrongLine → ⊥
+not_wrong ending other wrong = other (rw wrong refl)
+
+pub refused_is : (ending : Ending) → status_of ending ≡ 1 → ending ≡ Refused
+refused_is Done e = absurd (omega arith)
+refused_is Refused e = refl
+refused_is WrongLine e = absurd (omega arith)
+refused_is Limit e = absurd (omega arith)
+refused_is Stopped e = absurd (omega arith)
+refused_is Outside e = absurd (omega arith)
 
 pub status_bound : (ending : Ending) → status_of ending ≤ 5
 status_bound Done = omega arith

@@ -1,8 +1,13 @@
--- What orders make of files.
-use Rattle.std.specs.Prelude.{Option, None, Some}
+-- What orders make of files, and what they print of them.
+use Rattle.std.specs.Prelude.{◌≡◌, ℕ, List, [], ◌∷◌, Ok, Option, None, Some}
 use Rattle.files.specs.Files.{Directory, KeepsFiles}
-use Rattle.command_line.specs.Command.{Wanted, wants_link, wants_place, wants_program}
-use Rattle.object_commands.specs.Linking.{KeepsOthers, LinksFiles}
+use Rattle.command_line.specs.Command.{PlaceWanted, Wanted, wants_link, wants_place, wants_program}
+use Rattle.command_line.specs.Settings.{only_file, plan_read}
+use Rattle.command_line.specs.declared.orders.PlaceAction.{PlaceAction}
+use Rattle.command_line.specs.declared.orders.PlaceAction.TheVariants.{Locate, Hex}
+use Rattle.object_commands.specs.Linking.{KeepsOthers, LinksFiles, StopsLinking}
+use Rattle.object_commands.specs.Placing.{PrintsHex, PrintsPlaces}
+use Rattle.plans.specs.declared.Plan.{Plan}
 
 -- an order to link changes no file but the one that it names, and others change none
 abbrev pub ChangesAsWanted : Wanted → Option Directory → Option Directory → Type 0
@@ -16,11 +21,57 @@ LinksAsWanted (wants_link link) old new = LinksFiles old new link.objects link.o
 LinksAsWanted (wants_program program) old new = Unit {0}
 LinksAsWanted (wants_place place) old new = Unit {0}
 
+-- where an order is not carried out, no file changes, but that of an order to link may have a beginning of
+-- the merge
+abbrev pub StopsAsWanted : Wanted → Option Directory → Option Directory → Type 0
+StopsAsWanted (wants_link link) old new = StopsLinking old new link.objects link.out
+StopsAsWanted (wants_program program) old new = KeepsFiles old new
+StopsAsWanted (wants_place place) old new = KeepsFiles old new
+
+-- what a command on an object file prints of the file of this name, placed by this plan
+abbrev pub PrintsPlaced :
+    PlaceAction → Option Directory → (name : List ℕ) → Plan → (old new : Option (List ℕ)) → Type 0
+PrintsPlaced Locate files name plan old new = PrintsPlaces files name plan old new
+PrintsPlaced Hex files name plan old new = PrintsHex files name plan old new
+
+-- the one file that is wanted, placed by the plan that the texts write, was printed
+pub record PrintsWanted (place : PlaceWanted) (files : Option Directory)
+    (old new : Option (List ℕ)) : Type 0 where
+  pub name : List ℕ
+  pub plan : Plan
+  pub only : only_file place.files ≡ Ok name
+  pub planned : plan_read place.plan ≡ Ok plan
+  pub printed : PrintsPlaced place.action files name plan old new
+
+-- what an order on an object file prints; of other orders nothing is said
+abbrev pub PrintsAsWanted : Wanted → Option Directory → (old new : Option (List ℕ)) → Type 0
+PrintsAsWanted (wants_place place) files old new = PrintsWanted place files old new
+PrintsAsWanted (wants_link link) files old new = Unit {0}
+PrintsAsWanted (wants_program program) files old new = Unit {0}
+
+-- the files that an order reads, and that it writes
+abbrev pub names_of : Wanted → List (List ℕ)
+names_of (wants_program program) = program.files
+names_of (wants_link link) = link.out ∷ link.objects
+names_of (wants_place place) = place.files
+
 -- the same of what words want; those that give no order change no file
 abbrev pub ChangesByWords : Option Wanted → Option Directory → Option Directory → Type 0
 ChangesByWords None old new = KeepsFiles old new
 ChangesByWords (Some wanted) old new = ChangesAsWanted wanted old new
 
+abbrev pub names_by_words : Option Wanted → List (List ℕ)
+names_by_words None = []
+names_by_words (Some wanted) = names_of wanted
+
 abbrev pub LinksByWords : Option Wanted → Option Directory → Option Directory → Type 0
 LinksByWords None old new = Unit {0}
 LinksByWords (Some wanted) old new = LinksAsWanted wanted old new
+
+abbrev pub StopsByWords : Option Wanted → Option Directory → Option Directory → Type 0
+StopsByWords None old new = KeepsFiles old new
+StopsByWords (Some wanted) old new = StopsAsWanted wanted old new
+
+abbrev pub PrintsByWords : Option Wanted → Option Directory → (old new : Option (List ℕ)) → Type 0
+PrintsByWords None files old new = Unit {0}
+PrintsByWords (Some wanted) files old new = PrintsAsWanted wanted files old new

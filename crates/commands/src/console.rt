@@ -1,17 +1,18 @@
 //! Carrying out a command line.
 
 ghost use Rattle.std.specs.Prelude.{◌≡◌, ◌≤◌, []};
+ghost use Rattle.answers.specs.Refusals.{TellsOther, TellsRefusal};
 ghost use Rattle.clap.specs.Walk.{texts};
 ghost use Rattle.clap.specs.Words.{fault_of};
 ghost use Rattle.files.specs.Files.{KeepsFiles};
-ghost use Rattle.command_line.specs.Command.{plm_app, wanted_by, wanted_in};
-ghost use Rattle.commands.specs.Orders.{ChangesAsWanted, ChangesByWords, LinksAsWanted, LinksByWords};
+ghost use Rattle.command_line.specs.Command.{plm_app, place_in, program_in, wanted_by, wanted_in};
+ghost use Rattle.commands.specs.Orders.{ChangesAsWanted, ChangesByWords, LinksAsWanted, LinksByWords, PrintsAsWanted, PrintsByWords, PrintsWanted, StopsAsWanted, StopsByWords, names_by_words, names_of};
 
 use crate::interpreting::interpret_sources;
 use crate::loading::sources_of;
 use crate::refusals::refuse_value;
 use crate::running::run_sources;
-use answers::{Ending, read_files, refuse, refuse_memory, refuse_write};
+use answers::{Ending, read_files, refuse_file, refuse_memory, refuse_write};
 use command_line::{
     Action, LineFault, Order, PlaceAction, PlaceOrder, ProgramOrder, Settings, command,
 };
@@ -23,9 +24,11 @@ use std::io::Write;
 use tool::Source;
 
 /// Carries out the words of a command line, the first of which is the program's name, and answers the exit status. What
-/// it prints goes to `out`, and faults go to `err`; a failure of `err` changes no status. It changes no file but that of
-/// `link --out`, which has the merge of the objects where the status is 0.
-#[tactic(auto, using(crate::proofs::OrdersKept::status_bound, crate::proofs::OrdersKept::done_is))]
+/// it prints goes to `out`, and faults go to `err`, which has nothing more where the status is neither 1 nor 2; a failure of
+/// `err` changes no status. It changes no file but that of `link --out`, which has the merge of the objects where the
+/// status is 0, and may have a beginning of it otherwise. That a file can't be read or written is told, with status 1, just
+/// where a failure of the files was counted, but for a count that is at its greatest value.
+#[tactic(auto, using(crate::proofs::OrdersKept::status_bound, crate::proofs::OrdersKept::done_is, crate::proofs::OrdersKept::not_done, crate::proofs::OrdersKept::not_refused, crate::proofs::OrdersKept::not_wrong, crate::proofs::OrdersKept::refused_is))]
 pub fn run_command<F: Files, O: Write, E: Write>(
     alloc: Global,
     words: &[&str],
@@ -37,13 +40,22 @@ pub fn run_command<F: Files, O: Write, E: Write>(
     ensures kept { ChangesByWords (wanted_by (texts words.now)) (F.files files.old) (F.files files.new) }
     ensures linked { fault_of plm_app (texts words.now) ≡ [] → result ≡ 0 →
         LinksByWords (wanted_by (texts words.now)) (F.files files.old) (F.files files.new) }
+    ensures printed { fault_of plm_app (texts words.now) ≡ [] → result ≡ 0 → PrintsByWords
+        (wanted_by (texts words.now)) (F.files files.old) (O.contents out.old) (O.contents out.new) }
+    ensures stopped { (result ≡ 0 → ⊥) →
+        StopsByWords (wanted_by (texts words.now)) (F.files files.old) (F.files files.new) }
+    ensures told { result ≡ 1 → TellsRefusal (names_by_words (wanted_by (texts words.now)))
+        (F.failures files.old) (F.failures files.new) (E.contents err.old) (E.contents err.new) }
+    ensures count { (result ≡ 1 → ⊥) → F.failures files.new ≡ F.failures files.old }
+    ensures quiet { (result ≡ 1 → ⊥) → (result ≡ 2 → ⊥) →
+        E.contents err.new ≡ E.contents err.old }
 {
     let ending = end_words(alloc, words, files, out, err);
     ending.status()
 }
 
 // Carries out the words of a command line.
-#[tactic(auto, using(crate::proofs::OrdersKept::by_words, crate::proofs::OrdersKept::kept_by_words, crate::proofs::OrdersKept::linked_by_words, crate::proofs::OrdersKept::faulty_links))]
+#[tactic(auto, using(crate::proofs::OrdersKept::by_words, crate::proofs::OrdersKept::linked_by_words, crate::proofs::OrdersKept::prints_by_words, crate::proofs::OrdersKept::stops_by_words, crate::proofs::OrdersKept::told_by_words))]
 fn end_words<F: Files, O: Write, E: Write>(
     alloc: Global,
     words: &[&str],
@@ -54,6 +66,15 @@ fn end_words<F: Files, O: Write, E: Write>(
     ensures kept { ChangesByWords (wanted_by (texts words.now)) (F.files files.old) (F.files files.new) }
     ensures linked { fault_of plm_app (texts words.now) ≡ [] → result ≡ Ending.Done →
         LinksByWords (wanted_by (texts words.now)) (F.files files.old) (F.files files.new) }
+    ensures printed { fault_of plm_app (texts words.now) ≡ [] → result ≡ Ending.Done → PrintsByWords
+        (wanted_by (texts words.now)) (F.files files.old) (O.contents out.old) (O.contents out.new) }
+    ensures stopped { (result ≡ Ending.Done → ⊥) →
+        StopsByWords (wanted_by (texts words.now)) (F.files files.old) (F.files files.new) }
+    ensures told { result ≡ Ending.Refused → TellsRefusal (names_by_words (wanted_by (texts words.now)))
+        (F.failures files.old) (F.failures files.new) (E.contents err.old) (E.contents err.new) }
+    ensures count { (result ≡ Ending.Refused → ⊥) → F.failures files.new ≡ F.failures files.old }
+    ensures quiet { (result ≡ Ending.Refused → ⊥) → (result ≡ Ending.WrongLine → ⊥) →
+        E.contents err.new ≡ E.contents err.old }
 {
     match command(alloc, words) {
         Ok(order) => carry_out(alloc, &order, files, out, err),
@@ -63,7 +84,11 @@ fn end_words<F: Files, O: Write, E: Write>(
 }
 
 // Prints why the command line gives no order, or the help that it asks for.
-fn end_line<O: Write, E: Write>(fault: &LineFault, out: &mut O, err: &mut E) -> Ending {
+fn end_line<O: Write, E: Write>(fault: &LineFault, out: &mut O, err: &mut E) -> Ending
+    ensures told { result ≡ Ending.Refused → TellsOther (E.contents err.old) (E.contents err.new) }
+    ensures quiet { (result ≡ Ending.Refused → ⊥) → (result ≡ Ending.WrongLine → ⊥) →
+        E.contents err.new ≡ E.contents err.old }
+{
     match fault {
         LineFault::Help(_) => match write!(out, "{fault}") {
             Ok(()) => Ending::Done,
@@ -88,6 +113,15 @@ fn carry_out<F: Files, O: Write, E: Write>(
     ensures kept { ChangesAsWanted (wanted_in order.now) (F.files files.old) (F.files files.new) }
     ensures linked { result ≡ Ending.Done →
         LinksAsWanted (wanted_in order.now) (F.files files.old) (F.files files.new) }
+    ensures printed { result ≡ Ending.Done → PrintsAsWanted (wanted_in order.now) (F.files files.old)
+        (O.contents out.old) (O.contents out.new) }
+    ensures stopped { (result ≡ Ending.Done → ⊥) →
+        StopsAsWanted (wanted_in order.now) (F.files files.old) (F.files files.new) }
+    ensures told { result ≡ Ending.Refused → TellsRefusal (names_of (wanted_in order.now))
+        (F.failures files.old) (F.failures files.new) (E.contents err.old) (E.contents err.new) }
+    ensures count { (result ≡ Ending.Refused → ⊥) → F.failures files.new ≡ F.failures files.old }
+    ensures quiet { (result ≡ Ending.Refused → ⊥) → (result ≡ Ending.WrongLine → ⊥) →
+        E.contents err.new ≡ E.contents err.old }
 {
     match order {
         Order::Program(program) => carry_out_program(alloc, program, files, out, err),
@@ -97,7 +131,7 @@ fn carry_out<F: Files, O: Write, E: Write>(
 }
 
 // Carries out an order on an object file, once the values of its options are known.
-#[tactic(auto, using(answers::proofs::FilesRead::stays))]
+#[tactic(auto, using(answers::proofs::FilesRead::stays, crate::proofs::OrdersKept::told_of_only))]
 fn carry_out_place<F: Files, O: Write, E: Write>(
     alloc: Global,
     order: &PlaceOrder,
@@ -106,6 +140,13 @@ fn carry_out_place<F: Files, O: Write, E: Write>(
     err: &mut E,
 ) -> Ending
     ensures kept { KeepsFiles (F.files files.old) (F.files files.new) }
+    ensures printed { result ≡ Ending.Done → PrintsWanted (place_in order.now) (F.files files.old)
+        (O.contents out.old) (O.contents out.new) }
+    ensures told { result ≡ Ending.Refused → TellsRefusal (place_in order.now).files
+        (F.failures files.old) (F.failures files.new) (E.contents err.old) (E.contents err.new) }
+    ensures count { (result ≡ Ending.Refused → ⊥) → F.failures files.new ≡ F.failures files.old }
+    ensures quiet { (result ≡ Ending.Refused → ⊥) → (result ≡ Ending.WrongLine → ⊥) →
+        E.contents err.new ≡ E.contents err.old }
 {
     let plan = match order.plan() {
         Ok(plan) => plan,
@@ -131,6 +172,11 @@ fn carry_out_program<F: Files, O: Write, E: Write>(
     err: &mut E,
 ) -> Ending
     ensures kept { KeepsFiles (F.files files.old) (F.files files.new) }
+    ensures told { result ≡ Ending.Refused → TellsRefusal (program_in order.now).files
+        (F.failures files.old) (F.failures files.new) (E.contents err.old) (E.contents err.new) }
+    ensures count { (result ≡ Ending.Refused → ⊥) → F.failures files.new ≡ F.failures files.old }
+    ensures quiet { (result ≡ Ending.Refused → ⊥) → (result ≡ Ending.WrongLine → ⊥) →
+        E.contents err.new ≡ E.contents err.old }
 {
     match order.settings(alloc) {
         Ok(values) => load(alloc, order, &values, files, out, err),
@@ -149,11 +195,15 @@ fn load<F: Files, O: Write, E: Write>(
     err: &mut E,
 ) -> Ending
     ensures kept { KeepsFiles (F.files files.old) (F.files files.new) }
+    ensures told { result ≡ Ending.Refused → TellsRefusal (program_in order.now).files
+        (F.failures files.old) (F.failures files.new) (E.contents err.old) (E.contents err.new) }
+    ensures count { (result ≡ Ending.Refused → ⊥) → F.failures files.new ≡ F.failures files.old }
+    ensures quiet { (result ≡ Ending.Refused → ⊥) → E.contents err.new ≡ E.contents err.old }
 {
     let names = order.files.as_slice();
     let texts = match read_files(alloc, names, files) {
         Ok(texts) => texts,
-        Err(Failure::Fault((fault, name))) => return refuse(fault.number(), name, 0, err),
+        Err(Failure::Fault((fault, name))) => return refuse_file(fault, name, err),
         Err(Failure::Memory) => return refuse_memory(err),
     };
     match sources_of(alloc, names, texts.as_slice()) {
@@ -170,7 +220,10 @@ fn act<O: Write, E: Write>(
     sources: &[Source],
     out: &mut O,
     err: &mut E,
-) -> Ending {
+) -> Ending
+    ensures told { result ≡ Ending.Refused → TellsOther (E.contents err.old) (E.contents err.new) }
+    ensures quiet { (result ≡ Ending.Refused → ⊥) → E.contents err.new ≡ E.contents err.old }
+{
     match order.action {
         Action::Run => run_sources(alloc, order, values, sources, out, err),
         Action::Interpret => interpret_sources(alloc, order, values, sources, out, err),

@@ -1,6 +1,7 @@
 //! Programs that are interpreted.
 
-ghost use Rattle.std.specs.Prelude.{All};
+ghost use Rattle.std.specs.Prelude.{◌≡◌, All};
+ghost use Rattle.answers.specs.Refusals.{TellsOther};
 ghost use Rattle.typed_trees.specs.Jumps.{JumpsAreSound};
 ghost use Rattle.layout.specs.Placement.{pieces_of};
 ghost use Rattle.placing.specs.Tables.{IsTableOf};
@@ -23,7 +24,6 @@ use std::io::Write;
 use tool::Source;
 
 /// Reads the program of sources, and interprets it from a memory of zeros.
-#[tactic(auto, using(interpretation::proofs::Programs::has_table, interpretation::proofs::Programs::has_sound_jumps))]
 pub(crate) fn interpret_sources<O: Write, E: Write>(
     alloc: Global,
     order: &ProgramOrder,
@@ -31,7 +31,10 @@ pub(crate) fn interpret_sources<O: Write, E: Write>(
     sources: &[Source],
     out: &mut O,
     err: &mut E,
-) -> Ending {
+) -> Ending
+    ensures told { result ≡ Ending.Refused → TellsOther (E.contents err.old) (E.contents err.new) }
+    ensures quiet { (result ≡ Ending.Refused → ⊥) → E.contents err.new ≡ E.contents err.old }
+{
     match read_program(alloc, sources, &settings.plan) {
         Ok(readied) => interpret_program(alloc, order, settings, &readied, out, err),
         Err(Failure::Fault(fault)) => refuse_sources(&fault, order.files.as_slice(), err),
@@ -52,6 +55,8 @@ fn interpret_program<O: Write, E: Write>(
         (pieces_of (program_modules readied.now.program) (placement_view readied.now.placement))
         readied.now.placement.kinds.value }
     requires jumps { All JumpsAreSound (program_modules readied.now.program) }
+    ensures told { result ≡ Ending.Refused → TellsOther (E.contents err.old) (E.contents err.new) }
+    ensures quiet { (result ≡ Ending.Refused → ⊥) → E.contents err.new ≡ E.contents err.old }
 {
     if order.map
         && let Err(error) = print_map(&readied.program, &readied.placement, out)
@@ -97,7 +102,9 @@ fn word_of(end: Result<SourceEnd, RunFault>) -> &'static str {
 }
 
 // How a command ends whose run ended so.
-fn ending_of(end: Result<SourceEnd, RunFault>) -> Ending {
+fn ending_of(end: Result<SourceEnd, RunFault>) -> Ending
+    ensures { result ≡ Ending.Refused → ⊥ }
+{
     match end {
         Ok(SourceEnd::Ended) => Ending::Done,
         Ok(SourceEnd::More) => Ending::Limit,

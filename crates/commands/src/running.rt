@@ -1,5 +1,8 @@
 //! Runs of programs on the 8080.
 
+ghost use Rattle.std.specs.Prelude.{◌≡◌};
+ghost use Rattle.answers.specs.Refusals.{TellsOther};
+
 use crate::loading::script_of;
 use crate::map::print_map;
 use crate::refusals::refuse_sources;
@@ -21,7 +24,10 @@ pub(crate) fn run_sources<O: Write, E: Write>(
     sources: &[Source],
     out: &mut O,
     err: &mut E,
-) -> Ending {
+) -> Ending
+    ensures told { result ≡ Ending.Refused → TellsOther (E.contents err.old) (E.contents err.new) }
+    ensures quiet { (result ≡ Ending.Refused → ⊥) → E.contents err.new ≡ E.contents err.old }
+{
     match build(alloc, sources, &settings.plan) {
         Ok(built) => run_built(alloc, order, settings, &built, out, err),
         Err(Failure::Fault(fault)) => refuse_sources(&fault, order.files.as_slice(), err),
@@ -37,7 +43,10 @@ fn run_built<O: Write, E: Write>(
     built: &Built,
     out: &mut O,
     err: &mut E,
-) -> Ending {
+) -> Ending
+    ensures told { result ≡ Ending.Refused → TellsOther (E.contents err.old) (E.contents err.new) }
+    ensures quiet { (result ≡ Ending.Refused → ⊥) → E.contents err.new ≡ E.contents err.old }
+{
     if order.map
         && let Err(error) = print_map(built.program(), built.placement(), out)
     {
@@ -68,7 +77,9 @@ fn word_of(end: End) -> &'static str {
 }
 
 // How a command ends whose run ended so.
-fn ending_of(end: End) -> Ending {
+fn ending_of(end: End) -> Ending
+    ensures { result ≡ Ending.Refused → ⊥ }
+{
     match end {
         End::Halted => Ending::Done,
         End::Illegal | End::PortFault => Ending::Stopped,

@@ -4,7 +4,6 @@ use Rattle.std.specs.Str.{bytes_eq}
 use Rattle.ports.specs.Events.{CountsFailure}
 use Rattle.failure.specs.declared.Failure.{Failure}
 use Rattle.failure.specs.declared.Failure.TheVariants.{Fault, Memory}
-use Rattle.files.specs.declared.FileFault.{FileFault}
 
 -- the bytes of the file of a name, or None where there is no such file
 abbrev pub Directory : Type 0
@@ -40,6 +39,6 @@ GrowsFile old new name bytes =
 
 -- a fault of the device adds one to the count of failures, which stays at its greatest value; out of memory adds
 -- none
-abbrev pub Counts : Failure FileFault → ℕ → ℕ → Type 0
+abbrev pub Counts : {F : Type 0} → Failure F → ℕ → ℕ → Type 0
 Counts (Fault fault) old new = CountsFailure old new
 Counts Memory old new = new ≡ old

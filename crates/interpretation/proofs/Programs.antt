@@ -168,11 +168,3 @@ program_first (CodeTooLong file) texts plan read modules are cause = absurd caus
 program_first (NotServed file line) texts plan read modules are cause = absurd cause
 program_first (Join fault) texts plan read modules are cause = readable_at texts read are
 program_first (Placement fault) texts plan read modules are cause = readable_at texts read are
-
--- what may be asked of a program that was read, before it is interpreted
-pub has_table : (texts : List (List ℕ)) (plan : Plan) (readied : Readied) → IsReadied texts plan readied
-    → IsTableOf (pieces_of (program_modules readied.program) (placement_view readied.placement)) readied.placement.kinds.value
-has_table texts plan readied is = is.table
-
-pub has_sound_jumps : (texts : List (List ℕ)) (plan : Plan) (readied : Readied) → IsReadied texts plan readied → All JumpsAreSound (program_modules readied.program)
-has_sound_jumps texts plan readied is = is.jumps

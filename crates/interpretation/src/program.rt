@@ -5,8 +5,12 @@ ghost use Rattle.failure.specs.Failure.{IfFault};
 ghost use Rattle.typed_trees.specs.Jumps.{JumpsAreSound};
 ghost use Rattle.typed_trees.specs.Storable.{IsStorable};
 ghost use Rattle.typed_trees.specs.Views.{module_view};
+ghost use Rattle.layout.specs.Placement.{pieces_of};
 ghost use Rattle.layout.specs.Storage.{storage_with};
 ghost use Rattle.layout.specs.Views.{layout_view};
+ghost use Rattle.placing.specs.Tables.{IsTableOf};
+ghost use Rattle.placing.specs.Views.{placement_view};
+ghost use Rattle.tool.specs.Construction.{program_modules};
 ghost use Rattle.tool.specs.Sources.{texts_of};
 ghost use Rattle.interpretation.specs.Programs.{HasCause, IsFirst, IsReadied, constant_lengths};
 ghost use Rattle.interpretation.specs.internal.Readings.{HasProgramCause, IsPlaced};
@@ -32,6 +36,10 @@ pub fn read_program(
     plan: &Plan,
 ) -> Result<Readied, Failure<ToolFault>>
     ensures readied { IfOk result (IsReadied (texts_of sources.now) plan.now) }
+    ensures jumps { IfOk result (λ readied. All JumpsAreSound (program_modules readied.program)) }
+    ensures table { IfOk result (λ readied. IsTableOf
+        (pieces_of (program_modules readied.program) (placement_view readied.placement))
+        readied.placement.kinds.value) }
     ensures refused { IfFault result (λ fault. HasCause fault (texts_of sources.now) plan.now) }
     ensures order { IfFault result (λ fault. IsFirst fault (texts_of sources.now)) }
     ensures too_many { MOST_SOURCES < length sources.now
@@ -46,6 +54,10 @@ pub fn read_program(
 // Reads the program of at most as many sources as there may be.
 fn read_few(alloc: Global, sources: &[Source], plan: &Plan) -> Result<Readied, Failure<ToolFault>>
     ensures readied { IfOk result (IsReadied (texts_of sources.now) plan.now) }
+    ensures jumps { IfOk result (λ readied. All JumpsAreSound (program_modules readied.program)) }
+    ensures table { IfOk result (λ readied. IsTableOf
+        (pieces_of (program_modules readied.program) (placement_view readied.placement))
+        readied.placement.kinds.value) }
     ensures refused { IfFault result (λ fault. HasCause fault (texts_of sources.now) plan.now) }
     ensures order { IfFault result (λ fault. IsFirst fault (texts_of sources.now)) }
 {

@@ -22,9 +22,10 @@ use Rattle.asm8080.specs.Items.{Layout, Stands}
 use Rattle.asm8080.specs.Runs.{Comes}
 use Rattle.asm8080.specs.Standing.{Keeps, below}
 use Rattle.asm8080.specs.internal.Examples.{counting}
+use Rattle.asm8080.proofs.RunLaws.{comes_on}
 use Rattle.machine_runs.specs.Example.{CountsAnywhere, Ends, counting_code}
 use Rattle.machine_runs.proofs.Steps.{at, does, goes_past, jumps_where, step_is, step_then}
-use Rattle.machine_runs.proofs.Spending.{halted_at, halts}
+use Rattle.machine_runs.proofs.Spending.{halted_at, halts, same_after}
 use Rattle.machine_runs.proofs.Straight.{does_to, straight}
 use Rattle.machine_runs.proofs.Loops.{word_is}
 use Rattle.machine_runs.proofs.Kept.{Alike, stands_still}
@@ -158,25 +159,24 @@ turn_again script layout base level memory r events k u is pointer again more =
     events u still.stands.1.1.1.1.1.0 past_count again
     (word_is (layout.place_of 0) (top_of base) still.stands.1.1.0 in_memory) more)
 
--- the last turn, and the halt
+-- the last turn, up to the halt
 turn_last :
     (script : List (List ℕ)) (layout : Layout) (base level : ℕ) (memory : List ℕ) (r : Registers)
     (events : List Event)
     → Placed layout base level memory
     → r.sp ≡ wrap level
     → holds NotZero (turned level r).flags ≡ false
-    → Comes script 6 (at (top_of base) r memory events)
-    (halted_at (top_of base + 3 + 1 + 3) (turned level r) (pushed level (back_to base) memory) events)
+    → Comes script 5 (at (top_of base) r memory events)
+    (at (top_of base + 3 + 1 + 3) (turned level r) (pushed level (back_to base) memory) events)
 turn_last script layout base level memory r events is pointer last =
     let fits : base + 15 ≤ MEMORY_SIZE = is.fits in
     let after : List ℕ = pushed level (back_to base) memory in
     let still : Placed layout base level after = placed_still layout base level (back_to base) memory is in
     let past_jump : top_of base + 3 + 1 + 3 < MEMORY_SIZE = omega arith in
-    let end : State = halted_at (top_of base + 3 + 1 + 3) (turned level r) after events in
-    turn script layout base level memory r events 2 end is pointer
-    (goes_past script 1 NotZero (wrap (layout.place_of 0)) (top_of base + 3 + 1) (turned level r) after events end
-    still.stands.1.1.1.1.1.0 past_jump last
-    (halts script (top_of base + 3 + 1 + 3) (turned level r) after events still.stands.1.1.1.1.1.1.0 past_jump))
+    let end : State = at (top_of base + 3 + 1 + 3) (turned level r) after events in
+    turn script layout base level memory r events 1 end is pointer
+    (goes_past script 0 NotZero (wrap (layout.place_of 0)) (top_of base + 3 + 1) (turned level r) after events end
+    still.stands.1.1.1.1.1.0 past_jump last (same_after script end))
 
 -- what three calls write
 abbrev thrice : (level word : ℕ) → List ℕ → List ℕ
@@ -233,25 +233,36 @@ runs script layout base level memory r events is stack_is =
     let r1 : Registers = begun stack r in
     let r2 : Registers = turned level r1 in
     let r3 : Registers = turned level r2 in
-    let end : State = halted_at (top_of base + 3 + 1 + 3) (turned level r3) (pushed level word second) events in
+    let third : List ℕ = pushed level word second in
+    let start : State = at base r memory events in
+    let before : State = at (top_of base + 3 + 1 + 3) (turned level r3) third events in
+    let end : State = halted_at (top_of base + 3 + 1 + 3) (turned level r3) third events in
     let after_first : Placed layout base level first = placed_still layout base level word memory is in
     let after_second : Placed layout base level second = placed_still layout base level word first after_first in
     let past_load : base + 3 < MEMORY_SIZE = omega arith in
     let past_count : base + 3 + 2 < MEMORY_SIZE = omega arith in
+    let past_jump : top_of base + 3 + 1 + 3 < MEMORY_SIZE = omega arith in
     let pointer : wrap (0 + stack) ≡ wrap level = from_zero stack level stack_is in
+    let after_third : Placed layout base level third = placed_still layout base level word second after_second in
+    let up_to_halt : Comes script 17 start before
+    = does script 16 (Lxi Sp (wrap (0 + stack))) base r memory events before is.stands.0 past_load
+    (straight script layout (Mvi (Of B) 3 ∷ [])
+    (Mark 0 ∷ WithWord CallTo (AtLabel 1) ∷ Plain (Dcr (Of B)) ∷ WithWord (JumpWhere NotZero) (AtLabel 0)
+    ∷ Plain Hlt ∷ called_part)
+    (base + 3) (base + 15) (record r { sp = wrap (0 + stack) }) memory events 15 before refl is.stands.1 past_count
+    (turn_again script layout base level memory r1 events 10 before is pointer refl
+    (turn_again script layout base level first r2 events 5 before after_first refl refl
+    (turn_last script layout base level second r3 events after_second refl refl)))) in
+    let whole : Comes script 18 start end
+    = comes_on script 17 1 start before end up_to_halt
+    (halts script (top_of base + 3 + 1 + 3) (turned level r3) third events after_third.stands.1.1.1.1.1.1.0 past_jump) in
     record {
       last = end;
+      run = whole;
+      runs_before = sym (ap (λ (s : State). s.status) up_to_halt);
       spends = record {
         count = 18;
-        run =
-            does script 17 (Lxi Sp (wrap (0 + stack))) base r memory events end is.stands.0 past_load
-            (straight script layout (Mvi (Of B) 3 ∷ [])
-            (Mark 0 ∷ WithWord CallTo (AtLabel 1) ∷ Plain (Dcr (Of B)) ∷ WithWord (JumpWhere NotZero) (AtLabel 0)
-            ∷ Plain Hlt ∷ called_part)
-            (base + 3) (base + 15) (record r { sp = wrap (0 + stack) }) memory events 16 end refl is.stands.1 past_count
-            (turn_again script layout base level memory r1 events 11 end is pointer refl
-            (turn_again script layout base level first r2 events 6 end after_first refl refl
-            (turn_last script layout base level second r3 events after_second refl refl))));
+        run = whole;
         enough = omega arith;
         spent = omega arith;
       };

@@ -22,7 +22,8 @@ none_enough n k = omega arith
 none_spent : (n : ℕ) → n ≤ n
 none_spent n = omega arith
 
-same_after : (script : List (List ℕ)) (s : State) → Comes script 0 s s
+-- no step
+pub same_after : (script : List (List ℕ)) (s : State) → Comes script 0 s s
 unfolding state_after
 same_after script s = refl
 

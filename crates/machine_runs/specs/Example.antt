@@ -6,12 +6,12 @@ use Rattle.ports.specs.declared.event.Event.{Event}
 use Rattle.object_modules.specs.declared.segment.Target.{Target}
 use Rattle.object_modules.specs.declared.segment.Target.TheVariants.{InSegment}
 use Rattle.object_modules.specs.declared.segment.Segment.TheVariants.{Code, Stack}
-use Rattle.isa8080.specs.declared.registers.Status.TheVariants.{Halted}
+use Rattle.isa8080.specs.declared.registers.Status.TheVariants.{Halted, Running}
 use Rattle.isa8080.specs.State.{Registers, State}
-use Rattle.isa8080.specs.Step.{running}
+use Rattle.isa8080.specs.Step.{running, state_after}
 use Rattle.asm8080.specs.Assembled.{Assembled, Assembles, resolved}
 use Rattle.asm8080.specs.Items.{Assembly}
-use Rattle.asm8080.specs.Runs.{Spends}
+use Rattle.asm8080.specs.Runs.{Comes, Spends}
 use Rattle.asm8080.specs.Standing.{Keeps, SetBytesStand, below}
 use Rattle.asm8080.specs.internal.Examples.{counting}
 
@@ -28,7 +28,7 @@ pub record IsPlaced (base level : ℕ) (bytes : List (Option ℕ)) (memory : Lis
   pub apart : (level ≤ base) ⊎ (base + 15 + 2 ≤ level)
   pub stands : SetBytesStand memory base bytes
 
--- the machine halts with A counted up by 3
+-- the machine has halted, with A counted up by 3 modulo 256
 pub record Counts
     (memory : List ℕ) (r : Registers) (events : List Event) (level : ℕ) (t : State) : Type 0 where
   pub halted : t.status ≡ Halted
@@ -36,11 +36,14 @@ pub record Counts
   pub same_events : t.events ≡ events
   pub kept : Keeps (λ address. IsIn address (below level 2)) memory t.memory
 
--- after 18 steps, each of which is paid for
+-- after 18 steps, each of which is paid for, and not before
 pub record Ends
     (script : List (List ℕ)) (memory : List ℕ) (r : Registers) (events : List Event)
     (base level : ℕ) : Type 0 where
   pub last : State
+  pub run : Comes script 18 (running (record r { pc = base }) memory events) last
+  pub runs_before :
+      (state_after script 17 (running (record r { pc = base }) memory events)).status ≡ Running
   pub spends : Spends script 18 (running (record r { pc = base }) memory events) 0 last
   pub counts : Counts memory r events level last
 

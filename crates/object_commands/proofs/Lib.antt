@@ -1,3 +1,4 @@
 pub mod FilesWritten
 pub mod FilesPlaced
 pub mod Lines
+pub mod Refused

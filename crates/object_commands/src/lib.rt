@@ -4,6 +4,7 @@
 mod linking;
 mod places;
 mod placing;
+mod refusals;
 mod writing_files;
 
 pub use linking::link_files;

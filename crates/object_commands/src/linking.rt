@@ -1,10 +1,12 @@
 //! Object files that are linked.
 
-ghost use Rattle.std.specs.Prelude.{◌≡◌, ◌⊎◌, IfOk, map};
+ghost use Rattle.std.specs.Prelude.{◌≡◌, ◌⊎◌, ◌∷◌, IfOk, map};
+ghost use Rattle.answers.specs.Refusals.{TellsOther, TellsRefusal};
 ghost use Rattle.object_commands.specs.Linking.{KeepsOthers, LinksFiles, MergesTo, StopsLinking};
 
+use crate::refusals::{refuse_link_at, refuse_object};
 use crate::writing_files::write_file;
-use answers::{Ending, read_files, refuse, refuse_memory};
+use answers::{Ending, read_files, refuse_file, refuse_memory, refuse_output};
 use failure::Failure;
 use files::Files;
 use link::LinkFault;
@@ -29,10 +31,14 @@ pub fn link_files<F: Files, E: Write>(
     ensures refused { (result ≡ Ending.Done → ⊥) → StopsLinking (F.files files.old) (F.files files.new)
         (map (λ name. name.now) objects.now) out.now }
     ensures ending { (result ≡ Ending.Done) ⊎ (result ≡ Ending.Refused) }
+    ensures told { result ≡ Ending.Refused → TellsRefusal (out.now ∷ map (λ name. name.now) objects.now)
+        (F.failures files.old) (F.failures files.new) (E.contents err.old) (E.contents err.new) }
+    ensures count { (result ≡ Ending.Refused → ⊥) → F.failures files.new ≡ F.failures files.old }
+    ensures quiet { (result ≡ Ending.Refused → ⊥) → E.contents err.new ≡ E.contents err.old }
 {
     let texts = match read_files(alloc, objects, files) {
         Ok(texts) => texts,
-        Err(Failure::Fault((fault, name))) => return refuse(fault.number(), name, 0, err),
+        Err(Failure::Fault((fault, name))) => return refuse_file(fault, name, err),
         Err(Failure::Memory) => return refuse_memory(err),
     };
     let merged = match merge(alloc, texts.as_slice()) {
@@ -42,7 +48,7 @@ pub fn link_files<F: Files, E: Write>(
     };
     match write_file(out, merged.as_slice(), files) {
         Ok(()) => Ending::Done,
-        Err(Failure::Fault(fault)) => refuse(fault.number(), out, 0, err),
+        Err(Failure::Fault(fault)) => refuse_file(fault, out, err),
         Err(Failure::Memory) => refuse_memory(err),
     }
 }
@@ -76,32 +82,35 @@ fn merge(alloc: Global, texts: &[Vec<u8>]) -> Result<Vec<u8>, Failure<StreamFaul
 // Prints why object files have no merge: the file that is no object file, the name that is there twice or not at all, or
 // a dash.
 fn refuse_merge<E: Write>(fault: &StreamFault, objects: &[&str], err: &mut E) -> Ending
-    ensures { result ≡ Ending.Refused }
+    ensures ending { result ≡ Ending.Refused }
+    ensures told { TellsOther (E.contents err.old) (E.contents err.new) }
 {
     match fault {
-        StreamFault::Object { file, fault } => {
-            let name = match objects.get(*file) {
-                Some(name) => *name,
-                None => "-",
-            };
-            refuse(fault.number(), name, 0, err)
-        }
+        StreamFault::Object { file, fault } => refuse_object(fault, name_at(objects, *file), err),
         StreamFault::Link(fault) => refuse_link(fault, err),
-        StreamFault::Write => refuse("U3", "-", 0, err),
+        StreamFault::Write => refuse_output(err),
+    }
+}
+
+// The name of the file of this number, or a dash.
+fn name_at<'a>(objects: &[&'a str], number: usize) -> &'a str {
+    match objects.get(number) {
+        Some(name) => *name,
+        None => "-",
     }
 }
 
 // Prints why modules have no merge.
 fn refuse_link<E: Write>(fault: &LinkFault, err: &mut E) -> Ending
-    ensures { result ≡ Ending.Refused }
+    ensures ending { result ≡ Ending.Refused }
+    ensures told { TellsOther (E.contents err.old) (E.contents err.new) }
 {
     match fault {
         LinkFault::DuplicatePublic { name } | LinkFault::UnresolvedExternal { name } => {
-            let _ = writeln!(err, "{} {name} 0", fault.number());
-            Ending::Refused
+            refuse_link_at(fault, name.as_slice(), err)
         }
         LinkFault::SegmentTooLong | LinkFault::NotOneMain | LinkFault::HighByteMoves => {
-            refuse(fault.number(), "-", 0, err)
+            refuse_link_at(fault, b"-", err)
         }
     }
 }

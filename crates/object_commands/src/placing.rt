@@ -1,11 +1,13 @@
 //! Object files that are placed in memory.
 
-ghost use Rattle.std.specs.Prelude.{◌≡◌, ◌⊎◌, IfErr, IfOk};
+ghost use Rattle.std.specs.Prelude.{◌≡◌, ◌⊎◌, ◌∷◌, [], IfErr, IfOk, OnErr, OnOk};
 ghost use Rattle.files.specs.Files.{KeepsFiles};
+ghost use Rattle.answers.specs.Refusals.{TellsRefusal};
 ghost use Rattle.object_commands.specs.Placing.{PlacesFile, PrintsHex, PrintsPlaces, StopsHex, StopsPlaces};
 
 use crate::places::lines_of;
-use answers::{Ending, refuse, refuse_memory, refuse_output};
+use crate::refusals::{refuse_object, refuse_place};
+use answers::{Ending, refuse_file, refuse_memory, refuse_output};
 use failure::Failure;
 use files::Files;
 use hex80::write_hex;
@@ -37,20 +39,24 @@ fn place_file<F: Files, E: Write>(
     ensures placed { IfOk result (λ placed.
         PlacesFile (F.files files.old) file.now plan.now placed.object placed.absolute) }
     ensures refused { IfErr result (λ ending. ending ≡ Ending.Refused) }
+    ensures told { OnErr result (TellsRefusal (file.now ∷ [])
+        (F.failures files.old) (F.failures files.new) (E.contents err.old) (E.contents err.new)) }
+    ensures silent { OnOk result (E.contents err.new ≡ E.contents err.old) }
+    ensures count { OnOk result (F.failures files.new ≡ F.failures files.old) }
 {
     let bytes = match files.read_file(file) {
         Ok(bytes) => bytes,
-        Err(Failure::Fault(fault)) => return Err(refuse(fault.number(), file, 0, err)),
+        Err(Failure::Fault(fault)) => return Err(refuse_file(fault, file, err)),
         Err(Failure::Memory) => return Err(refuse_memory(err)),
     };
     let object = match read(alloc, bytes.as_slice()) {
         Ok(object) => object,
-        Err(Failure::Fault(fault)) => return Err(refuse(fault.number(), file, 0, err)),
+        Err(Failure::Fault(fault)) => return Err(refuse_object(&fault, file, err)),
         Err(Failure::Memory) => return Err(refuse_memory(err)),
     };
     match locate(alloc, &object, plan) {
         Ok(absolute) => Ok(Placed { object, absolute }),
-        Err(Failure::Fault(fault)) => Err(refuse(fault.number(), "-", 0, err)),
+        Err(Failure::Fault(fault)) => Err(refuse_place(&fault, err)),
         Err(Failure::Memory) => Err(refuse_memory(err)),
     }
 }
@@ -73,6 +79,10 @@ pub fn print_places<F: Files, O: Write, E: Write>(
     ensures refused { (result ≡ Ending.Done → ⊥) → StopsPlaces (F.files files.old) file.now plan.now
         (O.contents out.old) (O.contents out.new) }
     ensures ending { (result ≡ Ending.Done) ⊎ (result ≡ Ending.Refused) }
+    ensures told { result ≡ Ending.Refused → TellsRefusal (file.now ∷ [])
+        (F.failures files.old) (F.failures files.new) (E.contents err.old) (E.contents err.new) }
+    ensures count { (result ≡ Ending.Refused → ⊥) → F.failures files.new ≡ F.failures files.old }
+    ensures quiet { (result ≡ Ending.Refused → ⊥) → E.contents err.new ≡ E.contents err.old }
 {
     let placed = match place_file(alloc, file, plan, files, err) {
         Ok(placed) => placed,
@@ -106,6 +116,10 @@ pub fn print_hex<F: Files, O: Write, E: Write>(
     ensures refused { (result ≡ Ending.Done → ⊥) → StopsHex (F.files files.old) file.now plan.now
         (O.contents out.old) (O.contents out.new) }
     ensures ending { (result ≡ Ending.Done) ⊎ (result ≡ Ending.Refused) }
+    ensures told { result ≡ Ending.Refused → TellsRefusal (file.now ∷ [])
+        (F.failures files.old) (F.failures files.new) (E.contents err.old) (E.contents err.new) }
+    ensures count { (result ≡ Ending.Refused → ⊥) → F.failures files.new ≡ F.failures files.old }
+    ensures quiet { (result ≡ Ending.Refused → ⊥) → E.contents err.new ≡ E.contents err.old }
 {
     let placed = match place_file(alloc, file, plan, files, err) {
         Ok(placed) => placed,

@@ -1,7 +1,7 @@
 //! Files that are written whole.
 
-ghost use Rattle.std.specs.Prelude.{◌<◌, length, OnOk, OnErr};
-ghost use Rattle.files.specs.Files.{ChangesFiles, with_file};
+ghost use Rattle.std.specs.Prelude.{◌≡◌, ◌<◌, length, IfErr, OnOk, OnErr};
+ghost use Rattle.files.specs.Files.{ChangesFiles, Counts, with_file};
 ghost use Rattle.object_commands.specs.Linking.{StopsWriting};
 
 use failure::Failure;
@@ -19,6 +19,8 @@ pub(crate) fn write_file<F: Files>(
         (ChangesFiles (F.files files.old) (F.files files.new) (with_file name.now bytes.now)) }
     ensures err { OnErr result
         (StopsWriting (F.files files.old) (F.files files.new) name.now bytes.now) }
+    ensures count { OnOk result (F.failures files.new ≡ F.failures files.old) }
+    ensures failed { IfErr result (λ failure. Counts failure (F.failures files.old) (F.failures files.new)) }
 {
     files.begin(name)?;
     let mut sent = 0;

@@ -53,7 +53,8 @@ BlockMisses count start range = (address : ℕ) → IsInBlock count start addres
 
 -- What a routine leaves in the registers, by what they were when it was called. Multiply, divide and the
 -- shifts of an ADDRESS take HL and DE, or HL and the count in E, and leave their value in HL, and divide its
--- remainder in DE; the others take A, and the count in E, and leave their value in A.
+-- remainder in DE; the shifts of a BYTE and the rotations take A, and the count in E, and leave their value in
+-- A. Of MOVE nothing is said here.
 abbrev pub Computes : Routine → (before after : Registers) → Type 0
 Computes routines.Multiply before after =
     result_of Address Multiply (pair_of Hl before) (pair_of De before) ≡ Some (pair_of Hl after)

@@ -4,11 +4,12 @@ use crate::events::word_of;
 use crate::page::Page;
 use crate::runs::put_bytes;
 use anyhow::Result as AnyResult;
-use asm8080::{Code, CodeBytes, Fault, WordForm};
+use asm8080::{Code, CodeBytes, Fault, Label, WordForm};
 use cpu8080::Machine;
 use failure::Failure;
-use isa8080::Instr;
+use isa8080::{Instr, Pair};
 use mem80::Memory;
+use object_modules::{Segment, Target};
 use ports::Script;
 use std::alloc::Global;
 
@@ -113,6 +114,59 @@ fn print_labels(alloc: Global, page: &mut Page, what: &str, count: usize) -> Any
     }
 }
 
+// Adds an instruction, a label, data of each kind and bytes that stay unset.
+fn add_parts(code: &mut Code) -> Result<Label, Failure<Fault>> {
+    code.emit_fixed(
+        WordForm::LoadPair(Pair::Hl),
+        Target::InSegment(Segment::Data),
+        0x1234,
+    )?;
+    let label = code.label()?;
+    code.bind(label)?;
+    code.emit_byte(0x5A)?;
+    code.emit_address(Target::InSegment(Segment::Stack), 0x0102)?;
+    code.leave(2)?;
+    code.emit_place(label)?;
+    Ok(label)
+}
+
+// Prints the parts of what was made of code.
+fn print_made(page: &mut Page, labels: usize, place: u16, code: CodeBytes) {
+    let (bytes, is_set, fixes) = code.into_parts();
+    page.number("parts: labels ", labels as u64);
+    page.number(", the last at ", place as u64);
+    page.number(", fixes ", fixes.len() as u64);
+    page.text(", bytes");
+    for (byte, is_set) in bytes.iter().zip(is_set.iter()) {
+        if *is_set {
+            page.byte(" ", *byte);
+        } else {
+            page.text(" ..");
+        }
+    }
+    page.text("\n");
+}
+
+// Prints what code with each kind of part is.
+fn print_parts(alloc: Global, page: &mut Page) {
+    let mut code = Code::new(alloc);
+    let label = match add_parts(&mut code) {
+        Ok(label) => label,
+        Err(failure) => {
+            print_failure(page, "parts", failure);
+            return;
+        }
+    };
+    let labels = code.label_count();
+    match code.finish() {
+        Ok(made) => {
+            let place = made.place(label);
+            print_made(page, labels, place, made);
+        }
+        Err(failure) => print_failure(page, "parts", failure),
+    }
+}
+
 /// Prints what code of these kinds is. With one allocation refused, one of the lines is another, and says so.
 pub fn print_assemblies(alloc: Global, page: &mut Page) -> AnyResult<()> {
     print_long_code(alloc, page, "65535 bytes", 65_532, true);
@@ -121,5 +175,6 @@ pub fn print_assemblies(alloc: Global, page: &mut Page) -> AnyResult<()> {
     print_long_code(alloc, page, "65536 bytes, not bound", 65_533, false);
     print_labels(alloc, page, "10000 labels", 10_000)?;
     print_long_code(alloc, page, "65535 bytes again", 65_532, true);
+    print_parts(alloc, page);
     Ok(())
 }

@@ -12,7 +12,6 @@ use std::alloc::Global;
 use tool::{Built, Plan, Source, ToolFault, build};
 
 // How a source ends that is interpreted over these ports, or why it is no program.
-#[tactic(auto, using(interpretation::proofs::Programs::has_table, interpretation::proofs::Programs::has_sound_jumps))]
 fn interpreted<P: Ports>(
     alloc: Global,
     text: &[u8],

@@ -5,8 +5,12 @@
 //! faults, a line after `! `; then how many calls of files failed, after `% `, where some did; then the exit status after
 //! `= `; and at last a line `====`. A line `* COUNT PIECE` of a text stands for so many pieces without an end, and `>* COUNT
 //! LINE` for so many lines of what is printed; `>?` and `!?` say only that something is printed. So no line of a text begins
-//! with `$ `, `@ `, `& `, `x `, `% `, `= `, `* `, `>` or `!`. Of the carriage returns that end a line the last one is no part of it.
+//! with `$ `, `@ `, `& `, `x `, `% `, `= `, `* `, `>`, `!` or `damage `. Of the carriage returns that end a line the last one is
+//! no part of it.
 //! A file `closed.obj` can't be begun, and `broken.obj` takes three bytes.
+//! A line `damage` between blocks has the bytes of an object file in hexadecimal digits. Each of them is changed to each other
+//! value, and a line is printed at once: how many changes there were, how many were answered otherwise than by the first fault of
+//! a record's length or sum, as a plain walk over the records finds it, and how many have which of these faults.
 //! Then it prints what the machine, its parts and the interpreter do, as the manuals say it; what merges of object files
 //! are, made of modules and of files; objects that are read, placed and loaded, texts of Intel HEX that are read, and how
 //! commands end whose output fails part way; what long code and code with many labels is; and at last whether the document
@@ -24,6 +28,7 @@ mod assemblies;
 mod block;
 mod calls;
 mod codes;
+mod damage;
 mod events;
 mod faulty;
 mod interpreting;
@@ -51,6 +56,7 @@ use anyhow::Result;
 use assemblies::print_assemblies;
 use block::{Answer, Block};
 use codes::print_codes;
+use damage::print_damage;
 use files::HostFiles;
 use interpreting::print_programs;
 use measures::measure;
@@ -106,7 +112,7 @@ fn is_as_said(alloc: Global, page: &mut Page, block: &Block) -> Result<bool> {
     Ok(is_as_said)
 }
 
-// Takes in the line of a place, and carries out the block that it ends, if it ends one.
+// Takes in the line of a place: changes the object that it writes, or carries out the block that it ends.
 fn read_line(
     alloc: Global,
     page: &mut Page,
@@ -115,6 +121,9 @@ fn read_line(
     place: usize,
     line: &str,
 ) -> Result<()> {
+    if let Some(object) = line.strip_prefix("damage ") {
+        return print_damage(alloc, page, object);
+    }
     if line != END_OF_BLOCK {
         return block.read(alloc, place, line);
     }

@@ -4,7 +4,7 @@ use Rattle.std.specs.List.{list_all}
 use Rattle.object_modules.specs.declared.segment.Fix.{Fix}
 use Rattle.asm8080.specs.declared.item.Item.{Item}
 use Rattle.asm8080.specs.declared.item.Item.TheVariants.{Plain, WithWord, Byte, Address, Gap, Mark}
-use Rattle.asm8080.specs.Items.{Layout, bytes_of_item, is_set, offset_of, size_of}
+use Rattle.asm8080.specs.Items.{Layout, bytes_of_item, flags_of_item, flags_of_items, offset_of, size_of}
 use Rattle.asm8080.specs.Assembled.{Assembled, fix_at, fixes_of_items}
 
 -- labels at these places, and each target at 0
@@ -19,14 +19,6 @@ offset_in items label = unwrap_or (offset_of label items) 0
 abbrev pub bytes_of_items : Layout → List Item → List ℕ
 bytes_of_items layout [] = []
 bytes_of_items layout (item ∷ others) = bytes_of_item layout item ++ bytes_of_items layout others
-
--- which bytes of items are set
-abbrev pub flags_of_item : Item → List Bool
-flags_of_item item = replicate (size_of item) (is_set item)
-
-abbrev pub flags_of_items : List Item → List Bool
-flags_of_items [] = []
-flags_of_items (item ∷ others) = flags_of_item item ++ flags_of_items others
 
 -- the code of items whose labels lie at places
 abbrev pub code_of : (places : List (Option ℕ)) → List Item → Assembled

@@ -40,3 +40,11 @@ returns-in_err-readied-clause-order c =
 pub returns-clause-readied : goal.returns-clause-readied
 returns-clause-readied c =
     program_readied (texts_of c.args.sources.now) c.args.plan.now c.in_ok-read.read.items c.in_ok-parts.parts.modules.items c.in_ok-readied.readied c.in_ok-read.ensures.read c.in_ok-parts.ensures.modules c.in_ok-readied.ensures.placed
+
+pub returns-clause-jumps : goal.returns-clause-jumps
+returns-clause-jumps c =
+    (program_readied (texts_of c.args.sources.now) c.args.plan.now c.in_ok-read.read.items c.in_ok-parts.parts.modules.items c.in_ok-readied.readied c.in_ok-read.ensures.read c.in_ok-parts.ensures.modules c.in_ok-readied.ensures.placed).jumps
+
+pub returns-clause-table : goal.returns-clause-table
+returns-clause-table c =
+    (program_readied (texts_of c.args.sources.now) c.args.plan.now c.in_ok-read.read.items c.in_ok-parts.parts.modules.items c.in_ok-readied.readied c.in_ok-read.ensures.read c.in_ok-parts.ensures.modules c.in_ok-readied.ensures.placed).table

@@ -1,4 +1,5 @@
 use Rattle.std.proofs.Common.{◌∙◌}
+use Rattle.object_commands.proofs.Refused.{tells_later}
 use Rattle.object_commands.proofs.FilesPlaced.{begins_places}
 use Rattle.object_commands.proofs.placing.print_places.Goals as goal
 
@@ -13,3 +14,12 @@ returns-clause-refused g c = λ other.
     let placed = c.in-Ok.placed in
     begins_places _ _ _ placed.object placed.absolute c.as_slice.result.now _ _ c.in-Ok.ensures.placed
     (c.as_slice.ensures.value ∙ c.in-Ok-lines_of.ensures) c.in-Err-Memory.ensures.err
+
+pub returns-in-Err-lines_of-clause-told : goal.returns-in-Err-lines_of-clause-told
+returns-in-Err-lines_of-clause-told g c = λ refused. tells_later _ _ _ _ _ _ c.in-Ok.ensures.silent c.in-Ok.ensures.count c.refuse_memory.ensures.told
+
+pub returns-in-Err-Fault-clause-told : goal.returns-in-Err-Fault-clause-told
+returns-in-Err-Fault-clause-told g c = λ refused. tells_later _ _ _ _ _ _ c.in-Ok.ensures.silent c.in-Ok.ensures.count c.refuse_output.ensures.told
+
+pub returns-clause-told : goal.returns-clause-told
+returns-clause-told g c = λ refused. tells_later _ _ _ _ _ _ c.in-Ok.ensures.silent c.in-Ok.ensures.count c.refuse_memory-in-Err-Memory.ensures.told

@@ -1,10 +1,11 @@
-use Rattle.std.proofs.Common.{length, take, ◌-◌, ◌≤◌}
+use Rattle.std.proofs.Common.{◌≡◌, length, take, ◌-◌, ◌≤◌}
 use Rattle.files.specs.Files.{ChangesFiles, with_file}
 use Rattle.object_commands.proofs.writing_files.write_file.Given as goal
 
 abbrev pub invariant-loop-sent : goal.invariant-loop-sent
 invariant-loop-sent g l = record {
   fits : l.sent ≤ length l.bytes;
+  count : g.F.Files.failures l.files ≡ g.F.Files.failures l.fn.files;
   written : ChangesFiles (g.F.Files.files l.fn.files) (g.F.Files.files l.files) (with_file l.name (take l.sent l.bytes));
 }
 

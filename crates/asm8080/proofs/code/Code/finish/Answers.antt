@@ -1,4 +1,6 @@
-use Rattle.asm8080.proofs.Places.{finished, table_of, too_long, unbound, with_table}
+use Rattle.std.proofs.Common.{refl}
+use Rattle.asm8080.specs.internal.Assembling.{with_places}
+use Rattle.asm8080.proofs.Places.{finished, fits_segment, table_of, too_long, unbound, with_table}
 use Rattle.asm8080.proofs.code.Code.finish.Goals as goal
 
 pub returns-then-not-all_placed-clause-fault : goal.returns-then-not-all_placed-clause-fault
@@ -14,6 +16,21 @@ returns-then-code_size-clause-fault c =
     (table_of c.args.self _ c.as_slice-items.result.now c.in_ok-table.table.items c.as_slice-places.result.now
     c.self.view_is c.self.invariant c.as_slice-items.ensures.value c.in_ok-table.ensures c.as_slice-places.ensures.value)
     c.all_placed.ensures c.if-not-all_placed.false c.code_size.ensures c.if-code_size.true
+
+pub with_places-requires : goal.with_places-requires
+with_places-requires c = record {
+  fits =
+      fits_segment c.args.self (with_places c.in_ok-table.table.items c.in_ok-code.code)
+      (finished c.args.self c.as_slice-items.result.now c.as_slice-places.result.now c.all_placed.result
+      c.code_size.result (with_places c.in_ok-table.table.items c.in_ok-code.code)
+      (table_of c.args.self _ c.as_slice-items.result.now c.in_ok-table.table.items c.as_slice-places.result.now
+      c.self.view_is c.self.invariant c.as_slice-items.ensures.value c.in_ok-table.ensures
+      c.as_slice-places.ensures.value)
+      c.all_placed.ensures c.if-not-all_placed.false c.code_size.ensures c.if-code_size.false
+      (with_table c.as_slice-items.result.now c.as_slice-places.result.now c.in_ok-table.table.items c.in_ok-code.code
+      (with_places c.in_ok-table.table.items c.in_ok-code.code) c.as_slice-places.ensures.value c.in_ok-code.ensures
+      refl));
+}
 
 pub returns-clause-done : goal.returns-clause-done
 returns-clause-done c =

@@ -1,0 +1,22 @@
+use Rattle.std.proofs.Common.{refl}
+use Rattle.answers.proofs.LinesPrinted.{is_first, tells_file, tells_no_file}
+use Rattle.object_commands.proofs.placing.place_file.Goals as goal
+
+pub returns-in-Err-Fault-clause-told : goal.returns-in-Err-Fault-clause-told
+returns-in-Err-Fault-clause-told g c = tells_file _ _ _ _ _ _ _ refl (rw c.in-Err-Fault.field-0-is at c.in-Err-Fault.ensures.failed)
+    (is_first _ _) c.refuse_file.ensures.told
+
+pub returns-in-Err-Memory-clause-told : goal.returns-in-Err-Memory-clause-told
+returns-in-Err-Memory-clause-told g c = tells_no_file _ _ _ _ _ (rw c.in-Err-Memory.field-0-is at c.in-Err-Memory.ensures.failed) c.refuse_memory.ensures.told
+
+pub returns-in-Err-Fault-read-clause-told : goal.returns-in-Err-Fault-read-clause-told
+returns-in-Err-Fault-read-clause-told g c = tells_no_file _ _ _ _ _ c.in-Ok.ensures.count c.refuse_object.ensures.told
+
+pub returns-in-Err-Memory-read-clause-told : goal.returns-in-Err-Memory-read-clause-told
+returns-in-Err-Memory-read-clause-told g c = tells_no_file _ _ _ _ _ c.in-Ok.ensures.count c.refuse_memory-in-Err-Memory-read.ensures.told
+
+pub returns-in-Err-Fault-locate-clause-told : goal.returns-in-Err-Fault-locate-clause-told
+returns-in-Err-Fault-locate-clause-told g c = tells_no_file _ _ _ _ _ c.in-Ok.ensures.count c.refuse_place.ensures.told
+
+pub returns-clause-told : goal.returns-clause-told
+returns-clause-told g c = tells_no_file _ _ _ _ _ c.in-Ok.ensures.count c.refuse_memory-in-Err-Memory-locate.ensures.told

@@ -1,0 +1,10 @@
+use Rattle.std.proofs.Common.{refl}
+use Rattle.answers.proofs.LinesPrinted.{same_line}
+use Rattle.object_commands.proofs.Refused.{place_told}
+use Rattle.object_commands.proofs.refusals.refuse_place.Goals as goal
+
+pub returns-clause-line : goal.returns-clause-line
+returns-clause-line g c = same_line _ _ _ _ _ _ _ c.number.ensures refl c.refuse.ensures.told
+
+pub returns-clause-told : goal.returns-clause-told
+returns-clause-told g c = place_told _ _ _ _ _ _ c.number.ensures c.refuse.ensures.told
