@@ -1,6 +1,7 @@
 -- Lines that are printed piece by piece, and what they do not begin with.
 use Rattle.std.proofs.Common.{◌≡◌, ℕ, suc, ◌-◌, ◌≤◌, ◌<◌, Bool, true, false, List, [], ◌∷◌, ◌++◌, Option, None, Some, Bor, inl, inr, codes, decimal, length, drop, take, get_or, refl, sym, ap, subst, ◌∙◌, true≢false, arith}
 use Rattle.std.specs.Prelude.{◌==◌, ◌&&◌, not}
+use Rattle.std.proofs.lemmas.Bool.{and_parts}
 use Rattle.std.specs.List.{flat_map}
 use Rattle.std.proofs.Math.Seq.{take-length}
 use Rattle.std.proofs.lemmas.List.{append-nil, append_assoc}
@@ -9,7 +10,7 @@ use Rattle.writing.specs.Writing.{AppendsBeginning, IsBeginning}
 use Rattle.writing.proofs.WritingLemmas.{beginning_after}
 use Rattle.ports.specs.Events.{CountsFailure}
 use Rattle.answers.specs.Reading.{IsOneOf}
-use Rattle.answers.specs.Refusals.{IsOfNoFile, Tells, TellsOther, TellsRefusal, file_line, output_line, refusal_line}
+use Rattle.answers.specs.Refusals.{IsOfNoFile, Tells, TellsOther, TellsRefusal, file_line, is_known, output_line, refusal_line}
 
 -- a writer that nothing was sent to
 appends_nothing : (known : Option (List ℕ)) → Appends known known []
@@ -51,10 +52,14 @@ all_sent old now all [] none before = before now ([], ([], refl), appends_nothin
 all_sent old now all (p ∷ more) none before = absurd (omega arith)
 
 -- a number that does not begin as that of a file
+abbrev begins_other : (number : List ℕ) → Bool
+begins_other [] = false
+begins_other (a ∷ []) = false
+begins_other (a ∷ b ∷ more) = not ((a == 85) && (b == 51))
+
+-- a known number that does not
 abbrev pub is_other : (number : List ℕ) → Bool
-is_other [] = false
-is_other (a ∷ []) = false
-is_other (a ∷ b ∷ more) = not ((a == 85) && (b == 51))
+is_other number = is_known number && begins_other number
 
 first_same : (a b c d : ℕ) (more rest : List ℕ) → a ∷ b ∷ more ≡ c ∷ d ∷ rest → a ≡ c
 first_same a b c d more rest e = cc
@@ -62,7 +67,7 @@ first_same a b c d more rest e = cc
 second_same : (a b c d : ℕ) (more rest : List ℕ) → a ∷ b ∷ more ≡ c ∷ d ∷ rest → b ≡ d
 second_same a b c d more rest e = cc
 
-begins_otherwise : (number more : List ℕ) → is_other number ≡ true → IsBeginning (codes "U3 ") (number ++ more) → ⊥
+begins_otherwise : (number more : List ℕ) → begins_other number ≡ true → IsBeginning (codes "U3 ") (number ++ more) → ⊥
 begins_otherwise [] more other begins = absurd (true≢false (sym other))
 begins_otherwise (a ∷ []) more other begins = absurd (true≢false (sym other))
 begins_otherwise (a ∷ b ∷ number) more other (rest, e) =
@@ -81,13 +86,20 @@ line_told number place digits first last line old new is_number is_digits is_dec
       (subst (λ (l : List ℕ). AppendsBeginning old new (l ++ (32 ∷ (place ++ (32 ∷ (last ++ 10 ∷ [])))))) is_number appended);
 }
 
-other_line : (number place : List ℕ) (line : ℕ) → is_other number ≡ true → IsOfNoFile (refusal_line number place line)
+other_line : (number place : List ℕ) (line : ℕ) → begins_other number ≡ true → IsOfNoFile (refusal_line number place line)
 unfolding refusal_line
 other_line number place line other = inr (begins_otherwise number _ other)
 
 -- the line of another number
 pub tells_other : (number place : List ℕ) (line : ℕ) (old new : Option (List ℕ)) → is_other number ≡ true → Tells (refusal_line number place line) old new → TellsOther old new
-tells_other number place line old new other told = record { number = number; place = place; line = line; of_no_file = other_line number place line other; told = told }
+tells_other number place line old new other told = record {
+  number = number;
+  place = place;
+  line = line;
+  known = (and_parts (is_known number) (begins_other number) other).0;
+  of_no_file = other_line number place line (and_parts (is_known number) (begins_other number) other).1;
+  told = told;
+}
 
 -- a number and a line, as they are told
 pub same_line : (number is place : List ℕ) (line at : ℕ) (old new : Option (List ℕ)) → number ≡ is → line ≡ at → Tells (refusal_line number place line) old new
@@ -97,7 +109,7 @@ same_line number is place line at old new is_number is_at told =
 
 -- the line of standard output
 pub tells_output : (old new : Option (List ℕ)) → Tells output_line old new → TellsOther old new
-tells_output old new told = record { number = codes "U3"; place = codes "-"; line = 0; of_no_file = inl refl; told = told }
+tells_output old new told = record { number = codes "U3"; place = codes "-"; line = 0; known = refl; of_no_file = inl refl; told = told }
 
 -- a file whose failure was counted, after calls that did not fail
 pub tells_file : (names : List (List ℕ)) (before now after : ℕ) (name : List ℕ) (old new : Option (List ℕ)) → now ≡ before → CountsFailure now after → IsOneOf names name

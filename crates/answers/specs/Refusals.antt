@@ -1,5 +1,7 @@
 -- What is printed where a command is refused.
-use Rattle.std.specs.Prelude.{◌≡◌, ◌⊎◌, ℕ, List, [], ◌∷◌, ◌++◌, codes, decimal, Option}
+use Rattle.std.specs.Prelude.{◌≡◌, ◌⊎◌, ℕ, Bool, true, List, [], ◌∷◌, ◌++◌, codes, decimal, Option}
+use Rattle.std.specs.List.{list_any}
+use Rattle.std.specs.Str.{bytes_eq}
 use Rattle.ports.specs.Events.{CountsFailure}
 use Rattle.writing.specs.Writing.{AppendsBeginning, IsBeginning}
 use Rattle.answers.specs.Reading.{IsOneOf}
@@ -21,6 +23,21 @@ output_line = file_line (codes "-")
 abbrev pub memory_line : List ℕ
 memory_line = refusal_line (codes "MEMORY") (codes "-") 0
 
+-- the numbers of the faults that commands print, with the word for memory that ran out
+abbrev pub numbers : List (List ℕ)
+numbers =
+    codes "C1" ∷ codes "C2" ∷ codes "C3" ∷ codes "C4" ∷ codes "C5" ∷ codes "C6" ∷ codes "C7" ∷ codes "C8"
+    ∷ codes "C9" ∷ codes "C11" ∷ codes "C12" ∷ codes "C13" ∷ codes "C14" ∷ codes "C15" ∷ codes "C16" ∷ codes "C17"
+    ∷ codes "C18" ∷ codes "C19" ∷ codes "C20" ∷ codes "G1" ∷ codes "J1" ∷ codes "J2" ∷ codes "J3" ∷ codes "J4"
+    ∷ codes "J5" ∷ codes "L1" ∷ codes "L2" ∷ codes "L3" ∷ codes "L4" ∷ codes "L5" ∷ codes "N1" ∷ codes "O1"
+    ∷ codes "O2" ∷ codes "O3" ∷ codes "O4" ∷ codes "O5" ∷ codes "O6" ∷ codes "O7" ∷ codes "O8" ∷ codes "O9"
+    ∷ codes "P1" ∷ codes "P2" ∷ codes "P3" ∷ codes "P4" ∷ codes "P5" ∷ codes "P6" ∷ codes "U1" ∷ codes "U2"
+    ∷ codes "U3" ∷ codes "U4" ∷ codes "MEMORY" ∷ []
+
+-- one of them
+abbrev pub is_known : (number : List ℕ) → Bool
+is_known number = list_any (λ known. bytes_eq known number) numbers
+
 -- the line of another fault than that of a file
 abbrev pub IsOfNoFile : (line : List ℕ) → Type 0
 IsOfNoFile line = (line ≡ output_line) ⊎ (IsBeginning (codes "U3 ") line → ⊥)
@@ -34,6 +51,7 @@ pub record TellsOther (old new : Option (List ℕ)) : Type 0 where
   pub number : List ℕ
   pub place : List ℕ
   pub line : ℕ
+  pub known : is_known number ≡ true
   pub of_no_file : IsOfNoFile (refusal_line number place line)
   pub told : Tells (refusal_line number place line) old new
 

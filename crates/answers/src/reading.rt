@@ -3,14 +3,15 @@
 ghost use Rattle.std.specs.Prelude.{◌≡◌, IfErr, IfOk, OnOk, map};
 ghost use Rattle.failure.specs.Failure.{IfFault};
 ghost use Rattle.files.specs.Files.{Counts, KeepsFiles};
-ghost use Rattle.answers.specs.Reading.{HasFiles, IsOneOf};
+ghost use Rattle.answers.specs.Reading.{HasFiles, IsFirstUnread, IsOneOf};
 
 use failure::Failure;
 use files::{FileFault, Files};
 use std::alloc::Global;
 
-/// Reads files, in the order given. A fault comes with the name of its file, and is one failure that was counted.
-#[tactic(auto, using(crate::proofs::FilesRead::stays, crate::proofs::FilesRead::all_read, crate::proofs::FilesRead::within_itself, crate::proofs::FilesRead::within_first))]
+/// Reads files, in the order given. A fault comes with the name of its file, all before which were read, and is one failure
+/// that was counted.
+#[tactic(auto, using(crate::proofs::FilesRead::stays, crate::proofs::FilesRead::all_read, crate::proofs::FilesRead::none_read))]
 pub fn read_files<'a, F: Files>(
     alloc: Global,
     names: &[&'a str],
@@ -21,6 +22,8 @@ pub fn read_files<'a, F: Files>(
         HasFiles (F.files files.old) (map (λ name. name.now) names.now) (map (λ text. text.items) texts.items)) }
     ensures count { OnOk result (F.failures files.new ≡ F.failures files.old) }
     ensures named { IfFault result (λ fault. IsOneOf (map (λ name. name.now) names.now) fault.1.now) }
+    ensures first { IfFault result (λ fault.
+        IsFirstUnread (F.files files.old) (map (λ name. name.now) names.now) fault.1.now) }
     ensures failed { IfErr result (λ failure. Counts failure (F.failures files.old) (F.failures files.new)) }
 {
     let mut texts = Vec::new(alloc);

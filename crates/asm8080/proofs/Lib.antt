@@ -8,4 +8,3 @@ pub mod Assemblies
 pub mod Segments
 pub mod Places
 pub mod Parts
-pub mod Worked

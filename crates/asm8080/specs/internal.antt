@@ -1,3 +1,2 @@
 -- What only private functions and proofs cite.
-pub mod Examples
 pub mod Assembling

@@ -4,7 +4,7 @@ use Rattle.std.specs.Prelude.{IfOk, Result}
 use Rattle.clap.specs.Words.{AddsArg, AddsSubcommand, App, Rule, rule_of, with_rule, with_subcommand}
 use Rattle.clap.specs.declared.builder.arg.Arg.{Arg}
 use Rattle.clap.specs.declared.builder.command.Command.{Command}
-use Rattle.command_line.specs.internal.Building.{Builds}
+use Rattle.command_line.specs.internal.Building.{Builds, IsBuilt}
 
 arg_of : {E : Type 0} (command : Command) (arg : Arg) (result : Result Command E) → IfOk result (AddsArg command arg) → arg.global ≡ false
     → (app : App) (rule : Rule) → Builds {E = E} app (Ok command) → rule_of arg ≡ rule → Builds (with_rule app rule) result
@@ -24,7 +24,11 @@ leaf_of command leaf (Ok more) adds app sub builds is =
 leaf_of command leaf (Err error) adds app sub builds is = tt
 
 -- one more command
-pub leaf_added : {E : Type 0} (given below result : Result Command E) (command leaf : Command) → given ≡ Ok command → below ≡ Ok leaf → IfOk result (AddsSubcommand command leaf)
-    → (app sub : App) → Builds app given → Builds sub below → Builds (with_subcommand app sub.top) result
-leaf_added given below result command leaf was of adds app sub builds is =
-    leaf_of command leaf result adds app sub (subst (λ (g : Result Command _). Builds app g) was builds) (subst (λ (g : Result Command _). Builds sub g) of is)
+pub leaf_added : {E : Type 0} (command : Command) (below result : Result Command E) (leaf : Command) → below ≡ Ok leaf → IfOk result (AddsSubcommand command leaf)
+    → (app sub : App) → IsBuilt app command → Builds sub below → Builds (with_subcommand app sub.top) result
+leaf_added command below result leaf of adds app sub builds is =
+    leaf_of command leaf result adds app sub builds (subst (λ (g : Result Command _). Builds sub g) of is)
+
+-- of a command that is there
+pub given_ok : {E : Type 0} (given : Result Command E) (command : Command) → given ≡ Ok command → (app : App) → Builds app given → IsBuilt app command
+given_ok given command was app builds = subst (λ (g : Result Command _). Builds app g) was builds

@@ -2,7 +2,7 @@
 
 ghost use Rattle.std.specs.Prelude.{◌≡◌, codes, false};
 ghost use Rattle.clap.specs.Words.{App, Rule, new_app, rule_of, with_rule, with_subcommand};
-ghost use Rattle.command_line.specs.internal.Building.{Builds};
+ghost use Rattle.command_line.specs.internal.Building.{Builds, IsBuilt};
 ghost use Rattle.command_line.specs.Command.{bare_app, default_rule, files_rule, link_app, map_rule};
 ghost use Rattle.command_line.specs.Command.{option_rule, out_rule, place_app, plm_app, program_app};
 ghost use Rattle.command_line.specs.Command.{programs_app, with_plan, with_run};
@@ -50,7 +50,24 @@ fn add<'a>(command: Built<'a>, arg: Arg<'a>) -> Built<'a>
 {
     match command {
         Ok(command) => command.arg(arg),
-        Err(error) => Err(error),
+        Err(error) => {
+            drop(arg);
+            Err(error)
+        }
+    }
+}
+
+// The same of a program that was built so far.
+fn add_command<'a>(plm: Command<'a>, leaf: Built<'a>) -> Built<'a>
+    ensures { (app sub : App) → IsBuilt app plm.entry → Builds sub leaf.entry
+        → Builds (with_subcommand app sub.top) result }
+{
+    match leaf {
+        Ok(leaf) => plm.subcommand(leaf),
+        Err(error) => {
+            drop(plm);
+            Err(error)
+        }
     }
 }
 
@@ -59,9 +76,13 @@ fn add_leaf<'a>(plm: Built<'a>, leaf: Built<'a>) -> Built<'a>
     ensures { (app sub : App) → Builds app plm.entry → Builds sub leaf.entry
         → Builds (with_subcommand app sub.top) result }
 {
-    let whole = plm?;
-    let added = leaf?;
-    whole.subcommand(added)
+    match plm {
+        Ok(plm) => add_command(plm, leaf),
+        Err(error) => {
+            drop(leaf);
+            Err(error)
+        }
+    }
 }
 
 // The command with one more option, and the text that stands for it where it is left out.

@@ -56,10 +56,7 @@ fn files<'a>(alloc: Global, matches: &ArgMatches<'a>) -> Result<Vec<&'a str>, Al
         texts files.items ≡ unwrap_or (all_of (codes "FILES") (rows_of (found_of matches.now))) []) }
 {
     match matches.get_raw("FILES") {
-        Some(names) => {
-            let files = Vec::from_slice(alloc, names)?;
-            Ok(files)
-        }
+        Some(names) => Vec::from_slice(alloc, names),
         None => Ok(Vec::new(alloc)),
     }
 }
@@ -176,6 +173,16 @@ fn order_in<'a>(alloc: Global, matches: &ArgMatches<'a>) -> Result<Option<Order<
     }
 }
 
+// The order in what a parse found, which is given back.
+fn order_of<'a>(alloc: Global, matches: ArgMatches<'a>) -> Result<Option<Order<'a>>, AllocError>
+    ensures { IfOk result (λ order.
+        option_map wanted_in order ≡ option_and_then wanted_of_match (subcommand_rows_of matches.entry)) }
+{
+    let order = order_in(alloc, &matches);
+    drop(matches);
+    order
+}
+
 /// The order that the words of the command line give. The first word is the program's name. It answers an order
 /// where `clap` finds no fault in the words, and else one of the faults that it finds, or that memory ran out. An
 /// order has one file at least.
@@ -196,7 +203,7 @@ pub fn command<'a>(alloc: Global, words: &'a [&'a str]) -> Result<Order<'a>, Fai
         Ok(matches) => matches,
         Err(error) => return Err(failure_of(error)),
     };
-    match order_in(alloc, &matches)? {
+    match order_of(alloc, matches)? {
         Some(order) => Ok(order),
         None => unreachable!(),
     }

@@ -200,11 +200,9 @@ fn bytes_in(alloc: Global, text: &str) -> Result<Option<Vec<InputByte>>, AllocEr
 {
     let groups = groups(alloc, text)?;
     let mut bytes = Vec::new(alloc);
-    if add_groups(&mut bytes, groups.as_slice())? {
-        Ok(Some(bytes))
-    } else {
-        Ok(None)
-    }
+    let adding = add_groups(&mut bytes, groups.as_slice());
+    drop(groups);
+    if adding? { Ok(Some(bytes)) } else { Ok(None) }
 }
 
 // The bytes that an order's input gives.
@@ -240,12 +238,10 @@ impl<'a> PlaceOrder<'a> {
     pub fn file(&self) -> Result<&'a str, ValueFault<'a>>
         ensures { ReadsFile (only_file (texts self.now.files.items)) result }
     {
-        if let Some(second) = self.files.get(1) {
-            return Err(ValueFault { text: *second });
-        }
-        match self.files.first() {
-            Some(file) => Ok(*file),
-            None => Err(ValueFault { text: "" }),
+        match self.files.as_slice() {
+            [file] => Ok(*file),
+            [_, second, ..] => Err(ValueFault { text: *second }),
+            [] => Err(ValueFault { text: "" }),
         }
     }
 }

@@ -1,2 +1,3 @@
 pub mod OrdersKept
+pub mod TextsTold
 pub mod Refused

@@ -1,8 +1,9 @@
 -- What orders make of files, and what they print of them.
-use Rattle.std.specs.Prelude.{◌≡◌, ℕ, List, [], ◌∷◌, Ok, Option, None, Some}
+use Rattle.std.specs.Prelude.{◌≡◌, ◌⊎◌, ℕ, List, [], ◌∷◌, Err, Ok, Option, None, Some, codes}
 use Rattle.files.specs.Files.{Directory, KeepsFiles}
+use Rattle.answers.specs.Refusals.{Tells, refusal_line}
 use Rattle.command_line.specs.Command.{PlaceWanted, Wanted, wants_link, wants_place, wants_program}
-use Rattle.command_line.specs.Settings.{only_file, plan_read}
+use Rattle.command_line.specs.Settings.{only_file, plan_read, values_read}
 use Rattle.command_line.specs.declared.orders.PlaceAction.{PlaceAction}
 use Rattle.command_line.specs.declared.orders.PlaceAction.TheVariants.{Locate, Hex}
 use Rattle.object_commands.specs.Linking.{KeepsOthers, LinksFiles, StopsLinking}
@@ -75,3 +76,20 @@ StopsByWords (Some wanted) old new = StopsAsWanted wanted old new
 abbrev pub PrintsByWords : Option Wanted → Option Directory → (old new : Option (List ℕ)) → Type 0
 PrintsByWords None files old new = Unit {0}
 PrintsByWords (Some wanted) files old new = PrintsAsWanted wanted files old new
+
+-- a text of what is wanted is refused: it is none of its option's values, or the name of a second file
+abbrev pub RefusesText : Wanted → (text : List ℕ) → Type 0
+RefusesText (wants_program program) text = values_read program ≡ Err text
+RefusesText (wants_place place) text = (plan_read place.plan ≡ Err text) ⊎ (only_file place.files ≡ Err text)
+RefusesText (wants_link link) text = ⊥
+
+-- the line of a text that is refused was printed, or a beginning of it, which may be nothing
+pub record TellsText (wanted : Wanted) (old new : Option (List ℕ)) : Type 0 where
+  pub text : List ℕ
+  pub refused : RefusesText wanted text
+  pub told : Tells (refusal_line (codes "U4") text 0) old new
+
+-- the same of what words want; those that give no order have no such text
+abbrev pub TellsTextByWords : Option Wanted → (old new : Option (List ℕ)) → Type 0
+TellsTextByWords None old new = ⊥
+TellsTextByWords (Some wanted) old new = TellsText wanted old new

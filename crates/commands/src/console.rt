@@ -5,8 +5,8 @@ ghost use Rattle.answers.specs.Refusals.{TellsOther, TellsRefusal};
 ghost use Rattle.clap.specs.Walk.{texts};
 ghost use Rattle.clap.specs.Words.{fault_of};
 ghost use Rattle.files.specs.Files.{KeepsFiles};
-ghost use Rattle.command_line.specs.Command.{plm_app, place_in, program_in, wanted_by, wanted_in};
-ghost use Rattle.commands.specs.Orders.{ChangesAsWanted, ChangesByWords, LinksAsWanted, LinksByWords, PrintsAsWanted, PrintsByWords, PrintsWanted, StopsAsWanted, StopsByWords, names_by_words, names_of};
+ghost use Rattle.command_line.specs.Command.{plm_app, place_in, program_in, wanted_by, wanted_in, wants_place, wants_program};
+ghost use Rattle.commands.specs.Orders.{ChangesAsWanted, ChangesByWords, LinksAsWanted, LinksByWords, PrintsAsWanted, PrintsByWords, PrintsWanted, StopsAsWanted, StopsByWords, TellsText, TellsTextByWords, names_by_words, names_of};
 
 use crate::interpreting::interpret_sources;
 use crate::loading::sources_of;
@@ -26,9 +26,10 @@ use tool::Source;
 /// Carries out the words of a command line, the first of which is the program's name, and answers the exit status. What
 /// it prints goes to `out`, and faults go to `err`, which has nothing more where the status is neither 1 nor 2; a failure of
 /// `err` changes no status. It changes no file but that of `link --out`, which has the merge of the objects where the
-/// status is 0, and may have a beginning of it otherwise. That a file can't be read or written is told, with status 1, just
-/// where a failure of the files was counted, but for a count that is at its greatest value.
-#[tactic(auto, using(crate::proofs::OrdersKept::status_bound, crate::proofs::OrdersKept::done_is, crate::proofs::OrdersKept::not_done, crate::proofs::OrdersKept::not_refused, crate::proofs::OrdersKept::not_wrong, crate::proofs::OrdersKept::refused_is))]
+/// status is 0, and may have a beginning of it otherwise, and none where the words have a fault or ask for help. That a
+/// file can't be read or written is told, with status 1, just where a failure of the files was counted, but for a count that
+/// is at its greatest value.
+#[tactic(auto, using(crate::proofs::OrdersKept::status_bound, crate::proofs::OrdersKept::done_is, crate::proofs::OrdersKept::not_done, crate::proofs::OrdersKept::not_refused, crate::proofs::OrdersKept::not_wrong, crate::proofs::OrdersKept::refused_is, crate::proofs::TextsTold::wrong_is))]
 pub fn run_command<F: Files, O: Write, E: Write>(
     alloc: Global,
     words: &[&str],
@@ -38,12 +39,16 @@ pub fn run_command<F: Files, O: Write, E: Write>(
 ) -> u8
     ensures status { result ≤ 5 }
     ensures kept { ChangesByWords (wanted_by (texts words.now)) (F.files files.old) (F.files files.new) }
+    ensures idle { (fault_of plm_app (texts words.now) ≡ [] → ⊥) →
+        KeepsFiles (F.files files.old) (F.files files.new) }
     ensures linked { fault_of plm_app (texts words.now) ≡ [] → result ≡ 0 →
         LinksByWords (wanted_by (texts words.now)) (F.files files.old) (F.files files.new) }
     ensures printed { fault_of plm_app (texts words.now) ≡ [] → result ≡ 0 → PrintsByWords
         (wanted_by (texts words.now)) (F.files files.old) (O.contents out.old) (O.contents out.new) }
     ensures stopped { (result ≡ 0 → ⊥) →
         StopsByWords (wanted_by (texts words.now)) (F.files files.old) (F.files files.new) }
+    ensures wrong { fault_of plm_app (texts words.now) ≡ [] → result ≡ 2 → TellsTextByWords
+        (wanted_by (texts words.now)) (E.contents err.old) (E.contents err.new) }
     ensures told { result ≡ 1 → TellsRefusal (names_by_words (wanted_by (texts words.now)))
         (F.failures files.old) (F.failures files.new) (E.contents err.old) (E.contents err.new) }
     ensures count { (result ≡ 1 → ⊥) → F.failures files.new ≡ F.failures files.old }
@@ -55,7 +60,7 @@ pub fn run_command<F: Files, O: Write, E: Write>(
 }
 
 // Carries out the words of a command line.
-#[tactic(auto, using(crate::proofs::OrdersKept::by_words, crate::proofs::OrdersKept::linked_by_words, crate::proofs::OrdersKept::prints_by_words, crate::proofs::OrdersKept::stops_by_words, crate::proofs::OrdersKept::told_by_words))]
+#[tactic(auto, using(crate::proofs::OrdersKept::by_words, crate::proofs::OrdersKept::linked_by_words, crate::proofs::OrdersKept::prints_by_words, crate::proofs::OrdersKept::stops_by_words, crate::proofs::OrdersKept::told_by_words, crate::proofs::TextsTold::text_by_words))]
 fn end_words<F: Files, O: Write, E: Write>(
     alloc: Global,
     words: &[&str],
@@ -64,12 +69,16 @@ fn end_words<F: Files, O: Write, E: Write>(
     err: &mut E,
 ) -> Ending
     ensures kept { ChangesByWords (wanted_by (texts words.now)) (F.files files.old) (F.files files.new) }
+    ensures idle { (fault_of plm_app (texts words.now) ≡ [] → ⊥) →
+        KeepsFiles (F.files files.old) (F.files files.new) }
     ensures linked { fault_of plm_app (texts words.now) ≡ [] → result ≡ Ending.Done →
         LinksByWords (wanted_by (texts words.now)) (F.files files.old) (F.files files.new) }
     ensures printed { fault_of plm_app (texts words.now) ≡ [] → result ≡ Ending.Done → PrintsByWords
         (wanted_by (texts words.now)) (F.files files.old) (O.contents out.old) (O.contents out.new) }
     ensures stopped { (result ≡ Ending.Done → ⊥) →
         StopsByWords (wanted_by (texts words.now)) (F.files files.old) (F.files files.new) }
+    ensures wrong { fault_of plm_app (texts words.now) ≡ [] → result ≡ Ending.WrongLine →
+        TellsTextByWords (wanted_by (texts words.now)) (E.contents err.old) (E.contents err.new) }
     ensures told { result ≡ Ending.Refused → TellsRefusal (names_by_words (wanted_by (texts words.now)))
         (F.failures files.old) (F.failures files.new) (E.contents err.old) (E.contents err.new) }
     ensures count { (result ≡ Ending.Refused → ⊥) → F.failures files.new ≡ F.failures files.old }
@@ -117,6 +126,8 @@ fn carry_out<F: Files, O: Write, E: Write>(
         (O.contents out.old) (O.contents out.new) }
     ensures stopped { (result ≡ Ending.Done → ⊥) →
         StopsAsWanted (wanted_in order.now) (F.files files.old) (F.files files.new) }
+    ensures wrong { result ≡ Ending.WrongLine → TellsText (wanted_in order.now)
+        (E.contents err.old) (E.contents err.new) }
     ensures told { result ≡ Ending.Refused → TellsRefusal (names_of (wanted_in order.now))
         (F.failures files.old) (F.failures files.new) (E.contents err.old) (E.contents err.new) }
     ensures count { (result ≡ Ending.Refused → ⊥) → F.failures files.new ≡ F.failures files.old }
@@ -131,7 +142,7 @@ fn carry_out<F: Files, O: Write, E: Write>(
 }
 
 // Carries out an order on an object file, once the values of its options are known.
-#[tactic(auto, using(answers::proofs::FilesRead::stays, crate::proofs::OrdersKept::told_of_only))]
+#[tactic(auto, using(answers::proofs::FilesRead::stays, crate::proofs::OrdersKept::told_of_only, crate::proofs::TextsTold::done_or_refused, crate::proofs::TextsTold::tells_plan, crate::proofs::TextsTold::tells_second))]
 fn carry_out_place<F: Files, O: Write, E: Write>(
     alloc: Global,
     order: &PlaceOrder,
@@ -142,6 +153,8 @@ fn carry_out_place<F: Files, O: Write, E: Write>(
     ensures kept { KeepsFiles (F.files files.old) (F.files files.new) }
     ensures printed { result ≡ Ending.Done → PrintsWanted (place_in order.now) (F.files files.old)
         (O.contents out.old) (O.contents out.new) }
+    ensures wrong { result ≡ Ending.WrongLine → TellsText (wants_place (place_in order.now))
+        (E.contents err.old) (E.contents err.new) }
     ensures told { result ≡ Ending.Refused → TellsRefusal (place_in order.now).files
         (F.failures files.old) (F.failures files.new) (E.contents err.old) (E.contents err.new) }
     ensures count { (result ≡ Ending.Refused → ⊥) → F.failures files.new ≡ F.failures files.old }
@@ -172,6 +185,8 @@ fn carry_out_program<F: Files, O: Write, E: Write>(
     err: &mut E,
 ) -> Ending
     ensures kept { KeepsFiles (F.files files.old) (F.files files.new) }
+    ensures wrong { result ≡ Ending.WrongLine → TellsText (wants_program (program_in order.now))
+        (E.contents err.old) (E.contents err.new) }
     ensures told { result ≡ Ending.Refused → TellsRefusal (program_in order.now).files
         (F.failures files.old) (F.failures files.new) (E.contents err.old) (E.contents err.new) }
     ensures count { (result ≡ Ending.Refused → ⊥) → F.failures files.new ≡ F.failures files.old }
@@ -195,6 +210,7 @@ fn load<F: Files, O: Write, E: Write>(
     err: &mut E,
 ) -> Ending
     ensures kept { KeepsFiles (F.files files.old) (F.files files.new) }
+    ensures right { result ≡ Ending.WrongLine → ⊥ }
     ensures told { result ≡ Ending.Refused → TellsRefusal (program_in order.now).files
         (F.failures files.old) (F.failures files.new) (E.contents err.old) (E.contents err.new) }
     ensures count { (result ≡ Ending.Refused → ⊥) → F.failures files.new ≡ F.failures files.old }
@@ -221,6 +237,7 @@ fn act<O: Write, E: Write>(
     out: &mut O,
     err: &mut E,
 ) -> Ending
+    ensures right { result ≡ Ending.WrongLine → ⊥ }
     ensures told { result ≡ Ending.Refused → TellsOther (E.contents err.old) (E.contents err.new) }
     ensures quiet { (result ≡ Ending.Refused → ⊥) → E.contents err.new ≡ E.contents err.old }
 {

@@ -25,6 +25,7 @@ pub(crate) fn run_sources<O: Write, E: Write>(
     out: &mut O,
     err: &mut E,
 ) -> Ending
+    ensures right { result ≡ Ending.WrongLine → ⊥ }
     ensures told { result ≡ Ending.Refused → TellsOther (E.contents err.old) (E.contents err.new) }
     ensures quiet { (result ≡ Ending.Refused → ⊥) → E.contents err.new ≡ E.contents err.old }
 {
@@ -44,6 +45,7 @@ fn run_built<O: Write, E: Write>(
     out: &mut O,
     err: &mut E,
 ) -> Ending
+    ensures right { result ≡ Ending.WrongLine → ⊥ }
     ensures told { result ≡ Ending.Refused → TellsOther (E.contents err.old) (E.contents err.new) }
     ensures quiet { (result ≡ Ending.Refused → ⊥) → E.contents err.new ≡ E.contents err.old }
 {
@@ -78,7 +80,8 @@ fn word_of(end: End) -> &'static str {
 
 // How a command ends whose run ended so.
 fn ending_of(end: End) -> Ending
-    ensures { result ≡ Ending.Refused → ⊥ }
+    ensures refused { result ≡ Ending.Refused → ⊥ }
+    ensures right { result ≡ Ending.WrongLine → ⊥ }
 {
     match end {
         End::Halted => Ending::Done,

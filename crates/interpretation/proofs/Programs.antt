@@ -1,5 +1,5 @@
 -- Programs of sources that are read.
-use Rattle.std.proofs.Common.{◌≡◌, ℕ, zero, suc, ◌<◌, ◌≤◌, List, [], ◌∷◌, map, length, zip, All, arith, refl, sym, ap, ◌∙◌, subst}
+use Rattle.std.proofs.Common.{◌≡◌, ℕ, zero, suc, ◌<◌, ◌≤◌, List, [], ◌∷◌, map, length, zip, All, arith, refl, sym, ap, ◌∙◌, subst, None}
 use Rattle.std.specs.List.{AllByRecursion}
 use Rattle.std.proofs.lemmas.List.Elements.{All-from_recursion}
 use Rattle.typed_trees.specs.declared.module.Typed.{Typed}
@@ -13,7 +13,7 @@ use Rattle.layout.specs.Views.{layout_view}
 use Rattle.layout.specs.Joined.{IsJoined}
 use Rattle.layout.specs.Lawful.{IsLawful}
 use Rattle.layout.specs.Placement.{pieces_of}
-use Rattle.layout.specs.Placing.{placement_by}
+use Rattle.layout.specs.Placing.{placement_by, placing_refusal}
 use Rattle.plans.specs.declared.Plan.{Plan}
 use Rattle.placing.specs.Segments.{HoldsConstants, HaveStorage}
 use Rattle.placing.specs.Tables.{IsTableOf}
@@ -99,16 +99,18 @@ have_storage modules lengths is storable =
     })
 
 pub is_placed : (modules : List TypedModule) (plan : Plan) (lengths : List ℕ) (readied : Readied) → program_modules readied.program ≡ modules → IsJoined modules → lengths ≡ constant_lengths modules → All IsStorable modules
+    → placing_refusal (plan_view plan) (program_modules readied.program) lengths ≡ None
     → placement_view readied.placement ≡ placement_by (plan_view plan) (program_modules readied.program) lengths
     → IsTableOf (pieces_of (program_modules readied.program) (placement_view readied.placement)) readied.placement.kinds.value
     → (HaveStorage (program_modules readied.program) lengths → IsLawful (program_modules readied.program) (placement_view readied.placement))
     → IsPlaced modules plan readied
-is_placed modules plan lengths readied is joined its storable placed table lawful =
+is_placed modules plan lengths readied is joined its storable unrefused placed table lawful =
     let here : HaveStorage (program_modules readied.program) lengths =
     have_storage (program_modules readied.program) lengths (its ∙ ap constant_lengths (sym is)) (subst (All IsStorable) (sym is) storable) in
     record {
       program = is;
       joined = joined;
+      may_lie = sym (ap (λ ms. placing_refusal (plan_view plan) ms lengths) is ∙ ap (placing_refusal (plan_view plan) modules) its) ∙ unrefused;
       as_planned = placed ∙ ap (λ ms. placement_by (plan_view plan) ms lengths) is ∙ ap (placement_by (plan_view plan) modules) its;
       lawful = subst (λ ms. IsLawful ms (placement_view readied.placement)) is (lawful here);
       table = subst (λ ms. IsTableOf (pieces_of ms (placement_view readied.placement)) readied.placement.kinds.value) is table;
@@ -122,6 +124,7 @@ program_readied texts plan read modules readied are is placed =
       sources = subst (AreSourcesOf texts) (sym (all ∙ ap (map module_view) is)) (sources_are texts read are);
       joined = rw all placed.joined;
       jumps = subst (All JumpsAreSound) (sym all) (jumps_all texts read modules are is);
+      may_lie = rw all placed.may_lie;
       as_planned = rw all placed.as_planned;
       lawful = rw all placed.lawful;
       table = rw all placed.table;

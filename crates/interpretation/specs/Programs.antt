@@ -1,5 +1,5 @@
 -- Programs that can be interpreted: what they are read from, where they lie, and why sources give none.
-use Rattle.std.specs.Prelude.{◌≡◌, ℕ, ◌<◌, ◌≤◌, List, All, length, map, Some}
+use Rattle.std.specs.Prelude.{◌≡◌, ℕ, ◌<◌, ◌≤◌, List, All, length, map, Some, None}
 use Rattle.typed_trees.specs.TypedTrees.{TypedModule}
 use Rattle.typed_trees.specs.Jumps.{JumpsAreSound}
 use Rattle.typed_trees.specs.Weight.{constant_bytes}
@@ -27,11 +27,15 @@ abbrev pub constant_lengths : List TypedModule → List ℕ
 constant_lengths modules = map constant_bytes modules
 
 -- A program that was read from these texts and lies as planned: its modules make a program, whose jumps go to
--- labels that are known; the placement is lawful, and its table is of the bytes of the program.
+-- labels that are known; the plan is not refused, the placement is lawful, and its table is of the bytes of
+-- the program.
 pub record IsReadied (texts : List (List ℕ)) (plan : Plan) (readied : Readied) : Type 0 where
   pub sources : AreSourcesOf texts (program_modules readied.program)
   pub joined : IsJoined (program_modules readied.program)
   pub jumps : All JumpsAreSound (program_modules readied.program)
+  pub may_lie :
+      placing_refusal (of_placement.plan_view plan) (program_modules readied.program)
+      (constant_lengths (program_modules readied.program)) ≡ None
   pub as_planned : of_placement.placement_view readied.placement
       ≡ placement_by (of_placement.plan_view plan) (program_modules readied.program)
       (constant_lengths (program_modules readied.program))

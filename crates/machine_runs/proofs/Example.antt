@@ -21,9 +21,8 @@ use Rattle.asm8080.specs.Assembled.{layout_at}
 use Rattle.asm8080.specs.Items.{Layout, Stands}
 use Rattle.asm8080.specs.Runs.{Comes}
 use Rattle.asm8080.specs.Standing.{Keeps, below}
-use Rattle.asm8080.specs.internal.Examples.{counting}
 use Rattle.asm8080.proofs.RunLaws.{comes_on}
-use Rattle.machine_runs.specs.Example.{CountsAnywhere, Ends, counting_code}
+use Rattle.machine_runs.specs.Example.{CountsAnywhere, Ends, counting, counting_code}
 use Rattle.machine_runs.proofs.Steps.{at, does, goes_past, jumps_where, step_is, step_then}
 use Rattle.machine_runs.proofs.Spending.{halted_at, halts, same_after}
 use Rattle.machine_runs.proofs.Straight.{does_to, straight}
@@ -260,12 +259,6 @@ runs script layout base level memory r events is stack_is =
       last = end;
       run = whole;
       runs_before = sym (ap (λ (s : State). s.status) up_to_halt);
-      spends = record {
-        count = 18;
-        run = whole;
-        enough = omega arith;
-        spent = omega arith;
-      };
       counts = record {
         halted = refl;
         counted = thrice_counted r.a;

@@ -5,3 +5,4 @@ pub mod Loops
 pub mod Kept
 pub mod Calls
 pub mod Example
+pub mod Worked

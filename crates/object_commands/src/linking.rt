@@ -41,7 +41,9 @@ pub fn link_files<F: Files, E: Write>(
         Err(Failure::Fault((fault, name))) => return refuse_file(fault, name, err),
         Err(Failure::Memory) => return refuse_memory(err),
     };
-    let merged = match merge(alloc, texts.as_slice()) {
+    let merging = merge(alloc, texts.as_slice());
+    drop(texts);
+    let merged = match merging {
         Ok(merged) => merged,
         Err(Failure::Fault(fault)) => return refuse_merge(&fault, objects, err),
         Err(Failure::Memory) => return refuse_memory(err),
@@ -72,7 +74,9 @@ fn merge(alloc: Global, texts: &[Vec<u8>]) -> Result<Vec<u8>, Failure<StreamFaul
 {
     let slices = slices_of(alloc, texts)?;
     let mut merged: Vec<u8> = Vec::new(alloc);
-    match link_records(alloc, slices.as_slice(), &mut merged) {
+    let linking = link_records(alloc, slices.as_slice(), &mut merged);
+    drop(slices);
+    match linking {
         Ok(()) => Ok(merged),
         Err(Failure::Fault(StreamFault::Write)) => Err(Failure::Memory),
         Err(failure) => Err(failure),

@@ -1,6 +1,6 @@
 //! The lines that say where a placed object lies.
 
-ghost use Rattle.std.specs.Prelude.{◌≡◌, ◌++◌, IfOk, OnOk, map};
+ghost use Rattle.std.specs.Prelude.{◌≡◌, ◌++◌, [], IfOk, OnOk, map};
 ghost use Rattle.std.specs.List.{flat_map};
 ghost use Rattle.locate.specs.Locating.{symbol_view};
 ghost use Rattle.object_commands.specs.Placing.{places_text, range_line, start_line, symbol_line};
@@ -46,6 +46,23 @@ fn put_symbols(lines: &mut Vec<u8>, symbols: &[Symbol]) -> io::Result<()>
     Ok(())
 }
 
+// Puts the lines of an object that was placed by a plan into an empty vector.
+fn put_lines(
+    lines: &mut Vec<u8>,
+    object: &ObjectModule,
+    absolute: &Absolute,
+    plan: &Plan,
+) -> io::Result<()>
+    requires { lines.old.items ≡ [] }
+    ensures { OnOk result (lines.new.items ≡ places_text plan.now object.now absolute.now) }
+{
+    put_range(lines, "CODE", plan.code, object.length(Segment::Code))?;
+    put_range(lines, "DATA", plan.data_base, object.length(Segment::Data))?;
+    put_range(lines, "STACK", plan.stack, plan.stack_size)?;
+    put_start(lines, absolute.start())?;
+    put_symbols(lines, absolute.symbols())
+}
+
 /// The lines of an object that was placed by a plan. Only memory can fail them.
 pub(crate) fn lines_of(
     alloc: Global,
@@ -56,15 +73,6 @@ pub(crate) fn lines_of(
     ensures { IfOk result (λ lines. lines.items ≡ places_text plan.now object.now absolute.now) }
 {
     let mut lines = Vec::new(alloc);
-    put_range(&mut lines, "CODE", plan.code, object.length(Segment::Code))?;
-    put_range(
-        &mut lines,
-        "DATA",
-        plan.data_base,
-        object.length(Segment::Data),
-    )?;
-    put_range(&mut lines, "STACK", plan.stack, plan.stack_size)?;
-    put_start(&mut lines, absolute.start())?;
-    put_symbols(&mut lines, absolute.symbols())?;
+    put_lines(&mut lines, object, absolute, plan)?;
     Ok(lines)
 }

@@ -49,15 +49,23 @@ fn place_file<F: Files, E: Write>(
         Err(Failure::Fault(fault)) => return Err(refuse_file(fault, file, err)),
         Err(Failure::Memory) => return Err(refuse_memory(err)),
     };
-    let object = match read(alloc, bytes.as_slice()) {
+    let reading = read(alloc, bytes.as_slice());
+    drop(bytes);
+    let object = match reading {
         Ok(object) => object,
         Err(Failure::Fault(fault)) => return Err(refuse_object(&fault, file, err)),
         Err(Failure::Memory) => return Err(refuse_memory(err)),
     };
     match locate(alloc, &object, plan) {
         Ok(absolute) => Ok(Placed { object, absolute }),
-        Err(Failure::Fault(fault)) => Err(refuse_place(&fault, err)),
-        Err(Failure::Memory) => Err(refuse_memory(err)),
+        Err(Failure::Fault(fault)) => {
+            drop(object);
+            Err(refuse_place(&fault, err))
+        }
+        Err(Failure::Memory) => {
+            drop(object);
+            Err(refuse_memory(err))
+        }
     }
 }
 
@@ -88,7 +96,9 @@ pub fn print_places<F: Files, O: Write, E: Write>(
         Ok(placed) => placed,
         Err(ending) => return ending,
     };
-    let lines = match lines_of(alloc, &placed.object, &placed.absolute, plan) {
+    let printed = lines_of(alloc, &placed.object, &placed.absolute, plan);
+    drop(placed);
+    let lines = match printed {
         Ok(lines) => lines,
         Err(_) => return refuse_memory(err),
     };
@@ -125,7 +135,9 @@ pub fn print_hex<F: Files, O: Write, E: Write>(
         Ok(placed) => placed,
         Err(ending) => return ending,
     };
-    match write_hex(alloc, placed.absolute.pieces(), out) {
+    let written = write_hex(alloc, placed.absolute.pieces(), out);
+    drop(placed);
+    match written {
         Ok(()) => Ending::Done,
         Err(Failure::Fault(_)) => refuse_output(err),
         Err(Failure::Memory) => refuse_memory(err),

@@ -1,12 +1,13 @@
 //! Where a part of a program stands, and what names and numbers mean there.
 
 ghost use Rattle.std.specs.Prelude.{◌≡◌};
-ghost use Rattle.typed_trees.specs.Views.{home_view};
+ghost use Rattle.typed_trees.specs.Views.{home_view, module_view};
+ghost use Rattle.meaning.specs.Access.{home_in};
 ghost use Rattle.resolving.specs.Storage.{storage_by};
 
 use crate::program::Program;
 use crate::publics::Found;
-use typed_trees::{Home, Visibility};
+use typed_trees::{Home, Typed, TypedObject, TypedProcedure, Visibility};
 
 /// Where a part of a program stands: in a module, by its number from 0 on.
 #[derive(Clone, Copy)]
@@ -39,8 +40,20 @@ fn storage_by(home: &Home) -> Storage
     }
 }
 
+// What an object of a module is found by.
+fn storage_in(typed: &Typed, object: u32) -> Storage
+    ensures { result ≡ storage_by (home_in (module_view typed.now) object) }
+{
+    match typed.objects.get(object as usize) {
+        Some(object) => storage_by(&object.home),
+        None => Storage::Memory,
+    }
+}
+
 impl<'a> Site<'a> {
     ghost use Rattle.std.specs.Prelude.{◌≡◌, option_map};
+    ghost use Rattle.typed_trees.specs.Views.{object_view, procedure_view};
+    ghost use Rattle.layout.specs.Joined.{object_meant, procedure_meant};
     ghost use Rattle.layout.specs.StartingMemory.{address_in};
     ghost use Rattle.meaning.specs.Access.{address_of, home_of};
     ghost use Rattle.meaning.specs.Meaning.{address_of_list, callee_in};
@@ -53,10 +66,7 @@ impl<'a> Site<'a> {
         ensures { result ≡ storage_by (home_of (site_view self.now) object) }
     {
         match self.program.modules.get(self.number_of_module) {
-            Some(typed) => match typed.objects.get(object as usize) {
-                Some(object) => storage_by(&object.home),
-                None => Storage::Memory,
-            },
+            Some(typed) => storage_in(typed, object),
             None => Storage::Memory,
         }
     }
@@ -66,7 +76,15 @@ impl<'a> Site<'a> {
         ensures { option_map found_view result ≡ meant_at (site_view self.now) object }
     {
         let typed = self.program.modules.get(self.number_of_module)?;
-        let meant = typed.objects.get(object as usize)?;
+        self.object_meant(typed.objects.get(object as usize)?, object as usize)
+    }
+
+    // What an object of the module stands for that has this number there.
+    fn object_meant(&self, meant: &TypedObject, number: usize) -> Option<Found>
+        ensures { option_map found_view result ≡ object_meant (site_view self.now).program.modules
+            (record { number_of_module = (site_view self.now).number_of_module; number = number })
+            (object_view meant.now) (object_view meant.now).home }
+    {
         match meant.home {
             Home::External => self.program.object_named(meant.name),
             Home::Data(_)
@@ -76,7 +94,7 @@ impl<'a> Site<'a> {
             | Home::Absent
             | Home::Frame(_) => Some(Found {
                 number_of_module: self.number_of_module,
-                number: object as usize,
+                number,
             }),
         }
     }
@@ -123,12 +141,23 @@ impl<'a> Site<'a> {
         ensures { option_map found_view result ≡ callee_in (site_view self.now) procedure }
     {
         let typed = self.program.modules.get(self.number_of_module)?;
-        let callee = typed.procedures.get(procedure as usize)?;
+        self.procedure_meant(
+            typed.procedures.get(procedure as usize)?,
+            procedure as usize,
+        )
+    }
+
+    // What a procedure of the module stands for that has this number there.
+    fn procedure_meant(&self, callee: &TypedProcedure, number: usize) -> Option<Found>
+        ensures { option_map found_view result ≡ procedure_meant (site_view self.now).program.modules
+            (record { number_of_module = (site_view self.now).number_of_module; number = number })
+            (procedure_view callee.now) (procedure_view callee.now).visibility }
+    {
         match callee.visibility {
             Visibility::External => self.program.procedure_named(callee.name),
             Visibility::Private | Visibility::Public => Some(Found {
                 number_of_module: self.number_of_module,
-                number: procedure as usize,
+                number,
             }),
         }
     }

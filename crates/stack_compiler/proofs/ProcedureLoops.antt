@@ -49,13 +49,12 @@ module _ (site : Site) (made total : List Instruction) (scalars : List ScalarTyp
       sym (append-nil made) ∙ sym (at_end (λ left. made ++ parameters_code site i left objects) scalars i past) ∙ rest
 
 -- a procedure
-pub procedure_made : (site : Site) (number : ℕ) (procedure : TypedProcedure) (old a b c d e new : List Instruction)
+pub procedure_made : (site : Site) (number : ℕ) (procedure : TypedProcedure) (old a b c d new : List Instruction)
     → a ≡ old ++ (Begin site.number_of_module number ∷ []) → b ≡ a ++ parameters_code site 0 procedure.parameter_types procedure.parameters → c ≡ b ++ (Discard ∷ [])
-    → d ≡ c ++ list_code site procedure.body → e ≡ d ++ (Push 0 ∷ []) → new ≡ e ++ (Return ∷ [])
+    → d ≡ c ++ list_code site procedure.body → new ≡ d ++ (Push 0 ∷ Return ∷ [])
     → new ≡ old ++ procedure_code site (number, procedure)
-procedure_made site number procedure old a b c d e new one two three four five six =
-    six
-    ∙ ap (λ code. code ++ (Return ∷ [])) five ∙ append_assoc d (Push 0 ∷ []) (Return ∷ [])
+procedure_made site number procedure old a b c d new one two three four five =
+    five
     ∙ ap (λ code. code ++ (Push 0 ∷ Return ∷ [])) four ∙ append_assoc c (list_code site procedure.body) (Push 0 ∷ Return ∷ [])
     ∙ ap (λ code. code ++ (list_code site procedure.body ++ (Push 0 ∷ Return ∷ []))) three ∙ append_assoc b (Discard ∷ []) (list_code site procedure.body ++ (Push 0 ∷ Return ∷ []))
     ∙ ap (λ code. code ++ (Discard ∷ (list_code site procedure.body ++ (Push 0 ∷ Return ∷ [])))) two

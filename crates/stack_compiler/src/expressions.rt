@@ -1,10 +1,12 @@
 //! The code of expressions.
 
-ghost use Rattle.std.specs.Prelude.{◌≡◌, ◌++◌, replicate, OnOk};
+ghost use Rattle.std.specs.Prelude.{◌≡◌, ◌%◌, ◌++◌, ◌∷◌, [], replicate, OnOk};
+ghost use Rattle.mem80.specs.declared.memory.TheConstants.{MEMORY_SIZE};
+ghost use Rattle.trees.specs.declared.declaration.ScalarType.TheVariants.{Address};
 ghost use Rattle.typed_trees.specs.Views.{arguments_view, expression_view, reference_view, subscript_view, target_view};
 ghost use Rattle.meaning.specs.Meaning.{callee_in};
-ghost use Rattle.stack_code.specs.declared.instruction.Instruction.TheVariants.{Drop};
-ghost use Rattle.stack_code.specs.Code.{added_to_bytes, arguments_code, called_code, expression_code, index_code, reference_code, scaled_code, summed, surroundings_at, target_code};
+ghost use Rattle.stack_code.specs.declared.instruction.Instruction.TheVariants.{Advance, Drop};
+ghost use Rattle.stack_code.specs.Code.{ToRead, added_to_bytes, arguments_code, called_code, expression_code, index_code, instruction_of_address, reference_code, scaled_code, summed, surroundings_at, target_code, variable_code};
 ghost use Rattle.stack_compiler.specs.internal.Parts.{based_code, bytes_code, framed_code, lacks_subscripts, placed_code};
 ghost use Rattle.stack_compiler.specs.internal.Purposes.{purpose_view};
 ghost use Rattle.stack_compiler.specs.internal.Sites.{site_view};
@@ -41,8 +43,7 @@ pub(crate) fn emit_expression(
         }
         TypedExpression::List(list) => emit(code, Instruction::Push(site.address_of_list(*list))),
         TypedExpression::Conversion { scalar, inner } => {
-            emit_expression(site, code, inner)?;
-            emit(code, Instruction::Convert(*scalar))
+            emit_after(site, code, inner, Instruction::Convert(*scalar))
         }
         TypedExpression::Assignment { target, value } => {
             emit_expression(site, code, value)?;
@@ -52,10 +53,7 @@ pub(crate) fn emit_expression(
             scalar,
             operator,
             operand,
-        } => {
-            emit_expression(site, code, operand)?;
-            emit(code, Instruction::Unary(*scalar, *operator))
-        }
+        } => emit_after(site, code, operand, Instruction::Unary(*scalar, *operator)),
         TypedExpression::Binary {
             operands,
             operator,
@@ -63,8 +61,7 @@ pub(crate) fn emit_expression(
             right,
         } => {
             emit_expression(site, code, left)?;
-            emit_expression(site, code, right)?;
-            emit(code, Instruction::Binary(*operands, *operator))
+            emit_after(site, code, right, Instruction::Binary(*operands, *operator))
         }
         TypedExpression::Call {
             procedure,
@@ -75,8 +72,7 @@ pub(crate) fn emit_expression(
             emit_call(site, code, *procedure, arguments.len())
         }
         TypedExpression::Function { function, operand } => {
-            emit_expression(site, code, operand)?;
-            emit(code, Instruction::Function(*function))
+            emit_after(site, code, operand, Instruction::Function(*function))
         }
         TypedExpression::Shift {
             scalar,
@@ -85,11 +81,26 @@ pub(crate) fn emit_expression(
             count,
         } => {
             emit_expression(site, code, value)?;
-            emit_expression(site, code, count)?;
-            emit(code, Instruction::Shift(*scalar, *function))
+            emit_after(site, code, count, Instruction::Shift(*scalar, *function))
         }
         TypedExpression::Input(port) => emit(code, Instruction::Input(*port)),
     }
+}
+
+/// An instruction after the value of an expression.
+#[cycle(expression)]
+#[tactic(auto, using(std::proofs::lemmas::List::append_assoc))]
+pub(crate) fn emit_after(
+    site: &Site<'_>,
+    code: &mut Vec<Instruction>,
+    operand: &TypedExpression,
+    instruction: Instruction,
+) -> Result<(), AllocError>
+    ensures { OnOk result (code.new.items ≡ code.old.items
+        ++ (expression_code (site_view site.now) (expression_view operand.now) ++ (instruction ∷ []))) }
+{
+    emit_expression(site, code, operand)?;
+    emit(code, instruction)
 }
 
 /// The values of arguments, one after another.
@@ -197,12 +208,41 @@ fn emit_based(
         ++ based_code (site_view site.now) (purpose_view purpose) base (reference_view reference.now)) }
 {
     emit_bytes(site, code, reference)?;
-    emit(
-        code,
-        variable_code(site, Purpose::Reading(ScalarType::Address), base),
-    )?;
+    emit_after_base(site, code, purpose, base, reference)
+}
+
+// What follows the bytes of a part of an object with a base.
+#[tactic(auto, using(std::proofs::lemmas::List::append_assoc))]
+fn emit_after_base(
+    site: &Site<'_>,
+    code: &mut Vec<Instruction>,
+    purpose: Purpose,
+    base: u32,
+    reference: &TypedReference,
+) -> Result<(), AllocError>
+    ensures { OnOk result (code.new.items ≡ code.old.items
+        ++ (variable_code (site_view site.now) (ToRead Address) base
+        ∷ (added_to_bytes (subscript_view reference.now.subscript)
+        (subscript_view reference.now.member_subscript)
+        ++ (Advance (reference.now.offset % MEMORY_SIZE) ∷ instruction_of_address (purpose_view purpose))))) }
+{
+    let variable = variable_code(site, Purpose::Reading(ScalarType::Address), base);
+    emit(code, variable)?;
     emit_added(code, &reference.subscript, &reference.member_subscript)?;
-    emit(code, Instruction::Advance(wrapped(reference.offset)))?;
+    emit_advanced(code, purpose, wrapped(reference.offset))
+}
+
+// What is done with what lies so many bytes after the address on the stack.
+#[tactic(auto, using(std::proofs::lemmas::List::append_assoc))]
+fn emit_advanced(
+    code: &mut Vec<Instruction>,
+    purpose: Purpose,
+    number: u16,
+) -> Result<(), AllocError>
+    ensures { OnOk result (code.new.items ≡ code.old.items
+        ++ (Advance number ∷ instruction_of_address (purpose_view purpose))) }
+{
+    emit(code, Instruction::Advance(number))?;
     emit_at_address(code, purpose)
 }
 
@@ -223,8 +263,7 @@ fn emit_placed(
         return emit(code, instruction_at(purpose, address));
     }
     emit_bytes(site, code, reference)?;
-    emit(code, Instruction::Advance(address))?;
-    emit_at_address(code, purpose)
+    emit_advanced(code, purpose, address)
 }
 
 // Whether there are no subscripts.
@@ -323,8 +362,7 @@ fn emit_scaled(
     match subscript {
         TypedSubscript::Absent => Ok(()),
         TypedSubscript::Present { stride, index, .. } => {
-            emit_expression(site, code, index)?;
-            emit(code, Instruction::Scale(*stride))
+            emit_after(site, code, index, Instruction::Scale(*stride))
         }
     }
 }

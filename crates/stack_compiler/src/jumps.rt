@@ -1,9 +1,11 @@
 //! Jumps over code that is not yet there.
 
-ghost use Rattle.std.specs.Prelude.{◌≡◌, ◌+◌, ◌-◌, suc, length, slice_set, IfOk};
+ghost use Rattle.std.specs.Prelude.{◌≡◌, ◌+◌, ◌-◌, suc, length, slice_set, IfOk, OnOk};
 ghost use Rattle.stack_code.specs.declared.instruction.Instruction.TheVariants.{Jump, JumpUnless};
+ghost use Rattle.stack_compiler.specs.internal.Loops.{turned_back};
 ghost use Rattle.stack_compiler.specs.internal.Openings.{closed, holes};
 
+use crate::purpose::emit;
 use stack_code::Instruction;
 use std::alloc::{AllocError, Global};
 
@@ -23,8 +25,8 @@ pub(crate) fn next_place(code: &Vec<Instruction>) -> usize
     code.len()
 }
 
-/// How many instructions follow one.
-pub(crate) fn count_after(code: &Vec<Instruction>, at: usize) -> usize
+// How many instructions follow one.
+fn count_after(code: &Vec<Instruction>, at: usize) -> usize
     ensures { result ≡ length code.now.items - (at + 1) }
 {
     code.len().saturating_sub(at).saturating_sub(1)
@@ -46,6 +48,14 @@ pub(crate) fn close_jump_unless(code: &mut Vec<Instruction>, at: usize)
 {
     let count = count_after(code, at);
     replace(code, at, Instruction::JumpUnless(count));
+}
+
+/// The end of a turn, which leads back to after an instruction.
+pub(crate) fn emit_loop_back(code: &mut Vec<Instruction>, start: usize) -> Result<(), AllocError>
+    ensures { OnOk result (code.new.items ≡ turned_back code.old.items start) }
+{
+    let count = count_after(code, start);
+    emit(code, Instruction::LoopBack(count))
 }
 
 /// Jumps that are to be filled in: so many, and one more.

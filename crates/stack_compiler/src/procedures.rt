@@ -8,7 +8,7 @@ ghost use Rattle.stack_code.specs.Code.{main_code, parameter_code, parameters_co
 ghost use Rattle.stack_compiler.specs.internal.Sequences.{modules_code_from, procedures_code_from};
 ghost use Rattle.stack_compiler.specs.internal.Sites.{site_view};
 
-use crate::purpose::emit;
+use crate::purpose::{emit, emit_all};
 use crate::site::Site;
 use crate::statements::emit_list;
 use resolving::{Program, Storage};
@@ -85,8 +85,7 @@ fn emit_procedure(
     )?;
     emit(code, Instruction::Discard)?;
     emit_list(site, code, &procedure.body)?;
-    emit(code, Instruction::Push(0))?;
-    emit(code, Instruction::Return)
+    emit_all(code, &[Instruction::Push(0), Instruction::Return])
 }
 
 // The procedures of a module.

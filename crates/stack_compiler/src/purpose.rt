@@ -26,6 +26,17 @@ pub(crate) fn emit(code: &mut Vec<Instruction>, instruction: Instruction) -> Res
     Ok(())
 }
 
+/// Several instructions more.
+pub(crate) fn emit_all(
+    code: &mut Vec<Instruction>,
+    instructions: &[Instruction],
+) -> Result<(), AllocError>
+    ensures { OnOk result (code.new.items ≡ code.old.items ++ instructions.now) }
+{
+    code.extend_from_slice(instructions)?;
+    Ok(())
+}
+
 /// What is done with what lies at an address.
 pub(crate) fn instruction_at(purpose: Purpose, address: u16) -> Instruction
     ensures { result ≡ instruction_at (purpose_view purpose) address }

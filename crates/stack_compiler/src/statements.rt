@@ -6,13 +6,13 @@ ghost use Rattle.typed_trees.specs.Views.{arguments_view, else_view, expression_
 ghost use Rattle.meaning.specs.Meaning.{callee_in};
 ghost use Rattle.stack_code.specs.declared.instruction.Instruction.TheVariants.{Case, Drop, Jump, Move, Return};
 ghost use Rattle.stack_code.specs.Code.{arguments_code, called_code, cases_code, choice_code, count_of_arguments, count_of_statements, else_code, entries_code, expression_code, first_code, last_code, list_code, loop_code, statement_code, statements_code, step_code, surroundings_at, targets_code, value_or};
-ghost use Rattle.stack_compiler.specs.internal.Loops.{stepping_code};
-ghost use Rattle.stack_compiler.specs.internal.Openings.{opened, opening};
+ghost use Rattle.stack_compiler.specs.internal.Loops.{stepping_code, turned_back};
+ghost use Rattle.stack_compiler.specs.internal.Openings.{opened, opening, passing};
 ghost use Rattle.stack_compiler.specs.internal.Sites.{site_view};
 
-use crate::expressions::{emit_arguments, emit_call, emit_expression, emit_target};
-use crate::jumps::{close_cases, close_jump, close_jump_unless, count_after, holes, next_place};
-use crate::purpose::{Purpose, emit};
+use crate::expressions::{emit_after, emit_arguments, emit_call, emit_expression, emit_target};
+use crate::jumps::{close_cases, close_jump, close_jump_unless, emit_loop_back, holes, next_place};
+use crate::purpose::{Purpose, emit, emit_all};
 use crate::site::Site;
 use crate::variables::variable_code;
 use stack_code::Instruction;
@@ -88,8 +88,7 @@ fn emit_move(
 {
     emit_expression(site, code, &moved.count)?;
     emit_expression(site, code, &moved.source)?;
-    emit_expression(site, code, &moved.destination)?;
-    emit(code, Instruction::Move)
+    emit_after(site, code, &moved.destination, Instruction::Move)
 }
 
 // RETURN.
@@ -104,10 +103,9 @@ fn emit_return(
         ++ (Return ∷ []))) }
 {
     match value {
-        Some(value) => emit_expression(site, code, value)?,
-        None => emit(code, Instruction::Push(0))?,
+        Some(value) => emit_after(site, code, value, Instruction::Return),
+        None => emit_all(code, &[Instruction::Push(0), Instruction::Return]),
     }
-    emit(code, Instruction::Return)
 }
 
 // The variable of an iterative DO gets its first value.
@@ -122,8 +120,7 @@ fn emit_first(
 {
     let variable = variable_code(site, Purpose::Writing(head.scalar), head.variable);
     emit_expression(site, code, &head.first)?;
-    emit(code, variable)?;
-    emit(code, Instruction::Drop)
+    emit_all(code, &[variable, Instruction::Drop])
 }
 
 // The variable is compared with the last value.
@@ -137,12 +134,24 @@ fn emit_last(
         ≡ code.old.items ++ last_code (site_view site.now) (iteration_view head.now)) }
 {
     let variable = variable_code(site, Purpose::Reading(head.scalar), head.variable);
+    let compare = Instruction::Binary(ScalarType::Address, BinaryOperator::GreaterOrEqual);
     emit_expression(site, code, &head.last)?;
-    emit(code, variable)?;
-    emit(
-        code,
-        Instruction::Binary(ScalarType::Address, BinaryOperator::GreaterOrEqual),
-    )
+    emit_all(code, &[variable, compare])
+}
+
+// The test of an iterative DO, to which the jump before its body leads.
+fn emit_test(
+    site: &Site<'_>,
+    code: &mut Vec<Instruction>,
+    head: &TypedIteration,
+    start: usize,
+) -> Result<(), AllocError>
+    ensures { OnOk result (code.new.items ≡ turned_back
+        (passing code.old.items start ++ last_code (site_view site.now) (iteration_view head.now)) start) }
+{
+    close_jump(code, start);
+    emit_last(site, code, head)?;
+    emit_loop_back(code, start)
 }
 
 // The step, which is 1 where none is written.
@@ -170,17 +179,18 @@ fn emit_stepping(
     ensures { OnOk result (code.new.items
         ≡ code.old.items ++ stepping_code (site_view site.now) (iteration_view head.now)) }
 {
+    let read = variable_code(site, Purpose::Reading(head.scalar), head.variable);
+    let write = variable_code(site, Purpose::Writing(head.scalar), head.variable);
     emit_step(site, code, &head.step)?;
-    emit(
+    emit_all(
         code,
-        variable_code(site, Purpose::Reading(head.scalar), head.variable),
-    )?;
-    emit(code, Instruction::Step(head.scalar))?;
-    emit(
-        code,
-        variable_code(site, Purpose::Writing(head.scalar), head.variable),
-    )?;
-    emit(code, Instruction::Drop)
+        &[
+            read,
+            Instruction::Step(head.scalar),
+            write,
+            Instruction::Drop,
+        ],
+    )
 }
 
 /// A statement.
@@ -297,8 +307,7 @@ fn emit_while(
     emit_list(site, code, &turns.body)?;
     close_jump(code, start);
     emit_expression(site, code, &turns.condition)?;
-    let count = count_after(code, start);
-    emit(code, Instruction::LoopBack(count))
+    emit_loop_back(code, start)
 }
 
 // An iterative DO: the step and the test stand after the body.
@@ -319,10 +328,7 @@ fn emit_iterate(
     emit_stepping(site, code, &turns.head)?;
     let leave = next_place(code);
     emit(code, Instruction::JumpUnless(0))?;
-    close_jump(code, start);
-    emit_last(site, code, &turns.head)?;
-    let count = count_after(code, start);
-    emit(code, Instruction::LoopBack(count))?;
+    emit_test(site, code, &turns.head, start)?;
     close_jump_unless(code, leave);
     Ok(())
 }

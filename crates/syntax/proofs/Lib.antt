@@ -12,6 +12,7 @@ pub mod ExpressionLaws
 pub mod ExpressionLoops
 pub mod DeclarationParts
 pub mod DeclarationItems
+pub mod EnclosedLists
 pub mod DeclarationLaws
 pub mod DeclarationLoops
 pub mod StatementVerdictRules
@@ -26,5 +27,6 @@ pub mod StatementLengths
 pub mod StatementVerdicts
 pub mod StatementLaws
 pub mod StatementLoops
+pub mod ModuleParts
 pub mod ParserLaws
 pub mod ParserResults

@@ -9,7 +9,7 @@ ghost use Rattle.syntax.specs.internal.Lists.{items};
 ghost use Rattle.syntax.specs.internal.Reader.{name};
 
 use crate::fault::Fault;
-use crate::reader::Reader;
+use crate::reader::{Reader, or_memory};
 use failure::Failure;
 use trees::{
     At, Dimension, Element, Heading, Identifier, Item, ItemType, Linkage, Member, Number, Offset,
@@ -158,13 +158,11 @@ impl<'a> Reader<'a> {
     }
 
     // `(` member {`,` member} `)`, after STRUCTURE.
-    #[tactic(auto, using(crate::proofs::ListItems::listed))]
+    #[tactic(auto, using(crate::proofs::EnclosedLists::member_list, crate::proofs::EnclosedLists::structure_is))]
     fn take_structure(&mut self) -> Result<ItemType, Failure<Fault>>
         ensures { Gives item_type_tree result self.new (structure self.old) }
     {
-        self.take_mark(Mark::LeftParenthesis)?;
-        let members = self.take_list::<Member>()?;
-        self.take_mark(Mark::RightParenthesis)?;
+        let members = self.take_enclosed_list::<Member>()?;
         Ok(ItemType::Structure(members))
     }
 
@@ -215,7 +213,7 @@ impl<'a> Reader<'a> {
     }
 
     // [INITIAL `(` restricted {`,` restricted} `)` | DATA `(` restricted {`,` restricted} `)`]
-    #[tactic(auto, using(crate::proofs::ListItems::listed), unfolding(crate::specs::internal::Declarations::value_list))]
+    #[tactic(auto, using(crate::proofs::EnclosedLists::value_items, crate::proofs::EnclosedLists::value_list_is))]
     fn take_value_list(&mut self) -> Result<Option<ValueList>, Failure<Fault>>
         ensures { Gives (option_map value_list_tree) result self.new (value_list self.old) }
     {
@@ -223,9 +221,7 @@ impl<'a> Reader<'a> {
             return Ok(None);
         };
         self.skip();
-        self.take_mark(Mark::LeftParenthesis)?;
-        let values = self.take_list::<Restricted>()?;
-        self.take_mark(Mark::RightParenthesis)?;
+        let values = self.take_enclosed_list::<Restricted>()?;
         Ok(Some(ValueList { storage, values }))
     }
 
@@ -245,10 +241,7 @@ impl<'a> Reader<'a> {
     fn take_names(&mut self) -> Result<Vec<Identifier>, Failure<Fault>>
         ensures { Gives (λ found. found.items) result self.new (names self.old) }
     {
-        self.take_mark(Mark::LeftParenthesis)?;
-        let found = self.take_list::<Identifier>()?;
-        self.take_mark(Mark::RightParenthesis)?;
-        Ok(found)
+        self.take_enclosed_list::<Identifier>()
     }
 
     // What stands after the subject of an item.
@@ -287,7 +280,7 @@ impl<'a> Reader<'a> {
         ensures { Gives element_tree result self.new (definition name self.old) }
     {
         let text = self.take_string()?;
-        Ok(Element::literally(self.alloc, name, text)?)
+        or_memory(Element::literally(self.alloc, name, text))
     }
 
     // An item after its only name.
@@ -296,7 +289,7 @@ impl<'a> Reader<'a> {
     {
         let base = self.take_base()?;
         let found = self.take_item_after(Subject::Single { name, base })?;
-        Ok(Element::item(self.alloc, found)?)
+        or_memory(Element::item(self.alloc, found))
     }
 
     // name LITERALLY string | item
@@ -316,7 +309,7 @@ impl<'a> Reader<'a> {
     {
         let names = self.take_names()?;
         let found = self.take_item_after(Subject::Group(names))?;
-        Ok(Element::item(self.alloc, found)?)
+        or_memory(Element::item(self.alloc, found))
     }
 
     // [`(` name {`,` name} `)`]

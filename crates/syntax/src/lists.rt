@@ -3,7 +3,7 @@
 ghost use Rattle.std.specs.Prelude.{List, map};
 ghost use Rattle.grammar.specs.Symbols.{Symbol};
 ghost use Rattle.syntax.specs.internal.Results.{Gives};
-ghost use Rattle.syntax.specs.internal.Lists.{items, Keeps};
+ghost use Rattle.syntax.specs.internal.Lists.{items, in_parentheses, Keeps};
 ghost use Rattle.syntax.specs.internal.Reader.{Reading};
 
 use crate::fault::Fault;
@@ -40,6 +40,18 @@ impl<'a> Reader<'a> {
             found.push(next)?;
         }
         found.shrink_to_fit();
+        Ok(found)
+    }
+
+    /// `(` item {`,` item} `)`
+    pub(crate) fn take_enclosed_list<T: Listed>(&mut self) -> Result<Vec<T>, Failure<Fault>>
+        requires { Keeps T.reading }
+        ensures { Gives (λ found. map T.tree_of found.items) result self.new
+            (in_parentheses (items T.reading) self.old) }
+    {
+        self.take_mark(Mark::LeftParenthesis)?;
+        let found = self.take_list::<T>()?;
+        self.take_mark(Mark::RightParenthesis)?;
         Ok(found)
     }
 }

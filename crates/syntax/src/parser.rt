@@ -9,10 +9,10 @@ ghost use Rattle.grammar.specs.Symbols.{symbols_of};
 ghost use Rattle.trees.specs.Trees.{ModuleTree};
 ghost use Rattle.trees.specs.Views.{module_tree};
 ghost use Rattle.syntax.specs.Faults.{IsOfDepth, IsOfEndName, IsRefused, IsWrongWith};
-ghost use Rattle.syntax.specs.internal.Results.{cause_of};
+ghost use Rattle.syntax.specs.internal.Results.{cause_of, Gives};
 ghost use Rattle.syntax.specs.internal.Inside.{Makes, block_trees};
 ghost use Rattle.syntax.specs.internal.Reader.{Unexpected};
-ghost use Rattle.syntax.specs.internal.Statements.{module_of, whole_module};
+ghost use Rattle.syntax.specs.internal.Statements.{module_of, module_head, module_end, whole_module};
 
 use crate::fault::Fault;
 use crate::reader::Reader;
@@ -53,19 +53,35 @@ fn module_of(name: Identifier, place: Place, body: Block, end_name: Option<Ident
 
 impl<'a> Reader<'a> {
     // name `:` DO `;` {declaration} {statement} END [name] `;`, and nothing after it.
-    #[tactic(auto, unfolding(crate::specs::internal::Statements::whole_module))]
+    #[tactic(auto, using(crate::proofs::ModuleParts::module_is, crate::proofs::ReaderResults::fails_bind))]
     fn take_module(&mut self, room: u8) -> Result<Module, Failure<Fault>>
         requires { room ≤ NESTING_LIMIT }
         ensures { Makes module_tree result (whole_module true room self.old) }
+    {
+        let (name, place) = self.take_module_head()?;
+        let body = self.take_block(room)?;
+        let end_name = self.take_module_end(&name)?;
+        Ok(module_of(name, place, body, end_name))
+    }
+
+    // name `:` DO `;`
+    fn take_module_head(&mut self) -> Result<(Identifier, Place), Failure<Fault>>
+        ensures { Gives (λ found. found) result self.new (module_head self.old) }
     {
         let name = self.take_name()?;
         self.take_mark(Mark::Colon)?;
         let place = self.take_placed(ReservedWord::Do)?;
         self.take_semicolon()?;
-        let body = self.take_block(room)?;
-        let end_name = self.take_ending(&name)?;
+        Ok((name, place))
+    }
+
+    // END [name] `;`, and nothing after it.
+    fn take_module_end(&mut self, own: &Identifier) -> Result<Option<Identifier>, Failure<Fault>>
+        ensures { Makes (λ found. found) result (module_end own.now self.old) }
+    {
+        let end_name = self.take_ending(own)?;
         self.take_end()?;
-        Ok(module_of(name, place, body, end_name))
+        Ok(end_name)
     }
 
     // The end of the words.

@@ -6,7 +6,7 @@ ghost use Rattle.grammar.specs.Symbols.{symbol_of, MarkSymbol, ReservedSymbol};
 ghost use Rattle.words.specs.Strings.{characters_of, unquoted};
 ghost use Rattle.trees.specs.Views.{constant_tree, string_tree};
 ghost use Rattle.syntax.specs.internal.Expressions.{operator_of, next_operator};
-ghost use Rattle.syntax.specs.internal.Results.{left_of, cause_of, Gives, Leaves};
+ghost use Rattle.syntax.specs.internal.Results.{left_of, cause_of, Gives, Leaves, OrMemory};
 ghost use Rattle.syntax.specs.internal.Reader.{Cause, Unexpected, TooDeep, at_mark, at_word, is_semicolon, keeps_place, place_of_word, next_semicolon, next_name, mark, word, semicolon, taken, name, number, string, constant, string_constant, number_constant};
 
 use crate::fault::Fault;
@@ -277,7 +277,7 @@ impl<'a> Reader<'a> {
         ensures { Gives constant_tree result self.new (string_constant self.old) }
     {
         let literal = self.take_string()?;
-        Ok(Constant::string(self.alloc, literal)?)
+        or_memory(Constant::string(self.alloc, literal))
     }
 
     // A number as a constant.
@@ -324,6 +324,13 @@ impl<'a> Reader<'a> {
             [] => self.line,
         }
     }
+}
+
+/// What was made, or the failure of memory.
+pub(crate) fn or_memory<T: Drop>(made: Result<T, AllocError>) -> Result<T, Failure<Fault>>
+    ensures { OrMemory made result }
+{
+    Ok(made?)
 }
 
 // The identifier that a word is, if its characters are a name's.

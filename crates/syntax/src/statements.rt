@@ -16,7 +16,7 @@ ghost use Rattle.syntax.specs.internal.Statements.{at_semicolon, beginning_at, n
 
 use crate::fault::Fault;
 use crate::measured::EXPRESSION_LEVEL;
-use crate::reader::{Reader, is_mark, is_reserved, place_of};
+use crate::reader::{Reader, is_mark, is_reserved, or_memory, place_of};
 use failure::Failure;
 use std::marker::Model;
 use trees::{
@@ -198,7 +198,7 @@ impl<'a> Reader<'a> {
         self.take_mark(Mark::EqualSign)?;
         let value = self.take_expression(room)?;
         self.take_semicolon()?;
-        Ok(StatementKind::assignment(self.alloc, first, others, value)?)
+        or_memory(StatementKind::assignment(self.alloc, first, others, value))
     }
 
     // {`,` reference}
@@ -227,7 +227,7 @@ impl<'a> Reader<'a> {
         let arguments = self.take_arguments(room)?;
         self.take_semicolon()?;
         let procedure = Selector { name, arguments };
-        Ok(StatementKind::call(self.alloc, place, procedure)?)
+        or_memory(StatementKind::call(self.alloc, place, procedure))
     }
 
     // [expression] `;`, after RETURN.
@@ -237,7 +237,7 @@ impl<'a> Reader<'a> {
         ensures { Gives kind_tree result self.new (return_value (expression room) place self.old) }
     {
         let value = self.take_value(room)?;
-        Ok(StatementKind::return_value(self.alloc, place, value)?)
+        or_memory(StatementKind::return_value(self.alloc, place, value))
     }
 
     // [expression] `;`
@@ -269,7 +269,7 @@ impl<'a> Reader<'a> {
     {
         let label = self.take_name()?;
         self.take_semicolon()?;
-        Ok(StatementKind::goto(self.alloc, place, label)?)
+        or_memory(StatementKind::goto(self.alloc, place, label))
     }
 
     // name `=` expression TO expression [BY expression] `;`
@@ -406,7 +406,7 @@ impl<'a> Reader<'a> {
         self.take_word(ReservedWord::Then)?;
         let body = self.take_statement(room)?;
         let otherwise = self.take_otherwise(room)?;
-        Ok(StatementKind::if_then(self.alloc, place, condition, body, otherwise)?)
+        or_memory(StatementKind::if_then(self.alloc, place, condition, body, otherwise))
     }
 
     // [ELSE statement]
@@ -455,7 +455,7 @@ impl<'a> Reader<'a> {
     {
         let block = self.take_block(room)?;
         self.take_end_of_do()?;
-        Ok(StatementKind::simple_do(self.alloc, place, block)?)
+        or_memory(StatementKind::simple_do(self.alloc, place, block))
     }
 
     // expression `;` {statement} END `;`, after DO WHILE.
@@ -468,7 +468,7 @@ impl<'a> Reader<'a> {
     {
         let condition = self.take_condition(room)?;
         let body = self.take_body(room)?;
-        Ok(StatementKind::do_while(self.alloc, place, condition, body)?)
+        or_memory(StatementKind::do_while(self.alloc, place, condition, body))
     }
 
     // expression `;` {statement} END `;`, after DO CASE.
@@ -481,7 +481,7 @@ impl<'a> Reader<'a> {
     {
         let choice = self.take_condition(room)?;
         let body = self.take_body(room)?;
-        Ok(StatementKind::do_case(self.alloc, place, choice, body)?)
+        or_memory(StatementKind::do_case(self.alloc, place, choice, body))
     }
 
     // The head of an iterative DO and {statement} END `;`, after DO.
@@ -494,7 +494,7 @@ impl<'a> Reader<'a> {
     {
         let iteration = self.take_iteration(room)?;
         let body = self.take_body(room)?;
-        Ok(StatementKind::iterative_do(self.alloc, place, iteration, body)?)
+        or_memory(StatementKind::iterative_do(self.alloc, place, iteration, body))
     }
 
     // {statement} END `;`
@@ -596,6 +596,6 @@ impl<'a> Reader<'a> {
         self.take_semicolon()?;
         let body = self.take_block(room)?;
         let end_name = self.take_ending(&heading.name)?;
-        Ok(Declaration::procedure(self.alloc, heading, body, end_name)?)
+        or_memory(Declaration::procedure(self.alloc, heading, body, end_name))
     }
 }

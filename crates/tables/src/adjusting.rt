@@ -9,18 +9,15 @@
 
 use crate::events::word_of;
 use crate::page::Page;
-use crate::runs::put_bytes;
-use anyhow::Result;
+use crate::runs::machine_with;
 use cpu8080::Machine;
 use isa8080::Registers;
-use mem80::Memory;
 use ports::{Event, Script};
-use std::alloc::Global;
 
 // Where programs start.
 const START: u16 = 0x100;
 
-// LXI SP,F000H; LXI H,0: H is the byte to adjust, and L, which stands at DAA_FLAGS, the flag byte before. At
+// LXI SP,F000H; LXI H,0: H is the byte to adjust, and L, which stands at FLAGS in the program, the flag byte before. At
 // 106H: PUSH H; POP PSW; DAA; PUSH PSW; POP B; MOV A,B; OUT 0; MOV A,C; OUT 1; INR H; JNZ 106H; HLT.
 const DAA: [u8; 23] = [
     0x31, 0x00, 0xF0, 0x21, 0x00, 0x00, 0xE5, 0xF1, 0x27, 0xF5, 0xC1, 0x78, 0xD3, 0x00, 0x79, 0xD3,
@@ -28,7 +25,7 @@ const DAA: [u8; 23] = [
 ];
 
 // Where the flag byte stands in that program.
-const DAA_FLAGS: u16 = 0x104;
+const FLAGS: usize = 4;
 
 // A program of a few instructions that ends with HLT, and what it does.
 struct Row {
@@ -79,18 +76,11 @@ fn print_table(page: &mut Page, events: &[Event]) {
 }
 
 // Runs DAA for every byte, with the carries of a flag byte.
-fn adjust_all(alloc: Global, page: &mut Page, flags: u8) -> Result<()> {
-    let mut memory = Memory::new(alloc)?;
-    put_bytes(&mut memory, START, &DAA);
-    memory.set(DAA_FLAGS, flags);
-    let mut machine = Machine::new(memory, Script::new(alloc), START);
+fn adjust_all(page: &mut Page, machine: &mut Machine<Script>, flags: u8) {
     let end = word_of(machine.run(10_000));
     page.byte("DAA of 00 to FF, flags ", flags);
-    page.text(" before: ");
-    page.text(end);
-    page.text("\n");
+    page.line(" before: ", end);
     print_table(page, machine.ports().events());
-    Ok(())
 }
 
 // Prints the registers that a row sets.
@@ -100,28 +90,36 @@ fn print_registers(page: &mut Page, what: &str, registers: Registers, end: &str)
     page.byte(": A=", a);
     page.byte(" H=", h);
     page.byte(" flags=", flags.byte());
-    page.text(", ");
-    page.text(end);
-    page.text("\n");
+    page.line(", ", end);
 }
 
 // Runs a row's program, and prints what it set.
-fn print_row(alloc: Global, page: &mut Page, row: &Row) -> Result<()> {
-    let mut memory = Memory::new(alloc)?;
-    put_bytes(&mut memory, START, &row.bytes);
-    let mut machine = Machine::new(memory, Script::new(alloc), START);
-    let end = word_of(machine.run(10));
-    print_registers(page, row.what, machine.registers(), end);
-    Ok(())
+fn print_row(page: &mut Page, row: &Row) {
+    match machine_with(page.alloc(), START, &row.bytes) {
+        Ok(mut machine) => {
+            let end = word_of(machine.run(10));
+            print_registers(page, row.what, machine.registers(), end);
+        }
+        Err(_) => page.note(false),
+    }
+}
+
+// Prints the table for the carries of a flag byte.
+fn print_flags(page: &mut Page, flags: u8) {
+    let mut program = DAA;
+    program[FLAGS] = flags;
+    match machine_with(page.alloc(), START, &program) {
+        Ok(mut machine) => adjust_all(page, &mut machine, flags),
+        Err(_) => page.note(false),
+    }
 }
 
 /// Prints the rows, and then a table for each pair of carries.
-pub fn print_adjusting(alloc: Global, page: &mut Page) -> Result<()> {
+pub fn print_adjusting(page: &mut Page) {
     for row in &ROWS {
-        print_row(alloc, page, row)?;
+        print_row(page, row);
     }
     for flags in [0x00, 0x01, 0x10, 0x11] {
-        adjust_all(alloc, page, flags)?;
+        print_flags(page, flags);
     }
-    Ok(())
 }

@@ -67,19 +67,25 @@ impl Arguments {
         (self.seed / 65_536) as u16
     }
 
+    // The next two words of the table.
+    fn edges(&mut self) -> (u16, u16) {
+        let number = self.number % 400;
+        self.number = number.wrapping_add(1);
+        (EDGES[number / 20], EDGES[number % 20])
+    }
+
+    // The next two random words.
+    fn randoms(&mut self) -> (u16, u16) {
+        let first = self.random();
+        let second = self.random();
+        (first, second & self.mask)
+    }
+
     // The next two words.
     fn pair(&mut self) -> (u16, u16) {
         match self.kind {
-            Kind::Edges => {
-                let number = self.number;
-                self.number = number.wrapping_add(1);
-                (EDGES[number / 20 % 20], EDGES[number % 20])
-            }
-            Kind::Random => {
-                let first = self.random();
-                let second = self.random();
-                (first, second & self.mask)
-            }
+            Kind::Edges => self.edges(),
+            Kind::Random => self.randoms(),
         }
     }
 

@@ -2,37 +2,42 @@
 
 use crate::memory_files::{File, MemoryFiles};
 use crate::page::Page;
-use crate::texts::{add_line, add_often};
+use crate::texts::Bytes;
 use anyhow::Result;
 use commands::run_command;
 use std::alloc::Global;
 
 /// A command line as far as it was read, with the line of standard input on which it stands.
 #[derive(Drop)]
-pub struct Block {
-    place: usize,
-    words: String,
+pub struct Block<'a> {
+    place: u64,
+    words: &'a str,
     files: Vec<File>,
     written: Vec<File>,
     out: Said,
     err: Said,
-    failed: String,
-    status: String,
+    failed: &'a str,
+    status: &'a str,
 }
 
-impl Block {
+impl<'a> Block<'a> {
     /// A block of which nothing was read.
-    pub fn new(alloc: Global) -> Block {
+    pub fn new(alloc: Global) -> Block<'a> {
         Block {
             place: 0,
-            words: String::new(alloc),
+            words: "",
             files: Vec::new(alloc),
             written: Vec::new(alloc),
             out: Said::new(alloc),
             err: Said::new(alloc),
-            failed: String::new(alloc),
-            status: String::new(alloc),
+            failed: "0",
+            status: "",
         }
+    }
+
+    /// Its words.
+    pub fn words(&self, alloc: Global) -> Result<Vec<&str>> {
+        Ok(self.words.split(' ').collect(alloc)?)
     }
 
     // Whether these files are those that are said to be written.
@@ -45,40 +50,64 @@ impl Block {
     }
 
     /// The line of standard input on which its command line stands.
-    pub fn place(&self) -> usize {
+    pub fn place(&self) -> u64 {
         self.place
     }
 
-    /// Takes the next line in.
-    pub fn read(&mut self, alloc: Global, place: usize, line: &str) -> Result<()> {
+    /// Takes the next line in, and answers whether there was memory for it.
+    pub fn read(&mut self, alloc: Global, place: u64, line: &'a str) -> bool {
         if let Some(words) = line.strip_prefix("$ ") {
             self.place = place;
-            self.words.push_str(words)?;
-        } else if let Some(name) = line.strip_prefix("@ ") {
-            self.files.push(File::new(alloc, name)?)?;
-        } else if let Some(name) = line.strip_prefix("& ") {
-            self.written.push(File::new(alloc, name)?)?;
+            self.words = words;
+            true
         } else if let Some(printed) = line.strip_prefix(">") {
-            self.out.read(printed)?;
+            self.out.read(printed)
         } else if let Some(told) = line.strip_prefix("!") {
-            self.err.read(told)?;
-        } else if let Some(failed) = line.strip_prefix("% ") {
-            self.failed.push_str(failed)?;
-        } else if let Some(status) = line.strip_prefix("= ") {
-            self.status.push_str(status)?;
-        } else if let Some(file) = self.written.last_mut() {
-            file.read(alloc, line)?;
-        } else if let Some(file) = self.files.last_mut() {
-            file.read(alloc, line)?;
+            self.err.read(told)
+        } else {
+            self.read_end(alloc, line)
         }
-        Ok(())
+    }
+
+    // Takes in how it ends, or a line of its files.
+    fn read_end(&mut self, alloc: Global, line: &'a str) -> bool {
+        if let Some(failed) = line.strip_prefix("% ") {
+            self.failed = failed;
+            true
+        } else if let Some(status) = line.strip_prefix("= ") {
+            self.status = status;
+            true
+        } else {
+            self.read_file(alloc, line)
+        }
+    }
+
+    // Takes in a line of its files, the first of which has their name.
+    fn read_file(&mut self, alloc: Global, line: &str) -> bool {
+        if let Some(name) = line.strip_prefix("@ ") {
+            self.files.push(File::new(alloc, name)).is_ok()
+        } else if let Some(name) = line.strip_prefix("& ") {
+            self.written.push(File::new(alloc, name)).is_ok()
+        } else if self.written.is_empty() {
+            read_text(&mut self.files, line)
+        } else {
+            read_text(&mut self.written, line)
+        }
+    }
+}
+
+// Takes in a line of the last file.
+fn read_text(files: &mut Vec<File>, line: &str) -> bool {
+    match files.last_mut() {
+        Some(file) => file.read(line),
+        None => true,
     }
 }
 
 // What is said of an output: its text, or only that there is some.
 #[derive(Drop)]
 struct Said {
-    text: String,
+    text: Bytes,
     is_any: bool,
 }
 
@@ -86,22 +115,22 @@ impl Said {
     // That there is none.
     fn new(alloc: Global) -> Said {
         Said {
-            text: String::new(alloc),
+            text: Bytes::new(alloc),
             is_any: false,
         }
     }
 
     // Takes in what stands after the mark of an output: `?` where any text will do, or a line after a blank, or how often
-    // it stands and the line after two.
-    fn read(&mut self, said: &str) -> Result<()> {
+    // it stands and the line after two. Answers whether there was memory for it.
+    fn read(&mut self, said: &str) -> bool {
         if said == "?" {
             self.is_any = true;
         } else if let Some(line) = said.strip_prefix("* ") {
-            add_often(&mut self.text, line, "\n")?;
+            self.text.add_often(line, "\n");
         } else if let Some(line) = said.strip_prefix(" ") {
-            add_line(&mut self.text, line)?;
+            self.text.add_text(line, "\n");
         }
-        Ok(())
+        self.text.is_whole()
     }
 
     // Whether it is said of these bytes.
@@ -109,7 +138,7 @@ impl Said {
         if self.is_any {
             !bytes.is_empty()
         } else {
-            bytes == self.text.as_bytes()
+            self.text.has(bytes)
         }
     }
 }
@@ -125,26 +154,25 @@ pub struct Answer {
 }
 
 impl Answer {
-    /// The answer to a command line.
-    pub fn of(alloc: Global, block: &Block) -> Result<Answer> {
-        let words: Vec<&str> = block.words.as_str().split(' ').collect(alloc)?;
+    /// The answer to the words of a command line.
+    pub fn of(alloc: Global, block: &Block, words: &[&str]) -> Answer {
         let mut files = MemoryFiles::new(alloc, block.files.as_slice());
         let mut out: Vec<u8> = Vec::new(alloc);
         let mut err: Vec<u8> = Vec::new(alloc);
-        let status = run_command(alloc, words.as_slice(), &mut files, &mut out, &mut err);
-        Ok(Answer {
+        let status = run_command(alloc, words, &mut files, &mut out, &mut err);
+        Answer {
             status,
             failed: files.failed(),
             written: files.into_written(),
             out,
             err,
-        })
+        }
     }
 
     /// Whether this is what is said.
     pub fn is_as_said(&self, block: &Block) -> bool {
-        block.status.as_str().parse::<u8>() == Ok(self.status)
-            && block.failed.as_str().parse::<u64>().unwrap_or(0) == self.failed
+        block.status.parse::<u8>() == Ok(self.status)
+            && block.failed.parse::<u64>() == Ok(self.failed)
             && block.are_written(self.written.as_slice())
             && block.out.is_of(self.out.as_slice())
             && block.err.is_of(self.err.as_slice())

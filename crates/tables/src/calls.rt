@@ -1,11 +1,11 @@
 //! Calls of a routine on the machine: their steps are counted, and what they leave is compared with plain arithmetic.
 
 use crate::arguments::{Arguments, Words};
+use crate::page::Page;
 use crate::runs::put_bytes;
-use anyhow::Result;
 use asm8080::CodeBytes;
 use cpu8080::Machine;
-use mem80::Memory;
+use mem80::{Memory, Memory80Fault};
 use ports::Script;
 use runtime8080::Routine;
 use std::alloc::Global;
@@ -120,25 +120,30 @@ fn put_arguments(memory: &mut Memory, arguments: Arguments) {
     }
 }
 
-// A memory with all that calls need, and other bytes in the blocks that may be moved.
+// Puts into memory all that calls need, and other bytes into the blocks that may be moved.
+fn put_calls(memory: &mut Memory, routine: Routine, code: &CodeBytes, arguments: Arguments) {
+    for address in TABLE_END..=65_535 {
+        memory.set(address, (address.wrapping_mul(77) / 256) as u8);
+    }
+    let driver = if routine == Routine::Move {
+        &MOVES
+    } else {
+        &CALLS
+    };
+    put_bytes(memory, DRIVER, driver);
+    put_code(memory, code);
+    put_arguments(memory, arguments);
+}
+
+// A memory with all that calls need.
 fn memory_of(
     alloc: Global,
     routine: Routine,
     code: &CodeBytes,
     arguments: Arguments,
-) -> Result<Memory> {
+) -> Result<Memory, Memory80Fault> {
     let mut memory = Memory::new(alloc)?;
-    for address in TABLE_END..=65_535 {
-        memory.set(address, (address.wrapping_mul(77) / 256) as u8);
-    }
-    let driver = if routine == Routine::Move {
-        MOVES.as_slice()
-    } else {
-        CALLS.as_slice()
-    };
-    put_bytes(&mut memory, DRIVER, driver);
-    put_code(&mut memory, code);
-    put_arguments(&mut memory, arguments);
+    put_calls(&mut memory, routine, code, arguments);
     Ok(memory)
 }
 
@@ -275,22 +280,49 @@ fn compare_bytes(left: &Memory, right: &Memory, tally: &mut Tally) {
     }
 }
 
-/// What is found of the calls of a routine with some arguments.
-pub fn tally_of(
+// Carries out the calls of a machine, and compares what they left with plain arithmetic: the wanted memory has what was in the
+// machine's before.
+fn tally_with(
+    machine: &mut Machine<Script>,
+    wanted: &mut Memory,
+    routine: Routine,
+    arguments: Arguments,
+) -> Tally {
+    machine.run(1);
+    let mut tally = count_steps(machine, arguments.count());
+    compare_values(machine.memory(), routine, arguments, &mut tally);
+    if routine == Routine::Move {
+        move_blocks(wanted, arguments);
+    }
+    compare_bytes(machine.memory(), wanted, &mut tally);
+    tally
+}
+
+// What is found of the calls of a routine, where there is memory for them.
+fn tally_in(
     alloc: Global,
     routine: Routine,
     code: &CodeBytes,
     arguments: Arguments,
-) -> Result<Tally> {
+) -> Result<Tally, Memory80Fault> {
+    let mut wanted = memory_of(alloc, routine, code, arguments)?;
     let memory = memory_of(alloc, routine, code, arguments)?;
     let mut machine = Machine::new(memory, Script::new(alloc), DRIVER);
-    machine.run(1);
-    let mut tally = count_steps(&mut machine, arguments.count());
-    compare_values(machine.memory(), routine, arguments, &mut tally);
-    let mut wanted = memory_of(alloc, routine, code, arguments)?;
-    if routine == Routine::Move {
-        move_blocks(&mut wanted, arguments);
+    Ok(tally_with(&mut machine, &mut wanted, routine, arguments))
+}
+
+/// What is found of the calls of a routine with some arguments.
+pub fn tally_of(
+    page: &mut Page,
+    routine: Routine,
+    code: &CodeBytes,
+    arguments: Arguments,
+) -> Tally {
+    match tally_in(page.alloc(), routine, code, arguments) {
+        Ok(tally) => tally,
+        Err(_) => {
+            page.note(false);
+            Tally::new()
+        }
     }
-    compare_bytes(machine.memory(), &wanted, &mut tally);
-    Ok(tally)
 }

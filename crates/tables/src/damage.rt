@@ -1,8 +1,7 @@
 //! Object files of which each byte in turn is changed to each other value.
 
 use crate::page::Page;
-use crate::texts::add_bytes;
-use anyhow::Result;
+use crate::texts::Bytes;
 use failure::Failure;
 use objmod::{Fault, read};
 use std::alloc::Global;
@@ -151,10 +150,10 @@ fn changes_of(alloc: Global, bytes: &mut [u8]) -> Counts {
 }
 
 /// Prints what is answered to each change of one byte of the object that hexadecimal digits write.
-pub fn print_damage(alloc: Global, page: &mut Page, object: &str) -> Result<()> {
-    let mut bytes = Vec::new(alloc);
-    add_bytes(&mut bytes, object)?;
-    page.number("damage to ", bytes.len() as u64);
-    changes_of(alloc, bytes.as_mut_slice()).print(page);
-    Ok(())
+pub fn print_damage(page: &mut Page, digits: &str) {
+    let mut object = Bytes::new(page.alloc());
+    object.add_digits(digits);
+    page.note(object.is_whole());
+    page.number("damage to ", object.as_slice().len() as u64);
+    changes_of(page.alloc(), object.as_mut_slice()).print(page);
 }

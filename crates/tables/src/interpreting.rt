@@ -50,19 +50,19 @@ fn word_of_end<P: Ports>(alloc: Global, text: &[u8], ports: &mut P) -> &'static 
 const READS_TWICE: &[u8] = b"M: DO; OUTPUT(5) = INPUT(1) - INPUT(1); END M;";
 
 // Prints how the program ends on ports of which a read may fail.
-fn print_faulty_run(alloc: Global, page: &mut Page, ports: &mut FaultyPorts) {
-    page.text(word_of_end(alloc, READS_TWICE, ports));
+fn print_faulty_run(page: &mut Page, ports: &mut FaultyPorts) {
+    let end = word_of_end(page.alloc(), READS_TWICE, ports);
+    page.text(end);
     page.number(", failures: ", ports.failed);
     page.text("\n");
     print_events(page, ports.script.events());
 }
 
 // A program on ports whose second read fails, and then once more from its beginning on.
-fn print_port_fault(alloc: Global, page: &mut Page) -> anyhow::Result<()> {
-    let mut ports = FaultyPorts::with_two_inputs(alloc)?;
-    print_faulty_run(alloc, page, &mut ports);
-    print_faulty_run(alloc, page, &mut ports);
-    Ok(())
+fn print_port_fault(page: &mut Page) {
+    let mut ports = FaultyPorts::with_two_inputs(page.alloc());
+    print_faulty_run(page, &mut ports);
+    print_faulty_run(page, &mut ports);
 }
 
 const CALLS: &[u8] =
@@ -73,17 +73,17 @@ DO WHILE S < 3; A(0), R.C(1) = -(A(0) := S) * 2; CALL G(.(7, 'AB')); END; OUTPUT
 L: DO CASE K - 3; OUTPUT(0) = A(0); HALT; END; END M;";
 
 // Prints how the program ends, and its events.
-fn print_calls(alloc: Global, page: &mut Page) {
-    let mut script = Script::new(alloc);
-    page.text(word_of_end(alloc, CALLS, &mut script));
-    page.text("\n");
+fn print_calls(page: &mut Page) {
+    let mut script = Script::new(page.alloc());
+    let end = word_of_end(page.alloc(), CALLS, &mut script);
+    page.line("", end);
     print_events(page, script.events());
 }
 
 // The program twice: to be run with each allocation refused in turn, of which at most one is.
-fn print_second_run(alloc: Global, page: &mut Page) {
-    print_calls(alloc, page);
-    print_calls(alloc, page);
+fn print_second_run(page: &mut Page) {
+    print_calls(page);
+    print_calls(page);
 }
 
 // How a build ends, in a word.
@@ -96,18 +96,14 @@ fn word_of_build(answer: &Result<Built, Failure<ToolFault>>) -> &'static str {
 }
 
 // What is said of a program of no sources.
-fn print_no_sources(alloc: Global, page: &mut Page) {
-    let plan = Plan::usual();
-    let answer = build(alloc, &[], &plan);
-    page.text("no sources: ");
-    page.text(word_of_build(&answer));
-    page.text("\n");
+fn print_no_sources(page: &mut Page) {
+    let answer = build(page.alloc(), &[], &Plan::usual());
+    page.line("no sources: ", word_of_build(&answer));
 }
 
 /// Prints how these programs end.
-pub fn print_programs(alloc: Global, page: &mut Page) -> anyhow::Result<()> {
-    print_port_fault(alloc, page)?;
-    print_second_run(alloc, page);
-    print_no_sources(alloc, page);
-    Ok(())
+pub fn print_programs(page: &mut Page) {
+    print_port_fault(page);
+    print_second_run(page);
+    print_no_sources(page);
 }

@@ -15,7 +15,7 @@
 //! are, made of modules and of files; objects that are read, placed and loaded, texts of Intel HEX that are read, and how
 //! commands end whose output fails part way; what long code and code with many labels is; and at last whether the document
 //! of the routines, the file `runtime.md` where the program runs, is as it is made here, or else that document.
-//! With words it reads no standard input: it does what the words order, and prints how long that took. `measures` says which there are.
+//! With the word `code` it reads no standard input, and prints what code is alone, for who refuses its allocations.
 //!
 //! What is said was written by hand from the rules of the language in `docs/language.md`, of object files in
 //! `docs/object-format.md` and of the commands in `docs/commands.md`, or computed from them by other programs that share
@@ -32,19 +32,12 @@ mod damage;
 mod events;
 mod faulty;
 mod interpreting;
-mod made_objects;
-mod made_sources;
-mod measured_machine;
-mod measured_objects;
-mod measured_text;
-mod measures;
 mod memory_files;
 mod merging;
 mod objects;
 mod operations;
 mod page;
 mod readers;
-mod reports;
 mod routines;
 mod runs;
 mod scripts;
@@ -59,7 +52,6 @@ use codes::print_codes;
 use damage::print_damage;
 use files::HostFiles;
 use interpreting::print_programs;
-use measures::measure;
 use merging::print_merges;
 use objects::print_objects;
 use operations::print_operations;
@@ -68,16 +60,16 @@ use routines::print_routines;
 use runs::print_runs;
 use scripts::print_scripts;
 use shorter::print_shorter;
-use std::alloc::Global;
 use std::env;
 use std::io::read_to_string;
 
 // The line after a block.
 const END_OF_BLOCK: &str = "====";
 
-// How many blocks there were, and how many of them had another answer.
+// How many lines were read, how many blocks there were, and how many of them had another answer.
 #[derive(Clone, Copy)]
 struct Counts {
+    lines: u64,
     blocks: u64,
     differ: u64,
 }
@@ -91,7 +83,7 @@ impl Counts {
         }
     }
 
-    // Prints both.
+    // Prints how many blocks there were, and how many had another answer.
     fn print(&self, page: &mut Page) {
         page.number("", self.blocks);
         page.number(" command lines, ", self.differ);
@@ -99,104 +91,91 @@ impl Counts {
     }
 }
 
-// Whether a command line has the answer that is said of it; where not, prints what it has.
-fn is_as_said(alloc: Global, page: &mut Page, block: &Block) -> Result<bool> {
-    let answer = Answer::of(alloc, block)?;
+// Whether the words of a command line have the answer that is said of it; where not, prints what it has.
+fn is_as_said(page: &mut Page, block: &Block, words: &[&str]) -> bool {
+    let answer = Answer::of(page.alloc(), block, words);
     let is_as_said = answer.is_as_said(block);
     if !is_as_said {
-        page.number("line ", block.place() as u64);
+        page.number("line ", block.place());
         page.text(": ");
         answer.print(page);
         page.text("\n");
     }
-    Ok(is_as_said)
+    is_as_said
 }
 
-// Takes in the line of a place: changes the object that it writes, or carries out the block that it ends.
-fn read_line(
-    alloc: Global,
-    page: &mut Page,
-    counts: &mut Counts,
-    block: &mut Block,
-    place: usize,
-    line: &str,
-) -> Result<()> {
+// Carries out a block.
+fn run_block(page: &mut Page, counts: &mut Counts, block: &Block) {
+    match block.words(page.alloc()) {
+        Ok(words) => counts.add(is_as_said(page, block, words.as_slice())),
+        Err(_) => page.note(false),
+    }
+}
+
+// Takes in a line: changes the object that it writes, or carries out the block that it ends.
+fn read_line<'a>(page: &mut Page, counts: &mut Counts, block: &mut Block<'a>, line: &'a str) {
+    counts.lines = counts.lines.saturating_add(1);
     if let Some(object) = line.strip_prefix("damage ") {
-        return print_damage(alloc, page, object);
+        print_damage(page, object);
+    } else if line == END_OF_BLOCK {
+        run_block(page, counts, block);
+        *block = Block::new(page.alloc());
+    } else {
+        let is_read = block.read(page.alloc(), counts.lines, line);
+        page.note(is_read);
     }
-    if line != END_OF_BLOCK {
-        return block.read(alloc, place, line);
-    }
-    counts.add(is_as_said(alloc, page, block)?);
-    *block = Block::new(alloc);
-    Ok(())
 }
 
 // Carries out the command lines of rows.
-fn print_blocks(alloc: Global, page: &mut Page, rows: &str) -> Result<()> {
+fn print_blocks(page: &mut Page, rows: &str) {
     let mut counts = Counts {
+        lines: 0,
         blocks: 0,
         differ: 0,
     };
-    let mut block = Block::new(alloc);
-    for (before, line) in rows.lines().enumerate() {
-        let place = before.saturating_add(1);
-        read_line(alloc, page, &mut counts, &mut block, place, line)?;
+    let mut block = Block::new(page.alloc());
+    for line in rows.lines() {
+        read_line(page, &mut counts, &mut block, line);
     }
     counts.print(page);
-    Ok(())
 }
 
 // Prints what the parts of the machine do, the interpreter, and what reads and places objects.
-fn print_parts(alloc: Global, page: &mut Page) -> Result<()> {
+fn print_parts(page: &mut Page) {
     print_codes(page);
     print_operations(page);
-    print_runs(alloc, page)?;
-    print_scripts(alloc, page)?;
-    print_programs(alloc, page)?;
-    print_merges(alloc, page)?;
-    print_adjusting(alloc, page)?;
-    print_objects(alloc, page)?;
-    print_shorter(alloc, page)
+    print_runs(page);
+    print_scripts(page);
+    print_programs(page);
+    print_merges(page);
+    print_adjusting(page);
+    print_objects(page);
+    print_shorter(page);
+    print_assemblies(page);
 }
 
 // Prints the answers to the command lines of standard input, what the parts do, what code is, and the routines.
 fn print_all(rt: &HostRuntime, page: &mut Page) -> Result<()> {
     let rows = read_to_string(rt.alloc(), rt.reader())?;
-    print_blocks(rt.alloc(), page, rows.as_str())?;
-    print_parts(rt.alloc(), page)?;
-    print_assemblies(rt.alloc(), page)?;
-    let mut files = HostFiles::new(rt);
-    print_routines(rt.alloc(), &mut files, page)
+    print_blocks(page, rows.as_str());
+    print_parts(page);
+    print_routines(&mut HostFiles::new(rt), page);
+    Ok(())
 }
 
-// Measures what words order, or prints the rows where only the program's name is given.
-fn measure_or_print(rt: &HostRuntime, page: &mut Page, words: &[&str]) -> Result<()> {
-    if words.len() > 1 {
-        measure(rt, page, words)
+// Prints what code is where a word follows the program's name, and else all.
+fn print_ordered(rt: &HostRuntime, page: &mut Page, words: usize) -> Result<()> {
+    if words > 1 {
+        print_assemblies(page);
+        Ok(())
     } else {
         print_all(rt, page)
     }
 }
 
-// Does what the words order, and writes what that printed, as far as it came.
-fn print_page(rt: &HostRuntime, words: &[&str]) -> Result<()> {
-    let mut page = Page::new(rt.alloc());
-    let ended = measure_or_print(rt, &mut page, words);
-    let written = page.write(&mut rt.stdout());
-    if ended.is_ok() { written } else { ended }
-}
-
-// Does what the words order that the program was given.
-fn carry_out(rt: &HostRuntime, given: &[String]) -> Result<()> {
-    let mut words = Vec::new(rt.alloc());
-    for word in given {
-        words.push(word.as_str())?;
-    }
-    print_page(rt, words.as_slice())
-}
-
 fn main(rt: HostRuntime) -> Result<()> {
-    let given: Vec<String> = env::args(&rt)?.collect(rt.alloc())?;
-    carry_out(&rt, given.as_slice())
+    let words = env::args(&rt)?.count();
+    let mut page = Page::new(rt.alloc());
+    print_ordered(&rt, &mut page, words)?;
+    page.write(&mut rt.stdout())
 }

@@ -3,8 +3,7 @@
 ghost use Rattle.std.specs.Prelude.{◌≡◌, ◌≤◌, length};
 ghost use Rattle.ports.specs.Events.{CountsFailure};
 
-use crate::texts::{add_bytes, add_line, add_often};
-use anyhow;
+use crate::texts::Bytes;
 use failure::Failure;
 use files::{FileFault, Files};
 use std::alloc::Global;
@@ -13,56 +12,81 @@ use std::alloc::Global;
 const CLOSED: &str = "closed.obj";
 
 // A file of this name takes a byte at a time, and no more than this many.
-const BROKEN: &str = "broken.obj";
+const BROKEN: &[u8] = b"broken.obj";
 
 const BROKEN_LENGTH: usize = 3;
 
 /// A file: its name and its bytes.
 #[derive(Drop)]
 pub struct File {
-    pub name: String,
-    pub bytes: Vec<u8>,
+    pub name: Bytes,
+    pub bytes: Bytes,
 }
 
 impl File {
     /// An empty file.
-    pub fn new(alloc: Global, name: &str) -> anyhow::Result<File> {
+    pub fn new(alloc: Global, name: &str) -> File {
         let mut file = File {
-            name: String::new(alloc),
-            bytes: Vec::new(alloc),
+            name: Bytes::new(alloc),
+            bytes: Bytes::new(alloc),
         };
-        file.name.push_str(name)?;
-        Ok(file)
+        file.name.add(name.as_bytes());
+        file
     }
 
     /// Takes in the next line of its text: one that ends in a backslash without it and without an end, a piece that is
-    /// added so often after a star, and bytes in hexadecimal digits after an `x`.
-    pub fn read(&mut self, alloc: Global, line: &str) -> anyhow::Result<()> {
+    /// added so often after a star, and bytes in hexadecimal digits after an `x`. Answers whether it is whole.
+    pub fn read(&mut self, line: &str) -> bool {
         if let Some(digits) = line.strip_prefix("x ") {
-            return add_bytes(&mut self.bytes, digits);
+            self.bytes.add_digits(digits);
+        } else if let Some(pieces) = line.strip_prefix("* ") {
+            self.bytes.add_often(pieces, "");
+        } else if let Some(start) = line.strip_suffix("\\") {
+            self.bytes.add(start.as_bytes());
+        } else {
+            self.bytes.add_text(line, "\n");
         }
-        let mut text = String::new(alloc);
-        add_text(&mut text, line)?;
-        self.bytes.extend_from_slice(text.as_bytes())?;
-        Ok(())
+        self.name.is_whole() && self.bytes.is_whole()
     }
 
     /// Whether it has this name and these bytes.
     pub fn is_same(&self, other: &File) -> bool {
-        self.name.as_str() == other.name.as_str() && self.bytes.as_slice() == other.bytes.as_slice()
+        self.name.has(other.name.as_slice())
+            && other.bytes.is_whole()
+            && self.bytes.has(other.bytes.as_slice())
+    }
+
+    // How many bytes of these it takes.
+    fn count_of(&self, bytes: &[u8]) -> usize
+        ensures { result ≤ length bytes.now }
+    {
+        if !self.name.has(BROKEN) {
+            bytes.len()
+        } else if self.bytes.as_slice().len() < BROKEN_LENGTH {
+            bytes.len().min(1)
+        } else {
+            0
+        }
+    }
+
+    // Adds as many bytes as it takes, and answers how many.
+    fn grow(&mut self, bytes: &[u8]) -> usize
+        ensures { result ≤ length bytes.now }
+    {
+        let count = self.count_of(bytes);
+        self.bytes.add(&bytes[..count]);
+        count
     }
 }
 
-// Adds what a line of a text stands for.
-fn add_text(text: &mut String, line: &str) -> anyhow::Result<()> {
-    if let Some(pieces) = line.strip_prefix("* ") {
-        add_often(text, pieces, "")
-    } else if let Some(start) = line.strip_suffix("\\") {
-        text.push_str(start)?;
-        Ok(())
-    } else {
-        add_line(text, line)
+// The number of the file of a name, or how many files there are.
+fn number_of(files: &[File], name: &str) -> usize {
+    for (number, file) in files.iter().enumerate() {
+        if file.name.has(name.as_bytes()) {
+            return number;
+        }
     }
+    files.len()
 }
 
 /// Some files, those that were written, and a count of the calls that failed.
@@ -105,55 +129,43 @@ impl<'a> MemoryFiles<'a> {
         FileFault
     }
 
-    // The number of a file that was written, or how many there are.
-    fn number_of(&self, name: &str) -> usize {
-        for (number, file) in self.written.iter().enumerate() {
-            if file.name.as_str() == name {
-                return number;
-            }
+    // A file: as it was written, where it was.
+    fn file(&self, name: &str) -> Option<&File> {
+        let written = self
+            .written
+            .as_slice()
+            .get(number_of(self.written.as_slice(), name));
+        if written.is_some() {
+            written
+        } else {
+            self.files.get(number_of(self.files, name))
         }
-        self.written.len()
     }
 
-    // The bytes of a file.
-    fn bytes_of(&self, name: &str) -> Option<&[u8]> {
-        let number = self.number_of(name);
-        if number < self.written.len() {
-            return Some(self.written[number].bytes.as_slice());
-        }
-        for file in self.files {
-            if file.name.as_str() == name {
-                return Some(file.bytes.as_slice());
-            }
-        }
-        None
-    }
-
-    // Makes a file empty.
-    fn clear(&mut self, name: &str) -> anyhow::Result<()>
+    // Makes a file empty, and answers whether there was memory for it.
+    fn clear(&mut self, name: &str) -> bool
         ensures { self.new.failed ≡ self.old.failed }
     {
-        let file = File::new(self.alloc, name)?;
-        let number = self.number_of(name);
+        let number = number_of(self.written.as_slice(), name);
         if number < self.written.len() {
-            self.written[number] = file;
+            self.written[number].bytes.clear();
+            true
         } else {
-            self.written.push(file)?;
+            self.written.push(File::new(self.alloc, name)).is_ok()
         }
-        Ok(())
     }
-}
 
-// How many bytes a file takes.
-fn count_of(file: &File, bytes: &[u8]) -> usize
-    ensures { result ≤ length bytes.now }
-{
-    if file.name.as_str() != BROKEN {
-        bytes.len()
-    } else if file.bytes.len() < BROKEN_LENGTH {
-        bytes.len().min(1)
-    } else {
-        0
+    // Adds bytes to a file that was written, and answers how many.
+    fn grow(&mut self, name: &str, bytes: &[u8]) -> usize
+        ensures count { result ≤ length bytes.now }
+        ensures failed { self.new.failed ≡ self.old.failed }
+    {
+        let number = number_of(self.written.as_slice(), name);
+        if number < self.written.len() {
+            self.written[number].grow(bytes)
+        } else {
+            0
+        }
     }
 }
 
@@ -161,10 +173,10 @@ impl Files for MemoryFiles<'_> {
     ghost failures = { λ files. files.failed };
 
     fn read_file(&mut self, name: &str) -> Result<Vec<u8>, Failure<FileFault>> {
-        let Some(bytes) = self.bytes_of(name) else {
+        let Some(file) = self.file(name) else {
             return Err(Failure::Fault(self.fail()));
         };
-        match Vec::from_slice(self.alloc, bytes) {
+        match Vec::from_slice(self.alloc, file.bytes.as_slice()) {
             Ok(bytes) => Ok(bytes),
             Err(_) => Err(Failure::Memory),
         }
@@ -172,32 +184,20 @@ impl Files for MemoryFiles<'_> {
 
     fn begin(&mut self, name: &str) -> Result<(), Failure<FileFault>> {
         if name == CLOSED {
-            return Err(Failure::Fault(self.fail()));
-        }
-        match self.clear(name) {
-            Ok(()) => Ok(()),
-            Err(_) => Err(Failure::Memory),
+            Err(Failure::Fault(self.fail()))
+        } else if self.clear(name) {
+            Ok(())
+        } else {
+            Err(Failure::Memory)
         }
     }
 
     fn append(&mut self, name: &str, bytes: &[u8]) -> Result<usize, Failure<FileFault>> {
-        if bytes.is_empty() {
-            return Ok(0);
-        }
-        let number = self.number_of(name);
-        if number >= self.written.len() {
-            return Err(Failure::Fault(self.fail()));
-        }
-        let count = count_of(&self.written[number], bytes);
-        if count == 0 {
-            return Err(Failure::Fault(self.fail()));
-        }
-        match self.written[number]
-            .bytes
-            .extend_from_slice(&bytes[..count])
-        {
-            Ok(()) => Ok(count),
-            Err(_) => Err(Failure::Memory),
+        let count = self.grow(name, bytes);
+        if count == 0 && !bytes.is_empty() {
+            Err(Failure::Fault(self.fail()))
+        } else {
+            Ok(count)
         }
     }
 }

@@ -2,12 +2,11 @@
 
 use crate::page::Page;
 use crate::readers::BrokenReader;
-use anyhow::Result;
 use failure::Failure;
 use hex80::read_hex;
 use locate::{Plan, locate};
 use mem80::{Memory, Piece};
-use objmod::{ObjectModule, Segment, read_from};
+use objmod::{ObjectModule, Segment, read, read_from};
 use std::alloc::Global;
 use std::io::Read;
 
@@ -119,50 +118,50 @@ fn print_object(page: &mut Page, object: &ObjectModule) {
     print_fixes(page, object);
 }
 
-// Prints a word on a line.
-fn print_line(page: &mut Page, word: &str) {
-    page.text(word);
-    page.text("\n");
-}
-
 // Prints what a reader gives.
-fn print_read<R: Read>(alloc: Global, page: &mut Page, from: &mut R) {
-    match read_from(alloc, from) {
+fn print_read<R: Read>(page: &mut Page, from: &mut R) {
+    match read_from(page.alloc(), from) {
         Ok(object) => print_object(page, &object),
-        Err(Failure::Fault(fault)) => print_line(page, fault.number()),
-        Err(Failure::Memory) => print_line(page, "MEMORY"),
+        Err(Failure::Fault(fault)) => page.line("", fault.number()),
+        Err(Failure::Memory) => page.line("", "MEMORY"),
     }
 }
 
 // An object, one that is cut off, and one whose reader fails.
-fn print_readers(alloc: Global, page: &mut Page) {
+fn print_readers(page: &mut Page) {
     let mut whole = CALLING.as_slice();
-    print_read(alloc, page, &mut whole);
+    print_read(page, &mut whole);
     let mut shorter = &CALLING[..50];
-    print_read(alloc, page, &mut shorter);
+    print_read(page, &mut shorter);
     let mut broken = BrokenReader {
         bytes: &CALLING[..12],
     };
-    print_read(alloc, page, &mut broken);
+    print_read(page, &mut broken);
 }
 
-// Loads the merge, placed as usual.
-fn load_merged(alloc: Global, memory: &mut Memory) -> Result<()> {
-    let mut bytes = MERGED.as_slice();
-    let object = read_from(alloc, &mut bytes)?;
-    let absolute = locate(alloc, &object, &Plan::usual())?;
-    absolute.load(memory);
-    Ok(())
+// Places an object as usual, and loads it: whether it could be placed.
+fn is_loaded(alloc: Global, memory: &mut Memory, object: &ObjectModule) -> bool {
+    match locate(alloc, object, &Plan::usual()) {
+        Ok(absolute) => {
+            absolute.load(memory);
+            true
+        }
+        Err(_) => false,
+    }
 }
 
-// A memory with the merge, over other bytes.
-fn loaded(alloc: Global) -> Result<Memory> {
-    let mut memory = Memory::new(alloc)?;
+// Loads the merge over other bytes.
+fn load_merged(page: &mut Page, memory: &mut Memory) {
     for address in 0xFF..0x10A_u16 {
         memory.set(address, 0x11);
     }
-    load_merged(alloc, &mut memory)?;
-    Ok(memory)
+    match read(page.alloc(), &MERGED) {
+        Ok(object) => {
+            let is_loaded = is_loaded(page.alloc(), memory, &object);
+            page.note(is_loaded);
+        }
+        Err(_) => page.note(false),
+    }
 }
 
 // Prints the bytes of a memory from 0FFH to 109H.
@@ -184,23 +183,32 @@ fn print_pieces(page: &mut Page, pieces: &[Piece]) {
 }
 
 // Prints the pieces of a text, or its fault.
-fn print_row(alloc: Global, page: &mut Page, row: &Row) {
+fn print_row(page: &mut Page, row: &Row) {
     page.text(row.what);
     page.text(": ");
-    match read_hex(alloc, row.text.as_bytes()) {
+    match read_hex(page.alloc(), row.text.as_bytes()) {
         Ok(pieces) => print_pieces(page, pieces.as_slice()),
-        Err(Failure::Fault(fault)) => print_line(page, fault.number()),
-        Err(Failure::Memory) => print_line(page, "MEMORY"),
+        Err(Failure::Fault(fault)) => page.line("", fault.number()),
+        Err(Failure::Memory) => page.line("", "MEMORY"),
+    }
+}
+
+// Prints what is loaded.
+fn print_loaded(page: &mut Page) {
+    match Memory::new(page.alloc()) {
+        Ok(mut memory) => {
+            load_merged(page, &mut memory);
+            print_memory(page, &memory);
+        }
+        Err(_) => page.note(false),
     }
 }
 
 /// Prints objects that are read and loaded, and the pieces of texts.
-pub fn print_objects(alloc: Global, page: &mut Page) -> Result<()> {
-    print_readers(alloc, page);
-    let memory = loaded(alloc)?;
-    print_memory(page, &memory);
+pub fn print_objects(page: &mut Page) {
+    print_readers(page);
+    print_loaded(page);
     for row in &TEXTS {
-        print_row(alloc, page, row);
+        print_row(page, row);
     }
-    Ok(())
 }

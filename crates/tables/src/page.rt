@@ -9,6 +9,7 @@ use std::{fmt, io};
 /// function that prints is a row of calls with one way out, which is quickly proved.
 #[derive(Drop)]
 pub struct Page {
+    alloc: Global,
     text: String,
     is_whole: bool,
 }
@@ -17,21 +18,39 @@ impl Page {
     /// An empty page.
     pub fn new(alloc: Global) -> Page {
         Page {
+            alloc,
             text: String::new(alloc),
             is_whole: true,
         }
     }
 
+    /// Where it takes memory from, as may all that is printed on it.
+    pub fn alloc(&self) -> Global {
+        self.alloc
+    }
+
+    /// Notes whether a piece is there.
+    pub fn note(&mut self, is_there: bool) {
+        self.is_whole = self.is_whole && is_there;
+    }
+
     /// Adds a text.
     pub fn text(&mut self, text: &str) {
         let is_added = self.text.push_str(text).is_ok();
-        self.is_whole = self.is_whole && is_added;
+        self.note(is_added);
+    }
+
+    /// Adds a text and a word after it that ends the line.
+    pub fn line(&mut self, before: &str, word: &str) {
+        self.text(before);
+        self.text(word);
+        self.text("\n");
     }
 
     /// Adds what a value shows itself as.
     pub fn value<T: fmt::Display>(&mut self, value: &T) {
         let is_added = write!(self.text, "{value}").is_ok();
-        self.is_whole = self.is_whole && is_added;
+        self.note(is_added);
     }
 
     /// Adds a text and a number after it.
@@ -44,7 +63,7 @@ impl Page {
     pub fn byte(&mut self, before: &str, byte: u8) {
         self.text(before);
         let is_added = write!(self.text, "{byte:02X}").is_ok();
-        self.is_whole = self.is_whole && is_added;
+        self.note(is_added);
     }
 
     /// Adds a text and four hexadecimal digits after it.
@@ -57,12 +76,17 @@ impl Page {
     /// Adds what another page has. Where something is missing there, it is missing here.
     pub fn page(&mut self, other: &Page) {
         self.text(other.text.as_str());
-        self.is_whole = self.is_whole && other.is_whole;
+        self.note(other.is_whole);
     }
 
     /// Whether these bytes are what was added, and nothing is missing.
     pub fn has(&self, bytes: &[u8]) -> bool {
         self.is_whole && self.text.as_bytes() == bytes
+    }
+
+    /// Whether another page has the same, and nothing is missing in either.
+    pub fn is_same(&self, other: &Page) -> bool {
+        other.is_whole && self.has(other.text.as_bytes())
     }
 
     /// Writes what was added, and fails where something is missing.

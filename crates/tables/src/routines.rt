@@ -3,10 +3,10 @@
 use crate::arguments::{Arguments, Kind};
 use crate::calls::{Tally, tally_of};
 use crate::page::Page;
-use anyhow::{Result, bail};
-use asm8080::{Code, CodeBytes};
+use asm8080::{Code, CodeBytes, Fault};
+use failure::Failure;
 use files::Files;
-use isa8080::decode;
+use isa8080::{Instr, decode};
 use runtime8080::{Routine, emit_routine};
 use std::alloc::Global;
 
@@ -127,9 +127,7 @@ memory, that are others than plain arithmetic gives. Addresses in the listings c
 fn print_fact(page: &mut Page, name: &str, fact: &str) {
     page.text("- ");
     page.text(name);
-    page.text(": ");
-    page.text(fact);
-    page.text("\n");
+    page.line(": ", fact);
 }
 
 // Prints a number of a routine.
@@ -151,51 +149,47 @@ fn print_hundredths(page: &mut Page, name: &str, number: u64) {
 }
 
 // The code of a routine alone.
-fn code_of(alloc: Global, routine: Routine) -> Result<CodeBytes> {
-    let code = emit_routine(Code::new(alloc), routine)?;
-    match code.finish() {
-        Ok(code) => Ok(code),
-        Err(_) => bail!("a routine is not assembled"),
-    }
+fn code_of(alloc: Global, routine: Routine) -> Result<CodeBytes, Failure<Fault>> {
+    emit_routine(Code::new(alloc), routine)?.finish()
 }
 
 // The byte at an offset.
 fn byte_at(bytes: &[u8], offset: usize) -> u8 {
-    match bytes.get(offset) {
-        Some(byte) => *byte,
-        None => 0,
-    }
+    bytes.get(offset).copied().unwrap_or(0)
 }
 
-// Prints an instruction, and answers its length.
-fn print_instruction(page: &mut Page, bytes: &[u8], offset: usize) -> Result<usize> {
+// Prints an instruction.
+fn print_instruction(page: &mut Page, offset: usize, instr: Instr) {
+    page.word("    ", (offset % 65_536) as u16);
+    page.text("  ");
+    page.value(&instr);
+    page.text("\n");
+}
+
+// Prints the instruction at an offset, and answers its length.
+fn print_at(page: &mut Page, bytes: &[u8], offset: usize) -> usize {
     let second = byte_at(bytes, offset.saturating_add(1));
     let third = byte_at(bytes, offset.saturating_add(2));
-    let Ok(place) = u16::try_from(offset) else {
-        bail!("no offset of code");
-    };
     match decode([byte_at(bytes, offset), second, third]) {
         Some((instr, size)) => {
-            page.word("    ", place);
-            page.text("  ");
-            page.value(&instr);
-            page.text("\n");
-            Ok(size as usize)
+            print_instruction(page, offset, instr);
+            size as usize
         }
-        None => bail!("no instruction"),
+        None => {
+            page.note(false);
+            1
+        }
     }
 }
 
 // Prints the instructions.
-fn print_listing(page: &mut Page, bytes: &[u8]) -> Result<()> {
+fn print_listing(page: &mut Page, bytes: &[u8]) {
     let mut next = 0;
     for offset in 0..bytes.len() {
         if offset == next {
-            let size = print_instruction(page, bytes, offset)?;
-            next = offset.saturating_add(size);
+            next = offset.saturating_add(print_at(page, bytes, offset));
         }
     }
-    Ok(())
 }
 
 // The hundredths of a step that a call takes in the mean.
@@ -220,9 +214,9 @@ fn print_steps_by_bytes(page: &mut Page, tally: &Tally) {
 }
 
 // What calls with some arguments give.
-fn tally_with(alloc: Global, row: &Row, code: &CodeBytes, kind: Kind, mask: u16) -> Result<Tally> {
+fn tally_with(page: &mut Page, row: &Row, code: &CodeBytes, kind: Kind, mask: u16) -> Tally {
     tally_of(
-        alloc,
+        page,
         row.routine,
         code,
         Arguments::of(row.routine, kind, mask),
@@ -230,18 +224,17 @@ fn tally_with(alloc: Global, row: &Row, code: &CodeBytes, kind: Kind, mask: u16)
 }
 
 // Prints what calls give.
-fn print_tallies(alloc: Global, page: &mut Page, row: &Row, code: &CodeBytes) -> Result<()> {
-    let edges = tally_with(alloc, row, code, Kind::Edges, row.mask)?;
+fn print_tallies(page: &mut Page, row: &Row, code: &CodeBytes) {
+    let edges = tally_with(page, row, code, Kind::Edges, row.mask);
     print_number(page, "Wrong at edges", edges.wrong);
     print_number(page, "Greatest steps at edges", edges.greatest);
-    let random = tally_with(alloc, row, code, Kind::Random, row.mask)?;
+    let random = tally_with(page, row, code, Kind::Random, row.mask);
     print_fact(page, "Random arguments", row.random);
     print_steps(page, &random);
     if row.routine == Routine::Multiply || row.routine == Routine::Divide {
-        let narrow = tally_with(alloc, row, code, Kind::Random, 0xFF)?;
+        let narrow = tally_with(page, row, code, Kind::Random, 0xFF);
         print_steps_by_bytes(page, &narrow);
     }
-    Ok(())
 }
 
 // Prints what is said of a routine.
@@ -255,27 +248,28 @@ fn print_facts(page: &mut Page, row: &Row) {
 }
 
 // Prints what is said of a routine, and its code.
-fn print_code(alloc: Global, page: &mut Page, row: &Row, code: &CodeBytes) -> Result<()> {
+fn print_code(page: &mut Page, row: &Row, code: &CodeBytes) {
     print_facts(page, row);
     print_number(page, "Bytes", code.bytes().len() as u64);
-    print_tallies(alloc, page, row, code)?;
+    print_tallies(page, row, code);
     page.text("\n");
-    print_listing(page, code.bytes())
+    print_listing(page, code.bytes());
 }
 
 // Prints the section of a routine.
-fn print_routine(alloc: Global, page: &mut Page, row: &Row) -> Result<()> {
-    let code = code_of(alloc, row.routine)?;
-    print_code(alloc, page, row, &code)
+fn print_routine(page: &mut Page, row: &Row) {
+    match code_of(page.alloc(), row.routine) {
+        Ok(code) => print_code(page, row, &code),
+        Err(_) => page.note(false),
+    }
 }
 
 // Prints the document.
-fn print_document(alloc: Global, page: &mut Page) -> Result<()> {
+fn print_document(page: &mut Page) {
     page.text(HEAD);
     for row in &ROWS {
-        print_routine(alloc, page, row)?;
+        print_routine(page, row);
     }
-    Ok(())
 }
 
 // Whether a file has what is on a page.
@@ -287,13 +281,12 @@ fn is_kept<F: Files>(files: &mut F, document: &Page) -> bool {
 }
 
 /// Prints that the document is kept as a file, or else the document.
-pub fn print_routines<F: Files>(alloc: Global, files: &mut F, page: &mut Page) -> Result<()> {
-    let mut document = Page::new(alloc);
-    print_document(alloc, &mut document)?;
+pub fn print_routines<F: Files>(files: &mut F, page: &mut Page) {
+    let mut document = Page::new(page.alloc());
+    print_document(&mut document);
     if is_kept(files, &document) {
         page.text("the routines are as runtime.md has them\n");
     } else {
         page.page(&document);
     }
-    Ok(())
 }

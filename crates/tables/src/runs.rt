@@ -3,10 +3,9 @@
 use crate::events::{print_events, word_of, word_of_step};
 use crate::faulty::FaultyPorts;
 use crate::page::Page;
-use anyhow::Result;
 use cpu8080::Machine;
 use isa8080::{Registers, decode};
-use mem80::Memory;
+use mem80::{Memory, Memory80Fault};
 use ports::Script;
 use std::alloc::Global;
 
@@ -19,11 +18,15 @@ pub fn put_bytes(memory: &mut Memory, start: u16, bytes: &[u8]) {
     }
 }
 
-// A machine that starts at 100H, where these bytes stand.
-fn machine_with(alloc: Global, bytes: &[u8]) -> Result<Machine<Script>> {
+/// A machine that starts at an address, where these bytes stand, over ports of a script with no inputs.
+pub fn machine_with(
+    alloc: Global,
+    start: u16,
+    bytes: &[u8],
+) -> Result<Machine<Script>, Memory80Fault> {
     let mut memory = Memory::new(alloc)?;
-    put_bytes(&mut memory, 0x100, bytes);
-    Ok(Machine::new(memory, Script::new(alloc), 0x100))
+    put_bytes(&mut memory, start, bytes);
+    Ok(Machine::new(memory, Script::new(alloc), start))
 }
 
 // Prints words, and the registers that tell where a machine is.
@@ -41,52 +44,39 @@ const CHANGES_ITSELF: [u8; 16] = [
     0x3E, 0x01, 0xD3, 0x00, 0x21, 0x01, 0x01, 0x34, 0x7E, 0xFE, 0x03, 0xC2, 0x00, 0x01, 0x76, 0x00,
 ];
 
-// A program that changes itself, whose 15 steps are carried out at once.
-fn print_changes(alloc: Global, page: &mut Page) -> Result<()> {
-    let mut machine = machine_with(alloc, &CHANGES_ITSELF)?;
+// Runs a program that changes itself, whose 15 steps are carried out at once.
+fn print_changes(page: &mut Page, machine: &mut Machine<Script>) {
     let end = machine.run(15);
     print_state(page, word_of(end), machine.registers());
     print_events(page, machine.ports().events());
     page.byte("0101: ", machine.memory().get(0x101));
     page.text("\n");
-    Ok(())
 }
 
 // Prints how a run of so many steps ended.
 fn print_run(page: &mut Page, machine: &mut Machine<Script>, limit: u64) {
     page.number("run of ", limit);
-    page.text(": ");
-    page.text(word_of(machine.run(limit)));
-    page.text("\n");
+    page.line(": ", word_of(machine.run(limit)));
 }
 
 // Prints what a step did.
 fn print_step(page: &mut Page, machine: &mut Machine<Script>) {
-    page.text("step: ");
-    page.text(word_of_step(machine.step()));
-    page.text("\n");
+    page.line("step: ", word_of_step(machine.step()));
 }
 
 // The same program, some steps after others.
-fn print_parts(alloc: Global, page: &mut Page) -> Result<()> {
-    let mut machine = machine_with(alloc, &CHANGES_ITSELF)?;
-    print_run(page, &mut machine, 0);
-    print_run(page, &mut machine, 14);
-    print_step(page, &mut machine);
-    print_step(page, &mut machine);
-    print_run(page, &mut machine, 1);
-    Ok(())
+fn print_parts(page: &mut Page, machine: &mut Machine<Script>) {
+    print_run(page, machine, 0);
+    print_run(page, machine, 14);
+    print_step(page, machine);
+    print_step(page, machine);
+    print_run(page, machine, 1);
 }
 
 // An instruction that stands at the last address and goes on at the first one.
-fn print_last_address(alloc: Global, page: &mut Page) -> Result<()> {
-    let mut memory = Memory::new(alloc)?;
-    memory.set(0xFFFF, 0x3E);
-    memory.set(0x0000, 0x01);
-    let mut machine = Machine::new(memory, Script::new(alloc), 0xFFFF);
+fn print_last_address(page: &mut Page, machine: &mut Machine<Script>) {
     let step = machine.step();
     print_state(page, word_of_step(step), machine.registers());
-    Ok(())
 }
 
 // IN 1; MOV B,A; IN 1; MOV C,A; MOV A,B; SUB C; OUT 5; HLT.
@@ -104,52 +94,76 @@ fn print_faulty_run(page: &mut Page, machine: &mut Machine<FaultyPorts>) {
 }
 
 // A machine with that program, on ports whose second read fails.
-fn faulty_machine(alloc: Global) -> Result<Machine<FaultyPorts>> {
-    let ports = FaultyPorts::with_two_inputs(alloc)?;
+fn faulty_machine(alloc: Global) -> Result<Machine<FaultyPorts>, Memory80Fault> {
     let mut memory = Memory::new(alloc)?;
     put_bytes(&mut memory, 0x100, &READS_TWICE);
-    Ok(Machine::new(memory, ports, 0x100))
+    Ok(Machine::new(memory, FaultyPorts::with_two_inputs(alloc), 0x100))
 }
 
 // The program, and the same machine once its ports work again.
-fn print_port_fault(alloc: Global, page: &mut Page) -> Result<()> {
-    let mut machine = faulty_machine(alloc)?;
-    print_faulty_run(page, &mut machine);
-    print_faulty_run(page, &mut machine);
-    Ok(())
+fn print_port_fault(page: &mut Page) {
+    match faulty_machine(page.alloc()) {
+        Ok(mut machine) => {
+            print_faulty_run(page, &mut machine);
+            print_faulty_run(page, &mut machine);
+        }
+        Err(_) => page.note(false),
+    }
 }
 
 // What a machine does that starts at a code.
-fn print_code(alloc: Global, page: &mut Page, code: u8) -> Result<()> {
-    let mut machine = machine_with(alloc, &[code])?;
+fn print_code(page: &mut Page, machine: &mut Machine<Script>) {
     let end = word_of(machine.run(9));
     let step = word_of_step(machine.step());
     page.byte("", machine.memory().get(0x100));
     page.text(" ");
     page.text(end);
-    page.text(", ");
-    page.text(step);
-    page.text("\n");
+    page.line(", ", step);
     print_state(page, end, machine.registers());
     print_events(page, machine.ports().events());
-    Ok(())
+}
+
+// What is printed of a machine.
+#[derive(Clone, Copy)]
+enum Print {
+    Changes,
+    Parts,
+    LastAddress,
+    Code,
+}
+
+// Prints this of a machine.
+fn print_machine(page: &mut Page, print: Print, machine: &mut Machine<Script>) {
+    match print {
+        Print::Changes => print_changes(page, machine),
+        Print::Parts => print_parts(page, machine),
+        Print::LastAddress => print_last_address(page, machine),
+        Print::Code => print_code(page, machine),
+    }
+}
+
+// Prints what a machine does in its way that starts at an address, where these bytes stand.
+fn print_with(page: &mut Page, print: Print, start: u16, bytes: &[u8]) {
+    match machine_with(page.alloc(), start, bytes) {
+        Ok(mut machine) => print_machine(page, print, &mut machine),
+        Err(_) => page.note(false),
+    }
 }
 
 // Codes that are none of the 8080's stop the machine and change nothing.
-fn print_undocumented(alloc: Global, page: &mut Page) -> Result<()> {
+fn print_undocumented(page: &mut Page) {
     for code in 0..=255_u8 {
         if decode([code, 0, 0]).is_none() {
-            print_code(alloc, page, code)?;
+            print_with(page, Print::Code, 0x100, &[code]);
         }
     }
-    Ok(())
 }
 
 /// Prints what some programs do.
-pub fn print_runs(alloc: Global, page: &mut Page) -> Result<()> {
-    print_changes(alloc, page)?;
-    print_parts(alloc, page)?;
-    print_last_address(alloc, page)?;
-    print_port_fault(alloc, page)?;
-    print_undocumented(alloc, page)
+pub fn print_runs(page: &mut Page) {
+    print_with(page, Print::Changes, 0x100, &CHANGES_ITSELF);
+    print_with(page, Print::Parts, 0x100, &CHANGES_ITSELF);
+    print_with(page, Print::LastAddress, 0xFFFF, &[0x3E, 0x01]);
+    print_port_fault(page);
+    print_undocumented(page);
 }

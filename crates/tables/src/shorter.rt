@@ -1,10 +1,9 @@
-//! Commands whose output fails before all was printed.
+//! Commands whose output fails before all was printed, and commands whose faults can't be told.
 
 use crate::memory_files::{File, MemoryFiles};
 use crate::objects::MERGED;
 use crate::page::Page;
 use crate::readers::ShortWriter;
-use anyhow::Result;
 use commands::run_command;
 use std::alloc::Global;
 
@@ -18,7 +17,7 @@ struct Row {
 const PROGRAM: [u8; 28] = *b"M: DO; OUTPUT(0) = 1; END M;";
 
 // What is printed of the merge stands in `docs/commands.md`.
-const ROWS: [Row; 3] = [
+const ROWS: [Row; 4] = [
     Row {
         words: ["plm", "locate", "m.obj"],
         bytes: &MERGED,
@@ -30,19 +29,31 @@ const ROWS: [Row; 3] = [
         printed: ":09010000CD0401763E08D304C9C8\n:00000001FF\n",
     },
     Row {
+        words: ["plm", "run", "m.plm"],
+        bytes: &PROGRAM,
+        printed: "OUT 00 01\nHALT\n",
+    },
+    Row {
         words: ["plm", "interpret", "m.plm"],
         bytes: &PROGRAM,
         printed: "OUT 00 01\nHALT\n",
     },
 ];
 
-// The file of a command.
-fn files_of(alloc: Global, row: &Row) -> Result<Vec<File>> {
-    let mut file = File::new(alloc, row.words[2])?;
-    file.bytes.extend_from_slice(row.bytes)?;
-    let mut files = Vec::new(alloc);
-    files.push(file)?;
-    Ok(files)
+// Words of which the first name a file that is not there, the next an option that is none, and the last a value that is none.
+const FAULTY: [&[&str]; 3] = [
+    &["plm", "hex", "none.obj"],
+    &["plm", "hex", "--none"],
+    &["plm", "hex", "--code", "none", "none.obj"],
+];
+
+// The file of a command, where there is memory for it.
+fn files_of(page: &mut Page, row: &Row) -> Vec<File> {
+    let mut files = Vec::new(page.alloc());
+    let mut file = File::new(page.alloc(), row.words[2]);
+    file.bytes.add(row.bytes);
+    page.note(files.push(file).is_ok());
+    files
 }
 
 // Whether a command is refused with U3 where its output takes so many bytes, and has printed these.
@@ -69,20 +80,38 @@ fn refusals(alloc: Global, row: &Row, files: &[File]) -> u64 {
 }
 
 // Prints how often a command is refused.
-fn print_row(alloc: Global, page: &mut Page, row: &Row) -> Result<()> {
-    let files = files_of(alloc, row)?;
-    let [_, command, _] = row.words;
-    page.text(command);
-    page.number(": ", refusals(alloc, row, files.as_slice()));
+fn print_row(page: &mut Page, row: &Row) {
+    let files = files_of(page, row);
+    page.text(row.words[1]);
+    let refused = refusals(page.alloc(), row, files.as_slice());
+    page.number(": ", refused);
     page.number(" of ", row.printed.len() as u64);
     page.text(" shorter outputs are refused\n");
-    Ok(())
 }
 
-/// Prints how often commands are refused whose output is too short.
-pub fn print_shorter(alloc: Global, page: &mut Page) -> Result<()> {
-    for row in &ROWS {
-        print_row(alloc, page, row)?;
+// The status of a command whose faults can't be told.
+fn untold_status(alloc: Global, words: &[&str]) -> u8 {
+    let mut files = MemoryFiles::new(alloc, &[]);
+    let mut out: Vec<u8> = Vec::new(alloc);
+    let taken = Vec::new(alloc);
+    let mut err = ShortWriter { room: 0, taken };
+    run_command(alloc, words, &mut files, &mut out, &mut err)
+}
+
+// Prints the statuses of commands whose faults can't be told.
+fn print_untold(page: &mut Page) {
+    page.text("statuses of faults that can't be told:");
+    for words in &FAULTY {
+        let status = untold_status(page.alloc(), words);
+        page.number(" ", u64::from(status));
     }
-    Ok(())
+    page.text("\n");
+}
+
+/// Prints how often commands are refused whose output is too short, and how they end whose faults can't be told.
+pub fn print_shorter(page: &mut Page) {
+    for row in &ROWS {
+        print_row(page, row);
+    }
+    print_untold(page);
 }

@@ -1,40 +1,82 @@
-//! Texts that are put together from lines.
+//! Bytes that are put together from lines.
 
-use anyhow::{Context, Result, bail};
+use std::alloc::Global;
 
-/// Adds a line and its end.
-pub fn add_line(text: &mut String, line: &str) -> Result<()> {
-    text.push_str(line)?;
-    text.push('\n')?;
-    Ok(())
+/// Bytes that are put together piece by piece. No piece fails: where memory runs out, or digits write no byte, the bytes are not
+/// whole.
+#[derive(Drop)]
+pub struct Bytes {
+    items: Vec<u8>,
+    is_whole: bool,
 }
 
-/// Adds a piece and an end as often as a number says that stands before the piece and a blank.
-pub fn add_often(text: &mut String, line: &str, end: &str) -> Result<()> {
-    let (count, piece) = line.split_once(' ').context("no blank after a number")?;
-    for _ in 0..count.parse::<u32>()? {
-        text.push_str(piece)?;
-        text.push_str(end)?;
+impl Bytes {
+    /// No bytes.
+    pub fn new(alloc: Global) -> Bytes {
+        Bytes {
+            items: Vec::new(alloc),
+            is_whole: true,
+        }
     }
-    Ok(())
-}
 
-// The value of a hexadecimal digit.
-fn digit(letter: u8) -> Result<u8> {
-    let value = char::from(letter)
-        .to_digit(16)
-        .context("no hexadecimal digit")?;
-    Ok(value as u8)
-}
-
-/// Adds the bytes that hexadecimal digits write, two for each, with a blank between them.
-pub fn add_bytes(bytes: &mut Vec<u8>, line: &str) -> Result<()> {
-    for pair in line.as_bytes().chunks(3) {
-        let [high, low, ..] = pair else {
-            bail!("no two digits for a byte");
-        };
-        let byte = digit(*high)?.wrapping_mul(16).wrapping_add(digit(*low)?);
-        bytes.push(byte)?;
+    /// What was added.
+    pub fn as_slice(&self) -> &[u8] {
+        self.items.as_slice()
     }
-    Ok(())
+
+    /// What was added, to be changed.
+    pub fn as_mut_slice(&mut self) -> &mut [u8] {
+        self.items.as_mut_slice()
+    }
+
+    /// Whether nothing is missing.
+    pub fn is_whole(&self) -> bool {
+        self.is_whole
+    }
+
+    /// Whether these bytes are what was added, and nothing is missing.
+    pub fn has(&self, bytes: &[u8]) -> bool {
+        self.is_whole && self.items.as_slice() == bytes
+    }
+
+    /// Takes all away.
+    pub fn clear(&mut self) {
+        self.items.clear();
+        self.is_whole = true;
+    }
+
+    /// Adds bytes.
+    pub fn add(&mut self, bytes: &[u8]) {
+        let is_added = self.items.extend_from_slice(bytes).is_ok();
+        self.is_whole = self.is_whole && is_added;
+    }
+
+    /// Adds a text and its end.
+    pub fn add_text(&mut self, text: &str, end: &str) {
+        self.add(text.as_bytes());
+        self.add(end.as_bytes());
+    }
+
+    /// Adds a piece and an end as often as a number says that stands before the piece and a blank.
+    pub fn add_often(&mut self, line: &str, end: &str) {
+        let (count, piece) = line.split_once(' ').unwrap_or((line, ""));
+        for _ in 0..count.parse::<u32>().unwrap_or(0) {
+            self.add_text(piece, end);
+        }
+    }
+
+    // Adds the byte that two hexadecimal digits write.
+    fn add_byte(&mut self, digits: &str) {
+        match u8::from_str_radix(digits, 16) {
+            Ok(byte) => self.add(&[byte]),
+            Err(_) => self.is_whole = false,
+        }
+    }
+
+    /// Adds the bytes that hexadecimal digits write, two for each, with a blank between them.
+    pub fn add_digits(&mut self, line: &str) {
+        for digits in line.split(' ') {
+            self.add_byte(digits);
+        }
+    }
 }

@@ -1,11 +1,11 @@
 -- What a contract sees of a built program, and what holds of it.
-use Rattle.std.specs.Prelude.{◌≡◌, ◌≤◌, List, length, map}
+use Rattle.std.specs.Prelude.{◌≡◌, ◌≤◌, List, None, length, map}
 use Rattle.typed_trees.specs.TypedTrees.{TypedModule}
 use Rattle.typed_trees.specs.Views.{module_view}
 use Rattle.layout.specs.Joined.{IsJoined}
 use Rattle.layout.specs.Lawful.{IsLawful}
 use Rattle.layout.specs.Placement.{Placement, pieces_of}
-use Rattle.layout.specs.Placing.{placement_by}
+use Rattle.layout.specs.Placing.{placement_by, placing_refusal}
 use Rattle.join.specs.declared.joined.Joined.{Joined}
 use Rattle.join.specs.Views.{modules_of}
 use Rattle.placing.specs.declared.placement.ByteKind.{ByteKind}
@@ -29,13 +29,16 @@ pub record Construction : Type 0 where
 abbrev pub program_modules : Joined → List TypedModule
 program_modules program = map module_view (modules_of program)
 
--- the image does what the program says, with the stack of the plan; the modules make a program, which lies
--- lawfully where the plan puts it; the table is of its bytes there; the code is not too long, and the image has it
--- where the placement has it
+-- the image does what the program says, with the stack of the plan; the modules make a program, whose plan is
+-- not refused, and which lies lawfully where the plan puts it; the table is of its bytes there; the code is
+-- not too long, and the image has it where the placement has it
 pub record IsConstruction (built : Construction) : Type 0 where
   pub headline :
       DoesWhatItSays (program_modules built.program) built.placement built.plan.stack_size built.image
   pub joined : IsJoined (program_modules built.program)
+  pub may_lie :
+      placing_refusal (plan_view built.plan) (program_modules built.program)
+      (code_lengths built.plan (program_modules built.program)) ≡ None
   pub lawful : IsLawful (program_modules built.program) built.placement
   pub as_planned : built.placement
       ≡ placement_by (plan_view built.plan) (program_modules built.program)

@@ -1,5 +1,5 @@
 -- Items of a DECLARE.
-use Rattle.std.proofs.Common.{◌≡◌, ℕ, ◌<◌, ◌≤◌, min, nat_le, true, arith, le-leb, leb-true, sym, ◌∙◌, List, [], ◌∷◌, ◌||◌, not, Ok, Err, refl}
+use Rattle.std.proofs.Common.{◌≡◌, ℕ, ◌<◌, ◌≤◌, min, nat_le, true, arith, le-leb, leb-true, sym, ◌∙◌, List, [], ◌∷◌, ◌||◌, not, Option, Ok, Err, refl, ap, subst}
 use Rattle.std.proofs.lemmas.Bool.{lt-leb}
 use Rattle.std.proofs.Math.Decide.{dec_le}
 use Rattle.names.specs.Environment.{Here, with_object, is_declared_again}
@@ -13,7 +13,10 @@ use Rattle.typing.specs.Checks.{Checked, ◌>>=◌, require}
 use Rattle.typing.specs.Items.{TypedItem, declare_names, declare_item, line_of_item, object_named, size_of_item, typed_item, with_objects, with_typed_object}
 use Rattle.typing.specs.References.{line_of}
 use Rattle.typing.specs.Statements.{with_here}
-use Rattle.types.specs.internal.Items.{item_in_turn, with_names}
+use Rattle.typing.specs.declared.fault.Fault.{Fault}
+use Rattle.typing.specs.Results.{FailsBy}
+use Rattle.typing.proofs.Loops.{fails_more}
+use Rattle.types.specs.internal.Items.{fitted_in_turn, fitting_item, item_in_turn, with_names}
 
 -- one name, and then the others
 names_then : {A B : Type 0} (first : Checked A) (second : Checked B) (block : Block) (others : List Identifier) (here : Here) (progress : Progress)
@@ -88,5 +91,41 @@ module _ (block : Block) (item : ItemTree) (progress : Progress) where
   named_in_turn (Ok here) = typed_in_turn here (typed_item progress.known block item)
   named_in_turn (Err fault) = refl
 
-  pub in_turn : declare_item block item progress ≡ item_in_turn block item progress
+  in_turn : declare_item block item progress ≡ item_in_turn block item progress
   in_turn = named_in_turn (declare_names block (declared_by item.subject) progress.known.here)
+
+  -- what an item is, and that it fits, as one check
+  fitting_first : (typed : TypedItem) (fitting : Checked (Unit {0})) (next : TypedItem → Checked Progress) → fitting >>= (λ _. next typed) ≡ (fitting >>= λ _. Ok typed) >>= next
+  fitting_first typed (Ok fitting) next = refl
+  fitting_first typed (Err fault) next = refl
+
+  typed_first : (typed : Checked TypedItem) (next : TypedItem → Checked Progress) → typed >>= (λ typed. fits typed >>= λ _. next typed) ≡ (typed >>= λ typed. fits typed >>= λ _. Ok typed) >>= next
+  typed_first (Ok typed) next = fitting_first typed (fits typed) next
+  typed_first (Err fault) next = refl
+
+  named_first : (named : Checked Progress)
+      → named >>= (λ named. typed_item progress.known block item >>= λ typed. fits typed >>= λ _. made_from typed named)
+      ≡ named >>= (λ named. fitting_item progress.known block item >>= λ typed. made_from typed named)
+  named_first (Ok named) = typed_first (typed_item progress.known block item) (λ typed. made_from typed named)
+  named_first (Err fault) = refl
+
+  fitted_turn : declare_item block item progress ≡ fitted_in_turn block item progress
+  fitted_turn = in_turn ∙ named_first (with_names block (declared_by item.subject) progress)
+
+  declared_next : (named : Progress) → with_names block (declared_by item.subject) progress ≡ Ok named
+      → declare_item block item progress ≡ (fitting_item progress.known block item >>= λ typed. made_from typed named)
+  declared_next named names = fitted_turn ∙ ap (λ result. result >>= λ named. fitting_item progress.known block item >>= λ typed. made_from typed named) names
+
+  pub names_fail : (fault : Option Fault) → FailsBy fault (with_names block (declared_by item.subject) progress) → FailsBy fault (declare_item block item progress)
+  names_fail fault fails =
+      subst (FailsBy fault) (sym fitted_turn)
+      (fails_more fault (with_names block (declared_by item.subject) progress) (λ named. fitting_item progress.known block item >>= λ typed. made_from typed named) fails)
+
+  pub item_fails : (fault : Option Fault) (named : Progress) → with_names block (declared_by item.subject) progress ≡ Ok named
+      → FailsBy fault (fitting_item progress.known block item) → FailsBy fault (declare_item block item progress)
+  item_fails fault named names fails =
+      subst (FailsBy fault) (sym (declared_next named names)) (fails_more fault (fitting_item progress.known block item) (λ typed. made_from typed named) fails)
+
+  pub declared_with : (typed : TypedItem) (named : Progress) → with_names block (declared_by item.subject) progress ≡ Ok named
+      → fitting_item progress.known block item ≡ Ok typed → declare_item block item progress ≡ with_objects block typed (declared_by item.subject) named
+  declared_with typed named names fitted = declared_next named names ∙ ap (λ result. result >>= λ typed. made_from typed named) fitted

@@ -13,7 +13,7 @@ ghost use Rattle.typing.specs.Checks.{require as required};
 ghost use Rattle.typed_trees.specs.Views.{home_view, object_view, type_view};
 ghost use Rattle.names.specs.Uses.{declared_by};
 ghost use Rattle.typing.specs.Items as items;
-ghost use Rattle.types.specs.internal.Items.{bytes_with, with_last_object, with_names};
+ghost use Rattle.types.specs.internal.Items.{base_named, base_numbered, bytes_with, fitting_item, item_placed, listed_extents, object_listed, placed_item, structure_of, with_last_object, with_names};
 ghost use Rattle.typing.specs.Results.{Answers, Leaves};
 ghost use Rattle.typed_expressions.specs.Views.{constants_view, contents_view, extents_view, known_view};
 ghost use Rattle.types.specs.internal.Views.{block_view, owner_view, progress_view, typed_item_view};
@@ -47,6 +47,13 @@ pub(crate) struct TypedItem {
     linkage: Option<Linkage>,
 }
 
+// How many elements an item has, and where it lives.
+#[derive(Drop)]
+struct PlacedItem {
+    dimension: Option<u32>,
+    home: Home,
+}
+
 // What an item is based on. Parameters are not BASED.
 fn typed_base(
     known: &Known,
@@ -57,21 +64,41 @@ fn typed_base(
         (items.typed_base (known_view known.now) (block_view block.entry) (subject_tree subject.now)
         (items.base_of (subject_tree subject.now))) }
 {
-    let Subject::Single {
-        name: _,
-        base: Some(name),
-    } = subject
-    else {
-        return Ok(None);
-    };
-    require(
-        !names_parameter(block, subject),
-        Cause::MisplacedAttribute,
-        name.place.line,
-    )?;
-    let number = object_bound(known.bound(*name)?, name.place.line)?;
-    let object = known.object(*name, number)?;
-    require(is_base(object), Cause::WrongUse, name.place.line)?;
+    match subject {
+        Subject::Single {
+            base: Some(name),
+            ..
+        } => {
+            require(
+                !names_parameter(block, subject),
+                Cause::MisplacedAttribute,
+                name.place.line,
+            )?;
+            base_named(known, *name)
+        }
+        _ => Ok(None),
+    }
+}
+
+// The object that the name after BASED stands for.
+fn base_named(known: &Known, name: Identifier) -> Result<Option<u32>, Failure<Fault>>
+    ensures { Answers (λ base. base) result (base_named (known_view known.now) name) }
+{
+    let number = object_bound(known.bound(name)?, name.place.line)?;
+    base_numbered(known, name, number)
+}
+
+// The object of a number, which may be a base.
+fn base_numbered(
+    known: &Known,
+    name: Identifier,
+    number: u32,
+) -> Result<Option<u32>, Failure<Fault>>
+    ensures { Answers (λ base. base) result (base_numbered (known_view known.now) name number) }
+{
+    let line = name.place.line;
+    let object = known.object(name, number)?;
+    require(is_base(object), Cause::WrongUse, line)?;
     Ok(Some(number))
 }
 
@@ -132,16 +159,45 @@ fn typed_item(known: &Known, block: Block<'_>, item: &Item) -> Result<TypedItem,
     let base = typed_base(known, block, &item.subject)?;
     let extents = extents_of(block, item)?;
     let object_type = typed_type(known, block, item)?;
-    check_linkage(block, item)?;
-    let at = typed_at(known, block, item)?;
-    let filled = typed_contents(known, block, item, &object_type, extents)?;
-    let home = home_of(block.owner, item, base, at, filled.values);
+    let placed = placed_item(known, block, item, &object_type, base, extents)?;
     Ok(TypedItem {
-        dimension: filled.dimension,
+        dimension: placed.dimension,
         object_type,
-        home,
+        home: placed.home,
         linkage: item.linkage,
     })
+}
+
+// How many elements an item of a type has, and where it lives.
+fn placed_item(
+    known: &Known,
+    block: Block<'_>,
+    item: &Item,
+    object_type: &ObjectType,
+    base: Option<u32>,
+    extents: Extents,
+) -> Result<PlacedItem, Failure<Fault>>
+    ensures { Answers (λ placed. item_placed (type_view object_type.now) item.now.linkage placed) result
+        (placed_item (known_view known.now) (block_view block.entry) (item_tree item.now)
+        (type_view object_type.now) base (extents_view extents)) }
+{
+    check_linkage(block, item)?;
+    let at = typed_at(known, block, item)?;
+    let filled = typed_contents(known, block, item, object_type, extents)?;
+    Ok(PlacedItem {
+        dimension: filled.dimension,
+        home: home_of(block.owner, item, base, at, filled.values),
+    })
+}
+
+// An item as it is for each of its names, whose objects are not too large.
+fn fitting_item(known: &Known, block: Block<'_>, item: &Item) -> Result<TypedItem, Failure<Fault>>
+    ensures { Answers typed_item_view result
+        (fitting_item (known_view known.now) (block_view block.entry) (item_tree item.now)) }
+{
+    let typed = typed_item(known, block, item)?;
+    typed.check_size(line_of_item(item))?;
+    Ok(typed)
 }
 
 // The type of an item.
@@ -154,10 +210,17 @@ fn typed_type(known: &Known, block: Block<'_>, item: &Item) -> Result<ObjectType
         ItemType::Structure(members) => {
             let is_parameter = names_parameter(block, &item.subject);
             require(!is_parameter, Cause::WrongUse, line_of_item(item))?;
-            let typed = typed_members(known.alloc, members.as_slice())?;
-            Ok(ObjectType::Structure(Rc::new(known.alloc, typed)?))
+            structure_of(known.alloc, members.as_slice())
         }
     }
+}
+
+// The type of a structure with these members.
+fn structure_of(alloc: Global, members: &[Member]) -> Result<ObjectType, Failure<Fault>>
+    ensures { Answers type_view result (structure_of members.now) }
+{
+    let typed = typed_members(alloc, members)?;
+    Ok(ObjectType::Structure(Rc::new(alloc, typed)?))
 }
 
 // The number of the object that comes next.
@@ -382,13 +445,20 @@ fn extents_of(block: Block<'_>, item: &Item) -> Result<Extents, Failure<Fault>>
             Ok(Extents::Elements(number.value))
         }
         Some(Dimension::Implied) => {
-            let line = line_of_item(item);
-            require(is_scalar, Cause::WrongUse, line)?;
-            require(!is_group(&item.subject), Cause::MisplacedAttribute, line)?;
-            require(item.value_list.is_some(), Cause::WrongConstant, line)?;
-            Ok(Extents::AsListed)
+            require(is_scalar, Cause::WrongUse, line_of_item(item))?;
+            as_listed(item)
         }
     }
+}
+
+// As many elements as the list of an item has values.
+fn as_listed(item: &Item) -> Result<Extents, Failure<Fault>>
+    ensures { Answers extents_view result (listed_extents (item_tree item.now)) }
+{
+    let line = line_of_item(item);
+    require(!is_group(&item.subject), Cause::MisplacedAttribute, line)?;
+    require(item.value_list.is_some(), Cause::WrongConstant, line)?;
+    Ok(Extents::AsListed)
 }
 
 // Whether an item declares several names in parentheses.
@@ -633,11 +703,24 @@ impl Checker {
     {
         let linkage = item.linkage;
         let object = object_named(block, item, name.name)?;
-        let frame = frame_with(self.frame, &object, name.place.line)?;
+        self.list_object(&object, linkage, name.place.line)?;
+        push_object(&mut self.known, object)
+    }
+
+    // Takes in the next object where it belongs beside the table.
+    fn list_object(
+        &mut self,
+        object: &TypedObject,
+        linkage: Option<Linkage>,
+        line: u32,
+    ) -> Result<(), Failure<Fault>>
+        ensures { Leaves result (progress_view self.new)
+            (object_listed linkage (object_view object.now) line (progress_view self.old)) }
+    {
+        let frame = frame_with(self.frame, object, line)?;
         let number = next_object(&self.known)?;
         add_constant(&mut self.constants, &object.home, number)?;
         add_global(&mut self.globals, linkage, GlobalItem::GlobalObject(number))?;
-        push_object(&mut self.known, object)?;
         self.frame = frame;
         Ok(())
     }
@@ -690,15 +773,12 @@ impl Checker {
     }
 
     // Declares an item. What it is comes from the names before it, and that one of its own is declared twice comes first.
-    #[tactic(auto, using(crate::proofs::ItemLemmas::in_turn))]
     fn declare_item(&mut self, block: Block<'_>, item: &Item) -> Result<(), Failure<Fault>>
         ensures { Leaves result (progress_view self.new)
             (items.declare_item (block_view block.entry) (item_tree item.now) (progress_view self.old)) }
     {
-        let typed = typed_item(&self.known, block, item);
+        let typed = fitting_item(&self.known, block, item);
         self.declare_names(block, &item.subject)?;
-        let typed = typed?;
-        typed.check_size(line_of_item(item))?;
-        self.add_objects(block, typed, &item.subject)
+        self.add_objects(block, typed?, &item.subject)
     }
 }

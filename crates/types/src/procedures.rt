@@ -1,6 +1,7 @@
 //! Headings of procedures and their parameters.
 
-ghost use Rattle.std.specs.Prelude.{◌≡◌, not, ◌||◌, [], ◌∷◌, drop, map, slice_set, take, IfOk, OnOk};
+ghost use Rattle.std.specs.Prelude.{◌≡◌, not, ◌||◌, [], ◌∷◌, drop, map, slice_set, take, unwrap_or, IfOk, OnOk};
+ghost use Rattle.trees.specs.declared.declaration.ScalarType.TheVariants.{Byte};
 ghost use Rattle.failure.specs.Failure.{IfFault};
 ghost use Rattle.trees.specs.Views.{declaration_tree, declaration_trees, element_tree, heading_tree, item_type_tree, kind_tree, reference_tree, statement_tree, statement_trees, subject_tree};
 ghost use Rattle.names.specs.Environment.{into_body};
@@ -11,7 +12,7 @@ ghost use Rattle.typing.specs.Statements.{line_of_kind, line_of_statement, line_
 ghost use Rattle.typing.specs.Procedures.{check_body, check_reentrant, check_visibility, declare_parameters, empty_list, no_more_parameters, open_procedure, parameter_object, parameter_objects, parameter_types, procedure_with, scalar_in_block, scalar_in_declaration, scalar_in_element, scalar_in_elements, scalar_of_type, visibility_of};
 ghost use Rattle.typing.specs.Results.{Answers, Leaves};
 ghost use Rattle.types.specs.internal.Views.{block_view, owner_view, progress_view};
-ghost use Rattle.types.specs.internal.Walking.{heading_opened, names_among, parameter_declared, procedure_closed, procedure_declared};
+ghost use Rattle.types.specs.internal.Walking.{heading_opened, names_among, parameter_declared, parameters_opened, procedure_closed, procedure_declared};
 
 use crate::blocks::{Block, Owner};
 use crate::checker::{Checker, answer_of_scopes};
@@ -28,6 +29,13 @@ use trees::{
 use typed_expressions::{refuse, require};
 use typed_trees::{GlobalItem, PARAMETER_LIMIT, TypedList, TypedProcedure, Visibility};
 use typing::{Cause, Fault};
+
+/// The objects of a procedure's parameters, and what it does.
+#[derive(Drop)]
+pub(crate) struct Inside {
+    pub(crate) parameters: Vec<u32>,
+    pub(crate) body: TypedList,
+}
 
 // The object that a parameter is declared as.
 fn parameter_object(parameter: Identifier, declared: Option<Entity>) -> Result<u32, Failure<Fault>>
@@ -179,7 +187,17 @@ fn scalar_in_block(declared: &[Declaration], name: Name) -> Option<ScalarType>
     None
 }
 
-// The types of parameters. One that is not declared will be refused.
+// The type of a parameter. One that is not declared will be refused.
+fn parameter_type(declared: &[Declaration], name: Name) -> ScalarType
+    ensures { result ≡ unwrap_or (scalar_in_block (declaration_trees declared.now) name) Byte }
+{
+    match scalar_in_block(declared, name) {
+        Some(scalar) => scalar,
+        None => ScalarType::Byte,
+    }
+}
+
+// The types of parameters.
 fn parameter_types(
     alloc: Global,
     declared: &[Declaration],
@@ -190,11 +208,7 @@ fn parameter_types(
 {
     let mut types = Vec::new(alloc);
     for parameter in parameters {
-        let scalar = match scalar_in_block(declared, parameter.name) {
-            Some(scalar) => scalar,
-            None => ScalarType::Byte,
-        };
-        types.push(scalar)?;
+        types.push(parameter_type(declared, parameter.name))?;
     }
     Ok(types)
 }
@@ -297,13 +311,25 @@ fn open_heading(
     ensures { Leaves result scopes.new
         (heading_opened (block_view block.entry) (heading_tree heading.now) scopes.old) }
 {
-    let (allowed, too_many) = within_limit(heading.parameters.as_slice());
     declare_procedure(scopes, heading.name)?;
     require(
         holds_procedures(block.owner),
         Cause::MisplacedAttribute,
         heading.name.place.line,
     )?;
+    open_parameters(scopes, block, heading)
+}
+
+// The parameters of a heading, whose body they begin.
+fn open_parameters(
+    scopes: &mut Scopes,
+    block: Block<'_>,
+    heading: &Heading,
+) -> Result<(), Failure<Fault>>
+    ensures { Leaves result scopes.new
+        (parameters_opened (block_view block.entry) (heading_tree heading.now) scopes.old) }
+{
+    let (allowed, too_many) = within_limit(heading.parameters.as_slice());
     open_body(scopes)?;
     declare_parameters(scopes, allowed)?;
     no_more_parameters(too_many)?;
@@ -399,15 +425,14 @@ impl Checker {
         heading: &Heading,
         declared: &[Declaration],
         number: u32,
-        parameters: Vec<u32>,
-        body: TypedList,
+        inside: Inside,
     ) -> Result<(), Failure<Fault>>
         ensures { Leaves result (progress_view self.new)
             (procedure_closed (heading_tree heading.now) (declaration_trees declared.now) number
-            parameters.items (list_view body) (progress_view self.old)) }
+            inside.parameters.items (list_view inside.body) (progress_view self.old)) }
     {
         let types = parameter_types(self.alloc, declared, heading.parameters.as_slice())?;
-        let procedure = procedure_with(heading, types, parameters, self.frame, body);
+        let procedure = procedure_with(heading, types, inside.parameters, self.frame, inside.body);
         replace(&mut self.known.procedures, number, procedure);
         self.known.scopes.close_body();
         self.frame = 0;

@@ -1,26 +1,29 @@
 //! Making typed statements.
 
-ghost use Rattle.std.specs.Prelude.{◌≡◌, map};
+ghost use Rattle.std.specs.Prelude.{◌≡◌, map, Ok};
 ghost use Rattle.std.specs.Option.{option_map};
 ghost use Rattle.typed_trees.specs.TypedTrees.{AssignmentStatement, CallStatement, MoveStatement, ReturnStatement};
 ghost use Rattle.typed_trees.specs.TypedTrees.{IfStatement, DoStatement, WhileStatement, IterateStatement, CaseStatement};
-ghost use Rattle.typed_trees.specs.Views.{Builds, expression_view, target_view, arguments_view, statement_view};
+ghost use Rattle.typed_trees.specs.Views.{expression_view, target_view, arguments_view, statement_view};
 ghost use Rattle.typed_trees.specs.Views.{iteration_view, else_view, list_view, statements_view};
+ghost use Rattle.typing.specs.Results.{Answers};
 
-use std::alloc::{AllocError, Global};
+use failure::Failure;
+use std::alloc::Global;
 use typed_trees::{
     TypedAssignment, TypedCase, TypedExpression, TypedIf, TypedIterate, TypedIteration, TypedList,
     TypedMove, TypedStatement, TypedTarget, TypedWhile,
 };
+use typing::Fault;
 
 /// Targets and the value that all of them get.
 pub(crate) fn assignment(
     alloc: Global,
     targets: Vec<TypedTarget>,
     value: TypedExpression,
-) -> Result<TypedStatement, AllocError>
-    ensures view { Builds result
-        (AssignmentStatement (map target_view targets.items) (expression_view value)) }
+) -> Result<TypedStatement, Failure<Fault>>
+    ensures view { Answers statement_view result
+        (Ok (AssignmentStatement (map target_view targets.items) (expression_view value))) }
 {
     let assignment = Box::new(alloc, TypedAssignment { targets, value })?;
     Ok(TypedStatement::Assignment(assignment))
@@ -37,20 +40,10 @@ pub(crate) fn call(procedure: u32, arguments: Vec<TypedExpression>) -> TypedStat
 }
 
 /// CALL MOVE.
-pub(crate) fn copying(
-    alloc: Global,
-    count: TypedExpression,
-    source: TypedExpression,
-    destination: TypedExpression,
-) -> Result<TypedStatement, AllocError>
-    ensures view { Builds result
-        (MoveStatement (expression_view count) (expression_view source) (expression_view destination)) }
+pub(crate) fn copying(alloc: Global, copied: TypedMove) -> Result<TypedStatement, Failure<Fault>>
+    ensures view { Answers statement_view result (Ok (MoveStatement (expression_view copied.count)
+        (expression_view copied.source) (expression_view copied.destination))) }
 {
-    let copied = TypedMove {
-        count,
-        source,
-        destination,
-    };
     Ok(TypedStatement::Move(Box::new(alloc, copied)?))
 }
 
@@ -58,8 +51,8 @@ pub(crate) fn copying(
 pub(crate) fn return_value(
     alloc: Global,
     value: Option<TypedExpression>,
-) -> Result<TypedStatement, AllocError>
-    ensures view { Builds result (ReturnStatement (option_map expression_view value)) }
+) -> Result<TypedStatement, Failure<Fault>>
+    ensures view { Answers statement_view result (Ok (ReturnStatement (option_map expression_view value))) }
 {
     let value = match value {
         Some(expression) => Some(Box::new(alloc, expression)?),
@@ -74,9 +67,9 @@ pub(crate) fn conditional(
     condition: TypedExpression,
     body: TypedStatement,
     other: Option<TypedStatement>,
-) -> Result<TypedStatement, AllocError>
-    ensures view { Builds result
-        (IfStatement (expression_view condition) (statement_view body) (else_view other)) }
+) -> Result<TypedStatement, Failure<Fault>>
+    ensures view { Answers statement_view result
+        (Ok (IfStatement (expression_view condition) (statement_view body) (else_view other))) }
 {
     let chosen = TypedIf {
         condition,
@@ -88,8 +81,8 @@ pub(crate) fn conditional(
 
 /// A simple DO.
 #[tactic(auto, using(typed_trees::specs::declared::statement::TypedStatement::the_lemmas, typed_trees::proofs::Views::statement_rows_are))]
-pub(crate) fn block(alloc: Global, body: TypedList) -> Result<TypedStatement, AllocError>
-    ensures view { Builds result (DoStatement (list_view body)) }
+pub(crate) fn block(alloc: Global, body: TypedList) -> Result<TypedStatement, Failure<Fault>>
+    ensures view { Answers statement_view result (Ok (DoStatement (list_view body))) }
 {
     Ok(TypedStatement::Do(Box::new(alloc, body)?))
 }
@@ -100,8 +93,9 @@ pub(crate) fn while_true(
     alloc: Global,
     condition: TypedExpression,
     body: TypedList,
-) -> Result<TypedStatement, AllocError>
-    ensures view { Builds result (WhileStatement (expression_view condition) (list_view body)) }
+) -> Result<TypedStatement, Failure<Fault>>
+    ensures view { Answers statement_view result
+        (Ok (WhileStatement (expression_view condition) (list_view body))) }
 {
     let turns = TypedWhile { condition, body };
     Ok(TypedStatement::While(Box::new(alloc, turns)?))
@@ -113,8 +107,9 @@ pub(crate) fn iterate(
     alloc: Global,
     head: TypedIteration,
     body: TypedList,
-) -> Result<TypedStatement, AllocError>
-    ensures view { Builds result (IterateStatement (iteration_view head) (list_view body)) }
+) -> Result<TypedStatement, Failure<Fault>>
+    ensures view { Answers statement_view result
+        (Ok (IterateStatement (iteration_view head) (list_view body))) }
 {
     let turns = TypedIterate { head, body };
     Ok(TypedStatement::Iterate(Box::new(alloc, turns)?))
@@ -126,8 +121,9 @@ pub(crate) fn case(
     alloc: Global,
     choice: TypedExpression,
     body: Vec<TypedStatement>,
-) -> Result<TypedStatement, AllocError>
-    ensures view { Builds result (CaseStatement (expression_view choice) (statements_view body.items)) }
+) -> Result<TypedStatement, Failure<Fault>>
+    ensures view { Answers statement_view result
+        (Ok (CaseStatement (expression_view choice) (statements_view body.items))) }
 {
     let cases = TypedCase { choice, body };
     Ok(TypedStatement::Case(Box::new(alloc, cases)?))

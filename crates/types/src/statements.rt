@@ -1,16 +1,19 @@
 //! What statements need beside the statements in them.
 
-ghost use Rattle.std.specs.Prelude.{◌≡◌, map, Some, IfOk};
+ghost use Rattle.std.specs.Prelude.{◌≡◌, ◌==◌, [], ◌∷◌, length, map, Ok, Some, IfNone, IfOk, IfSome};
+ghost use Rattle.trees.specs.declared.declaration.ScalarType.TheVariants.{Address};
 ghost use Rattle.std.specs.Option.{option_map};
 ghost use Rattle.trees.specs.Views.{argument_trees, expression_tree, iteration_tree, target_trees};
 ghost use Rattle.names.specs.declared.entity.Binding.TheVariants.{Declared};
 ghost use Rattle.names.specs.declared.entity.Entity.TheVariants.{Object};
-ghost use Rattle.typed_trees.specs.Views.{arguments_view, expression_view, iteration_view, object_view, statement_view, target_view};
+ghost use Rattle.typed_trees.specs.Views.{arguments_view, expression_view, iteration_view, object_view, procedure_view, statement_view, target_view};
 ghost use Rattle.typing.specs.Expressions.{arguments};
-ghost use Rattle.typing.specs.Statements.{assignment, call, call_bound, counter_bound, destinations, goto, goto_bound, iteration, moved, return_from, return_with, step, value};
+ghost use Rattle.typing.specs.Nodes.{as_type as converted};
+ghost use Rattle.typing.specs.References.{number_of_arguments};
+ghost use Rattle.typing.specs.Statements.{assigned, assignment, call, call_bound, counter_bound, destinations, goto, goto_bound, iteration, moved, return_from, return_with, step, value};
 ghost use Rattle.typing.specs.Results.{Answers, Gives};
-ghost use Rattle.types.specs.internal.Walking.{call_of_bound, call_of_move, call_of_procedure, call_statement, counter_type, counter_view, targets_for};
-ghost use Rattle.typed_expressions.specs.Views.{destination_view, known_view};
+ghost use Rattle.types.specs.internal.Walking.{call_of_bound, call_of_move, call_of_procedure, call_statement, counter_type, counter_view, targets_for, untyped_call};
+ghost use Rattle.typed_expressions.specs.Views.{constants_view, destination_view, known_view};
 ghost use Rattle.types.specs.internal.Views.{owner_view, progress_view};
 
 use crate::blocks::Owner;
@@ -21,10 +24,11 @@ use names::{Binding, BuiltIn, Entity};
 use std::alloc::{AllocError, Global};
 use trees::{Assignment, Expression, Identifier, Iteration, ScalarType, Selector};
 use typed_expressions::{
-    Destination, Known, as_type, refuse, require, require_writable, target_of,
+    Constants, Destination, Known, as_type, refuse, require, require_writable, target_of,
 };
 use typed_trees::{
-    Home, ObjectType, TypedExpression, TypedIteration, TypedObject, TypedStatement, TypedTarget,
+    Home, ObjectType, TypedExpression, TypedIteration, TypedMove, TypedObject, TypedProcedure,
+    TypedStatement, TypedTarget,
 };
 use typing::{Cause, Fault};
 
@@ -54,6 +58,19 @@ fn targets_of(
     Ok(targets)
 }
 
+// The assignment of a value to its targets.
+fn assigned(
+    alloc: Global,
+    places: Vec<Destination>,
+    source: TypedExpression,
+) -> Result<TypedStatement, Failure<Fault>>
+    ensures { Answers statement_view result
+        (Ok (assigned (map destination_view places.items) (expression_view source))) }
+{
+    let targets = targets_of(alloc, places, source.scalar())?;
+    statement_nodes::assignment(alloc, targets, source)
+}
+
 impl Checker {
     /// Targets, and then the value that all of them get.
     pub(crate) fn assignment(&mut self, tree: &Assignment) -> Result<TypedStatement, Failure<Fault>>
@@ -66,9 +83,55 @@ impl Checker {
             .known
             .destinations(&tree.target, others, &mut self.constants)?;
         let source = self.value(&tree.value)?;
-        let targets = targets_of(self.alloc, places, source.scalar())?;
-        Ok(statement_nodes::assignment(self.alloc, targets, source)?)
+        assigned(self.alloc, places, source)
     }
+}
+
+// What MOVE is handed: how many bytes, from where and to where.
+#[derive(Drop)]
+struct Moving {
+    count: TypedExpression,
+    source: TypedExpression,
+    destination: TypedExpression,
+}
+
+// Three values as what MOVE is handed.
+fn moving_of(values: Vec<TypedExpression>) -> Option<Moving>
+    ensures three { IfSome result (λ moving.
+        values.items ≡ moving.count ∷ moving.source ∷ moving.destination ∷ []) }
+    ensures other { IfNone result (length values.items ≡ 3 → ⊥) }
+{
+    if values.len() != 3 {
+        return None;
+    }
+    let mut values = values;
+    let destination = values.pop()?;
+    let source = values.pop()?;
+    let count = values.pop()?;
+    Some(Moving {
+        count,
+        source,
+        destination,
+    })
+}
+
+// What MOVE is handed, as ADDRESSes.
+fn as_addresses(alloc: Global, moving: Moving) -> Result<TypedMove, AllocError>
+    ensures count { IfOk result (λ made.
+        expression_view made.count ≡ converted Address (expression_view moving.count)) }
+    ensures source { IfOk result (λ made.
+        expression_view made.source ≡ converted Address (expression_view moving.source)) }
+    ensures destination { IfOk result (λ made.
+        expression_view made.destination ≡ converted Address (expression_view moving.destination)) }
+{
+    let count = as_type(alloc, moving.count, ScalarType::Address)?;
+    let source = as_type(alloc, moving.source, ScalarType::Address)?;
+    let destination = as_type(alloc, moving.destination, ScalarType::Address)?;
+    Ok(TypedMove {
+        count,
+        source,
+        destination,
+    })
 }
 
 // CALL of MOVE, whose arguments are ADDRESSes.
@@ -80,23 +143,40 @@ fn moved(
 ) -> Result<TypedStatement, Failure<Fault>>
     ensures { Answers statement_view result (moved line (arguments_view values.items)) }
 {
-    if values.len() != 3 {
-        return Err(refuse(Cause::WrongUse, line));
+    match moving_of(values) {
+        Some(moving) => statement_nodes::copying(alloc, as_addresses(alloc, moving)?),
+        None => Err(refuse(Cause::WrongUse, line)),
     }
-    let mut values = values;
-    let (Some(destination), Some(source), Some(count)) = (values.pop(), values.pop(), values.pop())
-    else {
-        return Err(refuse(Cause::WrongUse, line));
-    };
-    let count = as_type(alloc, count, ScalarType::Address)?;
-    let source = as_type(alloc, source, ScalarType::Address)?;
-    let destination = as_type(alloc, destination, ScalarType::Address)?;
-    Ok(statement_nodes::copying(alloc, count, source, destination)?)
+}
+
+// Whether there are as many arguments as MOVE has.
+#[tactic(auto, using(typed_expressions::proofs::GivenParts::count_of_arguments))]
+fn are_three(trees: &[Expression]) -> bool
+    ensures { result ≡ (number_of_arguments (argument_trees trees.now) == 3) }
+{
+    trees.len() == 3
+}
+
+// A call of a procedure that the name stands for, which is to be untyped.
+fn untyped_call(
+    known: &Known,
+    line: u32,
+    number: u32,
+    procedure: &TypedProcedure,
+    trees: &[Expression],
+    constants: &mut Constants,
+) -> Result<TypedStatement, Failure<Fault>>
+    ensures { Gives statement_view result (constants_view constants.new)
+        (untyped_call (known_view known.now) line number (procedure_view procedure.now)
+        (argument_trees trees.now) (constants_view constants.old)) }
+{
+    require(procedure.result.is_none(), Cause::WrongUse, line)?;
+    let values = known.call_arguments(procedure, line, trees, constants)?;
+    Ok(statement_nodes::call(number, values))
 }
 
 impl Checker {
     // CALL of MOVE.
-    #[tactic(auto, using(typed_expressions::proofs::GivenParts::count_of_arguments))]
     fn call_of_move(
         &mut self,
         name: Identifier,
@@ -105,7 +185,7 @@ impl Checker {
         ensures { Gives statement_view result (progress_view self.new)
             (call_of_move name (argument_trees trees.now) (progress_view self.old)) }
     {
-        require(trees.len() == 3, Cause::WrongUse, name.place.line)?;
+        require(are_three(trees), Cause::WrongUse, name.place.line)?;
         let values = self.known.arguments(trees, &mut self.constants)?;
         moved(self.alloc, name.place.line, values)
     }
@@ -122,12 +202,14 @@ impl Checker {
     {
         let line = name.place.line;
         let procedure = self.known.procedure(name, number)?;
-        let is_untyped = procedure.result.is_none();
-        require(is_untyped, Cause::WrongUse, line)?;
-        let values = self
-            .known
-            .call_arguments(procedure, line, trees, &mut self.constants)?;
-        Ok(statement_nodes::call(number, values))
+        untyped_call(
+            &self.known,
+            line,
+            number,
+            procedure,
+            trees,
+            &mut self.constants,
+        )
     }
 
     // CALL of what a name is bound to: an untyped procedure, or MOVE.
@@ -171,7 +253,7 @@ impl Checker {
     {
         let typed = self.value(tree)?;
         let typed = as_type(self.alloc, typed, scalar)?;
-        Ok(statement_nodes::return_value(self.alloc, Some(typed))?)
+        statement_nodes::return_value(self.alloc, Some(typed))
     }
 
     // RETURN in a procedure with this result.
@@ -186,7 +268,7 @@ impl Checker {
             (progress_view self.old)) }
     {
         match (scalar, tree) {
-            (None, None) => Ok(statement_nodes::return_value(self.alloc, None)?),
+            (None, None) => statement_nodes::return_value(self.alloc, None),
             (Some(scalar), Some(tree)) => self.return_value(line, scalar, tree),
             _ => Err(refuse(Cause::WrongUse, line)),
         }

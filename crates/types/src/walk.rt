@@ -17,7 +17,7 @@ ghost use Rattle.types.specs.internal.Walking.{inside_view, list_left, listing, 
 use crate::blocks::{Block, Owner};
 use crate::checker::{Checker, answer_of_scopes};
 use crate::lists::{Listed, declare_labels, length_of, without_label};
-use crate::procedures::{check_body, parameter_objects};
+use crate::procedures::{Inside, check_body, parameter_objects};
 use crate::statement_nodes;
 use failure::Failure;
 use std::alloc::Global;
@@ -27,13 +27,6 @@ use trees::{
 };
 use typed_trees::{Typed, TypedList, TypedProcedure, TypedStatement, Visibility};
 use typing::Fault;
-
-// The objects of a procedure's parameters, and what it does.
-#[derive(Drop)]
-struct Inside {
-    parameters: Vec<u32>,
-    body: TypedList,
-}
 
 impl Checker {
     // Goes into a simple DO.
@@ -110,7 +103,7 @@ impl Checker {
         let condition = self.value(&branch.condition)?;
         let body = self.alone(block, &branch.body)?;
         let other = self.else_part(block, &branch.otherwise)?;
-        Ok(statement_nodes::conditional(self.alloc, condition, body, other)?)
+        statement_nodes::conditional(self.alloc, condition, body, other)
     }
 
     // A statement after THEN or ELSE or of a DO CASE.
@@ -162,7 +155,7 @@ impl Checker {
         self.declarations(inner, tree.declarations.as_slice())?;
         let body = self.list(inner, tree.statements.as_slice())?;
         self.leave();
-        Ok(statement_nodes::block(self.alloc, body)?)
+        statement_nodes::block(self.alloc, body)
     }
 
     // DO WHILE.
@@ -177,7 +170,7 @@ impl Checker {
     {
         let condition = self.value(&turns.condition)?;
         let body = self.list(block, turns.body.as_slice())?;
-        Ok(statement_nodes::while_true(self.alloc, condition, body)?)
+        statement_nodes::while_true(self.alloc, condition, body)
     }
 
     // An iterative DO.
@@ -192,7 +185,7 @@ impl Checker {
     {
         let head = self.iteration(&turns.iteration)?;
         let body = self.list(block, turns.body.as_slice())?;
-        Ok(statement_nodes::iterate(self.alloc, head, body)?)
+        statement_nodes::iterate(self.alloc, head, body)
     }
 
     // DO CASE.
@@ -207,7 +200,7 @@ impl Checker {
     {
         let number = self.value(&choice.choice)?;
         let body = self.cases(block, choice.body.as_slice())?;
-        Ok(statement_nodes::case(self.alloc, number, body)?)
+        statement_nodes::case(self.alloc, number, body)
     }
 
     // The statements of a DO CASE.
@@ -334,8 +327,7 @@ impl Checker {
             heading,
             procedure.body.declarations.as_slice(),
             number,
-            inside.parameters,
-            inside.body,
+            inside,
         )
     }
 

@@ -1,5 +1,5 @@
 -- Sources that are read.
-use Rattle.std.specs.Prelude.{◌≡◌, ℕ, List, [], ◌∷◌, All, map, Some}
+use Rattle.std.specs.Prelude.{◌≡◌, ℕ, List, [], ◌∷◌, All, map, Some, None}
 use Rattle.typed_trees.specs.TypedTrees.{TypedModule}
 use Rattle.typed_trees.specs.Jumps.{JumpsAreSound}
 use Rattle.typed_trees.specs.Storable.{IsStorable}
@@ -59,6 +59,7 @@ HasProgramCause fault modules plan = ⊥
 pub record IsPlaced (modules : List TypedModule) (plan : Plan) (readied : Readied) : Type 0 where
   pub program : program_modules readied.program ≡ modules
   pub joined : IsJoined modules
+  pub may_lie : placing_refusal (of_placement.plan_view plan) modules (constant_lengths modules) ≡ None
   pub as_planned : of_placement.placement_view readied.placement
       ≡ placement_by (of_placement.plan_view plan) modules (constant_lengths modules)
   pub lawful : IsLawful modules (of_placement.placement_view readied.placement)

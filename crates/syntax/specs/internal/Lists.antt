@@ -1,9 +1,9 @@
 -- How the parser reads lists. The numbers bound how many items there can be: the symbols that are left are
 -- always enough.
 use Rattle.std.specs.Prelude.{◌≡◌, ℕ, zero, suc, ◌≤◌, ◌<◌, Bool, List, [], ◌∷◌, ◌++◌, drop, length, Ok, Err, if◌then◌else◌}
-use Rattle.words.specs.declared.vocabulary.Mark.TheVariants.{Comma}
+use Rattle.words.specs.declared.vocabulary.Mark.TheVariants.{Comma, LeftParenthesis, RightParenthesis}
 use Rattle.grammar.specs.Symbols.{Symbol}
-use Rattle.syntax.specs.internal.Reader.{Parser, Reading, Unexpected, ◌>>=◌, at_mark}
+use Rattle.syntax.specs.internal.Reader.{Parser, Reading, Unexpected, ◌>>=◌, at_mark, mark}
 
 -- {`,` item}
 abbrev pub more_items : {A : Type 0} → Parser A → ℕ → Parser (List A)
@@ -25,6 +25,14 @@ items item symbols = do
   first ← item symbols
   others ← all_more_items item first.1
   Ok (first.0 ∷ others.0, others.1)
+
+-- `(` what is read `)`
+abbrev pub in_parentheses : {A : Type 0} → Parser A → Parser A
+in_parentheses inner symbols = do
+  later ← mark LeftParenthesis symbols
+  found ← inner later
+  rest ← mark RightParenthesis found.1
+  Ok (found.0, rest)
 
 -- what is read after items, with these before it
 abbrev pub after_items : {A : Type 0} → List A → Reading (List A) → Reading (List A)

@@ -42,3 +42,8 @@ abbrev pub Leaves : {X : Type 0}
     → Type 0
 Leaves (Ok x) rest read = read ≡ Ok rest
 Leaves (Err failure) rest read = Fails failure read
+
+-- what was made is returned, or memory ran out
+abbrev pub OrMemory : {X E : Type 0} → Result X E → Result X (Failure Fault) → Type 0
+OrMemory (Ok x) result = result ≡ Ok x
+OrMemory (Err error) result = result ≡ Err failures.Memory

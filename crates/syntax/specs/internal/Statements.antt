@@ -325,6 +325,21 @@ module_of name place inside end_name = record {
   end_name = end_name;
 }
 
+-- the name of a module and the place of its DO: name `:` DO `;`
+abbrev pub module_head : Parser (Identifier × Place)
+module_head symbols = do
+  own ← name symbols
+  colon ← mark marks.Colon own.1
+  its_place ← taken (place_of_word words.Do colon) colon
+  start ← semicolon its_place.1
+  Ok ((own.0, its_place.0), start.1)
+
+-- END [name] `;`, and nothing after it
+abbrev pub module_end : Identifier → List Symbol → Result (Option Identifier) Cause
+module_end own symbols = do
+  its_end ← ending true own symbols
+  at_the_end its_end.0 its_end.1
+
 -- a module whose inside takes no more levels than the room
 unfoldable pub whole_module : Bool → ℕ → List Symbol → Result ModuleTree Cause
 whole_module strict room symbols = do

@@ -1,15 +1,21 @@
 -- Items of a DECLARE, as the checker goes through them.
-use Rattle.std.specs.Prelude.{ℕ, ◌+◌, List, [], ◌∷◌, ◌++◌, Ok, nat_le}
+use Rattle.std.specs.Prelude.{ℕ, ◌+◌, not, List, [], ◌∷◌, ◌++◌, length, Option, Some, is_some, Ok, nat_le}
+use Rattle.trees.specs.declared.declaration.Linkage.{Linkage}
+use Rattle.trees.specs.declared.declaration.Member.{Member}
 use Rattle.trees.specs.declared.identifier.Identifier.{Identifier}
 use Rattle.trees.specs.Trees.{ItemTree}
 use Rattle.names.specs.Uses.{declared_by}
-use Rattle.typing.specs.declared.fault.Cause.TheVariants.{TooLarge}
+use Rattle.typing.specs.declared.fault.Cause.TheVariants.{MisplacedAttribute, TooLarge, WrongConstant, WrongUse}
+use Rattle.typed_trees.specs.declared.parts.GlobalItem.TheVariants.{GlobalObject}
 use Rattle.typed_trees.specs.declared.limits.TheConstants.{FRAME_LIMIT, OBJECT_LIMIT}
-use Rattle.typed_trees.specs.TypedTrees.{TypedObject}
+use Rattle.typed_trees.specs.TypedTrees.{ObjectType, StructureObject, TypedObject}
+use Rattle.typed_trees.specs.Views.{home_view}
 use Rattle.typing.specs.Checks.{Checked, ◌>>=◌, require}
-use Rattle.typing.specs.References.{Known}
-use Rattle.typing.specs.Blocks.{Block, Progress}
-use Rattle.typing.specs.Items.{declare_names, bytes_in_frame, line_of_item, size_of_item, typed_item, with_objects}
+use Rattle.typing.specs.References.{Known, bound, line_of, object_of}
+use Rattle.typing.specs.Filling.{Extents, AsListed}
+use Rattle.typing.specs.Blocks.{Block, Progress, with_global}
+use Rattle.typing.specs.Items.{TypedItem, declare_names, bytes_in_frame, check_linkage, home_of, is_base, is_group, line_of_item, object_bound, size_of_item, typed_at, typed_contents, typed_item, typed_members, with_constant, with_objects}
+use Rattle.types.specs.declared.items.PlacedItem.{PlacedItem}
 use Rattle.typing.specs.Statements.{with_here}
 
 -- the names of an item declared, whatever they are
@@ -35,3 +41,74 @@ item_in_turn block item progress = do
   typed ← typed_item progress.known block item
   _ ← require (nat_le (size_of_item typed) OBJECT_LIMIT) TooLarge (line_of_item item)
   with_objects block typed (declared_by item.subject) named
+
+-- an item that fits, and an item whose names are declared between that and its objects
+abbrev pub fitting_item : Known → Block → ItemTree → Checked TypedItem
+fitting_item known block item = do
+  typed ← typed_item known block item
+  _ ← require (nat_le (size_of_item typed) OBJECT_LIMIT) TooLarge (line_of_item item)
+  Ok typed
+
+abbrev pub fitted_in_turn : Block → ItemTree → Progress → Checked Progress
+fitted_in_turn block item progress = do
+  named ← with_names block (declared_by item.subject) progress
+  typed ← fitting_item progress.known block item
+  with_objects block typed (declared_by item.subject) named
+
+-- the object of a number, and of a name, that may be a base
+abbrev pub base_numbered : Known → Identifier → (number : ℕ) → Checked (Option ℕ)
+base_numbered known name number = do
+  object ← object_of known name number
+  _ ← require (is_base object) WrongUse (line_of name)
+  Ok (Some number)
+
+abbrev pub base_named : Known → Identifier → Checked (Option ℕ)
+base_named known name = do
+  binding ← bound known name
+  number ← object_bound binding (line_of name)
+  base_numbered known name number
+
+-- an item from its type on
+abbrev pub item_placed : ObjectType → Option Linkage → PlacedItem → TypedItem
+item_placed object_type linkage placed = record {
+  dimension = placed.dimension;
+  object_type = object_type;
+  home = home_view placed.home;
+  linkage = linkage;
+}
+
+abbrev pub placed_item :
+    Known → Block → ItemTree → ObjectType → (base : Option ℕ) → Extents → Checked TypedItem
+placed_item known block item object_type base extents = do
+  _ ← check_linkage block item item.linkage
+  at ← typed_at known block item item.at
+  filled ← typed_contents known block item object_type extents item.value_list
+  Ok (record {
+    dimension = filled.dimension;
+    object_type = object_type;
+    home = home_of block.owner item base at filled.values;
+    linkage = item.linkage;
+  })
+
+-- the type of a structure
+abbrev pub structure_of : List Member → Checked ObjectType
+structure_of members = do
+  typed ← typed_members [] members
+  Ok (StructureObject typed)
+
+-- as many elements as a list has values
+abbrev pub listed_extents : ItemTree → Checked Extents
+listed_extents item = do
+  _ ← require (not (is_group item.subject)) MisplacedAttribute (line_of_item item)
+  _ ← require (is_some item.value_list) WrongConstant (line_of_item item)
+  Ok AsListed
+
+-- the next object, beside the table
+abbrev pub object_listed : Option Linkage → TypedObject → (line : ℕ) → Progress → Checked Progress
+object_listed linkage object line progress = do
+  bytes ← bytes_with progress.frame object line
+  Ok (record progress {
+    constants = with_constant object.home (length progress.known.objects) progress.constants;
+    globals = with_global linkage (GlobalObject (length progress.known.objects)) progress.globals;
+    frame = bytes;
+  })

@@ -12,15 +12,16 @@ use Rattle.names.specs.declared.entity.Entity.TheVariants as entities
 use Rattle.names.specs.Environment.{Here, is_among, into_body, with_procedure, is_declared_again, into_list, out_of_list, with_label, with_parameter, is_label_again, is_parameter_again}
 use Rattle.names.specs.Events.{labels_of}
 use Rattle.typed_trees.specs.declared.limits.TheConstants.{PARAMETER_LIMIT}
-use Rattle.typed_trees.specs.TypedTrees.{TypedTarget, TypedStatement, TypedList, TypedObject}
+use Rattle.typed_trees.specs.TypedTrees.{TypedTarget, TypedStatement, CallStatement, TypedList, TypedObject, TypedProcedure, Constants}
 use Rattle.typed_trees.specs.Views.{list_view}
 use Rattle.typing.specs.declared.fault.Cause.TheVariants.{DeclaredTwice, WrongUse, MisplacedAttribute}
 use Rattle.types.specs.declared.statements.Counter.{Counter as CodeCounter}
-use Rattle.types.specs.declared.walk.Inside.{Inside}
+use Rattle.types.specs.declared.procedures.Inside.{Inside}
 use Rattle.typing.specs.Checks.{Checked, ◌>>=◌, require, found}
 use Rattle.typing.specs.Nodes.{Destination, target_of}
-use Rattle.typing.specs.References.{Given, line_of, scalar_of, is_writable}
+use Rattle.typing.specs.References.{Known, Given, line_of, scalar_of, is_writable}
 use Rattle.typing.specs.Expressions.{arguments}
+use Rattle.typing.specs.Functions.{call_arguments}
 use Rattle.typing.specs.Items.{is_not_based}
 use Rattle.typing.specs.Blocks.{OfProcedure, Block, Progress, is_reentrant, is_external}
 use Rattle.typing.specs.Statements.{with_here, with_constants, call, call_bound, Counter, labels_before, declare_labels, list_of}
@@ -143,3 +144,21 @@ heading_opened block heading before = do
   _ ← check_visibility block heading.linkage
   _ ← check_reentrant heading.linkage heading.reentrant
   Ok here
+
+-- the parameters of a heading, whose body they begin, and what goes with its attributes
+abbrev pub parameters_opened : Block → HeadingTree → Here → Checked Here
+parameters_opened block heading before = do
+  here ← declare_parameters (take PARAMETER_LIMIT heading.parameters) (into_body before)
+  _ ← no_more_parameters (drop PARAMETER_LIMIT heading.parameters)
+  _ ← check_visibility block heading.linkage
+  _ ← check_reentrant heading.linkage heading.reentrant
+  Ok here
+
+-- a call of a procedure, which is to be untyped
+abbrev pub untyped_call :
+    Known → (line : ℕ) → (number : ℕ) → TypedProcedure → ArgumentTrees → Constants
+    → Checked (TypedStatement × Constants)
+untyped_call known line number procedure trees constants = do
+  _ ← require (is_none procedure.result) WrongUse line
+  typed ← call_arguments procedure line (record { trees = trees; typed = arguments known trees }) constants
+  Ok (CallStatement number typed.0, typed.1)

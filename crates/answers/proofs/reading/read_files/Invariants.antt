@@ -1,13 +1,12 @@
 use Rattle.std.proofs.Common.{◌≡◌, length, map}
 use Rattle.files.specs.Files.{KeepsFiles}
-use Rattle.answers.proofs.FilesRead.{ReadSoFar, Within}
+use Rattle.answers.proofs.FilesRead.{ReadSoFar}
 use Rattle.answers.proofs.reading.read_files.Given as goal
 
--- the files are as they were, no call failed, the names that are left are some of all, and what was read is the front of what they have
+-- the files are as they were, no call failed, and what was read is what the names before those that are left have
 abbrev pub invariant-loop-rest : goal.invariant-loop-rest
 invariant-loop-rest g l = record {
   kept : KeepsFiles (g.F.Files.files l.initial.files) (g.F.Files.files l.files);
-  within : Within (map (λ n. n.now) l.initial.rest) (map (λ n. n.now) l.rest);
   count : g.F.Files.failures l.files ≡ g.F.Files.failures l.initial.files;
   made : ReadSoFar (g.F.Files.files l.initial.files) (map (λ n. n.now) l.initial.rest) (map (λ n. n.now) l.rest) (map (λ t. t.items) l.texts.items);
 }

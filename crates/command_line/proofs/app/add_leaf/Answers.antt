@@ -1,5 +1,5 @@
-use Rattle.command_line.proofs.Building.{leaf_added}
+use Rattle.command_line.proofs.Building.{given_ok}
 use Rattle.command_line.proofs.app.add_leaf.Goals as goal
 
-pub returns : goal.returns
-returns c = leaf_added c.args.plm c.args.leaf c.subcommand.result c.in_ok-whole.whole c.in_ok-added.added c.in_ok-whole.was c.in_ok-added.was c.subcommand.ensures
+pub returns-in-Ok : goal.returns-in-Ok
+returns-in-Ok c = λ app sub builds. c.add_command.ensures app sub (given_ok c.args.plm c.in-Ok.plm c.in-Ok.is app builds)

@@ -1,14 +1,17 @@
-use Rattle.std.proofs.Common.{◌∙◌, List, Option, [], ap, codes}
-use Rattle.std.specs.Prelude.{unwrap_or}
+use Rattle.std.proofs.Common.{◌∙◌, List, Option, [], Ok, Err, ap, codes}
+use Rattle.std.specs.Prelude.{IfOk, Result, unwrap_or}
 use Rattle.clap.proofs.WalkLemmas.{raw_values-rows}
 use Rattle.clap.specs.Walk.{texts}
 use Rattle.clap.specs.Words.{Text, found_of}
 use Rattle.command_line.proofs.reading.files.Goals as goal
 
-pub returns-in_ok-files-in-Some : goal.returns-in_ok-files-in-Some
-returns-in_ok-files-in-Some c =
-    ap texts c.in_ok-files-in-Some.ensures.items
-    ∙ ap (λ (o : Option (List Text)). unwrap_or o []) (c.in-Some.ensures ∙ raw_values-rows (found_of c.args.matches.now) (codes "FILES"))
+ok_then : {A E : Type 0} {P Q : A → Type 0} (result : Result A E) → IfOk result P → ((a : A) → P a → Q a) → IfOk result Q
+ok_then (Ok a) p then_q = then_q a p
+ok_then (Err e) p then_q = tt
+
+pub returns-in-Some : goal.returns-in-Some
+returns-in-Some c = ok_then c.from_slice.result c.from_slice.ensures.items (λ files are. ap texts are
+    ∙ ap (λ (o : Option (List Text)). unwrap_or o []) (c.in-Some.ensures ∙ raw_values-rows (found_of c.args.matches.now) (codes "FILES")))
 
 pub returns-in-None : goal.returns-in-None
 returns-in-None c =

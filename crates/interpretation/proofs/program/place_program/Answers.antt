@@ -7,4 +7,4 @@ pub returns-in-Ok-place-clause-placed : goal.returns-in-Ok-place-clause-placed
 returns-in-Ok-place-clause-placed c =
     is_placed (map module_view c.args.parts.modules.items) c.args.plan.now c.as_slice-2.result.now (record { program = c.in-Ok.program; placement = c.in-Ok-place.placement })
     (ap (map module_view) c.in-Ok.ensures.kept) c.in-Ok.ensures.ok (c.as_slice-2.ensures.value ∙ c.requires.lengths) c.requires.storable
-    c.in-Ok-place.ensures.placed c.in-Ok-place.ensures.table c.in-Ok-place.ensures.lawful
+    c.in-Ok-place.ensures.ok c.in-Ok-place.ensures.placed c.in-Ok-place.ensures.table c.in-Ok-place.ensures.lawful

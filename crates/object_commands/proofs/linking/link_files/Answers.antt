@@ -1,5 +1,6 @@
 use Rattle.std.proofs.Common.{refl, ◌∙◌}
 use Rattle.answers.proofs.LinesPrinted.{is_first, is_later, named_as, tells_file, tells_no_file}
+use Rattle.object_commands.proofs.FilesWritten.{stops_linking}
 use Rattle.object_commands.proofs.linking.link_files.Goals as goal
 
 pub returns-in-Err-Fault-clause-told : goal.returns-in-Err-Fault-clause-told
@@ -9,11 +10,11 @@ returns-in-Err-Fault-clause-told g c = λ refused. tells_file _ _ _ _ _ _ _ refl
 pub returns-in-Err-Memory-clause-told : goal.returns-in-Err-Memory-clause-told
 returns-in-Err-Memory-clause-told g c = λ refused. tells_no_file _ _ _ _ _ (rw c.in-Err-Memory.field-0-is at c.in-Err-Memory.ensures.failed) c.refuse_memory.ensures.told
 
-pub returns-in-Err-Fault-merge-clause-told : goal.returns-in-Err-Fault-merge-clause-told
-returns-in-Err-Fault-merge-clause-told g c = λ refused. tells_no_file _ _ _ _ _ c.in-Ok.ensures.count c.refuse_merge.ensures.told
+pub returns-in-Err-Fault-merging-clause-told : goal.returns-in-Err-Fault-merging-clause-told
+returns-in-Err-Fault-merging-clause-told g c = λ refused. tells_no_file _ _ _ _ _ c.in-Ok.ensures.count c.refuse_merge.ensures.told
 
-pub returns-in-Err-Memory-merge-clause-told : goal.returns-in-Err-Memory-merge-clause-told
-returns-in-Err-Memory-merge-clause-told g c = λ refused. tells_no_file _ _ _ _ _ c.in-Ok.ensures.count c.refuse_memory-in-Err-Memory-merge.ensures.told
+pub returns-in-Err-Memory-merging-clause-told : goal.returns-in-Err-Memory-merging-clause-told
+returns-in-Err-Memory-merging-clause-told g c = λ refused. tells_no_file _ _ _ _ _ c.in-Ok.ensures.count c.refuse_memory-in-Err-Memory-merging.ensures.told
 
 pub returns-in-Err-Fault-write_file-clause-told : goal.returns-in-Err-Fault-write_file-clause-told
 returns-in-Err-Fault-write_file-clause-told g c = λ refused. tells_file _ _ _ _ _ _ _ c.in-Ok.ensures.count (rw c.in-Err-Fault-write_file.field-0-is at c.in-Err-Fault-write_file.ensures.failed)
@@ -21,3 +22,7 @@ returns-in-Err-Fault-write_file-clause-told g c = λ refused. tells_file _ _ _ _
 
 pub returns-clause-told : goal.returns-clause-told
 returns-clause-told g c = λ refused. tells_no_file _ _ _ _ _ ((rw c.in-Err-Memory-write_file.field-0-is at c.in-Err-Memory-write_file.ensures.failed) ∙ c.in-Ok.ensures.count) c.refuse_memory-in-Err-Memory-write_file.ensures.told
+
+pub returns-clause-refused : goal.returns-clause-refused
+returns-clause-refused g c = λ other. stops_linking _ _ _ _ _ _ _ c.in-Ok.ensures.kept c.in-Ok.ensures.texts
+    (rw c.as_slice.ensures.value at c.in-Ok-merging.ensures) (rw c.as_slice-2.ensures.value at c.in-Err-Memory-write_file.ensures.err)

@@ -9,14 +9,14 @@ returns-in-Err-Fault-clause-told g c = tells_file _ _ _ _ _ _ _ refl (rw c.in-Er
 pub returns-in-Err-Memory-clause-told : goal.returns-in-Err-Memory-clause-told
 returns-in-Err-Memory-clause-told g c = tells_no_file _ _ _ _ _ (rw c.in-Err-Memory.field-0-is at c.in-Err-Memory.ensures.failed) c.refuse_memory.ensures.told
 
-pub returns-in-Err-Fault-read-clause-told : goal.returns-in-Err-Fault-read-clause-told
-returns-in-Err-Fault-read-clause-told g c = tells_no_file _ _ _ _ _ c.in-Ok.ensures.count c.refuse_object.ensures.told
+pub returns-in-Err-Fault-reading-clause-told : goal.returns-in-Err-Fault-reading-clause-told
+returns-in-Err-Fault-reading-clause-told g c = tells_no_file _ _ _ _ _ c.in-Ok.ensures.count c.refuse_object.ensures.told
 
-pub returns-in-Err-Memory-read-clause-told : goal.returns-in-Err-Memory-read-clause-told
-returns-in-Err-Memory-read-clause-told g c = tells_no_file _ _ _ _ _ c.in-Ok.ensures.count c.refuse_memory-in-Err-Memory-read.ensures.told
+pub returns-in-Err-Memory-reading-clause-told : goal.returns-in-Err-Memory-reading-clause-told
+returns-in-Err-Memory-reading-clause-told g c = tells_no_file _ _ _ _ _ c.in-Ok.ensures.count c.refuse_memory-in-Err-Memory-reading.ensures.told
 
 pub returns-in-Err-Fault-locate-clause-told : goal.returns-in-Err-Fault-locate-clause-told
 returns-in-Err-Fault-locate-clause-told g c = tells_no_file _ _ _ _ _ c.in-Ok.ensures.count c.refuse_place.ensures.told
 
-pub returns-clause-told : goal.returns-clause-told
-returns-clause-told g c = tells_no_file _ _ _ _ _ c.in-Ok.ensures.count c.refuse_memory-in-Err-Memory-locate.ensures.told
+pub returns-in-Err-Memory-locate-clause-told : goal.returns-in-Err-Memory-locate-clause-told
+returns-in-Err-Memory-locate-clause-told g c = tells_no_file _ _ _ _ _ c.in-Ok.ensures.count c.refuse_memory-in-Err-Memory-locate.ensures.told

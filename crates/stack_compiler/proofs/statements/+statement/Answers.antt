@@ -1,9 +1,9 @@
-use Rattle.std.proofs.Common.{◌++◌, ◌∷◌, [], Option, length, ap, sym, ◌∙◌, arith}
+use Rattle.std.proofs.Common.{◌+◌, ◌-◌, ◌++◌, ◌∷◌, [], Option, length, ap, refl, sym, ◌∙◌, arith}
 use Rattle.std.proofs.lemmas.Result.{on_ok_weaker}
 use Rattle.typed_trees.specs.declared.statement.TypedStatement.{TypedStatement}
 use Rattle.typed_trees.specs.Views.{else_view, expression_view, iteration_view, list_view, statement_view, statements_view}
-use Rattle.stack_code.specs.Code.{choice_code, count_of_statements, else_code, entries_code, cases_code, expression_code, list_code, statement_code}
-use Rattle.stack_compiler.specs.internal.Openings.{closed, opened, opening}
+use Rattle.stack_code.specs.Code.{choice_code, count_of_statements, else_code, entries_code, cases_code, expression_code, last_code, list_code, statement_code}
+use Rattle.stack_compiler.specs.internal.Openings.{closed, opened, opening, passing}
 use Rattle.stack_compiler.specs.internal.Sites.{site_view}
 use Rattle.stack_compiler.proofs.Cases.{case_made, case_opened, cases_made, cases_opened}
 use Rattle.stack_compiler.proofs.JumpsFilled.{if_with, if_without, iterate_made, while_made}
@@ -20,13 +20,17 @@ cases_of-returns t c =
 
 pub emit_iterate-returns : goal.emit_iterate-returns
 emit_iterate-returns t c =
-    iterate_made (site_view c.args.site.now) (iteration_view c.args.turns.now.head) (list_view c.args.turns.now.body)
+    let site = site_view c.args.site.now in
+    let head = iteration_view c.args.turns.now.head in
+    let start = c.next_place-start.result in
+    let tested = passing c.emit-2.new.code.items start ++ last_code site head in
+    iterate_made site head (list_view c.args.turns.now.body)
     c.args.code.now.items c.emit_first.new.code.items c.emit.new.code.items c.emit_list.new.code.items
-    c.emit_stepping.new.code.items c.emit-2.new.code.items c.close_jump.new.code.items c.emit_last.new.code.items
-    c.emit-3.new.code.items c.close_jump_unless.new.code.items c.next_place-start.result c.next_place-leave.result c.count_after-count.result
+    c.emit_stepping.new.code.items c.emit-2.new.code.items (passing c.emit-2.new.code.items start) tested
+    c.emit_test.new.code.items c.close_jump_unless.new.code.items start c.next_place-leave.result (length tested - (start + 1))
     c.in_ok-emit_first.ensures c.next_place-start.ensures c.in_ok-emit.ensures c.in_ok-emit_list.ensures c.in_ok-emit_stepping.ensures
-    c.next_place-leave.ensures c.in_ok-emit-2.ensures c.close_jump.ensures c.in_ok-emit_last.ensures c.count_after-count.ensures
-    c.in_ok-emit-3.ensures c.close_jump_unless.ensures
+    c.next_place-leave.ensures c.in_ok-emit-2.ensures refl refl refl
+    c.in_ok-emit_test.ensures c.close_jump_unless.ensures
 
 pub emit_statements-loop-statement-preserved : goal.emit_statements-loop-statement-preserved
 emit_statements-loop-statement-preserved t c =
@@ -39,12 +43,12 @@ emit_statements-returns t c =
 
 pub emit_while-returns : goal.emit_while-returns
 emit_while-returns t c =
-    on_ok_weaker c.emit-2.result
+    on_ok_weaker c.emit_loop_back.result
     (while_made c.args.code.now.items c.emit.new.code.items c.emit_list.new.code.items c.close_jump.new.code.items c.emit_expression.new.code.items
-    c.emit-2.new.code.items (list_code (site_view c.args.site.now) (list_view c.args.turns.now.body))
-    (expression_code (site_view c.args.site.now) (expression_view c.args.turns.now.condition)) c.next_place-start.result c.count_after-count.result
-    c.next_place-start.ensures c.in_ok-emit.ensures c.in_ok-emit_list.ensures c.close_jump.ensures c.in_ok-emit_expression.ensures c.count_after-count.ensures)
-    c.emit-2.ensures
+    c.emit_loop_back.new.code.items (list_code (site_view c.args.site.now) (list_view c.args.turns.now.body))
+    (expression_code (site_view c.args.site.now) (expression_view c.args.turns.now.condition)) c.next_place-start.result (length c.emit_expression.new.code.items - (c.next_place-start.result + 1))
+    c.next_place-start.ensures c.in_ok-emit.ensures c.in_ok-emit_list.ensures c.close_jump.ensures c.in_ok-emit_expression.ensures refl)
+    c.emit_loop_back.ensures
 
 pub emit_if-returns-in_ok-emit_statement-in-Some : goal.emit_if-returns-in_ok-emit_statement-in-Some
 emit_if-returns-in_ok-emit_statement-in-Some t c =

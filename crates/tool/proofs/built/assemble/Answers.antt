@@ -21,6 +21,7 @@ invariant_of-result c =
     record {
       headline = code_agrees modules (main_module_of modules c.requires.served (one_main_module modules c.requires.joined)) (placement_view c.args.placement) c.args.plan.stack_size (stack_end_of c.args.plan) _ (bytes ∙ main) refl ends;
       joined = c.requires.joined;
+      may_lie = c.requires.possible;
       lawful = c.requires.lawful;
       as_planned = c.requires.placed;
       table = c.requires.table;

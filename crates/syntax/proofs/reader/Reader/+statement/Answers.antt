@@ -1,9 +1,9 @@
-use Rattle.std.proofs.Common.{not, sym, ◌∙◌, ap, arith}
+use Rattle.std.proofs.Common.{not, sym, ◌∙◌, ap, arith, refl}
 use Rattle.std.proofs.lemmas.Result.{err_from_is_err_and}
 use Rattle.syntax.proofs.StatementInsides.{statement_in, declaration_in, statement-deep, declaration-deep, declaration-declares}
 use Rattle.syntax.proofs.StatementLoops.{statements-more, statements-end, statement-smaller, statements-fails, statements-fails_at_end, declarations-more, declarations-end, declaration-smaller, declarations-fails}
-use Rattle.syntax.proofs.ReaderResults.{fails_bind}
-use Rattle.syntax.specs.internal.Statements.{declare_or}
+use Rattle.syntax.proofs.ReaderResults.{fails_bind, gives_made}
+use Rattle.syntax.specs.internal.Statements.{declare_or, conditional, simple_do, while_do, case_do, iterative_do, procedure}
 use Rattle.syntax.proofs.reader.Reader.+statement.Goals as goal
 
 pub take_statement-returns-then-room-eq0 : goal.take_statement-returns-then-room-eq0
@@ -66,3 +66,39 @@ take_declarations-returns t c = grind (arith, declarations-end)
 pub take_declaration-returns : goal.take_declaration-returns
 unfolding declare_or
 take_declaration-returns t c = grind (arith, declaration_in)
+
+pub take_if-returns : goal.take_if-returns
+unfolding conditional
+take_if-returns t c =
+    gives_made _ _ _ _ _ _ c.or_memory.ensures c.if_then.ensures.view
+    (rw (c.in_ok-condition.ensures, c.in_ok-take_word.ensures, c.in_ok-body.ensures, c.in_ok-otherwise.ensures) refl)
+
+pub take_simple_do-returns : goal.take_simple_do-returns
+unfolding simple_do
+take_simple_do-returns t c =
+    gives_made _ _ _ _ _ _ c.or_memory.ensures c.simple_do.ensures.view
+    (rw (c.in_ok-block.ensures, c.in_ok-take_end_of_do.ensures) refl)
+
+pub take_while-returns : goal.take_while-returns
+unfolding while_do
+take_while-returns t c =
+    gives_made _ _ _ _ _ _ c.or_memory.ensures c.do_while.ensures.view
+    (grind arith)
+
+pub take_case-returns : goal.take_case-returns
+unfolding case_do
+take_case-returns t c =
+    gives_made _ _ _ _ _ _ c.or_memory.ensures c.do_case.ensures.view
+    (grind arith)
+
+pub take_iterative_do-returns : goal.take_iterative_do-returns
+unfolding iterative_do
+take_iterative_do-returns t c =
+    gives_made _ _ _ _ _ _ c.or_memory.ensures c.iterative_do.ensures.view
+    (rw (c.in_ok-iteration.ensures, c.in_ok-body.ensures) refl)
+
+pub take_procedure-returns : goal.take_procedure-returns
+unfolding procedure
+take_procedure-returns t c =
+    gives_made _ _ _ _ _ _ c.or_memory.ensures c.procedure.ensures.view
+    (rw (c.in_ok-heading.ensures, c.in_ok-take_semicolon.ensures, c.in_ok-body.ensures, c.in_ok-end_name.ensures) refl)

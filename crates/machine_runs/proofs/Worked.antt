@@ -1,7 +1,7 @@
--- The worked program, computed.
+-- The worked program, computed at one place.
 use Rattle.std.proofs.Common.{refl}
 use Rattle.isa8080.specs.Step.{step_of, state_after}
-use Rattle.asm8080.specs.internal.Examples.{Counts}
+use Rattle.machine_runs.specs.internal.Examples.{Counts}
 
 pub counts : Counts
 unfolding step_of state_after

@@ -1,0 +1,7 @@
+use Rattle.std.proofs.Common.{refl}
+use Rattle.syntax.proofs.ReaderResults.{gives_made}
+use Rattle.syntax.proofs.reader.Reader.take_definition.Goals as goal
+
+pub returns : goal.returns
+returns c =
+    gives_made _ _ _ _ _ _ c.or_memory.ensures c.literally.ensures.view (rw c.in_ok-text.ensures refl)

@@ -1,0 +1,8 @@
+use Rattle.std.proofs.Common.{refl}
+use Rattle.syntax.proofs.ReaderResults.{gives_made}
+use Rattle.syntax.proofs.reader.Reader.take_single_item.Goals as goal
+
+pub returns : goal.returns
+returns c =
+    gives_made _ _ _ _ _ _ c.or_memory.ensures c.item.ensures.view
+    (rw (c.in_ok-base.ensures, c.in_ok-found.ensures) refl)
