@@ -164,8 +164,10 @@ fn push_word(bytes: &mut Vec<u8>, word: u16) -> Result<(), AllocError>
 fn push_zeros(bytes: &mut Vec<u8>, count: u16) -> Result<(), AllocError>
     ensures { OnOk result ((bytes.new).items ≡ (bytes.old).items ++ replicate count 0) }
 {
-    let zeros = vec![in *bytes.allocator(); 0; count as usize]?;
-    bytes.extend_from_slice(zeros.as_slice())
+    let Some(end) = bytes.len().checked_add(count as usize) else {
+        return Err(AllocError);
+    };
+    bytes.resize(end, 0)
 }
 
 // Whether the bytes of an item are set.
@@ -179,8 +181,10 @@ fn is_set(item: Item) -> bool
 fn push_flags(flags: &mut Vec<bool>, item: Item) -> Result<(), AllocError>
     ensures { OnOk result ((flags.new).items ≡ (flags.old).items ++ flags_of_item item) }
 {
-    let more = vec![in *flags.allocator(); is_set(item); item_size(item) as usize]?;
-    flags.extend_from_slice(more.as_slice())
+    let Some(end) = flags.len().checked_add(item_size(item) as usize) else {
+        return Err(AllocError);
+    };
+    flags.resize(end, is_set(item))
 }
 
 // Adds an item, whose labels have places in a table.

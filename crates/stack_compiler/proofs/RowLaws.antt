@@ -10,7 +10,7 @@ use Rattle.typed_trees.specs.TypedTrees.{TypedProcedure, TypedModule}
 use Rattle.layout.specs.Joined.{InProgram}
 use Rattle.meaning.specs.Meaning.{procedure_at}
 use Rattle.stack_code.specs.declared.instruction.Instruction.{Instruction}
-use Rattle.stack_code.specs.declared.instruction.Instruction.TheVariants.{Begin, Mark, Push, Drop, ReadAt, WriteAt, Read, Write, ReadFrame, WriteFrame, LocateFrame, Scale, Advance, Sum, Convert, Unary, Binary, Function, Shift, Step, Input, Output, Move, Parameter, FrameParameter, Discard, Jump, JumpUnless, LoopBack, Case, Goto, Call, Return, Halt}
+use Rattle.stack_code.specs.declared.instruction.Instruction.TheVariants.{Begin, Mark, Push, Drop, ReadAt, WriteAt, Read, Write, ReadFrame, WriteFrame, LocateFrame, Scale, Advance, Sum, Convert, Unary, Binary, BinaryWith, Function, Shift, Step, Input, Output, Move, Parameter, FrameParameter, Discard, Jump, JumpUnless, LoopBack, Case, Goto, Call, Return, Halt}
 use Rattle.stack_code.specs.declared.program.Entry.{Entry}
 use Rattle.stack_code.specs.declared.program.ModuleTable.{ModuleTable}
 use Rattle.stack_code.specs.Machine.{after_first, is_begin, is_mark}
@@ -184,8 +184,8 @@ noted_label rows after (Push a) m l = sym (first_of_zero (label_at rows m l))
 noted_label rows after Drop m l = sym (first_of_zero (label_at rows m l))
 noted_label rows after (ReadAt a b) m l = sym (first_of_zero (label_at rows m l))
 noted_label rows after (WriteAt a b) m l = sym (first_of_zero (label_at rows m l))
-noted_label rows after (Read a) m l = sym (first_of_zero (label_at rows m l))
-noted_label rows after (Write a) m l = sym (first_of_zero (label_at rows m l))
+noted_label rows after (Read a b) m l = sym (first_of_zero (label_at rows m l))
+noted_label rows after (Write a b) m l = sym (first_of_zero (label_at rows m l))
 noted_label rows after (ReadFrame a b) m l = sym (first_of_zero (label_at rows m l))
 noted_label rows after (WriteFrame a b) m l = sym (first_of_zero (label_at rows m l))
 noted_label rows after (LocateFrame a) m l = sym (first_of_zero (label_at rows m l))
@@ -195,6 +195,7 @@ noted_label rows after Sum m l = sym (first_of_zero (label_at rows m l))
 noted_label rows after (Convert a) m l = sym (first_of_zero (label_at rows m l))
 noted_label rows after (Unary a b) m l = sym (first_of_zero (label_at rows m l))
 noted_label rows after (Binary a b) m l = sym (first_of_zero (label_at rows m l))
+noted_label rows after (BinaryWith a b c) m l = sym (first_of_zero (label_at rows m l))
 noted_label rows after (Function a) m l = sym (first_of_zero (label_at rows m l))
 noted_label rows after (Shift a b) m l = sym (first_of_zero (label_at rows m l))
 noted_label rows after (Step a) m l = sym (first_of_zero (label_at rows m l))
@@ -228,8 +229,8 @@ noted_entry rows after (Push a) at = sym (kept (entry_by rows at.number_of_modul
 noted_entry rows after Drop at = sym (kept (entry_by rows at.number_of_module at.number))
 noted_entry rows after (ReadAt a b) at = sym (kept (entry_by rows at.number_of_module at.number))
 noted_entry rows after (WriteAt a b) at = sym (kept (entry_by rows at.number_of_module at.number))
-noted_entry rows after (Read a) at = sym (kept (entry_by rows at.number_of_module at.number))
-noted_entry rows after (Write a) at = sym (kept (entry_by rows at.number_of_module at.number))
+noted_entry rows after (Read a b) at = sym (kept (entry_by rows at.number_of_module at.number))
+noted_entry rows after (Write a b) at = sym (kept (entry_by rows at.number_of_module at.number))
 noted_entry rows after (ReadFrame a b) at = sym (kept (entry_by rows at.number_of_module at.number))
 noted_entry rows after (WriteFrame a b) at = sym (kept (entry_by rows at.number_of_module at.number))
 noted_entry rows after (LocateFrame a) at = sym (kept (entry_by rows at.number_of_module at.number))
@@ -239,6 +240,7 @@ noted_entry rows after Sum at = sym (kept (entry_by rows at.number_of_module at.
 noted_entry rows after (Convert a) at = sym (kept (entry_by rows at.number_of_module at.number))
 noted_entry rows after (Unary a b) at = sym (kept (entry_by rows at.number_of_module at.number))
 noted_entry rows after (Binary a b) at = sym (kept (entry_by rows at.number_of_module at.number))
+noted_entry rows after (BinaryWith a b c) at = sym (kept (entry_by rows at.number_of_module at.number))
 noted_entry rows after (Function a) at = sym (kept (entry_by rows at.number_of_module at.number))
 noted_entry rows after (Shift a b) at = sym (kept (entry_by rows at.number_of_module at.number))
 noted_entry rows after (Step a) at = sym (kept (entry_by rows at.number_of_module at.number))

@@ -5,8 +5,8 @@ use Rattle.trees.specs.declared.declaration.ScalarType.{ScalarType}
 use Rattle.typed_trees.specs.TypedTrees.{TypedReference, PartOf, Home, InData, InConstants, Placed, BasedOn, Elsewhere, Nowhere, InFrame, Subscript, NoSubscript, At}
 use Rattle.meaning.specs.Access.{address_of, home_of}
 use Rattle.stack_code.specs.declared.instruction.Instruction.{Instruction}
-use Rattle.stack_code.specs.declared.instruction.Instruction.TheVariants.{Advance, FrameParameter, Parameter}
-use Rattle.stack_code.specs.Code.{Site, Purpose, surroundings_at, instruction_at, instruction_of_address, instruction_of_frame, whole_in_frame, scalar_code, variable_code, parameter_code, part_at, part_code, index_code, reference_code}
+use Rattle.stack_code.specs.declared.instruction.Instruction.TheVariants.{FrameParameter, Parameter}
+use Rattle.stack_code.specs.Code.{Site, Purpose, surroundings_at, instruction_at, instruction_after, instruction_of_frame, whole_in_frame, scalar_code, variable_code, parameter_code, part_at, part_code, index_code, reference_code}
 use Rattle.resolving.specs.declared.site.Storage.{Storage}
 use Rattle.resolving.specs.declared.site.Storage.TheVariants.{Frame, Base, Memory}
 use Rattle.resolving.specs.Storage.{storage_by}
@@ -94,7 +94,7 @@ part_without_subscript purpose address (At stride count index) NoSubscript bytes
 part_without_subscript purpose address (At stride count index) (At one other more) bytes is = absurd (true≢false (sym is))
 
 pub part_with_subscript : (purpose : Purpose) (address : ℕ) (first second : Subscript) (bytes : List Instruction) → lacks_subscripts first second ≡ false
-    → bytes ++ (Advance address ∷ instruction_of_address purpose) ≡ part_at purpose address first second bytes
+    → bytes ++ (instruction_after purpose address ∷ []) ≡ part_at purpose address first second bytes
 part_with_subscript purpose address NoSubscript NoSubscript bytes is = absurd (true≢false is)
 part_with_subscript purpose address NoSubscript (At stride count index) bytes is = refl
 part_with_subscript purpose address (At stride count index) NoSubscript bytes is = refl

@@ -5,21 +5,21 @@ ghost use Rattle.mem80.specs.declared.memory.TheConstants.{MEMORY_SIZE};
 ghost use Rattle.trees.specs.declared.declaration.ScalarType.TheVariants.{Address};
 ghost use Rattle.typed_trees.specs.Views.{arguments_view, expression_view, reference_view, subscript_view, target_view};
 ghost use Rattle.meaning.specs.Meaning.{callee_in};
-ghost use Rattle.stack_code.specs.declared.instruction.Instruction.TheVariants.{Advance, Drop};
-ghost use Rattle.stack_code.specs.Code.{ToRead, added_to_bytes, arguments_code, called_code, expression_code, index_code, instruction_of_address, reference_code, scaled_code, summed, surroundings_at, target_code, variable_code};
+ghost use Rattle.stack_code.specs.declared.instruction.Instruction.TheVariants.{Drop};
+ghost use Rattle.stack_code.specs.Code.{ToRead, added_to_bytes, arguments_code, called_code, expression_code, index_code, instruction_after, number_in, operator_code, reference_code, scaled_code, summed, surroundings_at, target_code, variable_code};
 ghost use Rattle.stack_compiler.specs.internal.Parts.{based_code, bytes_code, framed_code, lacks_subscripts, placed_code};
 ghost use Rattle.stack_compiler.specs.internal.Purposes.{purpose_view};
 ghost use Rattle.stack_compiler.specs.internal.Sites.{site_view};
 
 use crate::purpose::{
-    Purpose, emit, emit_at_address, instruction_at, instruction_of_frame, part_of,
+    Purpose, emit, instruction_after, instruction_at, instruction_of_frame, part_of,
 };
 use crate::site::Site;
 use crate::variables::{address_after, variable_code, wrapped};
 use resolving::Storage;
 use stack_code::Instruction;
 use std::alloc::AllocError;
-use trees::ScalarType;
+use trees::{BinaryOperator, ScalarType};
 use typed_trees::{TypedExpression, TypedReference, TypedSubscript, TypedTarget};
 
 /// The value of an expression.
@@ -61,7 +61,7 @@ pub(crate) fn emit_expression(
             right,
         } => {
             emit_expression(site, code, left)?;
-            emit_after(site, code, right, Instruction::Binary(*operands, *operator))
+            emit_operator(site, code, *operands, *operator, right)
         }
         TypedExpression::Call {
             procedure,
@@ -101,6 +101,52 @@ pub(crate) fn emit_after(
 {
     emit_expression(site, code, operand)?;
     emit(code, instruction)
+}
+
+// The number of an expression that is one.
+fn number_in(expression: &TypedExpression) -> Option<u16>
+    ensures { result ≡ number_in (expression_view expression.now) }
+{
+    match expression {
+        TypedExpression::Number { value, .. } => Some(*value),
+        TypedExpression::Value { .. }
+        | TypedExpression::Location(_)
+        | TypedExpression::List(_)
+        | TypedExpression::Conversion { .. }
+        | TypedExpression::Assignment { .. }
+        | TypedExpression::Unary { .. }
+        | TypedExpression::Binary { .. }
+        | TypedExpression::Call { .. }
+        | TypedExpression::Function { .. }
+        | TypedExpression::Shift { .. }
+        | TypedExpression::Input(_) => None,
+    }
+}
+
+// An operator and its right operand, after the left one.
+#[cycle(expression)]
+fn emit_operator(
+    site: &Site<'_>,
+    code: &mut Vec<Instruction>,
+    operands: ScalarType,
+    operator: BinaryOperator,
+    right: &TypedExpression,
+) -> Result<(), AllocError>
+    ensures { OnOk result (code.new.items ≡ code.old.items
+        ++ operator_code operands operator (number_in (expression_view right.now))
+        (expression_code (site_view site.now) (expression_view right.now))) }
+{
+    match number_in(right) {
+        Some(number) => emit(
+            code,
+            Instruction::BinaryWith {
+                operands,
+                operator,
+                right: number,
+            },
+        ),
+        None => emit_after(site, code, right, Instruction::Binary(operands, operator)),
+    }
 }
 
 /// The values of arguments, one after another.
@@ -224,26 +270,12 @@ fn emit_after_base(
         ++ (variable_code (site_view site.now) (ToRead Address) base
         ∷ (added_to_bytes (subscript_view reference.now.subscript)
         (subscript_view reference.now.member_subscript)
-        ++ (Advance (reference.now.offset % MEMORY_SIZE) ∷ instruction_of_address (purpose_view purpose))))) }
+        ++ (instruction_after (purpose_view purpose) (reference.now.offset % MEMORY_SIZE) ∷ [])))) }
 {
     let variable = variable_code(site, Purpose::Reading(ScalarType::Address), base);
     emit(code, variable)?;
     emit_added(code, &reference.subscript, &reference.member_subscript)?;
-    emit_advanced(code, purpose, wrapped(reference.offset))
-}
-
-// What is done with what lies so many bytes after the address on the stack.
-#[tactic(auto, using(std::proofs::lemmas::List::append_assoc))]
-fn emit_advanced(
-    code: &mut Vec<Instruction>,
-    purpose: Purpose,
-    number: u16,
-) -> Result<(), AllocError>
-    ensures { OnOk result (code.new.items ≡ code.old.items
-        ++ (Advance number ∷ instruction_of_address (purpose_view purpose))) }
-{
-    emit(code, Instruction::Advance(number))?;
-    emit_at_address(code, purpose)
+    emit(code, instruction_after(purpose, wrapped(reference.offset)))
 }
 
 // A part of an object at an address.
@@ -263,7 +295,7 @@ fn emit_placed(
         return emit(code, instruction_at(purpose, address));
     }
     emit_bytes(site, code, reference)?;
-    emit_advanced(code, purpose, address)
+    emit(code, instruction_after(purpose, address))
 }
 
 // Whether there are no subscripts.

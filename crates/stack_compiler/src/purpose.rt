@@ -2,7 +2,7 @@
 
 ghost use Rattle.std.specs.Prelude.{◌≡◌, ◌++◌, [], ◌∷◌, OnOk};
 ghost use Rattle.typed_trees.specs.Views.{subscript_view};
-ghost use Rattle.stack_code.specs.Code.{frame_subscript, instruction_at, instruction_of_address, instruction_of_frame, part_of, whole_in_frame};
+ghost use Rattle.stack_code.specs.Code.{frame_subscript, instruction_after, instruction_at, instruction_of_frame, part_of, whole_in_frame};
 ghost use Rattle.stack_compiler.specs.internal.Purposes.{purpose_view};
 
 use stack_code::{FramePart, FrameSubscript, Instruction};
@@ -48,17 +48,14 @@ pub(crate) fn instruction_at(purpose: Purpose, address: u16) -> Instruction
     }
 }
 
-/// What is done with what lies at the address on the stack.
-pub(crate) fn emit_at_address(
-    code: &mut Vec<Instruction>,
-    purpose: Purpose,
-) -> Result<(), AllocError>
-    ensures { OnOk result (code.new.items ≡ code.old.items ++ instruction_of_address (purpose_view purpose)) }
+/// What is done with what lies an offset after the address on the stack.
+pub(crate) fn instruction_after(purpose: Purpose, offset: u16) -> Instruction
+    ensures { result ≡ instruction_after (purpose_view purpose) offset }
 {
     match purpose {
-        Purpose::Reading(scalar) => emit(code, Instruction::Read(scalar)),
-        Purpose::Writing(scalar) => emit(code, Instruction::Write(scalar)),
-        Purpose::Locating => Ok(()),
+        Purpose::Reading(scalar) => Instruction::Read { scalar, offset },
+        Purpose::Writing(scalar) => Instruction::Write { scalar, offset },
+        Purpose::Locating => Instruction::Advance(offset),
     }
 }
 

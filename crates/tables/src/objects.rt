@@ -1,9 +1,11 @@
 //! Objects read from a reader and loaded into a memory, and pieces read from Intel HEX.
 
+ghost use Rattle.mem80.specs.Pieces.{AreWritable};
+
 use crate::page::Page;
 use crate::readers::BrokenReader;
 use failure::Failure;
-use hex80::read_hex;
+use hex80::{read_hex, write_hex};
 use locate::{Plan, locate};
 use mem80::{Memory, Piece};
 use objmod::{ObjectModule, Segment, read, read_from};
@@ -32,8 +34,8 @@ struct Row {
     text: &'static str,
 }
 
-// Texts of Intel HEX; the first are the bytes of the merge at 100H.
-const TEXTS: [Row; 7] = [
+// Texts of Intel HEX; the first two are the bytes of the merge at 100H.
+const TEXTS: [Row; 8] = [
     Row {
         what: "as it is written",
         text: ":09010000CD0401763E08D304C9C8\n:00000001FF\n",
@@ -41,6 +43,10 @@ const TEXTS: [Row; 7] = [
     Row {
         what: "carriage returns, and no end of the last line",
         text: ":09010000CD0401763E08D304C9C8\r\n:00000001FF",
+    },
+    Row {
+        what: "a later address first",
+        text: ":0102000055A8\n:09010000CD0401763E08D304C9C8\n:00000001FF\n",
     },
     Row {
         what: "lower case",
@@ -182,12 +188,28 @@ fn print_pieces(page: &mut Page, pieces: &[Piece]) {
     }
 }
 
-// Prints the pieces of a text, or its fault.
+// Prints the text that is written for the pieces of another.
+fn print_text(page: &mut Page, pieces: &[Piece])
+    requires { AreWritable pieces.now }
+{
+    let mut text: Vec<u8> = Vec::new(page.alloc());
+    let is_written = write_hex(page.alloc(), pieces, &mut text).is_ok();
+    page.note(is_written);
+    match std::str::from_utf8(text.as_slice()) {
+        Ok(text) => page.text(text),
+        Err(_) => page.note(false),
+    }
+}
+
+// Prints the pieces of a text and what is written for them, or its fault.
 fn print_row(page: &mut Page, row: &Row) {
     page.text(row.what);
     page.text(": ");
     match read_hex(page.alloc(), row.text.as_bytes()) {
-        Ok(pieces) => print_pieces(page, pieces.as_slice()),
+        Ok(pieces) => {
+            print_pieces(page, pieces.as_slice());
+            print_text(page, pieces.as_slice());
+        }
         Err(Failure::Fault(fault)) => page.line("", fault.number()),
         Err(Failure::Memory) => page.line("", "MEMORY"),
     }

@@ -5,8 +5,7 @@ use Rattle.trees.specs.declared.declaration.ScalarType.TheVariants.{Address}
 use Rattle.typed_trees.specs.TypedTrees.{TypedReference, PartOf, Subscript, NoSubscript}
 use Rattle.meaning.specs.Access.{address_of}
 use Rattle.stack_code.specs.declared.instruction.Instruction.{Instruction}
-use Rattle.stack_code.specs.declared.instruction.Instruction.TheVariants.{Advance}
-use Rattle.stack_code.specs.Code.{Site, Purpose, ToRead, surroundings_at, instruction_of_address, instruction_of_frame, part_of, part_at, variable_code, summed, added_to_bytes, index_code, scaled_code}
+use Rattle.stack_code.specs.Code.{Site, Purpose, ToRead, surroundings_at, instruction_after, instruction_of_frame, part_of, part_at, variable_code, summed, added_to_bytes, index_code, scaled_code}
 
 -- the bytes that subscripts stand for
 abbrev pub bytes_code : Site → (first second : Subscript) → List Instruction
@@ -23,7 +22,7 @@ abbrev pub based_code : Site → Purpose → (base : ℕ) → TypedReference →
 based_code site purpose base (PartOf object first member offset second) =
     bytes_code site first second
     ++ (variable_code site (ToRead Address) base
-    ∷ (added_to_bytes first second ++ (Advance (offset % MEMORY_SIZE) ∷ instruction_of_address purpose)))
+    ∷ (added_to_bytes first second ++ (instruction_after purpose (offset % MEMORY_SIZE) ∷ [])))
 
 -- a part of an object at an address
 abbrev pub placed_code : Site → Purpose → TypedReference → List Instruction
