@@ -3,8 +3,7 @@ use Rattle.std.proofs.Common.{◌≡◌, ℕ, ◌-◌, ◌≤◌, ◌<◌, List,
 use Rattle.std.proofs.Math.Seq.{take-length}
 use Rattle.std.proofs.lemmas.List.{append-nil, append_assoc}
 use Rattle.files.specs.Files.{Directory, HasFile, KeepsFiles}
-use Rattle.answers.specs.Reading.{HasFiles, IsFirstUnread, IsOneOf}
-use Rattle.answers.proofs.LinesPrinted.{is_first, is_later}
+use Rattle.answers.specs.Reading.{HasFiles, StopsAt}
 
 pub stays : (files : Option Directory) → KeepsFiles files files
 stays None = tt
@@ -73,20 +72,29 @@ all_read files whole made [] none so_far = subst (λ (l : List (List ℕ)). HasF
 all_read files whole made (n ∷ more) none so_far = absurd (omega arith)
 
 -- the next name, where its file can't be read
-pub first_unread : (files : Option Directory) (whole made : List (List ℕ)) (name : List ℕ) (d : Bor (List ℕ)) (rest : List (Bor (List ℕ))) → 1 ≤ length rest → name ≡ (get_or rest 0 d).now
-    → ReadSoFar files whole (map (λ n. n.now) rest) made → IsFirstUnread files whole name
-first_unread files whole made name d [] one is so_far = absurd (omega arith)
-first_unread files whole made name d (n ∷ more) one is so_far =
-    subst (IsFirstUnread files whole) (sym is)
+pub stops_next : (files : Option Directory) (whole made : List (List ℕ)) (name : List ℕ) (d : Bor (List ℕ)) (rest : List (Bor (List ℕ))) → 1 ≤ length rest → name ≡ (get_or rest 0 d).now
+    → ReadSoFar files whole (map (λ n. n.now) rest) made → StopsAt files whole name
+stops_next files whole made name d [] one is so_far = absurd (omega arith)
+stops_next files whole made name d (n ∷ more) one is so_far =
+    subst (StopsAt files whole) (sym is)
     (record { before = so_far.before; rest = map (λ n. n.now) more; texts = made; names_are = so_far.names_are; read = so_far.read })
 
--- is one of all
-one_after : (before : List (List ℕ)) (name : List ℕ) (rest : List (List ℕ)) → IsOneOf (before ++ (name ∷ rest)) name
-one_after [] name rest = is_first name rest
-one_after (n ∷ before) name rest = is_later n (before ++ (name ∷ rest)) name (one_after before name rest)
+-- the only name, the last of several of which all before it were read, and one with more names after it
+pub stops_alone : (files : Option Directory) (name : List ℕ) → StopsAt files (name ∷ []) name
+stops_alone files name = record { before = []; rest = []; texts = []; names_are = refl; read = tt }
 
-pub one_unread : (files : Option Directory) (whole made : List (List ℕ)) (name : List ℕ) (d : Bor (List ℕ)) (rest : List (Bor (List ℕ))) → 1 ≤ length rest → name ≡ (get_or rest 0 d).now
-    → ReadSoFar files whole (map (λ n. n.now) rest) made → IsOneOf whole name
-one_unread files whole made name d rest one is so_far =
-    let found = first_unread files whole made name d rest one is so_far in
-    subst (λ (l : List (List ℕ)). IsOneOf l name) (sym found.names_are) (one_after found.before name found.rest)
+pub stops_last : (files : Option Directory) (names texts : List (List ℕ)) (name : List ℕ) → HasFiles files names texts → StopsAt files (names ++ name ∷ []) name
+stops_last files names texts name read = record { before = names; rest = []; texts = texts; names_are = refl; read = read }
+
+pub stops_before : (files : Option Directory) (names more : List (List ℕ)) (name : List ℕ) → StopsAt files names name → StopsAt files (names ++ more) name
+stops_before files names more name stopped = record {
+  before = stopped.before;
+  rest = stopped.rest ++ more;
+  texts = stopped.texts;
+  names_are = ap (λ (l : List (List ℕ)). l ++ more) stopped.names_are ∙ append_assoc stopped.before (name ∷ stopped.rest) more;
+  read = stopped.read;
+}
+
+-- a name that is another's
+pub stops_as : (files : Option Directory) (names : List (List ℕ)) (name was : Bor (List ℕ)) → name ≡ was → StopsAt files names was.now → StopsAt files names name.now
+stops_as files names name was e stopped = subst (λ (x : Bor (List ℕ)). StopsAt files names x.now) (sym e) stopped

@@ -1,5 +1,5 @@
 -- Lines that are printed piece by piece, and what they do not begin with.
-use Rattle.std.proofs.Common.{◌≡◌, ℕ, suc, ◌-◌, ◌≤◌, ◌<◌, Bool, true, false, List, [], ◌∷◌, ◌++◌, Option, None, Some, Bor, inl, inr, codes, decimal, length, drop, take, get_or, refl, sym, ap, subst, ◌∙◌, true≢false, arith}
+use Rattle.std.proofs.Common.{◌≡◌, ℕ, ◌-◌, ◌≤◌, ◌<◌, Bool, true, false, List, [], ◌∷◌, ◌++◌, Option, None, Some, Bor, inl, inr, codes, decimal, length, drop, take, get_or, refl, sym, ap, subst, ◌∙◌, true≢false, arith}
 use Rattle.std.specs.Prelude.{◌==◌, ◌&&◌, not}
 use Rattle.std.proofs.lemmas.Bool.{and_parts}
 use Rattle.std.specs.List.{flat_map}
@@ -9,8 +9,9 @@ use Rattle.std.specs.Io.KnownBytes.{Appends}
 use Rattle.writing.specs.Writing.{AppendsBeginning, IsBeginning}
 use Rattle.writing.proofs.WritingLemmas.{beginning_after}
 use Rattle.ports.specs.Events.{CountsFailure}
-use Rattle.answers.specs.Reading.{IsOneOf}
-use Rattle.answers.specs.Refusals.{IsOfNoFile, Tells, TellsOther, TellsRefusal, file_line, is_known, output_line, refusal_line}
+use Rattle.files.specs.Files.{Directory}
+use Rattle.answers.specs.Reading.{StopsAt}
+use Rattle.answers.specs.Refusals.{IsOfNoFile, Tells, TellsOther, TellsRefusal, file_line, is_fault_number, output_line, refusal_line}
 
 -- a writer that nothing was sent to
 appends_nothing : (known : Option (List ℕ)) → Appends known known []
@@ -57,9 +58,9 @@ begins_other [] = false
 begins_other (a ∷ []) = false
 begins_other (a ∷ b ∷ more) = not ((a == 85) && (b == 51))
 
--- a known number that does not
+-- the number of a fault that does not
 abbrev pub is_other : (number : List ℕ) → Bool
-is_other number = is_known number && begins_other number
+is_other number = is_fault_number number && begins_other number
 
 first_same : (a b c d : ℕ) (more rest : List ℕ) → a ∷ b ∷ more ≡ c ∷ d ∷ rest → a ≡ c
 first_same a b c d more rest e = cc
@@ -96,8 +97,8 @@ tells_other number place line old new other told = record {
   number = number;
   place = place;
   line = line;
-  known = (and_parts (is_known number) (begins_other number) other).0;
-  of_no_file = other_line number place line (and_parts (is_known number) (begins_other number) other).1;
+  numbered = (and_parts (is_fault_number number) (begins_other number) other).0;
+  of_no_file = other_line number place line (and_parts (is_fault_number number) (begins_other number) other).1;
   told = told;
 }
 
@@ -109,35 +110,16 @@ same_line number is place line at old new is_number is_at told =
 
 -- the line of standard output
 pub tells_output : (old new : Option (List ℕ)) → Tells output_line old new → TellsOther old new
-tells_output old new told = record { number = codes "U3"; place = codes "-"; line = 0; known = refl; of_no_file = inl refl; told = told }
+tells_output old new told = record { number = codes "U3"; place = codes "-"; line = 0; numbered = refl; of_no_file = inl refl; told = told }
 
 -- a file whose failure was counted, after calls that did not fail
-pub tells_file : (names : List (List ℕ)) (before now after : ℕ) (name : List ℕ) (old new : Option (List ℕ)) → now ≡ before → CountsFailure now after → IsOneOf names name
-    → Tells (file_line name) old new → TellsRefusal names before after old new
+pub tells_file : (files : Option Directory) (names : List (List ℕ)) (before now after : ℕ) (name : List ℕ) (old new : Option (List ℕ)) → now ≡ before → CountsFailure now after
+    → StopsAt files names name → Tells (file_line name) old new → TellsRefusal files names before after old new
 unfolding TellsRefusal
-tells_file names before now after name old new same counted named told = inl (subst (λ (n : ℕ). CountsFailure n after) same counted, (name, named, told))
+tells_file files names before now after name old new same counted stopped told = inl (subst (λ (n : ℕ). CountsFailure n after) same counted, (name, stopped, told))
 
 -- another fault, where no failure was counted
-pub tells_no_file : (names : List (List ℕ)) (before after : ℕ) (old new : Option (List ℕ)) → after ≡ before → TellsOther old new → TellsRefusal names before after old new
+pub tells_no_file : (files : Option Directory) (names : List (List ℕ)) (before after : ℕ) (old new : Option (List ℕ)) → after ≡ before → TellsOther old new
+    → TellsRefusal files names before after old new
 unfolding TellsRefusal
-tells_no_file names before after old new same other = inr (same, other)
-
--- one of some files is one of more
-pub tells_more : (names more : List (List ℕ)) (before after : ℕ) (old new : Option (List ℕ)) → ((name : List ℕ) → IsOneOf names name → IsOneOf more name)
-    → TellsRefusal names before after old new → TellsRefusal more before after old new
-unfolding TellsRefusal
-tells_more names more before after old new are (inl (counted, (name, named, told))) = inl (counted, (name, are name named, told))
-tells_more names more before after old new are (inr other) = inr other
-
--- the first of some names, and one that is not the first
-pub is_first : (name : List ℕ) (more : List (List ℕ)) → IsOneOf (name ∷ more) name
-unfolding IsOneOf
-is_first name more = (0, omega arith, refl)
-
-pub is_later : (first : List ℕ) (more : List (List ℕ)) (name : List ℕ) → IsOneOf more name → IsOneOf (first ∷ more) name
-unfolding IsOneOf
-is_later first more name (k, below, is) = (suc k, omega arith, is)
-
--- a name that is another's
-pub named_as : (names : List (List ℕ)) (name was : Bor (List ℕ)) → name ≡ was → IsOneOf names was.now → IsOneOf names name.now
-named_as names name was e named = subst (λ (x : Bor (List ℕ)). IsOneOf names x.now) (sym e) named
+tells_no_file files names before after old new same other = inr (same, other)

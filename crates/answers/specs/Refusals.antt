@@ -4,7 +4,8 @@ use Rattle.std.specs.List.{list_any}
 use Rattle.std.specs.Str.{bytes_eq}
 use Rattle.ports.specs.Events.{CountsFailure}
 use Rattle.writing.specs.Writing.{AppendsBeginning, IsBeginning}
-use Rattle.answers.specs.Reading.{IsOneOf}
+use Rattle.files.specs.Files.{Directory}
+use Rattle.answers.specs.Reading.{StopsAt}
 
 -- the line of a refusal: the number of the fault, a place and the line of a text, with spaces (32) between
 -- them and a line feed (10) at the end
@@ -24,8 +25,8 @@ abbrev pub memory_line : List ℕ
 memory_line = refusal_line (codes "MEMORY") (codes "-") 0
 
 -- the numbers of the faults that commands print, with the word for memory that ran out
-abbrev pub numbers : List (List ℕ)
-numbers =
+abbrev pub fault_numbers : List (List ℕ)
+fault_numbers =
     codes "C1" ∷ codes "C2" ∷ codes "C3" ∷ codes "C4" ∷ codes "C5" ∷ codes "C6" ∷ codes "C7" ∷ codes "C8"
     ∷ codes "C9" ∷ codes "C11" ∷ codes "C12" ∷ codes "C13" ∷ codes "C14" ∷ codes "C15" ∷ codes "C16" ∷ codes "C17"
     ∷ codes "C18" ∷ codes "C19" ∷ codes "C20" ∷ codes "G1" ∷ codes "J1" ∷ codes "J2" ∷ codes "J3" ∷ codes "J4"
@@ -35,8 +36,8 @@ numbers =
     ∷ codes "U3" ∷ codes "U4" ∷ codes "MEMORY" ∷ []
 
 -- one of them
-abbrev pub is_known : (number : List ℕ) → Bool
-is_known number = list_any (λ known. bytes_eq known number) numbers
+abbrev pub is_fault_number : (number : List ℕ) → Bool
+is_fault_number number = list_any (λ known. bytes_eq known number) fault_numbers
 
 -- the line of another fault than that of a file
 abbrev pub IsOfNoFile : (line : List ℕ) → Type 0
@@ -51,14 +52,15 @@ pub record TellsOther (old new : Option (List ℕ)) : Type 0 where
   pub number : List ℕ
   pub place : List ℕ
   pub line : ℕ
-  pub known : is_known number ≡ true
+  pub numbered : is_fault_number number ≡ true
   pub of_no_file : IsOfNoFile (refusal_line number place line)
   pub told : Tells (refusal_line number place line) old new
 
--- a command was refused: for a file of one of these names, whose failure was counted, or for another fault,
--- where no failure was counted
+-- a command was refused: for the first of these files that could not be read or written, whose failure was
+-- counted, or for another fault, where no failure was counted
 unfoldable pub TellsRefusal :
-    (names : List (List ℕ)) → (before after : ℕ) → (old new : Option (List ℕ)) → Type 0
-TellsRefusal names before after old new =
-    (CountsFailure before after × ((name : List ℕ) × IsOneOf names name × Tells (file_line name) old new))
+    (files : Option Directory) → (names : List (List ℕ)) → (before after : ℕ) → (old new : Option (List ℕ))
+    → Type 0
+TellsRefusal files names before after old new =
+    (CountsFailure before after × ((name : List ℕ) × StopsAt files names name × Tells (file_line name) old new))
     ⊎ ((after ≡ before) × TellsOther old new)

@@ -3,7 +3,7 @@
 ghost use Rattle.std.specs.Prelude.{◌≡◌, IfErr, IfOk, OnOk, map};
 ghost use Rattle.failure.specs.Failure.{IfFault};
 ghost use Rattle.files.specs.Files.{Counts, KeepsFiles};
-ghost use Rattle.answers.specs.Reading.{HasFiles, IsFirstUnread, IsOneOf};
+ghost use Rattle.answers.specs.Reading.{HasFiles, StopsAt};
 
 use failure::Failure;
 use files::{FileFault, Files};
@@ -21,9 +21,8 @@ pub fn read_files<'a, F: Files>(
     ensures texts { IfOk result (λ texts.
         HasFiles (F.files files.old) (map (λ name. name.now) names.now) (map (λ text. text.items) texts.items)) }
     ensures count { OnOk result (F.failures files.new ≡ F.failures files.old) }
-    ensures named { IfFault result (λ fault. IsOneOf (map (λ name. name.now) names.now) fault.1.now) }
-    ensures first { IfFault result (λ fault.
-        IsFirstUnread (F.files files.old) (map (λ name. name.now) names.now) fault.1.now) }
+    ensures stops { IfFault result (λ fault.
+        StopsAt (F.files files.old) (map (λ name. name.now) names.now) fault.1.now) }
     ensures failed { IfErr result (λ failure. Counts failure (F.failures files.old) (F.failures files.new)) }
 {
     let mut texts = Vec::new(alloc);

@@ -1,5 +1,5 @@
 use Rattle.std.proofs.Common.{◌∙◌, map, refl}
-use Rattle.answers.proofs.FilesRead.{first_unread, one_unread, read_on, stays_on, was_there}
+use Rattle.answers.proofs.FilesRead.{read_on, stays_on, stops_next, was_there}
 use Rattle.answers.proofs.reading.read_files.Goals as goal
 
 pub loop-rest-preserved : goal.loop-rest-preserved
@@ -13,8 +13,5 @@ loop-rest-preserved g c =
           c.in-len1-up.len_at_least refl (was_there _ _ _ _ before.kept c.in-Ok.ensures.bytes) c.in_ok-push-in-Ok.ensures.items before.made;
     }
 
-pub returns-in-Err-Fault-clause-named : goal.returns-in-Err-Fault-clause-named
-returns-in-Err-Fault-clause-named g c = one_unread _ _ _ _ _ c.loop-rest.rest.now c.in-len1-up.len_at_least refl c.loop-rest.invariant.made
-
-pub returns-in-Err-Fault-clause-first : goal.returns-in-Err-Fault-clause-first
-returns-in-Err-Fault-clause-first g c = first_unread _ _ _ _ _ c.loop-rest.rest.now c.in-len1-up.len_at_least refl c.loop-rest.invariant.made
+pub returns-in-Err-Fault-clause-stops : goal.returns-in-Err-Fault-clause-stops
+returns-in-Err-Fault-clause-stops g c = stops_next _ _ _ _ _ c.loop-rest.rest.now c.in-len1-up.len_at_least refl c.loop-rest.invariant.made
