@@ -1,5 +1,6 @@
 -- What is printed where object files are refused: the line of no file that can't be read or written.
 use Rattle.std.proofs.Common.{◌≡◌, ℕ, true, List, Option, refl, ap, subst, ◌∙◌}
+use Rattle.files.specs.Files.{Directory}
 use Rattle.answers.specs.Refusals.{Tells, TellsOther, TellsRefusal, refusal_line}
 use Rattle.answers.proofs.LinesPrinted.{is_other, tells_no_file, tells_other}
 use Rattle.object_modules.specs.declared.fault.Fault.{Fault}
@@ -46,5 +47,7 @@ pub place_told : (refusal : PlacementRefusal) (number name : List ℕ) (line : �
 place_told refusal number name line old new is told = tells_other number name line old new (ap is_other is ∙ place_other refusal) told
 
 -- another fault, after calls that neither failed nor printed
-pub tells_later : (names : List (List ℕ)) (before after : ℕ) (old now new : Option (List ℕ)) → now ≡ old → after ≡ before → TellsOther now new → TellsRefusal names before after old new
-tells_later names before after old now new silent same other = tells_no_file names before after old new same (subst (λ (b : Option (List ℕ)). TellsOther b new) silent other)
+pub tells_later : (files : Option Directory) (names : List (List ℕ)) (before after : ℕ) (old now new : Option (List ℕ)) → now ≡ old → after ≡ before → TellsOther now new
+    → TellsRefusal files names before after old new
+tells_later files names before after old now new silent same other =
+    tells_no_file files names before after old new same (subst (λ (b : Option (List ℕ)). TellsOther b new) silent other)

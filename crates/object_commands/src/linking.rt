@@ -1,6 +1,6 @@
 //! Object files that are linked.
 
-ghost use Rattle.std.specs.Prelude.{◌≡◌, ◌⊎◌, ◌∷◌, IfOk, map};
+ghost use Rattle.std.specs.Prelude.{◌≡◌, ◌⊎◌, [], ◌∷◌, ◌++◌, IfOk, map};
 ghost use Rattle.answers.specs.Refusals.{TellsOther, TellsRefusal};
 ghost use Rattle.object_commands.specs.Linking.{KeepsOthers, LinksFiles, MergesTo, StopsLinking};
 
@@ -31,7 +31,8 @@ pub fn link_files<F: Files, E: Write>(
     ensures refused { (result ≡ Ending.Done → ⊥) → StopsLinking (F.files files.old) (F.files files.new)
         (map (λ name. name.now) objects.now) out.now }
     ensures ending { (result ≡ Ending.Done) ⊎ (result ≡ Ending.Refused) }
-    ensures told { result ≡ Ending.Refused → TellsRefusal (out.now ∷ map (λ name. name.now) objects.now)
+    ensures told { result ≡ Ending.Refused → TellsRefusal (F.files files.old)
+        (map (λ name. name.now) objects.now ++ out.now ∷ [])
         (F.failures files.old) (F.failures files.new) (E.contents err.old) (E.contents err.new) }
     ensures count { (result ≡ Ending.Refused → ⊥) → F.failures files.new ≡ F.failures files.old }
     ensures quiet { (result ≡ Ending.Refused → ⊥) → E.contents err.new ≡ E.contents err.old }

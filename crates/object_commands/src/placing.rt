@@ -39,7 +39,7 @@ fn place_file<F: Files, E: Write>(
     ensures placed { IfOk result (λ placed.
         PlacesFile (F.files files.old) file.now plan.now placed.object placed.absolute) }
     ensures refused { IfErr result (λ ending. ending ≡ Ending.Refused) }
-    ensures told { OnErr result (TellsRefusal (file.now ∷ [])
+    ensures told { OnErr result (TellsRefusal (F.files files.old) (file.now ∷ [])
         (F.failures files.old) (F.failures files.new) (E.contents err.old) (E.contents err.new)) }
     ensures silent { OnOk result (E.contents err.new ≡ E.contents err.old) }
     ensures count { OnOk result (F.failures files.new ≡ F.failures files.old) }
@@ -87,7 +87,7 @@ pub fn print_places<F: Files, O: Write, E: Write>(
     ensures refused { (result ≡ Ending.Done → ⊥) → StopsPlaces (F.files files.old) file.now plan.now
         (O.contents out.old) (O.contents out.new) }
     ensures ending { (result ≡ Ending.Done) ⊎ (result ≡ Ending.Refused) }
-    ensures told { result ≡ Ending.Refused → TellsRefusal (file.now ∷ [])
+    ensures told { result ≡ Ending.Refused → TellsRefusal (F.files files.old) (file.now ∷ [])
         (F.failures files.old) (F.failures files.new) (E.contents err.old) (E.contents err.new) }
     ensures count { (result ≡ Ending.Refused → ⊥) → F.failures files.new ≡ F.failures files.old }
     ensures quiet { (result ≡ Ending.Refused → ⊥) → E.contents err.new ≡ E.contents err.old }
@@ -126,7 +126,7 @@ pub fn print_hex<F: Files, O: Write, E: Write>(
     ensures refused { (result ≡ Ending.Done → ⊥) → StopsHex (F.files files.old) file.now plan.now
         (O.contents out.old) (O.contents out.new) }
     ensures ending { (result ≡ Ending.Done) ⊎ (result ≡ Ending.Refused) }
-    ensures told { result ≡ Ending.Refused → TellsRefusal (file.now ∷ [])
+    ensures told { result ≡ Ending.Refused → TellsRefusal (F.files files.old) (file.now ∷ [])
         (F.failures files.old) (F.failures files.new) (E.contents err.old) (E.contents err.new) }
     ensures count { (result ≡ Ending.Refused → ⊥) → F.failures files.new ≡ F.failures files.old }
     ensures quiet { (result ≡ Ending.Refused → ⊥) → E.contents err.new ≡ E.contents err.old }

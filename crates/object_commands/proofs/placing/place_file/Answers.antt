@@ -1,22 +1,23 @@
 use Rattle.std.proofs.Common.{refl}
-use Rattle.answers.proofs.LinesPrinted.{is_first, tells_file, tells_no_file}
+use Rattle.answers.proofs.FilesRead.{stops_alone}
+use Rattle.answers.proofs.LinesPrinted.{tells_file, tells_no_file}
 use Rattle.object_commands.proofs.placing.place_file.Goals as goal
 
 pub returns-in-Err-Fault-clause-told : goal.returns-in-Err-Fault-clause-told
-returns-in-Err-Fault-clause-told g c = tells_file _ _ _ _ _ _ _ refl (rw c.in-Err-Fault.field-0-is at c.in-Err-Fault.ensures.failed)
-    (is_first _ _) c.refuse_file.ensures.told
+returns-in-Err-Fault-clause-told g c = tells_file _ _ _ _ _ _ _ _ refl (rw c.in-Err-Fault.field-0-is at c.in-Err-Fault.ensures.failed)
+    (stops_alone _ _) c.refuse_file.ensures.told
 
 pub returns-in-Err-Memory-clause-told : goal.returns-in-Err-Memory-clause-told
-returns-in-Err-Memory-clause-told g c = tells_no_file _ _ _ _ _ (rw c.in-Err-Memory.field-0-is at c.in-Err-Memory.ensures.failed) c.refuse_memory.ensures.told
+returns-in-Err-Memory-clause-told g c = tells_no_file _ _ _ _ _ _ (rw c.in-Err-Memory.field-0-is at c.in-Err-Memory.ensures.failed) c.refuse_memory.ensures.told
 
 pub returns-in-Err-Fault-reading-clause-told : goal.returns-in-Err-Fault-reading-clause-told
-returns-in-Err-Fault-reading-clause-told g c = tells_no_file _ _ _ _ _ c.in-Ok.ensures.count c.refuse_object.ensures.told
+returns-in-Err-Fault-reading-clause-told g c = tells_no_file _ _ _ _ _ _ c.in-Ok.ensures.count c.refuse_object.ensures.told
 
 pub returns-in-Err-Memory-reading-clause-told : goal.returns-in-Err-Memory-reading-clause-told
-returns-in-Err-Memory-reading-clause-told g c = tells_no_file _ _ _ _ _ c.in-Ok.ensures.count c.refuse_memory-in-Err-Memory-reading.ensures.told
+returns-in-Err-Memory-reading-clause-told g c = tells_no_file _ _ _ _ _ _ c.in-Ok.ensures.count c.refuse_memory-in-Err-Memory-reading.ensures.told
 
 pub returns-in-Err-Fault-locate-clause-told : goal.returns-in-Err-Fault-locate-clause-told
-returns-in-Err-Fault-locate-clause-told g c = tells_no_file _ _ _ _ _ c.in-Ok.ensures.count c.refuse_place.ensures.told
+returns-in-Err-Fault-locate-clause-told g c = tells_no_file _ _ _ _ _ _ c.in-Ok.ensures.count c.refuse_place.ensures.told
 
 pub returns-in-Err-Memory-locate-clause-told : goal.returns-in-Err-Memory-locate-clause-told
-returns-in-Err-Memory-locate-clause-told g c = tells_no_file _ _ _ _ _ c.in-Ok.ensures.count c.refuse_memory-in-Err-Memory-locate.ensures.told
+returns-in-Err-Memory-locate-clause-told g c = tells_no_file _ _ _ _ _ _ c.in-Ok.ensures.count c.refuse_memory-in-Err-Memory-locate.ensures.told
