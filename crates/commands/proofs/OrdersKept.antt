@@ -3,7 +3,7 @@ use Rattle.std.proofs.Common.{◌≡◌, ◌≤◌, ℕ, List, [], ◌∷◌, ma
 use Rattle.clap.specs.Walk.{texts}
 use Rattle.files.specs.Files.{Directory, KeepsFiles}
 use Rattle.answers.specs.Endings.{status_of}
-use Rattle.answers.specs.Reading.{IsOneOf}
+use Rattle.answers.specs.Reading.{StopsAt}
 use Rattle.answers.specs.Refusals.{TellsRefusal}
 use Rattle.answers.specs.declared.endings.Ending.{Ending}
 use Rattle.answers.specs.declared.endings.Ending.TheVariants.{Done, Refused, WrongLine, Limit, Stopped, Outside}
@@ -47,21 +47,21 @@ pub prints_by_words : (found : Option Wanted) (wanted : Wanted) (files : Option 
 prints_by_words found wanted files old new e prints = rw e prints
 
 -- the names of files that are told
-pub told_by_words : (found : Option Wanted) (wanted : Wanted) (before after : ℕ) (old new : Option (List ℕ)) → found ≡ Some wanted → TellsRefusal (names_of wanted) before after old new
-    → TellsRefusal (names_by_words found) before after old new
-told_by_words found wanted before after old new e told = rw e told
+pub told_by_words : (files : Option Directory) (found : Option Wanted) (wanted : Wanted) (before after : ℕ) (old new : Option (List ℕ)) → found ≡ Some wanted
+    → TellsRefusal files (names_of wanted) before after old new → TellsRefusal files (names_by_words found) before after old new
+told_by_words files found wanted before after old new e told = rw e told
 
 one_alone : (files : List (List ℕ)) (file : List ℕ) → only_file files ≡ Ok file → file ∷ [] ≡ files
 one_alone [] file e = cc
 one_alone (one ∷ []) file e = cc
 one_alone (one ∷ second ∷ more) file e = cc
 
-pub told_of_only : (files : List (List ℕ)) (file : List ℕ) (before after : ℕ) (old new : Option (List ℕ)) → only_file files ≡ Ok file → TellsRefusal (file ∷ []) before after old new
-    → TellsRefusal files before after old new
-told_of_only files file before after old new e told = subst (λ (l : List (List ℕ)). TellsRefusal l before after old new) (one_alone files file e) told
+pub told_of_only : (known : Option Directory) (files : List (List ℕ)) (file : List ℕ) (before after : ℕ) (old new : Option (List ℕ)) → only_file files ≡ Ok file
+    → TellsRefusal known (file ∷ []) before after old new → TellsRefusal known files before after old new
+told_of_only known files file before after old new e told = subst (λ (l : List (List ℕ)). TellsRefusal known l before after old new) (one_alone files file e) told
 
-pub one_of_files : (names files : List (Bor (List ℕ))) (name : List ℕ) → names ≡ files → IsOneOf (map (λ n. n.now) names) name → IsOneOf (texts files) name
-one_of_files names files name e named = subst (λ (l : List (Bor (List ℕ))). IsOneOf (map (λ n. n.now) l) name) e named
+pub stops_in_files : (known : Option Directory) (names files : List (Bor (List ℕ))) (name : List ℕ) → names ≡ files → StopsAt known (map (λ n. n.now) names) name → StopsAt known (texts files) name
+stops_in_files known names files name e stopped = subst (λ (l : List (Bor (List ℕ))). StopsAt known (map (λ n. n.now) l) name) e stopped
 
 pub not_done : (ending : Ending) → (status_of ending ≡ 0 → ⊥) → ending ≡ Done → ⊥
 not_done ending other done = other (rw done refl)

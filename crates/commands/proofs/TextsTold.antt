@@ -1,44 +1,51 @@
 -- Texts of the command line that are refused.
-use Rattle.std.proofs.Common.{◌≡◌, ◌⊎◌, ℕ, List, [], Err, Option, Some, codes, inl, inr, refl, subst, arith}
-use Rattle.clap.specs.Kinds.{Kinds}
+use Rattle.std.proofs.Common.{◌≡◌, ◌⊎◌, ℕ, List, Err, Ok, Option, Some, codes, inl, inr, refl, subst, arith}
+use Rattle.clap.specs.Words.{Kinds, kind_of}
 use Rattle.answers.specs.Endings.{status_of}
 use Rattle.answers.specs.Refusals.{Tells, refusal_line}
 use Rattle.answers.specs.declared.endings.Ending.{Ending}
 use Rattle.answers.specs.declared.endings.Ending.TheVariants.{Done, Refused, WrongLine, Limit, Stopped, Outside}
-use Rattle.command_line.specs.Command.{IsFaultOf, PlaceWanted, ProgramWanted, Wanted, wants_place, wants_program}
-use Rattle.command_line.specs.Settings.{only_file, plan_read, values_read}
+use Rattle.command_line.specs.Command.{IsFaultOf, PlaceWanted, Wanted, wants_place}
+use Rattle.command_line.specs.Settings.{Read, ◌>>=◌, only_file, plan_read}
 use Rattle.command_line.specs.declared.reading.LineFault.{LineFault}
 use Rattle.command_line.specs.declared.reading.LineFault.TheVariants.{Help, Wrong}
-use Rattle.commands.specs.Orders.{TellsText, TellsTextByWords}
+use Rattle.plans.specs.declared.Plan.{Plan}
+use Rattle.commands.specs.Orders.{AsksHelpAtMost, RefusesNoText, TellsText, TellsTextByWords}
+use Rattle.commands.specs.internal.LineFaults.{IsWrong}
 
 pub text_by_words : (found : Option Wanted) (wanted : Wanted) (old new : Option (List ℕ)) → found ≡ Some wanted → TellsText wanted old new → TellsTextByWords found old new
 text_by_words found wanted old new e told = rw e told
 
--- words without faults have none
-pub no_fault : (kinds : Kinds) (fault : LineFault) → kinds ≡ [] → IsFaultOf kinds fault → ⊥
-no_fault kinds (Help error) none is = (subst (λ (k : Kinds). IsFaultOf k (Help error)) none is).1
-no_fault kinds (Wrong error) none is = (subst (λ (k : Kinds). IsFaultOf k (Wrong error)) none is).1
+-- words of which no text is refused tell none
+pub none_told : (found : Option Wanted) (wanted : Wanted) (old new : Option (List ℕ)) → found ≡ Some wanted → RefusesNoText found → TellsText wanted old new → ⊥
+none_told found wanted old new e none told =
+    let none_here : RefusesNoText (Some wanted) = subst RefusesNoText e none in
+    none_here told.text told.refused
 
--- an ending is one alone
-pub refused_only : (ending : Ending) → ending ≡ Refused → ending ≡ WrongLine → ⊥
-refused_only ending refused wrong = cc
+-- words that ask for help at most have no other fault
+pub help_at_most : (kinds : Kinds) (fault : LineFault) → AsksHelpAtMost kinds → IsFaultOf kinds fault → IsWrong fault → ⊥
+help_at_most kinds (Help error) help is wrong = wrong
+help_at_most kinds (Wrong error) help is wrong = is.0 (help (kind_of error) is.1)
 
 pub done_or_refused : (ending : Ending) → (ending ≡ Done) ⊎ (ending ≡ Refused) → ending ≡ WrongLine → ⊥
 done_or_refused ending (inl done) wrong = cc
 done_or_refused ending (inr refused) wrong = cc
 
--- the value of an option, and a second file
-pub tells_value : (program : ProgramWanted) (text : List ℕ) (old new : Option (List ℕ)) → values_read program ≡ Err text → Tells (refusal_line (codes "U4") text 0) old new
-    → TellsText (wants_program program) old new
-tells_value program text old new refused told = record { text = text; refused = refused; told = told }
+-- a text of the plan, and a second file once the plan was read
+plan_first : (read : Read Plan) (files : List (List ℕ)) (text : List ℕ) → read ≡ Err text → (read >>= (λ plan. only_file files)) ≡ Err text
+plan_first read files text e = rw e refl
+
+file_next : (read : Read Plan) (plan : Plan) (files : List (List ℕ)) (text : List ℕ) → read ≡ Ok plan → only_file files ≡ Err text → (read >>= (λ plan. only_file files)) ≡ Err text
+file_next read plan files text e second = rw e second
 
 pub tells_plan : (place : PlaceWanted) (text : List ℕ) (old new : Option (List ℕ)) → plan_read place.plan ≡ Err text → Tells (refusal_line (codes "U4") text 0) old new
     → TellsText (wants_place place) old new
-tells_plan place text old new refused told = record { text = text; refused = inl refused; told = told }
+tells_plan place text old new refused told = record { text = text; refused = plan_first (plan_read place.plan) place.files text refused; told = told }
 
-pub tells_second : (place : PlaceWanted) (text : List ℕ) (old new : Option (List ℕ)) → only_file place.files ≡ Err text → Tells (refusal_line (codes "U4") text 0) old new
-    → TellsText (wants_place place) old new
-tells_second place text old new refused told = record { text = text; refused = inr refused; told = told }
+pub tells_second : (place : PlaceWanted) (plan : Plan) (text : List ℕ) (old new : Option (List ℕ)) → plan_read place.plan ≡ Ok plan → only_file place.files ≡ Err text
+    → Tells (refusal_line (codes "U4") text 0) old new → TellsText (wants_place place) old new
+tells_second place plan text old new planned second told =
+    record { text = text; refused = file_next (plan_read place.plan) plan place.files text planned second; told = told }
 
 pub wrong_is : (ending : Ending) → status_of ending ≡ 2 → ending ≡ WrongLine
 wrong_is Done e = absurd (omega arith)

@@ -4,3 +4,4 @@ pub use Rattle.command_line.specs.Settings
 pub use Rattle.object_commands.specs.Linking
 pub use Rattle.object_commands.specs.Placing
 pub mod Orders
+pub mod internal

@@ -1,9 +1,12 @@
 -- What orders make of files, and what they print of them.
-use Rattle.std.specs.Prelude.{◌≡◌, ◌⊎◌, ℕ, List, [], ◌∷◌, Err, Ok, Option, None, Some, codes}
+use Rattle.std.specs.Prelude.{◌≡◌, ℕ, List, [], ◌∷◌, ◌++◌, Err, Ok, Option, None, Some, codes}
+use Rattle.clap.specs.Words.{IsAmong, Kinds, Text}
+use Rattle.clap.specs.declared.error.ErrorKind.{ErrorKind}
+use Rattle.clap.specs.declared.error.ErrorKind.TheVariants.{DisplayHelp}
 use Rattle.files.specs.Files.{Directory, KeepsFiles}
 use Rattle.answers.specs.Refusals.{Tells, refusal_line}
 use Rattle.command_line.specs.Command.{PlaceWanted, Wanted, wants_link, wants_place, wants_program}
-use Rattle.command_line.specs.Settings.{only_file, plan_read, values_read}
+use Rattle.command_line.specs.Settings.{Read, ◌>>=◌, only_file, plan_read, values_read}
 use Rattle.command_line.specs.declared.orders.PlaceAction.{PlaceAction}
 use Rattle.command_line.specs.declared.orders.PlaceAction.TheVariants.{Locate, Hex}
 use Rattle.object_commands.specs.Linking.{KeepsOthers, LinksFiles, StopsLinking}
@@ -50,10 +53,10 @@ PrintsAsWanted (wants_place place) files old new = PrintsWanted place files old 
 PrintsAsWanted (wants_link link) files old new = Unit {0}
 PrintsAsWanted (wants_program program) files old new = Unit {0}
 
--- the files that an order reads, and that it writes
+-- the files that an order reads, in their order, and then the one that it writes
 abbrev pub names_of : Wanted → List (List ℕ)
 names_of (wants_program program) = program.files
-names_of (wants_link link) = link.out ∷ link.objects
+names_of (wants_link link) = link.objects ++ link.out ∷ []
 names_of (wants_place place) = place.files
 
 -- the same of what words want; those that give no order change no file
@@ -77,10 +80,16 @@ abbrev pub PrintsByWords : Option Wanted → Option Directory → (old new : Opt
 PrintsByWords None files old new = Unit {0}
 PrintsByWords (Some wanted) files old new = PrintsAsWanted wanted files old new
 
--- a text of what is wanted is refused: it is none of its option's values, or the name of a second file
+-- the one file of an order on an object, or the first text that is refused: the texts of the plan come first, then
+-- the name of a second file
+abbrev pub file_read : PlaceWanted → Read Text
+file_read place = plan_read place.plan >>= (λ plan. only_file place.files)
+
+-- this text of what is wanted is the first that is refused: it is none of its option's values, or the name of a
+-- second file
 abbrev pub RefusesText : Wanted → (text : List ℕ) → Type 0
 RefusesText (wants_program program) text = values_read program ≡ Err text
-RefusesText (wants_place place) text = (plan_read place.plan ≡ Err text) ⊎ (only_file place.files ≡ Err text)
+RefusesText (wants_place place) text = file_read place ≡ Err text
 RefusesText (wants_link link) text = ⊥
 
 -- the line of a text that is refused was printed, or a beginning of it, which may be nothing
@@ -93,3 +102,12 @@ pub record TellsText (wanted : Wanted) (old new : Option (List ℕ)) : Type 0 wh
 abbrev pub TellsTextByWords : Option Wanted → (old new : Option (List ℕ)) → Type 0
 TellsTextByWords None old new = ⊥
 TellsTextByWords (Some wanted) old new = TellsText wanted old new
+
+-- no text of what words want is refused
+abbrev pub RefusesNoText : Option Wanted → Type 0
+RefusesNoText None = Unit {0}
+RefusesNoText (Some wanted) = (text : List ℕ) → RefusesText wanted text → ⊥
+
+-- `clap` finds no fault in the words, or only that they ask for help
+abbrev pub AsksHelpAtMost : Kinds → Type 0
+AsksHelpAtMost kinds = (kind : ErrorKind) → IsAmong kind kinds → kind ≡ DisplayHelp

@@ -6,7 +6,8 @@ ghost use Rattle.clap.specs.Walk.{texts};
 ghost use Rattle.clap.specs.Words.{fault_of};
 ghost use Rattle.files.specs.Files.{KeepsFiles};
 ghost use Rattle.command_line.specs.Command.{plm_app, place_in, program_in, wanted_by, wanted_in, wants_place, wants_program};
-ghost use Rattle.commands.specs.Orders.{ChangesAsWanted, ChangesByWords, LinksAsWanted, LinksByWords, PrintsAsWanted, PrintsByWords, PrintsWanted, StopsAsWanted, StopsByWords, TellsText, TellsTextByWords, names_by_words, names_of};
+ghost use Rattle.commands.specs.Orders.{AsksHelpAtMost, ChangesAsWanted, ChangesByWords, LinksAsWanted, LinksByWords, PrintsAsWanted, PrintsByWords, PrintsWanted, RefusesNoText, StopsAsWanted, StopsByWords, TellsText, TellsTextByWords, names_by_words, names_of};
+ghost use Rattle.commands.specs.internal.LineFaults.{IsWrong};
 
 use crate::interpreting::interpret_sources;
 use crate::loading::sources_of;
@@ -38,7 +39,7 @@ pub fn run_command<F: Files, O: Write, E: Write>(
     err: &mut E,
 ) -> u8
     ensures status { result ≤ 5 }
-    ensures kept { ChangesByWords (wanted_by (texts words.now)) (F.files files.old) (F.files files.new) }
+    ensures unchanged { ChangesByWords (wanted_by (texts words.now)) (F.files files.old) (F.files files.new) }
     ensures idle { (fault_of plm_app (texts words.now) ≡ [] → ⊥) →
         KeepsFiles (F.files files.old) (F.files files.new) }
     ensures linked { fault_of plm_app (texts words.now) ≡ [] → result ≡ 0 →
@@ -47,9 +48,12 @@ pub fn run_command<F: Files, O: Write, E: Write>(
         (wanted_by (texts words.now)) (F.files files.old) (O.contents out.old) (O.contents out.new) }
     ensures stopped { (result ≡ 0 → ⊥) →
         StopsByWords (wanted_by (texts words.now)) (F.files files.old) (F.files files.new) }
-    ensures wrong { fault_of plm_app (texts words.now) ≡ [] → result ≡ 2 → TellsTextByWords
+    ensures refused_text { fault_of plm_app (texts words.now) ≡ [] → result ≡ 2 → TellsTextByWords
         (wanted_by (texts words.now)) (E.contents err.old) (E.contents err.new) }
-    ensures told { result ≡ 1 → TellsRefusal (names_by_words (wanted_by (texts words.now)))
+    ensures not_wrong { AsksHelpAtMost (fault_of plm_app (texts words.now)) →
+        RefusesNoText (wanted_by (texts words.now)) → result ≡ 2 → ⊥ }
+    ensures told { result ≡ 1 → TellsRefusal (F.files files.old)
+        (names_by_words (wanted_by (texts words.now)))
         (F.failures files.old) (F.failures files.new) (E.contents err.old) (E.contents err.new) }
     ensures count { (result ≡ 1 → ⊥) → F.failures files.new ≡ F.failures files.old }
     ensures quiet { (result ≡ 1 → ⊥) → (result ≡ 2 → ⊥) →
@@ -68,7 +72,7 @@ fn end_words<F: Files, O: Write, E: Write>(
     out: &mut O,
     err: &mut E,
 ) -> Ending
-    ensures kept { ChangesByWords (wanted_by (texts words.now)) (F.files files.old) (F.files files.new) }
+    ensures unchanged { ChangesByWords (wanted_by (texts words.now)) (F.files files.old) (F.files files.new) }
     ensures idle { (fault_of plm_app (texts words.now) ≡ [] → ⊥) →
         KeepsFiles (F.files files.old) (F.files files.new) }
     ensures linked { fault_of plm_app (texts words.now) ≡ [] → result ≡ Ending.Done →
@@ -77,9 +81,12 @@ fn end_words<F: Files, O: Write, E: Write>(
         (wanted_by (texts words.now)) (F.files files.old) (O.contents out.old) (O.contents out.new) }
     ensures stopped { (result ≡ Ending.Done → ⊥) →
         StopsByWords (wanted_by (texts words.now)) (F.files files.old) (F.files files.new) }
-    ensures wrong { fault_of plm_app (texts words.now) ≡ [] → result ≡ Ending.WrongLine →
+    ensures refused_text { fault_of plm_app (texts words.now) ≡ [] → result ≡ Ending.WrongLine →
         TellsTextByWords (wanted_by (texts words.now)) (E.contents err.old) (E.contents err.new) }
-    ensures told { result ≡ Ending.Refused → TellsRefusal (names_by_words (wanted_by (texts words.now)))
+    ensures not_wrong { AsksHelpAtMost (fault_of plm_app (texts words.now)) →
+        RefusesNoText (wanted_by (texts words.now)) → result ≡ Ending.WrongLine → ⊥ }
+    ensures told { result ≡ Ending.Refused → TellsRefusal (F.files files.old)
+        (names_by_words (wanted_by (texts words.now)))
         (F.failures files.old) (F.failures files.new) (E.contents err.old) (E.contents err.new) }
     ensures count { (result ≡ Ending.Refused → ⊥) → F.failures files.new ≡ F.failures files.old }
     ensures quiet { (result ≡ Ending.Refused → ⊥) → (result ≡ Ending.WrongLine → ⊥) →
@@ -94,6 +101,7 @@ fn end_words<F: Files, O: Write, E: Write>(
 
 // Prints why the command line gives no order, or the help that it asks for.
 fn end_line<O: Write, E: Write>(fault: &LineFault, out: &mut O, err: &mut E) -> Ending
+    ensures not_wrong { result ≡ Ending.WrongLine → IsWrong fault.now }
     ensures told { result ≡ Ending.Refused → TellsOther (E.contents err.old) (E.contents err.new) }
     ensures quiet { (result ≡ Ending.Refused → ⊥) → (result ≡ Ending.WrongLine → ⊥) →
         E.contents err.new ≡ E.contents err.old }
@@ -119,16 +127,17 @@ fn carry_out<F: Files, O: Write, E: Write>(
     out: &mut O,
     err: &mut E,
 ) -> Ending
-    ensures kept { ChangesAsWanted (wanted_in order.now) (F.files files.old) (F.files files.new) }
+    ensures unchanged { ChangesAsWanted (wanted_in order.now) (F.files files.old) (F.files files.new) }
     ensures linked { result ≡ Ending.Done →
         LinksAsWanted (wanted_in order.now) (F.files files.old) (F.files files.new) }
     ensures printed { result ≡ Ending.Done → PrintsAsWanted (wanted_in order.now) (F.files files.old)
         (O.contents out.old) (O.contents out.new) }
     ensures stopped { (result ≡ Ending.Done → ⊥) →
         StopsAsWanted (wanted_in order.now) (F.files files.old) (F.files files.new) }
-    ensures wrong { result ≡ Ending.WrongLine → TellsText (wanted_in order.now)
+    ensures refused_text { result ≡ Ending.WrongLine → TellsText (wanted_in order.now)
         (E.contents err.old) (E.contents err.new) }
-    ensures told { result ≡ Ending.Refused → TellsRefusal (names_of (wanted_in order.now))
+    ensures told { result ≡ Ending.Refused → TellsRefusal (F.files files.old)
+        (names_of (wanted_in order.now))
         (F.failures files.old) (F.failures files.new) (E.contents err.old) (E.contents err.new) }
     ensures count { (result ≡ Ending.Refused → ⊥) → F.failures files.new ≡ F.failures files.old }
     ensures quiet { (result ≡ Ending.Refused → ⊥) → (result ≡ Ending.WrongLine → ⊥) →
@@ -150,12 +159,13 @@ fn carry_out_place<F: Files, O: Write, E: Write>(
     out: &mut O,
     err: &mut E,
 ) -> Ending
-    ensures kept { KeepsFiles (F.files files.old) (F.files files.new) }
+    ensures unchanged { KeepsFiles (F.files files.old) (F.files files.new) }
     ensures printed { result ≡ Ending.Done → PrintsWanted (place_in order.now) (F.files files.old)
         (O.contents out.old) (O.contents out.new) }
-    ensures wrong { result ≡ Ending.WrongLine → TellsText (wants_place (place_in order.now))
+    ensures refused_text { result ≡ Ending.WrongLine → TellsText (wants_place (place_in order.now))
         (E.contents err.old) (E.contents err.new) }
-    ensures told { result ≡ Ending.Refused → TellsRefusal (place_in order.now).files
+    ensures told { result ≡ Ending.Refused → TellsRefusal (F.files files.old)
+        (place_in order.now).files
         (F.failures files.old) (F.failures files.new) (E.contents err.old) (E.contents err.new) }
     ensures count { (result ≡ Ending.Refused → ⊥) → F.failures files.new ≡ F.failures files.old }
     ensures quiet { (result ≡ Ending.Refused → ⊥) → (result ≡ Ending.WrongLine → ⊥) →
@@ -184,10 +194,11 @@ fn carry_out_program<F: Files, O: Write, E: Write>(
     out: &mut O,
     err: &mut E,
 ) -> Ending
-    ensures kept { KeepsFiles (F.files files.old) (F.files files.new) }
-    ensures wrong { result ≡ Ending.WrongLine → TellsText (wants_program (program_in order.now))
+    ensures unchanged { KeepsFiles (F.files files.old) (F.files files.new) }
+    ensures refused_text { result ≡ Ending.WrongLine → TellsText (wants_program (program_in order.now))
         (E.contents err.old) (E.contents err.new) }
-    ensures told { result ≡ Ending.Refused → TellsRefusal (program_in order.now).files
+    ensures told { result ≡ Ending.Refused → TellsRefusal (F.files files.old)
+        (program_in order.now).files
         (F.failures files.old) (F.failures files.new) (E.contents err.old) (E.contents err.new) }
     ensures count { (result ≡ Ending.Refused → ⊥) → F.failures files.new ≡ F.failures files.old }
     ensures quiet { (result ≡ Ending.Refused → ⊥) → (result ≡ Ending.WrongLine → ⊥) →
@@ -209,9 +220,10 @@ fn load<F: Files, O: Write, E: Write>(
     out: &mut O,
     err: &mut E,
 ) -> Ending
-    ensures kept { KeepsFiles (F.files files.old) (F.files files.new) }
-    ensures right { result ≡ Ending.WrongLine → ⊥ }
-    ensures told { result ≡ Ending.Refused → TellsRefusal (program_in order.now).files
+    ensures unchanged { KeepsFiles (F.files files.old) (F.files files.new) }
+    ensures not_wrong { result ≡ Ending.WrongLine → ⊥ }
+    ensures told { result ≡ Ending.Refused → TellsRefusal (F.files files.old)
+        (program_in order.now).files
         (F.failures files.old) (F.failures files.new) (E.contents err.old) (E.contents err.new) }
     ensures count { (result ≡ Ending.Refused → ⊥) → F.failures files.new ≡ F.failures files.old }
     ensures quiet { (result ≡ Ending.Refused → ⊥) → E.contents err.new ≡ E.contents err.old }
@@ -237,7 +249,7 @@ fn act<O: Write, E: Write>(
     out: &mut O,
     err: &mut E,
 ) -> Ending
-    ensures right { result ≡ Ending.WrongLine → ⊥ }
+    ensures not_wrong { result ≡ Ending.WrongLine → ⊥ }
     ensures told { result ≡ Ending.Refused → TellsOther (E.contents err.old) (E.contents err.new) }
     ensures quiet { (result ≡ Ending.Refused → ⊥) → E.contents err.new ≡ E.contents err.old }
 {

@@ -32,7 +32,7 @@ pub(crate) fn interpret_sources<O: Write, E: Write>(
     out: &mut O,
     err: &mut E,
 ) -> Ending
-    ensures right { result ≡ Ending.WrongLine → ⊥ }
+    ensures not_wrong { result ≡ Ending.WrongLine → ⊥ }
     ensures told { result ≡ Ending.Refused → TellsOther (E.contents err.old) (E.contents err.new) }
     ensures quiet { (result ≡ Ending.Refused → ⊥) → E.contents err.new ≡ E.contents err.old }
 {
@@ -56,7 +56,7 @@ fn interpret_program<O: Write, E: Write>(
         (pieces_of (program_modules readied.now.program) (placement_view readied.now.placement))
         readied.now.placement.kinds.value }
     requires jumps { All JumpsAreSound (program_modules readied.now.program) }
-    ensures right { result ≡ Ending.WrongLine → ⊥ }
+    ensures not_wrong { result ≡ Ending.WrongLine → ⊥ }
     ensures told { result ≡ Ending.Refused → TellsOther (E.contents err.old) (E.contents err.new) }
     ensures quiet { (result ≡ Ending.Refused → ⊥) → E.contents err.new ≡ E.contents err.old }
 {
@@ -106,7 +106,7 @@ fn word_of(end: Result<SourceEnd, RunFault>) -> &'static str {
 // How a command ends whose run ended so.
 fn ending_of(end: Result<SourceEnd, RunFault>) -> Ending
     ensures refused { result ≡ Ending.Refused → ⊥ }
-    ensures right { result ≡ Ending.WrongLine → ⊥ }
+    ensures not_wrong { result ≡ Ending.WrongLine → ⊥ }
 {
     match end {
         Ok(SourceEnd::Ended) => Ending::Done,

@@ -25,7 +25,7 @@ pub(crate) fn run_sources<O: Write, E: Write>(
     out: &mut O,
     err: &mut E,
 ) -> Ending
-    ensures right { result ≡ Ending.WrongLine → ⊥ }
+    ensures not_wrong { result ≡ Ending.WrongLine → ⊥ }
     ensures told { result ≡ Ending.Refused → TellsOther (E.contents err.old) (E.contents err.new) }
     ensures quiet { (result ≡ Ending.Refused → ⊥) → E.contents err.new ≡ E.contents err.old }
 {
@@ -45,7 +45,7 @@ fn run_built<O: Write, E: Write>(
     out: &mut O,
     err: &mut E,
 ) -> Ending
-    ensures right { result ≡ Ending.WrongLine → ⊥ }
+    ensures not_wrong { result ≡ Ending.WrongLine → ⊥ }
     ensures told { result ≡ Ending.Refused → TellsOther (E.contents err.old) (E.contents err.new) }
     ensures quiet { (result ≡ Ending.Refused → ⊥) → E.contents err.new ≡ E.contents err.old }
 {
@@ -81,7 +81,7 @@ fn word_of(end: End) -> &'static str {
 // How a command ends whose run ended so.
 fn ending_of(end: End) -> Ending
     ensures refused { result ≡ Ending.Refused → ⊥ }
-    ensures right { result ≡ Ending.WrongLine → ⊥ }
+    ensures not_wrong { result ≡ Ending.WrongLine → ⊥ }
 {
     match end {
         End::Halted => Ending::Done,

@@ -3,4 +3,4 @@ use Rattle.answers.proofs.LinesPrinted.{tells_no_file}
 use Rattle.commands.proofs.console.carry_out_program.Goals as goal
 
 pub returns-in-Err-Memory-clause-told : goal.returns-in-Err-Memory-clause-told
-returns-in-Err-Memory-clause-told g c = λ refused. tells_no_file _ _ _ _ _ refl c.refuse_memory.ensures.told
+returns-in-Err-Memory-clause-told g c = λ refused. tells_no_file _ _ _ _ _ _ refl c.refuse_memory.ensures.told

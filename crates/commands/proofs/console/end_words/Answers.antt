@@ -2,22 +2,29 @@ use Rattle.std.proofs.Common.{refl}
 use Rattle.answers.proofs.FilesRead.{stays}
 use Rattle.answers.proofs.LinesPrinted.{tells_no_file}
 use Rattle.commands.proofs.OrdersKept.{kept_by_words, kept_stops}
+use Rattle.commands.proofs.TextsTold.{help_at_most, none_told}
 use Rattle.commands.proofs.console.end_words.Goals as goal
 
-pub returns-in-Err-Fault-clause-kept : goal.returns-in-Err-Fault-clause-kept
-returns-in-Err-Fault-clause-kept g c = kept_by_words _ _ _ (stays _)
+pub returns-in-Ok-clause-not_wrong : goal.returns-in-Ok-clause-not_wrong
+returns-in-Ok-clause-not_wrong g c = λ help none wrong. none_told _ _ _ _ c.in-Ok.ensures.order none (c.carry_out.ensures.refused_text wrong)
+
+pub returns-in-Err-Fault-clause-unchanged : goal.returns-in-Err-Fault-clause-unchanged
+returns-in-Err-Fault-clause-unchanged g c = kept_by_words _ _ _ (stays _)
 
 pub returns-in-Err-Fault-clause-stopped : goal.returns-in-Err-Fault-clause-stopped
 returns-in-Err-Fault-clause-stopped g c = λ other. kept_stops _ _ _ (stays _)
 
 pub returns-in-Err-Fault-clause-told : goal.returns-in-Err-Fault-clause-told
-returns-in-Err-Fault-clause-told g c = λ refused. tells_no_file _ _ _ _ _ refl (c.end_line.ensures.told refused)
+returns-in-Err-Fault-clause-told g c = λ refused. tells_no_file _ _ _ _ _ _ refl (c.end_line.ensures.told refused)
 
-pub returns-in-Err-Memory-clause-kept : goal.returns-in-Err-Memory-clause-kept
-returns-in-Err-Memory-clause-kept g c = kept_by_words _ _ _ (stays _)
+pub returns-in-Err-Fault-clause-not_wrong : goal.returns-in-Err-Fault-clause-not_wrong
+returns-in-Err-Fault-clause-not_wrong g c = λ help none wrong. help_at_most _ _ help (rw c.in-Err-Fault.field-0-is at c.in-Err-Fault.ensures.fault) (c.end_line.ensures.not_wrong wrong)
+
+pub returns-in-Err-Memory-clause-unchanged : goal.returns-in-Err-Memory-clause-unchanged
+returns-in-Err-Memory-clause-unchanged g c = kept_by_words _ _ _ (stays _)
 
 pub returns-in-Err-Memory-clause-stopped : goal.returns-in-Err-Memory-clause-stopped
 returns-in-Err-Memory-clause-stopped g c = λ other. kept_stops _ _ _ (stays _)
 
 pub returns-in-Err-Memory-clause-told : goal.returns-in-Err-Memory-clause-told
-returns-in-Err-Memory-clause-told g c = λ refused. tells_no_file _ _ _ _ _ refl c.refuse_memory.ensures.told
+returns-in-Err-Memory-clause-told g c = λ refused. tells_no_file _ _ _ _ _ _ refl c.refuse_memory.ensures.told

@@ -1,18 +1,19 @@
 use Rattle.std.proofs.Common.{refl}
-use Rattle.answers.proofs.LinesPrinted.{named_as, tells_file, tells_no_file}
-use Rattle.commands.proofs.OrdersKept.{one_of_files}
+use Rattle.answers.proofs.FilesRead.{stops_as}
+use Rattle.answers.proofs.LinesPrinted.{tells_file, tells_no_file}
+use Rattle.commands.proofs.OrdersKept.{stops_in_files}
 use Rattle.commands.proofs.console.load.Goals as goal
 
 pub returns-in-Err-Fault-clause-told : goal.returns-in-Err-Fault-clause-told
-returns-in-Err-Fault-clause-told g c = λ refused. tells_file _ _ _ _ _ _ _ refl (rw c.in-Err-Fault.field-0-is at c.in-Err-Fault.ensures.failed)
-    (named_as _ _ c.in-Err-Fault.name c.in-Err-Fault.name-is
-    (one_of_files _ _ _ c.as_slice-names.ensures.value (rw c.in-Err-Fault.field-0-is at c.in-Err-Fault.ensures.named))) c.refuse_file.ensures.told
+returns-in-Err-Fault-clause-told g c = λ refused. tells_file _ _ _ _ _ _ _ _ refl (rw c.in-Err-Fault.field-0-is at c.in-Err-Fault.ensures.failed)
+    (stops_as _ _ _ c.in-Err-Fault.name c.in-Err-Fault.name-is
+    (stops_in_files _ _ _ _ c.as_slice-names.ensures.value (rw c.in-Err-Fault.field-0-is at c.in-Err-Fault.ensures.stops))) c.refuse_file.ensures.told
 
 pub returns-in-Err-Memory-clause-told : goal.returns-in-Err-Memory-clause-told
-returns-in-Err-Memory-clause-told g c = λ refused. tells_no_file _ _ _ _ _ (rw c.in-Err-Memory.field-0-is at c.in-Err-Memory.ensures.failed) c.refuse_memory.ensures.told
+returns-in-Err-Memory-clause-told g c = λ refused. tells_no_file _ _ _ _ _ _ (rw c.in-Err-Memory.field-0-is at c.in-Err-Memory.ensures.failed) c.refuse_memory.ensures.told
 
 pub returns-in-Ok-sources_of-clause-told : goal.returns-in-Ok-sources_of-clause-told
-returns-in-Ok-sources_of-clause-told g c = λ refused. tells_no_file _ _ _ _ _ c.in-Ok.ensures.count (c.act.ensures.told refused)
+returns-in-Ok-sources_of-clause-told g c = λ refused. tells_no_file _ _ _ _ _ _ c.in-Ok.ensures.count (c.act.ensures.told refused)
 
 pub returns-clause-told : goal.returns-clause-told
-returns-clause-told g c = λ refused. tells_no_file _ _ _ _ _ c.in-Ok.ensures.count c.refuse_memory-in-Err.ensures.told
+returns-clause-told g c = λ refused. tells_no_file _ _ _ _ _ _ c.in-Ok.ensures.count c.refuse_memory-in-Err.ensures.told
