@@ -1,6 +1,7 @@
-use Rattle.std.proofs.Common.{refl}
+use Rattle.std.proofs.Common.{refl, subst}
 use Rattle.answers.proofs.FilesRead.{stays}
 use Rattle.answers.proofs.LinesPrinted.{tells_no_file}
+use Rattle.commands.specs.internal.LineFaults.{IsWrong}
 use Rattle.commands.proofs.OrdersKept.{kept_by_words, kept_stops}
 use Rattle.commands.proofs.TextsTold.{help_at_most, none_told}
 use Rattle.commands.proofs.console.end_words.Goals as goal
@@ -18,7 +19,8 @@ pub returns-in-Err-Fault-clause-told : goal.returns-in-Err-Fault-clause-told
 returns-in-Err-Fault-clause-told g c = λ refused. tells_no_file _ _ _ _ _ _ refl (c.end_line.ensures.told refused)
 
 pub returns-in-Err-Fault-clause-not_wrong : goal.returns-in-Err-Fault-clause-not_wrong
-returns-in-Err-Fault-clause-not_wrong g c = λ help none wrong. help_at_most _ _ help (rw c.in-Err-Fault.field-0-is at c.in-Err-Fault.ensures.fault) (c.end_line.ensures.not_wrong wrong)
+returns-in-Err-Fault-clause-not_wrong g c = λ help none wrong. help_at_most _ _ help (rw c.in-Err-Fault.field-0-is at c.in-Err-Fault.ensures.fault)
+    (subst IsWrong c.in-Err-Fault.fault-is (c.end_line.ensures.not_wrong wrong))
 
 pub returns-in-Err-Memory-clause-unchanged : goal.returns-in-Err-Memory-clause-unchanged
 returns-in-Err-Memory-clause-unchanged g c = kept_by_words _ _ _ (stays _)
