@@ -158,7 +158,6 @@ fn shift_left_address(code: &mut Code) -> Result<(), AllocError>
 // The flags of the count less 2 tell 0, 1 and 2 from more. A is 0 where it has counted 3 to 7 down: the bits of A, H
 // and L are then doubled from the label of the count on, and the higher 16 of them are the value. By 8 or more H takes
 // the place of L first, and what is left of the count begins anew.
-#[tactic(auto, using(crate::proofs::Added::done_shift_right_address))]
 fn shift_right_address(code: &mut Code) -> Result<(), AllocError>
     ensures ok { OnOk result (code.new ≡ with_routine ShiftRightAddress code.old) }
 {
