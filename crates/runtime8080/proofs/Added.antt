@@ -332,37 +332,62 @@ adds_shift_right_address before after same =
     adds ShiftRightAddress before after (labels_of_shift_right_address before.labels) refl (shifts_address_right before.labels) same
 
 items_of_shift_right_address :
-    (before : Assembly) (first second : ℕ)
+    (before : Assembly) (first second third fourth fifth sixth seventh eighth : ℕ)
     → first ≡ before.labels
     → second ≡ before.labels + 1
-    → shift_right_address_with first second ≡ listing ShiftRightAddress before.labels
-items_of_shift_right_address before first second is_first is_second =
-    ap (λ n. shift_right_address_with n second) is_first
-    ∙ (ap (λ n. shift_right_address_with before.labels n) is_second)
+    → third ≡ before.labels + 2
+    → fourth ≡ before.labels + 3
+    → fifth ≡ before.labels + 4
+    → sixth ≡ before.labels + 5
+    → seventh ≡ before.labels + 6
+    → eighth ≡ before.labels + 7
+    → shift_right_address_with first second third fourth fifth sixth seventh eighth ≡ listing ShiftRightAddress before.labels
+items_of_shift_right_address before first second third fourth fifth sixth seventh eighth is_first is_second is_third is_fourth is_fifth is_sixth is_seventh is_eighth =
+    ap (λ n. shift_right_address_with n second third fourth fifth sixth seventh eighth) is_first
+    ∙ (ap (λ n. shift_right_address_with before.labels n third fourth fifth sixth seventh eighth) is_second
+    ∙ (ap (λ n. shift_right_address_with before.labels (before.labels + 1) n fourth fifth sixth seventh eighth) is_third
+    ∙ (ap (λ n. shift_right_address_with before.labels (before.labels + 1) (before.labels + 2) n fifth sixth seventh eighth) is_fourth
+    ∙ (ap (λ n. shift_right_address_with before.labels (before.labels + 1) (before.labels + 2) (before.labels + 3) n sixth seventh eighth) is_fifth
+    ∙ (ap (λ n. shift_right_address_with before.labels (before.labels + 1) (before.labels + 2) (before.labels + 3) (before.labels + 4) n seventh eighth) is_sixth
+    ∙ (ap (λ n. shift_right_address_with before.labels (before.labels + 1) (before.labels + 2) (before.labels + 3) (before.labels + 4) (before.labels + 5) n eighth) is_seventh
+    ∙ (ap (λ n. shift_right_address_with before.labels (before.labels + 1) (before.labels + 2) (before.labels + 3) (before.labels + 4) (before.labels + 5) (before.labels + 6) n) is_eighth)))))))
 
 pub fits_shift_right_address :
-    (before with_labels : Assembly) (first second : ℕ)
+    (before with_labels : Assembly) (first second third fourth fifth sixth seventh eighth : ℕ)
     → IsAssembly before
     → first ≡ before.labels
     → second ≡ before.labels + 1
-    → with_labels ≡ record before { labels = before.labels + 2 }
-    → Fits with_labels (shift_right_address_with first second)
-fits_shift_right_address before with_labels first second fresh is_first is_second labels =
-    subst (λ (items : List Item). Fits with_labels items) (sym (items_of_shift_right_address before first second is_first is_second))
+    → third ≡ before.labels + 2
+    → fourth ≡ before.labels + 3
+    → fifth ≡ before.labels + 4
+    → sixth ≡ before.labels + 5
+    → seventh ≡ before.labels + 6
+    → eighth ≡ before.labels + 7
+    → with_labels ≡ record before { labels = before.labels + 8 }
+    → Fits with_labels (shift_right_address_with first second third fourth fifth sixth seventh eighth)
+fits_shift_right_address before with_labels first second third fourth fifth sixth seventh eighth fresh is_first is_second is_third is_fourth is_fifth is_sixth is_seventh is_eighth labels =
+    subst (λ (items : List Item). Fits with_labels items)
+    (sym (items_of_shift_right_address before first second third fourth fifth sixth seventh eighth is_first is_second is_third is_fourth is_fifth is_sixth is_seventh is_eighth))
     (fits ShiftRightAddress before with_labels (labels_of_shift_right_address before.labels) fresh labels)
 
 pub done_shift_right_address :
-    (before with_labels after : Assembly) (first second : ℕ)
+    (before with_labels after : Assembly) (first second third fourth fifth sixth seventh eighth : ℕ)
     → first ≡ before.labels
     → second ≡ before.labels + 1
-    → with_labels ≡ record before { labels = before.labels + 2 }
-    → after ≡ record with_labels { items = with_labels.items ++ shift_right_address_with first second }
+    → third ≡ before.labels + 2
+    → fourth ≡ before.labels + 3
+    → fifth ≡ before.labels + 4
+    → sixth ≡ before.labels + 5
+    → seventh ≡ before.labels + 6
+    → eighth ≡ before.labels + 7
+    → with_labels ≡ record before { labels = before.labels + 8 }
+    → after ≡ record with_labels { items = with_labels.items ++ shift_right_address_with first second third fourth fifth sixth seventh eighth }
     → after ≡ with_routine ShiftRightAddress before
-done_shift_right_address before with_labels after first second is_first is_second labels is =
+done_shift_right_address before with_labels after first second third fourth fifth sixth seventh eighth is_first is_second is_third is_fourth is_fifth is_sixth is_seventh is_eighth labels is =
     is
-    ∙ (ap (λ (a : Assembly). record a { items = a.items ++ shift_right_address_with first second }) labels
-    ∙ ap (λ (items : List Item). record before { items = before.items ++ items; labels = before.labels + 2 })
-    (items_of_shift_right_address before first second is_first is_second))
+    ∙ (ap (λ (a : Assembly). record a { items = a.items ++ shift_right_address_with first second third fourth fifth sixth seventh eighth }) labels
+    ∙ ap (λ (items : List Item). record before { items = before.items ++ items; labels = before.labels + 8 })
+    (items_of_shift_right_address before first second third fourth fifth sixth seventh eighth is_first is_second is_third is_fourth is_fifth is_sixth is_seventh is_eighth))
 
 one_more : (labels count : ℕ) → labels + count + 1 ≡ labels + (count + 1)
 one_more labels count = omega arith
@@ -425,10 +450,10 @@ items_of_divide before first second third fourth fifth sixth seventh is_first is
 seven_labels : (labels : ℕ) → labels + 5 + 2 ≡ labels + 7
 seven_labels labels = omega arith
 
-sixth_label : (before with_five : Assembly) (label : ℕ) → with_five ≡ record before { labels = before.labels + 5 } → label ≡ with_five.labels → label ≡ before.labels + 5
+pub sixth_label : (before with_five : Assembly) (label : ℕ) → with_five ≡ record before { labels = before.labels + 5 } → label ≡ with_five.labels → label ≡ before.labels + 5
 sixth_label before with_five label five is = is ∙ ap (λ (a : Assembly). a.labels) five
 
-seventh_label : (before with_five : Assembly) (label : ℕ) → with_five ≡ record before { labels = before.labels + 5 } → label ≡ with_five.labels + 1 → label ≡ before.labels + 6
+pub seventh_label : (before with_five : Assembly) (label : ℕ) → with_five ≡ record before { labels = before.labels + 5 } → label ≡ with_five.labels + 1 → label ≡ before.labels + 6
 seventh_label before with_five label five is =
     let same : with_five.labels ≡ before.labels + 5 = ap (λ (a : Assembly). a.labels) five in omega arith
 
@@ -440,6 +465,26 @@ with_seven :
 with_seven before with_five with_labels five two =
     two ∙ (ap (λ (a : Assembly). record a { labels = a.labels + 2 }) five
     ∙ ap (λ n. record before { labels = n }) (seven_labels before.labels))
+
+-- and with one more
+pub eighth_label :
+    (before with_five seven : Assembly) (label : ℕ)
+    → with_five ≡ record before { labels = before.labels + 5 }
+    → seven ≡ record with_five { labels = with_five.labels + 2 }
+    → label ≡ seven.labels
+    → label ≡ before.labels + 7
+eighth_label before with_five seven label five two is =
+    is ∙ ap (λ (a : Assembly). a.labels) (with_seven before with_five seven five two)
+
+pub eight_more :
+    (before with_five seven eight : Assembly)
+    → with_five ≡ record before { labels = before.labels + 5 }
+    → seven ≡ record with_five { labels = with_five.labels + 2 }
+    → eight ≡ record seven { labels = seven.labels + 1 }
+    → eight ≡ record before { labels = before.labels + 8 }
+eight_more before with_five seven eight five two one =
+    one ∙ (ap (λ (a : Assembly). record a { labels = a.labels + 1 }) (with_seven before with_five seven five two)
+    ∙ ap (λ n. record before { labels = n }) (one_more before.labels 7))
 
 pub fits_divide :
     (before with_five with_labels : Assembly) (first second third fourth fifth sixth seventh : ℕ)

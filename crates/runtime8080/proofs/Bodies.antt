@@ -43,7 +43,7 @@ leaves_where routines.Multiply r after top sp pc h = h
 leaves_where routines.Divide r after top sp pc h = h
 leaves_where routines.Move r after top sp pc h = h
 leaves_where routines.ShiftLeftAddress r after top sp pc h = record { b = h.b; c = h.c; d = h.d }
-leaves_where routines.ShiftRightAddress r after top sp pc h = record { b = h.b; c = h.c; d = h.d }
+leaves_where routines.ShiftRightAddress r after top sp pc h = record { b = h.b; c = h.c; d = h.d; e = h.e }
 leaves_where routine r after top sp pc h = record { b = h.b; c = h.c; h = h.h; l = h.l }
 
 few_where :

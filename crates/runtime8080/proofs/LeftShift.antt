@@ -1,5 +1,5 @@
 -- The shift of an ADDRESS to the left: by 16 or more it is 0, else it is doubled once for each that E counts.
-use Rattle.std.proofs.Common.{◌≡◌, ℕ, zero, suc, ◌+◌, ◌-◌, ◌*◌, ◌/◌, ◌%◌, ◌^◌, ◌<◌, ◌≤◌, Bool, true, false, nat_lt, List, [], ◌∷◌, refl, sym, ap, ◌∙◌, arith, pow-add}
+use Rattle.std.proofs.Common.{◌≡◌, ℕ, zero, suc, ◌+◌, ◌-◌, ◌*◌, ◌%◌, ◌^◌, ◌<◌, ◌≤◌, Bool, true, false, nat_lt, List, [], ◌∷◌, refl, sym, ap, ◌∙◌, arith, pow-add}
 use Rattle.std.proofs.Math.Nat.{pow-suc}
 use Rattle.std.proofs.lemmas.Nat.{mul-mod_first}
 use Rattle.std.proofs.lemmas.Bool.{leb-false, leb-true}
@@ -25,12 +25,13 @@ use Rattle.machine_runs.proofs.Kept.{stands_size, stands_still}
 use Rattle.runtime8080.specs.declared.routine.Routine.TheVariants as routines
 use Rattle.runtime8080.specs.Routines.{HoldBytes, IsRoutine}
 use Rattle.runtime8080.specs.internal.Listings.{shift_left_address}
+use Rattle.runtime8080.proofs.AddressBits.{doubled_product, high_small, low_small, of_bytes}
 use Rattle.runtime8080.proofs.Bodies.{Body, held, returns_quietly}
 use Rattle.runtime8080.proofs.ByteLoops.{small_by}
 
--- E is compared with 16
+-- E takes the count, which is compared with 16
 abbrev head : List Instr
-head = Mov A (Of E) ∷ AccumulateImmediate Compare 16 ∷ []
+head = Mov E (Of A) ∷ AccumulateImmediate Compare 16 ∷ []
 
 abbrev twice : List Instr
 twice = Dad Hl ∷ []
@@ -57,18 +58,6 @@ a_byte n = omega arith
 
 not_shifted : (h l : ℕ) → h < 256 → l < 256 → word h l ≡ (word h l * 1) % MEMORY_SIZE
 not_shifted h l small_h small_l = omega arith
-
-high_small : (n : ℕ) → wrap n / 256 < 256
-high_small n = omega arith
-
-low_small : (n : ℕ) → n % 256 < 256
-low_small n = omega arith
-
-of_bytes : (w : ℕ) → word (w / 256) (w % 256) ≡ w
-of_bytes w = omega arith
-
-doubled_product : (x p : ℕ) → (x + x) * p ≡ x * (p * 2)
-doubled_product x p = omega arith
 
 once_more : (x n : ℕ) → ((x + x) % MEMORY_SIZE * 2 ^ n) % MEMORY_SIZE ≡ (x * 2 ^ suc n) % MEMORY_SIZE
 once_more x n =
@@ -140,7 +129,7 @@ shift_body :
     → to ≤ MEMORY_SIZE
     → HoldBytes r
     → (test : Bool)
-    → nat_lt (r.e + 239 + 1) 256 ≡ test
+    → nat_lt (r.a + 239 + 1) 256 ≡ test
     → Body script routines.ShiftLeftAddress from r memory events
 shift_body script layout first from to r memory events stands limit are true below =
     let r1 = effect head r in
@@ -148,22 +137,22 @@ shift_body script layout first from to r memory events stands limit are true bel
     let top = past from head + 3 + 3 + 1 in
     let loop : Stands layout memory (tested_before twice first []) top to = more.1.1.1.1 in
     let size = stands_size layout memory (tested_before twice first []) top to loop in
-    let after = turns_below twice r.e r1 in
-    let changed = doubled r.e r1 are.h are.l in
+    let after = turns_below twice r.a r1 in
+    let changed = doubled r.a r1 are.h are.l in
     let u = returned after memory events in
-    let less = is_below r.e below in
+    let less = is_below r.a below in
     record {
-      count = steps_of head (suc (steps_below twice r.e));
+      count = steps_of head (suc (steps_below twice r.a));
       after = after;
       run =
-          straight script layout head (rest first) from to r memory events (suc (steps_below twice r.e)) u refl stands (omega arith)
-          (jumps_where script (steps_below twice r.e) Carry (wrap (layout.place_of first)) (past from head) top r1 memory events u more.0 (omega arith) below
+          straight script layout head (rest first) from to r memory events (suc (steps_below twice r.a)) u refl stands (omega arith)
+          (jumps_where script (steps_below twice r.a) Carry (wrap (layout.place_of first)) (past from head) top r1 memory events u more.0 (omega arith) below
           (word_is (layout.place_of first) top more.1.1.1.0 (omega arith))
-          (loop_before script layout twice first top to [] memory events refl (λ r. refl) loop (omega arith) more.1.1.1.0 r.e r1 refl (omega arith)));
-      few = few (steps_below twice r.e) r.e (steps_is r.e) less;
+          (loop_before script layout twice first top to [] memory events refl (λ r. refl) loop (omega arith) more.1.1.1.0 r.a r1 refl (omega arith)));
+      few = few (steps_below twice r.a) r.a (steps_is r.a) less;
       sp = changed.sp;
       bytes = record {
-        a = small_by after.a r.e changed.a are.e;
+        a = small_by after.a r.a changed.a are.a;
         b = small_by after.b r.b changed.b are.b;
         c = small_by after.c r.c changed.c are.c;
         d = small_by after.d r.d changed.d are.d;
@@ -192,8 +181,8 @@ shift_body script layout first from to r memory events stands limit are false be
           (returns script (past from head + 3 + 3) after memory events more.1.1.0 (omega arith))));
       few = omega arith;
       sp = refl;
-      bytes = record { a = are.e; b = are.b; c = are.c; d = are.d; e = are.e; h = omega arith; l = omega arith };
-      computes = sym (none_left r.e (pair_of Hl r) (is_not_below r.e below));
+      bytes = record { a = are.a; b = are.b; c = are.c; d = are.d; e = are.a; h = omega arith; l = omega arith };
+      computes = sym (none_left r.a (pair_of Hl r) (is_not_below r.a below));
       leaves = record { b = refl; c = refl; d = refl };
     }
 
@@ -203,4 +192,4 @@ shifts_address_left first layout from to script level s limit stands may =
     (λ memory alike.
     shift_body script layout first from to (record s.registers { sp = level - 2 }) memory s.events
     (stands_still layout s.memory memory (shift_left_address first) from to limit alike stands) limit
-    (held s.registers (level - 2) may.registers) (nat_lt (s.registers.e + 239 + 1) 256) refl)
+    (held s.registers (level - 2) may.registers) (nat_lt (s.registers.a + 239 + 1) 256) refl)

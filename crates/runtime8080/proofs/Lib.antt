@@ -3,6 +3,7 @@ pub mod Bits
 pub mod ByteLoops
 pub mod Rotations
 pub mod ByteShifts
+pub mod AddressBits
 pub mod LeftShift
 pub mod Copies
 pub mod MoveLoop

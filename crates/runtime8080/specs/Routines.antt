@@ -51,10 +51,10 @@ IsInBlock count start address = (k : ℕ) × (k < count) × (address ≡ wrap (s
 abbrev pub BlockMisses : (count start : ℕ) → Range → Type 0
 BlockMisses count start range = (address : ℕ) → IsInBlock count start address → IsIn address range → ⊥
 
--- What a routine leaves in the registers, by what they were when it was called. Multiply, divide and the
--- shifts of an ADDRESS take HL and DE, or HL and the count in E, and leave their value in HL, and divide its
--- remainder in DE; the shifts of a BYTE and the rotations take A, and the count in E, and leave their value in
--- A. Of MOVE nothing is said here.
+-- What a routine leaves in the registers, by what they were when it was called. Multiply and divide take HL and
+-- DE, and leave their value in HL, and divide its remainder in DE; the shifts of an ADDRESS take HL, and the
+-- count in A, and leave their value in HL; the shifts of a BYTE and the rotations take A, and the count in E,
+-- and leave their value in A. Of MOVE nothing is said here.
 abbrev pub Computes : Routine → (before after : Registers) → Type 0
 Computes routines.Multiply before after =
     result_of Address Multiply (pair_of Hl before) (pair_of De before) ≡ Some (pair_of Hl after)
@@ -70,9 +70,9 @@ Computes routines.Divide before after =
 Computes routines.ShiftLeftByte before after = after.a ≡ shifted Byte ShiftLeft before.a before.e
 Computes routines.ShiftRightByte before after = after.a ≡ shifted Byte ShiftRight before.a before.e
 Computes routines.ShiftLeftAddress before after =
-    pair_of Hl after ≡ shifted Address ShiftLeft (pair_of Hl before) before.e
+    pair_of Hl after ≡ shifted Address ShiftLeft (pair_of Hl before) before.a
 Computes routines.ShiftRightAddress before after =
-    pair_of Hl after ≡ shifted Address ShiftRight (pair_of Hl before) before.e
+    pair_of Hl after ≡ shifted Address ShiftRight (pair_of Hl before) before.a
 Computes routines.RotateLeft before after = after.a ≡ shifted Byte RotateLeft before.a before.e
 Computes routines.RotateRight before after = after.a ≡ shifted Byte RotateRight before.a before.e
 Computes routines.Move before after = Unit {0}
@@ -87,6 +87,12 @@ pub record LeavesBcAndD (before after : Registers) : Type 0 where
   pub b : after.b ≡ before.b
   pub c : after.c ≡ before.c
   pub d : after.d ≡ before.d
+
+pub record LeavesBcAndDe (before after : Registers) : Type 0 where
+  pub b : after.b ≡ before.b
+  pub c : after.c ≡ before.c
+  pub d : after.d ≡ before.d
+  pub e : after.e ≡ before.e
 
 -- what memory is to be after a routine, but for the bytes below the stack: MOVE copies BC bytes from DE on to
 -- HL on
@@ -114,7 +120,7 @@ Leaves routines.Multiply before after = Unit {0}
 Leaves routines.Divide before after = Unit {0}
 Leaves routines.Move before after = Unit {0}
 Leaves routines.ShiftLeftAddress before after = LeavesBcAndD before after
-Leaves routines.ShiftRightAddress before after = LeavesBcAndD before after
+Leaves routines.ShiftRightAddress before after = LeavesBcAndDe before after
 Leaves routine before after = LeavesBcAndHl before after
 
 -- the greatest number of steps of a call, with its CALL and its return
@@ -124,7 +130,7 @@ most_steps routines.Divide registers = 156
 most_steps routines.ShiftLeftByte registers = 36
 most_steps routines.ShiftRightByte registers = 43
 most_steps routines.ShiftLeftAddress registers = 66
-most_steps routines.ShiftRightAddress registers = 46
+most_steps routines.ShiftRightAddress registers = 38
 most_steps routines.RotateLeft registers = 29
 most_steps routines.RotateRight registers = 29
 most_steps routines.Move registers = 8 + 7 * pair_of Bc registers
@@ -136,7 +142,7 @@ size_of_routine routines.Divide = 59
 size_of_routine routines.ShiftLeftByte = 17
 size_of_routine routines.ShiftRightByte = 18
 size_of_routine routines.ShiftLeftAddress = 16
-size_of_routine routines.ShiftRightAddress = 36
+size_of_routine routines.ShiftRightAddress = 77
 size_of_routine routines.RotateLeft = 13
 size_of_routine routines.RotateRight = 13
 size_of_routine routines.Move = 25

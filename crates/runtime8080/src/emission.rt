@@ -7,7 +7,7 @@ ghost use Rattle.runtime8080.specs.Routines.{AddsRoutine};
 ghost use Rattle.runtime8080.specs.internal.Emission.{with_routine};
 
 use crate::moves::move_bytes;
-use crate::parts::{Part, emit_parts, two_labels};
+use crate::parts::{Part, eight_labels, emit_parts};
 use crate::product::multiply;
 use crate::quotient::divide;
 use crate::routine::Routine;
@@ -132,7 +132,7 @@ fn shift_right_byte(code: &mut Code) -> Result<(), AllocError>
     )
 }
 
-// HL is doubled once for each that E counts, and 0 from 16 on.
+// E counts the count down: HL is doubled once for each, and 0 from 16 on.
 #[tactic(auto, using(crate::proofs::Added::done_shift_left_address))]
 fn shift_left_address(code: &mut Code) -> Result<(), AllocError>
     ensures ok { OnOk result (code.new ≡ with_routine ShiftLeftAddress code.old) }
@@ -141,7 +141,7 @@ fn shift_left_address(code: &mut Code) -> Result<(), AllocError>
     emit_parts(
         code,
         &[
-            Part::Does(Instr::Mov(Register::A, Operand::Of(Register::E))),
+            Part::Does(Instr::Mov(Register::E, Operand::Of(Register::A))),
             Part::Does(Instr::AccumulateImmediate(Operation::Compare, 16)),
             Part::Goes(WordForm::JumpWhere(Condition::Carry), few),
             Part::Does(Instr::Lxi(Pair::Hl, 0)),
@@ -155,41 +155,77 @@ fn shift_left_address(code: &mut Code) -> Result<(), AllocError>
     )
 }
 
-// The bits of A, H and L are shifted to the left by 8 less the count; the higher 16 of them are the value. By 8 or
-// more H takes the place of L first.
-#[tactic(auto, using(crate::proofs::Added::done_shift_right_address))]
+// The flags of the count less 2 tell 0, 1 and 2 from more. A is 0 where it has counted 3 to 7 down: the bits of A, H
+// and L are then doubled from the label of the count on, and the higher 16 of them are the value. By 8 or more H takes
+// the place of L first, and what is left of the count begins anew.
 fn shift_right_address(code: &mut Code) -> Result<(), AllocError>
     ensures ok { OnOk result (code.new ≡ with_routine ShiftRightAddress code.old) }
 {
-    let (few, shift) = two_labels(code)?;
-    emit_parts(
-        code,
-        &[
-            Part::Does(Instr::Mov(Register::A, Operand::Of(Register::E))),
-            Part::Does(Instr::AccumulateImmediate(Operation::Compare, 8)),
-            Part::Goes(WordForm::JumpWhere(Condition::Carry), few),
-            Part::Does(Instr::Mov(Register::L, Operand::Of(Register::H))),
-            Part::Does(Instr::Mvi(Operand::Of(Register::H), 0)),
-            Part::Does(Instr::AccumulateImmediate(Operation::Subtract, 8)),
-            Part::Does(Instr::ReturnIf(Condition::Zero)),
-            Part::Does(Instr::Mov(Register::E, Operand::Of(Register::A))),
-            Part::Does(Instr::AccumulateImmediate(Operation::Compare, 8)),
-            Part::Goes(WordForm::JumpWhere(Condition::Carry), few),
-            Part::Does(Instr::Mvi(Operand::Of(Register::L), 0)),
-            Part::Does(Instr::Ret),
-            Part::Here(few),
-            Part::Does(Instr::Mvi(Operand::Of(Register::A), 8)),
-            Part::Does(Instr::Accumulate(Operation::Subtract, Operand::Of(Register::E))),
-            Part::Does(Instr::Mov(Register::E, Operand::Of(Register::A))),
-            Part::Does(Instr::Mvi(Operand::Of(Register::A), 0)),
-            Part::Here(shift),
-            Part::Does(Instr::Dad(Pair::Hl)),
-            Part::Does(Instr::Ral),
-            Part::Does(Instr::Dcr(Operand::Of(Register::E))),
-            Part::Goes(WordForm::JumpWhere(Condition::NotZero), shift),
-            Part::Does(Instr::Mov(Register::L, Operand::Of(Register::H))),
-            Part::Does(Instr::Mov(Register::H, Operand::Of(Register::A))),
-            Part::Does(Instr::Ret),
-        ],
-    )
+    let (start, one, two, three, four, five, six, seven) = eight_labels(code)?;
+    let parts = [
+        Part::Here(start),
+        Part::Does(Instr::AccumulateImmediate(Operation::Add, 254)),
+        Part::Goes(WordForm::JumpWhere(Condition::Zero), two),
+        Part::Goes(WordForm::JumpWhere(Condition::NoCarry), one),
+        Part::Does(Instr::Dcr(Operand::Of(Register::A))),
+        Part::Goes(WordForm::JumpWhere(Condition::Zero), three),
+        Part::Does(Instr::Dcr(Operand::Of(Register::A))),
+        Part::Goes(WordForm::JumpWhere(Condition::Zero), four),
+        Part::Does(Instr::Dcr(Operand::Of(Register::A))),
+        Part::Goes(WordForm::JumpWhere(Condition::Zero), five),
+        Part::Does(Instr::Dcr(Operand::Of(Register::A))),
+        Part::Goes(WordForm::JumpWhere(Condition::Zero), six),
+        Part::Does(Instr::Dcr(Operand::Of(Register::A))),
+        Part::Goes(WordForm::JumpWhere(Condition::Zero), seven),
+        Part::Does(Instr::Mov(Register::L, Operand::Of(Register::H))),
+        Part::Does(Instr::Mvi(Operand::Of(Register::H), 0)),
+        Part::Does(Instr::Dcr(Operand::Of(Register::A))),
+        Part::Does(Instr::ReturnIf(Condition::Zero)),
+        Part::Does(Instr::AccumulateImmediate(Operation::Compare, 8)),
+        Part::Goes(WordForm::JumpWhere(Condition::Carry), start),
+        Part::Does(Instr::Mvi(Operand::Of(Register::L), 0)),
+        Part::Does(Instr::Ret),
+        Part::Here(one),
+        Part::Does(Instr::ReturnIf(Condition::ParityOdd)),
+        Part::Does(Instr::Mov(Register::A, Operand::Of(Register::H))),
+        Part::Does(Instr::Rar),
+        Part::Does(Instr::Mov(Register::H, Operand::Of(Register::A))),
+        Part::Does(Instr::Mov(Register::A, Operand::Of(Register::L))),
+        Part::Does(Instr::Rar),
+        Part::Does(Instr::Mov(Register::L, Operand::Of(Register::A))),
+        Part::Does(Instr::Ret),
+        Part::Here(two),
+        Part::Does(Instr::Mov(Register::A, Operand::Of(Register::L))),
+        Part::Does(Instr::Accumulate(Operation::ExclusiveOr, Operand::Of(Register::H))),
+        Part::Does(Instr::AccumulateImmediate(Operation::And, 252)),
+        Part::Does(Instr::Accumulate(Operation::ExclusiveOr, Operand::Of(Register::H))),
+        Part::Does(Instr::Rrc),
+        Part::Does(Instr::Rrc),
+        Part::Does(Instr::Mov(Register::L, Operand::Of(Register::A))),
+        Part::Does(Instr::Mov(Register::A, Operand::Of(Register::H))),
+        Part::Does(Instr::AccumulateImmediate(Operation::And, 252)),
+        Part::Does(Instr::Rrc),
+        Part::Does(Instr::Rrc),
+        Part::Does(Instr::Mov(Register::H, Operand::Of(Register::A))),
+        Part::Does(Instr::Ret),
+        Part::Here(three),
+        Part::Does(Instr::Dad(Pair::Hl)),
+        Part::Does(Instr::Ral),
+        Part::Here(four),
+        Part::Does(Instr::Dad(Pair::Hl)),
+        Part::Does(Instr::Ral),
+        Part::Here(five),
+        Part::Does(Instr::Dad(Pair::Hl)),
+        Part::Does(Instr::Ral),
+        Part::Here(six),
+        Part::Does(Instr::Dad(Pair::Hl)),
+        Part::Does(Instr::Ral),
+        Part::Here(seven),
+        Part::Does(Instr::Dad(Pair::Hl)),
+        Part::Does(Instr::Ral),
+        Part::Does(Instr::Mov(Register::L, Operand::Of(Register::H))),
+        Part::Does(Instr::Mov(Register::H, Operand::Of(Register::A))),
+        Part::Does(Instr::Ret),
+    ];
+    emit_parts(code, &parts)
 }

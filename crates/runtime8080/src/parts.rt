@@ -80,3 +80,25 @@ pub(crate) fn five_labels(
     let fifth = code.label()?;
     Ok((first, second, third, fourth, fifth))
 }
+
+/// The next eight labels.
+#[tactic(auto, using(crate::proofs::Added::eight_more, crate::proofs::Added::sixth_label, crate::proofs::Added::seventh_label, crate::proofs::Added::eighth_label))]
+pub(crate) fn eight_labels(
+    code: &mut Code,
+) -> Result<(Label, Label, Label, Label, Label, Label, Label, Label), AllocError>
+    ensures first { IfOk result (λ labels. labels.0 ≡ code.old.labels) }
+    ensures second { IfOk result (λ labels. labels.1 ≡ code.old.labels + 1) }
+    ensures third { IfOk result (λ labels. labels.2 ≡ code.old.labels + 2) }
+    ensures fourth { IfOk result (λ labels. labels.3 ≡ code.old.labels + 3) }
+    ensures fifth { IfOk result (λ labels. labels.4 ≡ code.old.labels + 4) }
+    ensures sixth { IfOk result (λ labels. labels.5 ≡ code.old.labels + 5) }
+    ensures seventh { IfOk result (λ labels. labels.6 ≡ code.old.labels + 6) }
+    ensures eighth { IfOk result (λ labels. labels.7 ≡ code.old.labels + 7) }
+    ensures more { OnOk result (code.new ≡ record code.old { labels = code.old.labels + 8 }) }
+    ensures valid { IsAssembly code.old }
+{
+    let (first, second, third, fourth, fifth) = five_labels(code)?;
+    let (sixth, seventh) = two_labels(code)?;
+    let eighth = code.label()?;
+    Ok((first, second, third, fourth, fifth, sixth, seventh, eighth))
+}

@@ -12,9 +12,9 @@ pub enum Routine {
     ShiftLeftByte,
     /// A is shifted to the right by the count in E; from 8 on it becomes 0.
     ShiftRightByte,
-    /// HL is shifted to the left by the count in E; from 16 on it becomes 0.
+    /// HL is shifted to the left by the count in A; from 16 on it becomes 0.
     ShiftLeftAddress,
-    /// HL is shifted to the right by the count in E; from 16 on it becomes 0.
+    /// HL is shifted to the right by the count in A; from 16 on it becomes 0.
     ShiftRightAddress,
     /// A is rotated to the left by the count in E, modulo 8.
     RotateLeft,

@@ -27,6 +27,11 @@ const EDGES: [u16; 20] = [
 // Where the blocks begin that MOVE is tried on: from here over 65535 to 4FFH.
 const BLOCKS: u16 = 0xF500;
 
+// A word with its bytes in the other order.
+fn swapped(word: u16) -> u16 {
+    word.wrapping_mul(256) | word / 256
+}
+
 /// Arguments, one after another.
 #[derive(Clone, Copy)]
 pub struct Arguments {
@@ -97,24 +102,33 @@ impl Arguments {
         }
     }
 
-    /// The words of the next call. A takes the lower byte of HL, and the flags the higher one. MOVE takes the first word
-    /// as where its block lies, and the second one as its count and, by its higher bits, as how far it goes, 256 bytes down
-    /// to 255 up.
+    // The words of a block: the first one is where it lies, and the second one its count and, by its higher bits, how far
+    // it goes, 256 bytes down to 255 up.
+    fn block(&self, first: u16, second: u16) -> Words {
+        let from = BLOCKS.wrapping_add(first % 4096);
+        Words {
+            hl: from.wrapping_add(second / 128).wrapping_sub(256),
+            de: from,
+            last: self.count_of(second),
+        }
+    }
+
+    /// The words of the next call. A takes the lower byte of the first word, and the flags the higher one; for the shifts
+    /// of an ADDRESS those of the second word, which is their count.
     pub fn next_words(&mut self) -> Words {
         let (first, second) = self.pair();
-        if self.routine == Routine::Move {
-            let from = BLOCKS.wrapping_add(first % 4096);
-            Words {
-                hl: from.wrapping_add(second / 128).wrapping_sub(256),
-                de: from,
-                last: self.count_of(second),
-            }
-        } else {
-            Words {
+        match self.routine {
+            Routine::Move => self.block(first, second),
+            Routine::ShiftLeftAddress | Routine::ShiftRightAddress => Words {
+                hl: first,
+                de: first,
+                last: swapped(second),
+            },
+            _ => Words {
                 hl: first,
                 de: second,
-                last: first.wrapping_mul(256) | first / 256,
-            }
+                last: swapped(first),
+            },
         }
     }
 }

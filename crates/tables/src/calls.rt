@@ -211,21 +211,21 @@ fn byte_of(routine: Routine, byte: u8, count: u8) -> Option<u8> {
 }
 
 // What HL is to be after a routine that leaves its value there, and nothing for a quotient by 0.
-fn word_of(routine: Routine, hl: u16, de: u16) -> Option<u16> {
+fn word_of(routine: Routine, words: Words) -> Option<u16> {
+    let count = (words.last / 256) as u8;
     match routine {
-        Routine::Multiply => Some(hl.wrapping_mul(de)),
-        Routine::Divide => hl.checked_div(de),
-        Routine::ShiftLeftAddress => Some(left_word(hl, low(de))),
-        Routine::ShiftRightAddress => Some(right_word(hl, low(de))),
+        Routine::Multiply => Some(words.hl.wrapping_mul(words.de)),
+        Routine::Divide => words.hl.checked_div(words.de),
+        Routine::ShiftLeftAddress => Some(left_word(words.hl, count)),
+        Routine::ShiftRightAddress => Some(right_word(words.hl, count)),
         _ => None,
     }
 }
 
 // Whether the registers after a call have the value.
 fn is_right(routine: Routine, before: Words, after: Words) -> bool {
-    let count = low(before.de);
-    let byte = byte_of(routine, low(before.hl), count);
-    let word = word_of(routine, before.hl, before.de);
+    let byte = byte_of(routine, low(before.hl), low(before.de));
+    let word = word_of(routine, before);
     let rest = before.hl.checked_rem(before.de);
     byte.is_none_or(|value| value as u16 == after.last / 256)
         && word.is_none_or(|value| value == after.hl)

@@ -63,7 +63,7 @@ const ROWS: [Row; 9] = [
     Row {
         routine: Routine::ShiftLeftAddress,
         name: "Shift an ADDRESS to the left",
-        takes: "HL, and the count in E",
+        takes: "HL, and the count in A",
         gives: "HL: 0 where the count is 16 or more",
         changes: "A, E, H, L and the flags",
         random: "counts to 31",
@@ -72,9 +72,9 @@ const ROWS: [Row; 9] = [
     Row {
         routine: Routine::ShiftRightAddress,
         name: "Shift an ADDRESS to the right",
-        takes: "HL, and the count in E",
+        takes: "HL, and the count in A",
         gives: "HL: 0 where the count is 16 or more",
-        changes: "A, E, H, L and the flags",
+        changes: "A, H, L and the flags",
         random: "counts to 31",
         mask: 0x1F,
     },

@@ -4,8 +4,8 @@ use Rattle.isa8080.specs.declared.instr.Register.TheVariants.{B, C, D, E, H, L, 
 use Rattle.isa8080.specs.declared.instr.Operand.TheVariants.{Of}
 use Rattle.isa8080.specs.declared.instr.Pair.TheVariants.{Bc, De, Hl}
 use Rattle.isa8080.specs.declared.instr.IndexPair.TheVariants.{IndexDe}
-use Rattle.isa8080.specs.declared.instr.Condition.TheVariants.{NotZero, Zero, NoCarry, Carry, Minus}
-use Rattle.isa8080.specs.declared.instr.Operation.TheVariants.{Add, Subtract, SubtractWithBorrow, And, Or, Compare}
+use Rattle.isa8080.specs.declared.instr.Condition.TheVariants.{NotZero, Zero, NoCarry, Carry, ParityOdd, Minus}
+use Rattle.isa8080.specs.declared.instr.Operation.TheVariants.{Add, Subtract, SubtractWithBorrow, And, ExclusiveOr, Or, Compare}
 use Rattle.isa8080.specs.declared.instr.Instr.TheVariants.{Lxi, Ldax, Inx, Dad, Inr, Dcr, Mvi, Rlc, Rrc, Ral, Rar, Mov, MovToMemory, Accumulate, AccumulateImmediate, ReturnIf, Ret, Xchg}
 use Rattle.asm8080.specs.declared.item.WordForm.TheVariants.{Jump, JumpWhere}
 use Rattle.asm8080.specs.declared.item.Reference.TheVariants.{AtLabel}
@@ -138,7 +138,7 @@ shift_right_byte first =
 
 abbrev pub shift_left_address : (first : ℕ) → List Item
 shift_left_address first =
-    Plain (Mov A (Of E))
+    Plain (Mov E (Of A))
     ∷ Plain (AccumulateImmediate Compare 16)
     ∷ WithWord (JumpWhere Carry) (AtLabel first)
     ∷ Plain (Lxi Hl 0)
@@ -150,37 +150,76 @@ shift_left_address first =
     ∷ WithWord Jump (AtLabel first)
     ∷ []
 
-abbrev pub shift_right_address_with : (first second : ℕ) → List Item
-shift_right_address_with first second =
-    Plain (Mov A (Of E))
-    ∷ Plain (AccumulateImmediate Compare 8)
-    ∷ WithWord (JumpWhere Carry) (AtLabel first)
+abbrev pub shift_right_address_with : (first second third fourth fifth sixth seventh eighth : ℕ) → List Item
+shift_right_address_with first second third fourth fifth sixth seventh eighth =
+    Mark first
+    ∷ Plain (AccumulateImmediate Add 254)
+    ∷ WithWord (JumpWhere Zero) (AtLabel third)
+    ∷ WithWord (JumpWhere NoCarry) (AtLabel second)
+    ∷ Plain (Dcr (Of A))
+    ∷ WithWord (JumpWhere Zero) (AtLabel fourth)
+    ∷ Plain (Dcr (Of A))
+    ∷ WithWord (JumpWhere Zero) (AtLabel fifth)
+    ∷ Plain (Dcr (Of A))
+    ∷ WithWord (JumpWhere Zero) (AtLabel sixth)
+    ∷ Plain (Dcr (Of A))
+    ∷ WithWord (JumpWhere Zero) (AtLabel seventh)
+    ∷ Plain (Dcr (Of A))
+    ∷ WithWord (JumpWhere Zero) (AtLabel eighth)
     ∷ Plain (Mov L (Of H))
     ∷ Plain (Mvi (Of H) 0)
-    ∷ Plain (AccumulateImmediate Subtract 8)
+    ∷ Plain (Dcr (Of A))
     ∷ Plain (ReturnIf Zero)
-    ∷ Plain (Mov E (Of A))
     ∷ Plain (AccumulateImmediate Compare 8)
     ∷ WithWord (JumpWhere Carry) (AtLabel first)
     ∷ Plain (Mvi (Of L) 0)
     ∷ Plain Ret
-    ∷ Mark first
-    ∷ Plain (Mvi (Of A) 8)
-    ∷ Plain (Accumulate Subtract (Of E))
-    ∷ Plain (Mov E (Of A))
-    ∷ Plain (Mvi (Of A) 0)
     ∷ Mark second
+    ∷ Plain (ReturnIf ParityOdd)
+    ∷ Plain (Mov A (Of H))
+    ∷ Plain Rar
+    ∷ Plain (Mov H (Of A))
+    ∷ Plain (Mov A (Of L))
+    ∷ Plain Rar
+    ∷ Plain (Mov L (Of A))
+    ∷ Plain Ret
+    ∷ Mark third
+    ∷ Plain (Mov A (Of L))
+    ∷ Plain (Accumulate ExclusiveOr (Of H))
+    ∷ Plain (AccumulateImmediate And 252)
+    ∷ Plain (Accumulate ExclusiveOr (Of H))
+    ∷ Plain Rrc
+    ∷ Plain Rrc
+    ∷ Plain (Mov L (Of A))
+    ∷ Plain (Mov A (Of H))
+    ∷ Plain (AccumulateImmediate And 252)
+    ∷ Plain Rrc
+    ∷ Plain Rrc
+    ∷ Plain (Mov H (Of A))
+    ∷ Plain Ret
+    ∷ Mark fourth
     ∷ Plain (Dad Hl)
     ∷ Plain Ral
-    ∷ Plain (Dcr (Of E))
-    ∷ WithWord (JumpWhere NotZero) (AtLabel second)
+    ∷ Mark fifth
+    ∷ Plain (Dad Hl)
+    ∷ Plain Ral
+    ∷ Mark sixth
+    ∷ Plain (Dad Hl)
+    ∷ Plain Ral
+    ∷ Mark seventh
+    ∷ Plain (Dad Hl)
+    ∷ Plain Ral
+    ∷ Mark eighth
+    ∷ Plain (Dad Hl)
+    ∷ Plain Ral
     ∷ Plain (Mov L (Of H))
     ∷ Plain (Mov H (Of A))
     ∷ Plain Ret
     ∷ []
 
 abbrev pub shift_right_address : (first : ℕ) → List Item
-shift_right_address first = shift_right_address_with first (first + 1)
+shift_right_address first =
+    shift_right_address_with first (first + 1) (first + 2) (first + 3) (first + 4) (first + 5) (first + 6) (first + 7)
 
 abbrev pub rotate_left : (first : ℕ) → List Item
 rotate_left first =
@@ -257,7 +296,7 @@ labels_of routines.Divide = 7
 labels_of routines.ShiftLeftByte = 1
 labels_of routines.ShiftRightByte = 1
 labels_of routines.ShiftLeftAddress = 1
-labels_of routines.ShiftRightAddress = 2
+labels_of routines.ShiftRightAddress = 8
 labels_of routines.RotateLeft = 1
 labels_of routines.RotateRight = 1
 labels_of routines.Move = 2
