@@ -1,9 +1,10 @@
 //! Modules merged.
 
-ghost use Rattle.std.specs.Prelude.{◌≡◌, ◌==◌, [], All, false, true, length, slice_get, sum_by, IfOk, Ok, Err, None, Some};
+ghost use Rattle.std.specs.Prelude.{◌≡◌, ◌==◌, [], All, false, true, length, map, slice_get, sum_by, IfOk, Ok, Err, None, Some};
+ghost use Rattle.std.specs.List.{list_any};
 ghost use Rattle.failure.specs.Failure.{IfFault};
-ghost use Rattle.object_modules.specs.Displacements.{linked_modules, starts_of as start_list};
-ghost use Rattle.object_modules.specs.Merge.{main_modules, merge_of, public_names, some_segment_is_too_long};
+ghost use Rattle.object_modules.specs.Displacements.{all_publics, linked_modules, starts_of as start_list};
+ghost use Rattle.object_modules.specs.Merge.{HighByteMoves, main_modules, merge_of, public_names, some_high_byte_moves, some_segment_is_too_long};
 ghost use Rattle.object_modules.specs.Module.{IsObjectModule};
 ghost use Rattle.link.specs.Merging.{refusal_of};
 ghost use Rattle.link.specs.Views.{main_view};
@@ -16,6 +17,7 @@ use crate::mains::{MainModule, first_main, has_one_main};
 use crate::merged::Merged;
 use crate::names::{NameTable, public_names_of, unresolved_in};
 use crate::pieces::{Pieces, pieces_of, starts_of};
+use crate::placed::Placed;
 use crate::publics::{Publics, publics_of};
 use crate::segments::merged_segment;
 use failure::Failure;
@@ -30,7 +32,7 @@ fn parts_of(
     main: MainModule,
 ) -> Result<ModuleParts, AllocError>
     ensures { IfOk result (λ parts.
-        AreJoined publics pieces.now.placed.items pieces.now.stack_length (main_view main) parts) }
+        AreJoined publics.entry pieces.now.placed.items pieces.now.stack_length (main_view main) parts) }
 {
     let code = merged_segment(alloc, Segment::Code, &publics, pieces.placed.as_slice())?;
     let data_bytes = merged_segment(alloc, Segment::Data, &publics, pieces.placed.as_slice())?;
@@ -45,16 +47,37 @@ fn parts_of(
     })
 }
 
+// The publics of a merge with these names, where no high byte moves; one that does is a fault.
+fn still_publics<'n>(
+    alloc: Global,
+    names: &'n NameTable,
+    placed: &[Placed],
+) -> Result<Publics<'n>, Failure<LinkFault>>
+    requires { names.now ≡ map (λ public. public.name) (all_publics placed.now) }
+    ensures publics { IfOk result (λ publics. publics ≡ all_publics placed.now) }
+    ensures still { IfOk result (λ _.
+        list_any (some_high_byte_moves (all_publics placed.now)) placed.now ≡ false) }
+    ensures fault { IfFault result (λ fault. refusal_of fault ≡ HighByteMoves) }
+    ensures moves { IfFault result (λ _.
+        list_any (some_high_byte_moves (all_publics placed.now)) placed.now ≡ true) }
+{
+    let publics = Publics::new(names, publics_of(alloc, placed)?);
+    if high_byte_moves(&publics, placed) {
+        return Err(Failure::Fault(LinkFault::HighByteMoves));
+    }
+    Ok(publics)
+}
+
 // The merge of modules with all of their names found, pieces that fit, and one main module.
 fn link_placed(
     alloc: Global,
     modules: &[ObjectModule],
-    names: NameTable,
+    names: &NameTable,
     pieces: &Pieces,
     main: MainModule,
 ) -> Result<Merged, Failure<LinkFault>>
-    requires known { gathered [] (public_names modules.now) ≡ Ok names }
-    requires resolved { None ≡ missing_in names (externals_of modules.now) }
+    requires known { gathered [] (public_names modules.now) ≡ Ok names.now }
+    requires resolved { None ≡ missing_in names.now (externals_of modules.now) }
     requires fits { some_segment_is_too_long modules.now (linked_modules modules.now) ≡ false }
     requires single { (length (main_modules (linked_modules modules.now)) == 1) ≡ true }
     requires main { Some (main_view main) ≡ slice_get (main_modules (linked_modules modules.now)) 0 }
@@ -65,12 +88,10 @@ fn link_placed(
     ensures starts { IfOk result (λ merged. merged.starts ≡ start_list modules.now) }
     ensures refused { IfFault result (λ fault. merge_of modules.now ≡ Err (refusal_of fault)) }
 {
-    let publics = Publics::new(names, publics_of(alloc, pieces.placed.as_slice())?);
-    if high_byte_moves(&publics, pieces.placed.as_slice()) {
-        return Err(Failure::Fault(LinkFault::HighByteMoves));
-    }
+    let placed = pieces.placed.as_slice();
+    let publics = still_publics(alloc, names, placed)?;
+    let starts = starts_of(alloc, placed)?;
     let parts = parts_of(alloc, pieces, publics, main)?;
-    let starts = starts_of(alloc, pieces.placed.as_slice())?;
     Ok(Merged::new(ObjectModule::from_parts(parts), starts))
 }
 
@@ -79,11 +100,11 @@ fn link_placed(
 fn link_pieces(
     alloc: Global,
     modules: &[ObjectModule],
-    names: NameTable,
+    names: &NameTable,
     pieces: &Pieces,
 ) -> Result<Merged, Failure<LinkFault>>
-    requires known { gathered [] (public_names modules.now) ≡ Ok names }
-    requires resolved { None ≡ missing_in names (externals_of modules.now) }
+    requires known { gathered [] (public_names modules.now) ≡ Ok names.now }
+    requires resolved { None ≡ missing_in names.now (externals_of modules.now) }
     requires fits { some_segment_is_too_long modules.now (linked_modules modules.now) ≡ false }
     requires placed { pieces.now.placed.items ≡ linked_modules modules.now }
     requires stack { pieces.now.stack_length ≡ sum_by (λ object. object.stack_length) modules.now }
@@ -102,20 +123,24 @@ fn link_pieces(
     }
 }
 
-// The merge of modules with all of their names found.
-fn link_resolved(
+// The merge of modules with these public names.
+fn link_named(
     alloc: Global,
     modules: &[ObjectModule],
-    names: NameTable,
+    names: &NameTable,
 ) -> Result<Merged, Failure<LinkFault>>
-    requires known { gathered [] (public_names modules.now) ≡ Ok names }
-    requires resolved { None ≡ missing_in names (externals_of modules.now) }
+    requires { gathered [] (public_names modules.now) ≡ Ok names.now }
     ensures merged { IfOk result (λ merged. merge_of modules.now ≡ Ok merged.object) }
     ensures starts { IfOk result (λ merged. merged.starts ≡ start_list modules.now) }
     ensures refused { IfFault result (λ fault. merge_of modules.now ≡ Err (refusal_of fault)) }
 {
-    let pieces = pieces_of(alloc, modules)?;
-    link_pieces(alloc, modules, names, &pieces)
+    match unresolved_in(names, modules) {
+        Some(name) => Err(Failure::Fault(LinkFault::UnresolvedExternal { name })),
+        None => {
+            let pieces = pieces_of(alloc, modules)?;
+            link_pieces(alloc, modules, names, &pieces)
+        }
+    }
 }
 
 /// The merge of modules in this order. Where there is none, the first cause in the order of the faults is
@@ -126,8 +151,5 @@ pub fn link(alloc: Global, modules: &[ObjectModule]) -> Result<Merged, Failure<L
     ensures refused { IfFault result (λ fault. merge_of modules.now ≡ Err (refusal_of fault)) }
 {
     let names = public_names_of(alloc, modules)?;
-    match unresolved_in(&names, modules) {
-        Some(name) => Err(Failure::Fault(LinkFault::UnresolvedExternal { name })),
-        None => link_resolved(alloc, modules, names),
-    }
+    link_named(alloc, modules, &names)
 }

@@ -80,7 +80,6 @@ impl NameTable {
 }
 
 /// The public names of modules, module by module; the first that stood already is a fault.
-#[tactic(auto, using(link_laws::proofs::NameLoops::module_added, link_laws::proofs::NameLoops::module_repeats, link_laws::proofs::NameLoops::modules_ended))]
 pub(crate) fn public_names_of(
     alloc: Global,
     modules: &[ObjectModule],

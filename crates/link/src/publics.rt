@@ -13,12 +13,12 @@ use std::alloc::{AllocError, Global};
 use std::marker::Model;
 
 /// Publics that are found by their names. Contracts see the publics.
-pub(crate) struct Publics {
-    names: NameTable,
+pub(crate) struct Publics<'n> {
+    names: &'n NameTable,
     publics: Vec<OwnedPublic>,
 }
 
-impl Model for Publics {
+impl<'n> Model for Publics<'n> {
     ghost use Rattle.std.specs.Prelude.{◌≡◌, List, map};
     ghost use Rattle.object_modules.specs.Module.{Public};
     ghost use Rattle.object_modules.specs.Views.{owned_public_view};
@@ -28,7 +28,7 @@ impl Model for Publics {
 
     ghost view = { λ table. map owned_public_view table.publics.items };
 
-    ghost invariant = { λ table. table.names ≡ map name_of table.publics.items };
+    ghost invariant = { λ table. table.names.now ≡ map name_of table.publics.items };
 }
 
 // The public of a number, counted from 0.
@@ -38,10 +38,10 @@ fn public_at(publics: &[OwnedPublic], number: usize) -> Option<OwnedPublic>
     publics.get(number).copied()
 }
 
-impl Publics {
+impl<'n> Publics<'n> {
     /// Publics with these names, in the same order.
-    pub(crate) fn new(names: NameTable, publics: Vec<OwnedPublic>) -> Publics
-        requires { names ≡ map name_of publics.items }
+    pub(crate) fn new(names: &'n NameTable, publics: Vec<OwnedPublic>) -> Publics<'n>
+        requires { names.now ≡ map name_of publics.items }
         ensures { result ≡ map owned_public_view publics.items }
     {
         Publics { names, publics }
@@ -70,7 +70,7 @@ impl Publics {
 
     /// The publics by themselves, in their order.
     pub(crate) fn into_publics(self) -> Vec<OwnedPublic>
-        ensures { map owned_public_view result.items ≡ self }
+        ensures { map owned_public_view result.items ≡ self.entry }
     {
         let Publics { names: _, publics } = self;
         publics
@@ -104,7 +104,7 @@ pub(crate) fn publics_of(alloc: Global, placed: &[Placed]) -> Result<Vec<OwnedPu
 }
 
 // Written out, so that what it holds is let go here.
-impl Drop for Publics {
+impl<'n> Drop for Publics<'n> {
     fn drop(self) {
         let Publics {
             names: _,

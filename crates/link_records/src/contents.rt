@@ -46,7 +46,7 @@ fn add_file<'a>(
     code: &mut GrowingSegment,
     data_bytes: &mut GrowingSegment,
     fixes: &mut ContentFixes,
-    publics: &Publics<'a>,
+    publics: &Publics<'_, 'a>,
     placed: &PlacedFile<'a>,
 ) -> Result<(), AllocError>
     ensures code { OnOk result (code.new ≡ grown_by publics.now Code code.old placed.now) }
@@ -64,7 +64,7 @@ fn add_files<'a>(
     code: &mut GrowingSegment,
     data_bytes: &mut GrowingSegment,
     fixes: &mut ContentFixes,
-    publics: &Publics<'a>,
+    publics: &Publics<'_, 'a>,
     placed: &[PlacedFile<'a>],
 ) -> Result<(), AllocError>
     ensures code { OnOk result (code.new ≡ all_grown publics.now Code code.old placed.now) }
@@ -81,7 +81,7 @@ fn add_files<'a>(
 /// looked at.
 pub(crate) fn segments_of<'a>(
     alloc: Global,
-    publics: &Publics<'a>,
+    publics: &Publics<'_, 'a>,
     placed: &[PlacedFile<'a>],
 ) -> Result<(GrowingSegment, GrowingSegment), AllocError>
     ensures code { IfOk result (λ made. made.0 ≡ all_grown publics.now Code nothing_grown placed.now) }

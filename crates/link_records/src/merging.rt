@@ -1,10 +1,11 @@
 //! The merge of the modules that files spell.
 
 ghost use Rattle.std.specs.Prelude.{◌≡◌, ◌==◌, ◌||◌, [], All, false, true, length, slice_get, sum_by, IfOk, Ok, Err, None, Some};
+ghost use Rattle.std.specs.List.{list_any};
 ghost use Rattle.failure.specs.Failure.{IfFault};
 ghost use Rattle.object_modules.specs.declared.segment.Segment.TheVariants.{Code, Data};
 ghost use Rattle.object_modules.specs.Displacements.{linked_modules};
-ghost use Rattle.object_modules.specs.Merge.{main_modules, merge_of, public_names, some_segment_is_too_long};
+ghost use Rattle.object_modules.specs.Merge.{HighByteMoves, main_modules, merge_of, public_names, some_high_byte_moves, some_segment_is_too_long};
 ghost use Rattle.object_modules.specs.Module.{IsObjectModule};
 ghost use Rattle.link.specs.Merging.{refusal_of};
 ghost use Rattle.link_laws.specs.internal.Building.{AreJoined, alignment_joined, end_in, end_joined};
@@ -55,11 +56,31 @@ fn high_byte_moves(code: &GrowingSegment, data_bytes: &GrowingSegment) -> bool
     code.moves() || data_bytes.moves()
 }
 
+// The code and the data of a merge, in which no high byte moves; one that does is a fault.
+fn still_segments<'a>(
+    alloc: Global,
+    publics: &Publics<'_, 'a>,
+    placed: &[PlacedFile<'a>],
+) -> Result<(GrowingSegment, GrowingSegment), Failure<LinkFault>>
+    ensures code { IfOk result (λ made. made.0 ≡ all_grown publics.now Code nothing_grown placed.now) }
+    ensures data_bytes { IfOk result (λ made. made.1
+        ≡ all_grown publics.now Data nothing_grown placed.now) }
+    ensures still { IfOk result (λ _. list_any (some_high_byte_moves publics.now) placed.now ≡ false) }
+    ensures fault { IfFault result (λ fault. refusal_of fault ≡ HighByteMoves) }
+    ensures moves { IfFault result (λ _. list_any (some_high_byte_moves publics.now) placed.now ≡ true) }
+{
+    let (code, data_bytes) = segments_of(alloc, publics, placed)?;
+    if high_byte_moves(&code, &data_bytes) {
+        return Err(Failure::Fault(LinkFault::HighByteMoves));
+    }
+    Ok((code, data_bytes))
+}
+
 // The parts of a merge whose segments are made.
 fn parts_of(
     alloc: Global,
     pieces: &Pieces<'_>,
-    publics: Publics<'_>,
+    publics: Publics<'_, '_>,
     main: MainModule,
     code: GrowingSegment,
     data_bytes: GrowingSegment,
@@ -86,12 +107,12 @@ fn parts_of(
 fn merge_placed<'a>(
     alloc: Global,
     files: &[ObjectFile<'a>],
-    names: NameTable<'a>,
+    names: &NameTable<'a>,
     pieces: &Pieces<'a>,
     main: MainModule,
 ) -> Result<ObjectModule, Failure<LinkFault>>
-    requires known { gathered [] (public_names files.now) ≡ Ok names }
-    requires resolved { None ≡ missing_in names (externals_of files.now) }
+    requires known { gathered [] (public_names files.now) ≡ Ok names.now }
+    requires resolved { None ≡ missing_in names.now (externals_of files.now) }
     requires fits { some_segment_is_too_long files.now (linked_modules files.now) ≡ false }
     requires single { (length (main_modules (linked_modules files.now)) == 1) ≡ true }
     requires main { Some (main_view main) ≡ slice_get (main_modules (linked_modules files.now)) 0 }
@@ -104,10 +125,7 @@ fn merge_placed<'a>(
     let placed = pieces.placed.as_slice();
     let owned = publics_of(alloc, names.count(), placed)?;
     let publics = Publics::new(names, owned);
-    let (code, data_bytes) = segments_of(alloc, &publics, placed)?;
-    if high_byte_moves(&code, &data_bytes) {
-        return Err(Failure::Fault(LinkFault::HighByteMoves));
-    }
+    let (code, data_bytes) = still_segments(alloc, &publics, placed)?;
     let parts = parts_of(alloc, pieces, publics, main, code, data_bytes);
     Ok(ObjectModule::from_parts(parts))
 }
@@ -117,11 +135,11 @@ fn merge_placed<'a>(
 fn merge_pieces<'a>(
     alloc: Global,
     files: &[ObjectFile<'a>],
-    names: NameTable<'a>,
+    names: &NameTable<'a>,
     pieces: &Pieces<'a>,
 ) -> Result<ObjectModule, Failure<LinkFault>>
-    requires known { gathered [] (public_names files.now) ≡ Ok names }
-    requires resolved { None ≡ missing_in names (externals_of files.now) }
+    requires known { gathered [] (public_names files.now) ≡ Ok names.now }
+    requires resolved { None ≡ missing_in names.now (externals_of files.now) }
     requires fits { some_segment_is_too_long files.now (linked_modules files.now) ≡ false }
     requires placed { pieces.now.placed.items ≡ linked_modules files.now }
     requires stack { pieces.now.stack_length ≡ sum_by (λ object. object.stack_length) files.now }
@@ -139,19 +157,23 @@ fn merge_pieces<'a>(
     }
 }
 
-// The merge of files with all of their names found.
-fn merge_resolved<'a>(
+// The merge of files with these public names.
+fn merge_named<'a>(
     alloc: Global,
     files: &[ObjectFile<'a>],
-    names: NameTable<'a>,
+    names: &NameTable<'a>,
 ) -> Result<ObjectModule, Failure<LinkFault>>
-    requires known { gathered [] (public_names files.now) ≡ Ok names }
-    requires resolved { None ≡ missing_in names (externals_of files.now) }
+    requires { gathered [] (public_names files.now) ≡ Ok names.now }
     ensures merged { IfOk result (λ object. merge_of files.now ≡ Ok object) }
     ensures refused { IfFault result (λ fault. merge_of files.now ≡ Err (refusal_of fault)) }
 {
-    let pieces = pieces_of(alloc, files)?;
-    merge_pieces(alloc, files, names, &pieces)
+    match unresolved_in(names, files) {
+        Some(name) => Err(Failure::Fault(LinkFault::UnresolvedExternal { name })),
+        None => {
+            let pieces = pieces_of(alloc, files)?;
+            merge_pieces(alloc, files, names, &pieces)
+        }
+    }
 }
 
 /// The merge of the modules that files spell, in this order. Where there is none, the first cause in the order
@@ -164,8 +186,5 @@ pub(crate) fn merge_files(
     ensures refused { IfFault result (λ fault. merge_of files.now ≡ Err (refusal_of fault)) }
 {
     let names = public_names_of(alloc, files)?;
-    match unresolved_in(&names, files) {
-        Some(name) => Err(Failure::Fault(LinkFault::UnresolvedExternal { name })),
-        None => merge_resolved(alloc, files, names),
-    }
+    merge_named(alloc, files, &names)
 }

@@ -19,12 +19,12 @@ use std::marker::Model;
 
 /// Publics that are found by their names. Contracts see the publics.
 #[derive(Drop)]
-pub(crate) struct Publics<'a> {
-    names: NameTable<'a>,
+pub(crate) struct Publics<'n, 'a> {
+    names: &'n NameTable<'a>,
     publics: Vec<OwnedPublic>,
 }
 
-impl<'a> Model for Publics<'a> {
+impl<'n, 'a> Model for Publics<'n, 'a> {
     ghost use Rattle.std.specs.Prelude.{◌≡◌, List, map};
     ghost use Rattle.object_modules.specs.Module.{Public};
     ghost use Rattle.object_modules.specs.Views.{owned_public_view};
@@ -34,7 +34,7 @@ impl<'a> Model for Publics<'a> {
 
     ghost view = { λ table. map owned_public_view table.publics.items };
 
-    ghost invariant = { λ table. table.names ≡ map name_in table.publics.items };
+    ghost invariant = { λ table. table.names.now ≡ map name_in table.publics.items };
 }
 
 // The public of a number, counted from 0.
@@ -44,10 +44,10 @@ fn public_at(publics: &[OwnedPublic], number: usize) -> Option<OwnedPublic>
     publics.get(number).copied()
 }
 
-impl<'a> Publics<'a> {
+impl<'n, 'a> Publics<'n, 'a> {
     /// Publics with these names, in the same order.
-    pub(crate) fn new(names: NameTable<'a>, publics: Vec<OwnedPublic>) -> Publics<'a>
-        requires { names ≡ map name_in publics.items }
+    pub(crate) fn new(names: &'n NameTable<'a>, publics: Vec<OwnedPublic>) -> Publics<'n, 'a>
+        requires { names.now ≡ map name_in publics.items }
         ensures { result ≡ map owned_public_view publics.items }
     {
         Publics { names, publics }

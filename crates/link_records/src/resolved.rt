@@ -40,7 +40,7 @@ impl Model for Resolved {
 #[tactic(auto, using(file_merges::proofs::PublicWalks::view_handed))]
 fn meant_by<'a>(
     alloc: Global,
-    publics: &Publics<'a>,
+    publics: &Publics<'_, 'a>,
     walk: &mut Walk<'a>,
 ) -> Result<Vec<Option<OwnedPublic>>, AllocError>
     ensures { IfOk result (λ meant. map (option_map owned_public_view) meant.items
@@ -69,7 +69,7 @@ impl Resolved {
     /// What the targets of a file become in a merge with these publics.
     pub(crate) fn new<'a>(
         alloc: Global,
-        publics: &Publics<'a>,
+        publics: &Publics<'_, 'a>,
         placed: &PlacedFile<'a>,
     ) -> Result<Resolved, AllocError>
         ensures { IfOk result (λ resolved. resolved ≡ resolved_in publics.now placed.now) }

@@ -1,9 +1,9 @@
-use Rattle.std.proofs.Common.{◌≡◌, [], Err, sym, ◌∙◌, rules}
+use Rattle.std.proofs.Common.{◌≡◌, [], Err, rules}
 use Rattle.object_modules.specs.Merge.{merge_of, public_names}
 use Rattle.link.specs.Merging.{refusal_of}
 use Rattle.link.specs.declared.fault.LinkFault.{LinkFault}
 use Rattle.link_laws.specs.internal.Passes.{gathered}
-use Rattle.link_laws.proofs.Linkings.{by_names, by_externals, handed_on}
+use Rattle.link_laws.proofs.Linkings.{by_names, handed_on}
 use Rattle.link.proofs.merging.link.Goals as goal
 
 pub returns-in_err-names-clause-refused : goal.returns-in_err-names-clause-refused
@@ -14,8 +14,3 @@ returns-in_err-names-clause-refused c =
     (λ (fault : LinkFault). merge_of c.args.modules.now ≡ Err (refusal_of fault))
     (search rules) c.in_err-names.was (λ fault h k. by_names c.args.modules.now (refusal_of fault) h)
     c.public_names_of.ensures.fault c.public_names_of.ensures.fault
-
-pub returns-in-Some-clause-refused : goal.returns-in-Some-clause-refused
-returns-in-Some-clause-refused c =
-    by_externals c.args.modules.now c.in_ok-names.names c.in_ok-names.ensures.ok c.in-Some.name
-    (sym c.in-Some.is ∙ c.unresolved_in.ensures)
