@@ -1,4 +1,5 @@
 pub mod FilesWritten
 pub mod FilesPlaced
 pub mod Lines
+pub mod Lists
 pub mod Refused

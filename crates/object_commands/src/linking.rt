@@ -17,7 +17,7 @@ use std::io::Write;
 /// Merges object files, and writes the merge to the file `out`. That file is begun once all others were read and their
 /// modules merged; after a write that failed it may have a beginning of the merge, which is no object file. Memory holds
 /// the files and the merge.
-#[tactic(auto, using(crate::proofs::FilesWritten::kept_others, crate::proofs::FilesWritten::kept_then_others, crate::proofs::FilesWritten::kept_then_stopped, crate::proofs::FilesWritten::links, crate::proofs::FilesWritten::not_linked, crate::proofs::FilesWritten::stops_linking, crate::proofs::FilesWritten::written_others))]
+#[tactic(auto, using(crate::proofs::FilesWritten::links))]
 pub fn link_files<F: Files, E: Write>(
     alloc: Global,
     objects: &[&str],

@@ -27,7 +27,6 @@ struct Placed {
 }
 
 // Reads an object file and places it, or prints why it can't.
-#[tactic(auto, using(crate::proofs::FilesPlaced::placed))]
 fn place_file<F: Files, E: Write>(
     alloc: Global,
     file: &str,
@@ -72,7 +71,6 @@ fn place_file<F: Files, E: Write>(
 /// Places an object file by a plan, and prints where its code, its data and the stack lie and how many bytes they have,
 /// where it starts, and where its public names lie, in their order. After a write that failed a beginning of that was
 /// printed, and after any other refusal nothing.
-#[tactic(auto, using(crate::proofs::FilesPlaced::begins_places, crate::proofs::FilesPlaced::no_places, crate::proofs::FilesPlaced::prints_places))]
 pub fn print_places<F: Files, O: Write, E: Write>(
     alloc: Global,
     file: &str,
@@ -111,7 +109,6 @@ pub fn print_places<F: Files, O: Write, E: Write>(
 
 /// Places an object file by a plan, and prints its bytes as Intel HEX. After a write that failed a beginning of that was
 /// printed, and after any other refusal nothing.
-#[tactic(auto, using(crate::proofs::FilesPlaced::begins_hex, crate::proofs::FilesPlaced::no_hex, crate::proofs::FilesPlaced::prints_hex))]
 pub fn print_hex<F: Files, O: Write, E: Write>(
     alloc: Global,
     file: &str,

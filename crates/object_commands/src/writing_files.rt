@@ -9,7 +9,6 @@ use files::{FileFault, Files};
 
 /// Writes a file from its beginning. After a failure all files are as before, or it has a beginning of the bytes and the
 /// others are as before.
-#[tactic(auto, using(crate::proofs::FilesWritten::begun, crate::proofs::FilesWritten::not_begun, crate::proofs::FilesWritten::stopped_midway, crate::proofs::FilesWritten::written_whole))]
 pub(crate) fn write_file<F: Files>(
     name: &str,
     bytes: &[u8],

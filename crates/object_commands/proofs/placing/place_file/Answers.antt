@@ -2,6 +2,7 @@ use Rattle.std.proofs.Common.{refl}
 use Rattle.answers.proofs.FilesRead.{stops_alone}
 use Rattle.answers.proofs.LinesPrinted.{tells_file, tells_no_file}
 use Rattle.object_commands.proofs.placing.place_file.Goals as goal
+use Rattle.object_commands.proofs.FilesPlaced.{placed}
 
 pub returns-in-Err-Fault-clause-told : goal.returns-in-Err-Fault-clause-told
 returns-in-Err-Fault-clause-told g c = tells_file _ _ _ _ _ _ _ _ refl (rw c.in-Err-Fault.field-0-is at c.in-Err-Fault.ensures.failed)
@@ -21,3 +22,7 @@ returns-in-Err-Fault-locate-clause-told g c = tells_no_file _ _ _ _ _ _ c.in-Ok.
 
 pub returns-in-Err-Memory-locate-clause-told : goal.returns-in-Err-Memory-locate-clause-told
 returns-in-Err-Memory-locate-clause-told g c = tells_no_file _ _ _ _ _ _ c.in-Ok.ensures.count c.refuse_memory-in-Err-Memory-locate.ensures.told
+
+pub returns-in-Ok-locate-clause-placed : goal.returns-in-Ok-locate-clause-placed
+returns-in-Ok-locate-clause-placed g c =
+    placed _ _ _ _ _ _ c.in-Ok.ensures.bytes (rw c.as_slice.ensures.value at c.in-Ok-reading.ensures.spelled) c.in-Ok-locate.ensures.placed

@@ -1,0 +1,10 @@
+use Rattle.std.proofs.Common.{arith}
+use Rattle.locate.specs.Locating.{symbol_view}
+use Rattle.object_commands.specs.Placing.{symbol_line}
+use Rattle.object_commands.proofs.Lists.{list_added}
+use Rattle.object_commands.proofs.places.put_symbols.Goals as goal
+
+pub loop-symbol-preserved : goal.loop-symbol-preserved
+loop-symbol-preserved c =
+    list_added symbol_line symbol_view _ c.loop-symbol.lines.items _ c.args.symbols.now c.loop-symbol.symbol-index c.symbol-item.result c.loop-symbol.invariant
+    (omega arith) c.symbol-item.is c.in_ok-put_symbol.ensures
