@@ -1,8 +1,13 @@
 -- Procedures in the table: as their headings say, and whole.
-use Rattle.std.proofs.Common.{◌≡◌, ℕ, List, [], ◌∷◌, ◌++◌, length, map, take, drop, not, ◌||◌, Option, Ok, Err, refl, ap, sym, subst, ◌∙◌, slice_set}
+use Rattle.std.proofs.Common.{◌≡◌, ℕ, ◌+◌, ◌<◌, List, [], ◌∷◌, ◌++◌, length, map, take, drop, get_or, not, ◌||◌, Option, Ok, Err, refl, ap, sym, subst, ◌∙◌, slice_set, append_assoc, unwrap_or}
 use Rattle.std.proofs.lemmas.List.{map-set, map-append, length-map}
+use Rattle.std.specs.Map.{lookup}
+use Rattle.std.specs.Str.{bytes_eq}
 use Rattle.trees.specs.declared.declaration.ScalarType.{ScalarType}
+use Rattle.trees.specs.declared.declaration.ScalarType.TheVariants.{Byte}
+use Rattle.trees.specs.declared.identifier.Identifier.{Identifier}
 use Rattle.trees.specs.Trees.{HeadingTree, DeclarationTrees}
+use Rattle.names.specs.declared.entity.Entity.{Entity}
 use Rattle.names.specs.Environment.{Here, into_body, is_declared_again, with_procedure}
 use Rattle.typed_trees.specs.declared.limits.TheConstants.{PARAMETER_LIMIT}
 use Rattle.typed_trees.specs.declared.module.TypedProcedure.{TypedProcedure as Procedure}
@@ -15,13 +20,55 @@ use Rattle.typing.specs.declared.fault.Fault.{Fault}
 use Rattle.typing.specs.Checks.{Checked, ◌>>=◌, require}
 use Rattle.typing.specs.References.{line_of}
 use Rattle.typing.specs.Blocks.{Block, Progress, is_reentrant, is_external, with_global}
-use Rattle.typing.specs.Procedures.{check_reentrant, check_visibility, declare_parameters, no_more_parameters, empty_list, open_procedure, parameter_types, procedure_with, with_heading}
-use Rattle.typing.specs.Results.{FailsBy}
+use Rattle.typing.specs.Procedures.{check_reentrant, check_visibility, declare_parameters, no_more_parameters, empty_list, open_procedure, parameter_object, parameter_objects, parameter_types, procedure_with, scalar_in_block, with_heading}
+use Rattle.typing.specs.Results.{FailsBy, in_front}
 use Rattle.types.specs.internal.Walking.{heading_opened}
-use Rattle.typing.proofs.Loops.{fails_more}
+use Rattle.typing.proofs.Loops.{drop_item, fails_more}
 
 pub procedure_replaced : (procedures : List Procedure) (number : ℕ) (procedure : Procedure) → map procedure_view (slice_set procedures number procedure) ≡ slice_set (map procedure_view procedures) number (procedure_view procedure)
 procedure_replaced procedures number procedure = map-set procedure_view procedures number procedure
+
+-- the types of the parameters that are left, after those before them
+pub types_go_on : (declared : DeclarationTrees) (parameters : List Identifier) (i : ℕ) (parameter : Identifier) (made after : List ScalarType) (scalar : ScalarType)
+    → i < length parameters → parameter ≡ get_or parameters i parameter → made ++ parameter_types declared (drop i parameters) ≡ parameter_types declared parameters
+    → scalar ≡ unwrap_or (scalar_in_block declared parameter.name) Byte → after ≡ made ++ scalar ∷ []
+    → after ++ parameter_types declared (drop (i + 1) parameters) ≡ parameter_types declared parameters
+types_go_on declared parameters i parameter made after scalar within is left typed pushed =
+    ap (λ all. all ++ parameter_types declared (drop (i + 1) parameters)) (pushed ∙ ap (λ one. made ++ one ∷ []) typed)
+    ∙ append_assoc made (unwrap_or (scalar_in_block declared parameter.name) Byte ∷ []) (parameter_types declared (drop (i + 1) parameters))
+    ∙ sym (ap (λ rest. made ++ rest) (drop_item (parameter_types declared) parameters i parameter within is))
+    ∙ left
+
+-- the objects of the parameters that are left, after those before them
+objects_in_front : (made : List ℕ) (object : ℕ) (rest : Checked (List ℕ))
+    → in_front (λ others. (made ++ object ∷ []) ++ others) rest ≡ in_front (λ others. made ++ others) (rest >>= λ others. Ok (object ∷ others))
+objects_in_front made object (Ok others) = ap (λ all. Ok all) (append_assoc made (object ∷ []) others)
+objects_in_front made object (Err fault) = refl
+
+module _ (here : Here) (parameters : List Identifier) (i : ℕ) (parameter : Identifier) (within : i < length parameters) (is : parameter ≡ get_or parameters i parameter) (made : List ℕ)
+    (left : in_front (λ rest. made ++ rest) (parameter_objects here (drop i parameters)) ≡ parameter_objects here parameters) (declared : Option Entity)
+    (found : declared ≡ lookup (bytes_eq parameter.name) here.body.block) where
+  abbrev after_object : ℕ → Checked (List ℕ)
+  after_object object = parameter_objects here (drop (i + 1) parameters) >>= λ rest. Ok (object ∷ rest)
+
+  object_first : in_front (λ rest. made ++ rest) (parameter_object parameter declared >>= after_object) ≡ parameter_objects here parameters
+  object_first =
+      ap (λ entity. in_front (λ rest. made ++ rest) (parameter_object parameter entity >>= after_object)) found
+      ∙ sym (drop_item (λ all. in_front (λ rest. made ++ rest) (parameter_objects here all)) parameters i parameter within is)
+      ∙ left
+
+  pub objects_go_on : (object : ℕ) (after : List ℕ) → parameter_object parameter declared ≡ Ok object → after ≡ made ++ object ∷ []
+      → in_front (λ rest. after ++ rest) (parameter_objects here (drop (i + 1) parameters)) ≡ parameter_objects here parameters
+  objects_go_on object after given pushed =
+      ap (λ all. in_front (λ rest. all ++ rest) (parameter_objects here (drop (i + 1) parameters))) pushed
+      ∙ objects_in_front made object (parameter_objects here (drop (i + 1) parameters))
+      ∙ sym (ap (λ result. in_front (λ rest. made ++ rest) (result >>= after_object)) given)
+      ∙ object_first
+
+  pub objects_fail : (fault : Option Fault) → FailsBy fault (parameter_object parameter declared) → FailsBy fault (parameter_objects here parameters)
+  objects_fail fault fails =
+      subst (FailsBy fault) object_first
+      (fails_more fault (parameter_object parameter declared >>= after_object) (λ rest. Ok (made ++ rest)) (fails_more fault (parameter_object parameter declared) after_object fails))
 
 -- six checks, the third of which gives something
 in_seven : {H Q : Type 0} (a b : Checked (Unit {0})) (c : Checked H) (d e f : Checked (Unit {0})) (next : H → Checked Q)

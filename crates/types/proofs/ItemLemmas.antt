@@ -1,16 +1,19 @@
 -- Items of a DECLARE.
-use Rattle.std.proofs.Common.{◌≡◌, ℕ, ◌<◌, ◌≤◌, min, nat_le, true, arith, le-leb, leb-true, sym, ◌∙◌, List, [], ◌∷◌, ◌||◌, not, Option, Ok, Err, refl, ap, subst}
+use Rattle.std.proofs.Common.{◌≡◌, ℕ, ◌<◌, ◌≤◌, min, nat_le, true, arith, le-leb, leb-true, sym, ◌∙◌, List, [], ◌∷◌, ◌++◌, ◌||◌, not, Option, Ok, Err, refl, ap, subst}
 use Rattle.std.proofs.lemmas.Bool.{lt-leb}
 use Rattle.std.proofs.Math.Decide.{dec_le}
 use Rattle.names.specs.Environment.{Here, with_object, is_declared_again}
+use Rattle.trees.specs.declared.declaration.Member.{Member}
 use Rattle.trees.specs.declared.identifier.Identifier.{Identifier}
 use Rattle.trees.specs.Trees.{ItemTree}
 use Rattle.names.specs.Uses.{declared_by}
 use Rattle.typed_trees.specs.declared.limits.TheConstants.{FRAME_LIMIT, OBJECT_LIMIT}
+use Rattle.typed_trees.specs.declared.parts.TypedMember.{TypedMember}
+use Rattle.typed_trees.specs.Sizes.{has_member}
 use Rattle.typing.specs.declared.fault.Cause.TheVariants.{DeclaredTwice, MisplacedAttribute, TooLarge}
 use Rattle.typing.specs.Blocks.{Block, Progress, is_external, declares_parameter}
 use Rattle.typing.specs.Checks.{Checked, ◌>>=◌, require}
-use Rattle.typing.specs.Items.{TypedItem, declare_names, declare_item, line_of_item, object_named, size_of_item, typed_item, with_objects, with_typed_object}
+use Rattle.typing.specs.Items.{TypedItem, declare_names, declare_item, line_of_item, member_dimension, object_named, size_of_item, typed_item, typed_members, with_objects, with_typed_object}
 use Rattle.typing.specs.References.{line_of}
 use Rattle.typing.specs.Statements.{with_here}
 use Rattle.typing.specs.declared.fault.Fault.{Fault}
@@ -32,6 +35,24 @@ first_name block name others progress =
     (require (not (is_external block.owner) || declares_parameter block name.name) MisplacedAttribute (line_of name))
     block others (with_object name.name progress.known.here) progress
 
+-- one member, and then the others
+members_then : {A B : Type 0} (first : Checked A) (second : Checked B) (made : B → List TypedMember) (others : List Member)
+    → (first >>= λ _. second >>= λ b. typed_members (made b) others) ≡ (first >>= λ _. second >>= λ b. Ok (made b)) >>= (λ after. typed_members after others)
+members_then (Ok a) (Ok b) made others = refl
+members_then (Ok a) (Err fault) made others = refl
+members_then (Err fault) second made others = refl
+
+abbrev pub members_from : List Member → List TypedMember → Checked (List TypedMember)
+members_from members before = typed_members before members
+
+abbrev pub member_added : Member → List TypedMember → Checked (List TypedMember)
+member_added member before = typed_members before (member ∷ [])
+
+pub first_member : (member : Member) (others : List Member) (before : List TypedMember) → members_from (member ∷ others) before ≡ member_added member before >>= members_from others
+first_member member others before =
+    members_then (require (not (has_member before member.name.name)) DeclaredTwice (line_of member.name)) (member_dimension member.dimension)
+    (λ dimension. before ++ record { name = member.name.name; dimension = dimension; scalar = member.scalar } ∷ []) others
+
 -- a number that stops at the greatest of 32 bits, against a limit below that
 pub capped_within : (all limit : ℕ) → limit < 4294967295 → nat_le (min all 4294967295) limit ≡ nat_le all limit
 capped_within all limit small =
@@ -49,6 +70,15 @@ object_of_name block item name progress = with_typed_object item.linkage (object
 
 abbrev room_for : Block → TypedItem → Identifier → Progress → Checked (Unit {0})
 room_for block item name progress = require (nat_le (object_of_name block item name progress).frame FRAME_LIMIT) TooLarge (line_of name)
+
+-- one object of an item, and then the others
+objects_then : (block : Block) (item : TypedItem) (others : List Identifier) (room : Checked (Unit {0})) (made : Progress)
+    → (room >>= λ _. with_objects block item others made) ≡ (room >>= λ _. Ok made) >>= with_objects block item others
+objects_then block item others (Ok fits) made = refl
+objects_then block item others (Err fault) made = refl
+
+pub first_object : (block : Block) (item : TypedItem) (name : Identifier) (others : List Identifier) (progress : Progress) → with_objects block item (name ∷ others) progress ≡ with_objects block item (name ∷ []) progress >>= with_objects block item others
+first_object block item name others progress = objects_then block item others (room_for block item name progress) (object_of_name block item name progress)
 
 -- objects have nothing to do with what names stand for
 abbrev objects_with : Block → TypedItem → List Identifier → Here → Progress → Checked Progress

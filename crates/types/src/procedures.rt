@@ -1,6 +1,6 @@
 //! Headings of procedures and their parameters.
 
-ghost use Rattle.std.specs.Prelude.{◌≡◌, not, ◌||◌, [], ◌∷◌, drop, map, slice_set, take, unwrap_or, IfOk, OnOk};
+ghost use Rattle.std.specs.Prelude.{◌≡◌, not, ◌||◌, [], ◌∷◌, drop, length, map, slice_set, take, unwrap_or, IfOk, OnOk};
 ghost use Rattle.trees.specs.declared.declaration.ScalarType.TheVariants.{Byte};
 ghost use Rattle.failure.specs.Failure.{IfFault};
 ghost use Rattle.trees.specs.Views.{declaration_tree, declaration_trees, element_tree, heading_tree, item_type_tree, kind_tree, reference_tree, statement_tree, statement_trees, subject_tree};
@@ -394,14 +394,15 @@ fn replace(procedures: &mut Vec<TypedProcedure>, number: u32, procedure: TypedPr
 }
 
 impl Checker {
-    /// A heading, up to where its body begins.
+    /// A heading, up to where its body begins: the number of its procedure.
     pub(crate) fn open_procedure(
         &mut self,
         block: Block<'_>,
         heading: &Heading,
         declared: &[Declaration],
-    ) -> Result<(), Failure<Fault>>
-        ensures { Leaves result (progress_view self.new)
+    ) -> Result<u32, Failure<Fault>>
+        ensures number { IfOk result (λ number. number ≡ length self.old.known.procedures.items) }
+        ensures opened { Leaves result (progress_view self.new)
             (open_procedure (block_view block.entry) (heading_tree heading.now)
             (declaration_trees declared.now) (progress_view self.old)) }
     {
@@ -415,7 +416,7 @@ impl Checker {
         let item = GlobalItem::GlobalProcedure(number);
         add_global(&mut self.globals, heading.linkage, item)?;
         self.frame = 0;
-        Ok(())
+        Ok(number)
     }
 
     /// Goes out of a procedure, which is now known whole.

@@ -4,15 +4,16 @@ ghost use Rattle.std.specs.Prelude.{◌≡◌, ◌==◌, [], ◌∷◌, length, 
 ghost use Rattle.trees.specs.declared.declaration.ScalarType.TheVariants.{Address};
 ghost use Rattle.std.specs.Option.{option_map};
 ghost use Rattle.trees.specs.Views.{argument_trees, expression_tree, iteration_tree, target_trees};
-ghost use Rattle.names.specs.declared.entity.Binding.TheVariants.{Declared};
-ghost use Rattle.names.specs.declared.entity.Entity.TheVariants.{Object};
-ghost use Rattle.typed_trees.specs.Views.{arguments_view, expression_view, iteration_view, object_view, procedure_view, statement_view, target_view};
+ghost use Rattle.names.specs.declared.entity.Binding.TheVariants.{BuiltInName, Declared};
+ghost use Rattle.names.specs.declared.entity.BuiltIn.TheVariants.{Move};
+ghost use Rattle.names.specs.declared.entity.Entity.TheVariants.{Object, Procedure};
+ghost use Rattle.typed_trees.specs.Views.{arguments_view, expression_view, iteration_view, object_view, statement_view, target_view};
 ghost use Rattle.typing.specs.Expressions.{arguments};
 ghost use Rattle.typing.specs.Nodes.{as_type as converted};
 ghost use Rattle.typing.specs.References.{number_of_arguments};
 ghost use Rattle.typing.specs.Statements.{assigned, assignment, call, call_bound, counter_bound, destinations, goto, goto_bound, iteration, moved, return_from, return_with, step, value};
 ghost use Rattle.typing.specs.Results.{Answers, Gives};
-ghost use Rattle.types.specs.internal.Walking.{call_of_bound, call_of_move, call_of_procedure, call_statement, counter_type, counter_view, targets_for, untyped_call};
+ghost use Rattle.types.specs.internal.Walking.{call_statement, counter_type, counter_view, given_in, targets_for};
 ghost use Rattle.typed_expressions.specs.Views.{constants_view, destination_view, known_view};
 ghost use Rattle.types.specs.internal.Views.{owner_view, progress_view};
 
@@ -27,8 +28,8 @@ use typed_expressions::{
     Constants, Destination, Known, as_type, refuse, require, require_writable, target_of,
 };
 use typed_trees::{
-    Home, ObjectType, TypedExpression, TypedIteration, TypedMove, TypedObject, TypedProcedure,
-    TypedStatement, TypedTarget,
+    Home, ObjectType, TypedExpression, TypedIteration, TypedMove, TypedObject, TypedStatement,
+    TypedTarget,
 };
 use typing::{Cause, Fault};
 
@@ -157,80 +158,64 @@ fn are_three(trees: &[Expression]) -> bool
     trees.len() == 3
 }
 
-// A call of a procedure that the name stands for, which is to be untyped.
+// A call of a procedure of a number that the name stands for, which is to be untyped.
 fn untyped_call(
     known: &Known,
-    line: u32,
     number: u32,
-    procedure: &TypedProcedure,
+    name: Identifier,
     trees: &[Expression],
     constants: &mut Constants,
 ) -> Result<TypedStatement, Failure<Fault>>
     ensures { Gives statement_view result (constants_view constants.new)
-        (untyped_call (known_view known.now) line number (procedure_view procedure.now)
-        (argument_trees trees.now) (constants_view constants.old)) }
+        (call_bound (known_view known.now) (Declared (Procedure number)) name
+        (given_in (known_view known.now) (argument_trees trees.now)) (constants_view constants.old)) }
 {
+    let line = name.place.line;
+    let procedure = known.procedure(name, number)?;
     require(procedure.result.is_none(), Cause::WrongUse, line)?;
     let values = known.call_arguments(procedure, line, trees, constants)?;
     Ok(statement_nodes::call(number, values))
 }
 
-impl Checker {
-    // CALL of MOVE.
-    fn call_of_move(
-        &mut self,
-        name: Identifier,
-        trees: &[Expression],
-    ) -> Result<TypedStatement, Failure<Fault>>
-        ensures { Gives statement_view result (progress_view self.new)
-            (call_of_move name (argument_trees trees.now) (progress_view self.old)) }
-    {
-        require(are_three(trees), Cause::WrongUse, name.place.line)?;
-        let values = self.known.arguments(trees, &mut self.constants)?;
-        moved(self.alloc, name.place.line, values)
-    }
+// CALL of MOVE.
+fn call_of_move(
+    known: &Known,
+    name: Identifier,
+    trees: &[Expression],
+    constants: &mut Constants,
+) -> Result<TypedStatement, Failure<Fault>>
+    ensures { Gives statement_view result (constants_view constants.new)
+        (call_bound (known_view known.now) (BuiltInName Move) name
+        (given_in (known_view known.now) (argument_trees trees.now)) (constants_view constants.old)) }
+{
+    let line = name.place.line;
+    require(are_three(trees), Cause::WrongUse, line)?;
+    let values = known.arguments(trees, constants)?;
+    moved(known.alloc, line, values)
+}
 
-    // CALL of an untyped procedure of a number.
-    fn call_of_procedure(
-        &mut self,
-        name: Identifier,
-        number: u32,
-        trees: &[Expression],
-    ) -> Result<TypedStatement, Failure<Fault>>
-        ensures { Gives statement_view result (progress_view self.new)
-            (call_of_procedure number name (argument_trees trees.now) (progress_view self.old)) }
-    {
-        let line = name.place.line;
-        let procedure = self.known.procedure(name, number)?;
-        untyped_call(
-            &self.known,
-            line,
-            number,
-            procedure,
-            trees,
-            &mut self.constants,
-        )
-    }
-
-    // CALL of what a name is bound to: an untyped procedure, or MOVE.
-    fn call_bound(
-        &mut self,
-        binding: Binding,
-        name: Identifier,
-        trees: &[Expression],
-    ) -> Result<TypedStatement, Failure<Fault>>
-        ensures { Gives statement_view result (progress_view self.new)
-            (call_of_bound binding name (argument_trees trees.now) (progress_view self.old)) }
-    {
-        match binding {
-            Binding::Declared(Entity::Procedure(number)) => {
-                self.call_of_procedure(name, number, trees)
-            }
-            Binding::BuiltInName(BuiltIn::Move) => self.call_of_move(name, trees),
-            _ => Err(refuse(Cause::WrongUse, name.place.line)),
+// CALL of what a name is bound to: an untyped procedure, or MOVE.
+fn call_bound(
+    known: &Known,
+    binding: Binding,
+    name: Identifier,
+    trees: &[Expression],
+    constants: &mut Constants,
+) -> Result<TypedStatement, Failure<Fault>>
+    ensures { Gives statement_view result (constants_view constants.new)
+        (call_bound (known_view known.now) binding name
+        (given_in (known_view known.now) (argument_trees trees.now)) (constants_view constants.old)) }
+{
+    match binding {
+        Binding::Declared(Entity::Procedure(number)) => {
+            untyped_call(known, number, name, trees, constants)
         }
+        Binding::BuiltInName(BuiltIn::Move) => call_of_move(known, name, trees, constants),
+        _ => Err(refuse(Cause::WrongUse, name.place.line)),
     }
+}
 
+impl Checker {
     /// CALL of an untyped procedure, or of MOVE.
     pub(crate) fn call(&mut self, procedure: &Selector) -> Result<TypedStatement, Failure<Fault>>
         ensures { Gives statement_view result (progress_view self.new)
@@ -238,7 +223,13 @@ impl Checker {
             (progress_view self.old)) }
     {
         let binding = self.known.bound(procedure.name)?;
-        self.call_bound(binding, procedure.name, procedure.arguments.as_slice())
+        call_bound(
+            &self.known,
+            binding,
+            procedure.name,
+            procedure.arguments.as_slice(),
+            &mut self.constants,
+        )
     }
 
     // RETURN of a value, in a procedure with a result of this type.

@@ -16,7 +16,7 @@ ghost use Rattle.types.specs.internal.Walking.{inside_view, list_left, listing, 
 
 use crate::blocks::{Block, Owner};
 use crate::checker::{Checker, answer_of_scopes};
-use crate::lists::{Listed, declare_labels, length_of, without_label};
+use crate::lists::{Listed, declare_labels, without_label};
 use crate::procedures::{Inside, check_body, parameter_objects};
 use crate::statement_nodes;
 use failure::Failure;
@@ -320,15 +320,10 @@ impl Checker {
             (progress_view self.old)) }
     {
         let heading = &procedure.heading;
-        let number = length_of(self.known.procedures.as_slice())?;
-        self.open_procedure(block, heading, procedure.body.declarations.as_slice())?;
+        let declared = procedure.body.declarations.as_slice();
+        let number = self.open_procedure(block, heading, declared)?;
         let inside = self.procedure_inside(number, procedure)?;
-        self.close_procedure(
-            heading,
-            procedure.body.declarations.as_slice(),
-            number,
-            inside,
-        )
+        self.close_procedure(heading, declared, number, inside)
     }
 
     // What stands in a procedure of a number.
@@ -342,6 +337,7 @@ impl Checker {
             (procedure_inside number procedure.now (progress_view self.old)) }
     {
         let heading = &procedure.heading;
+        let statements = procedure.body.statements.as_slice();
         let own = Block {
             owner: Owner::Procedure { number, heading },
             is_own: true,
@@ -352,8 +348,8 @@ impl Checker {
             &self.known.scopes,
             heading.parameters.as_slice(),
         )?;
-        check_body(heading, procedure.body.statements.as_slice())?;
-        let body = self.list(own, procedure.body.statements.as_slice())?;
+        check_body(heading, statements)?;
+        let body = self.list(own, statements)?;
         Ok(Inside { parameters, body })
     }
 }

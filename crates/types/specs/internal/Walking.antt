@@ -5,14 +5,10 @@ use Rattle.trees.specs.declared.identifier.Identifier.{Identifier}
 use Rattle.trees.specs.declared.statement.Procedure.{Procedure, out-Procedure}
 use Rattle.trees.specs.Trees.{ArgumentTrees, HeadingTree, StatementTree, StatementTrees, DeclarationTrees}
 use Rattle.trees.specs.Views.{heading_tree, block_declarations, block_statements}
-use Rattle.names.specs.declared.entity.Binding.{Binding}
-use Rattle.names.specs.declared.entity.Binding.TheVariants.{Declared, BuiltInName}
-use Rattle.names.specs.declared.entity.BuiltIn.TheVariants.{Move}
-use Rattle.names.specs.declared.entity.Entity.TheVariants as entities
 use Rattle.names.specs.Environment.{Here, is_among, into_body, with_procedure, is_declared_again, into_list, out_of_list, with_label, with_parameter, is_label_again, is_parameter_again}
 use Rattle.names.specs.Events.{labels_of}
 use Rattle.typed_trees.specs.declared.limits.TheConstants.{PARAMETER_LIMIT}
-use Rattle.typed_trees.specs.TypedTrees.{TypedTarget, TypedStatement, CallStatement, TypedList, TypedObject, TypedProcedure, Constants}
+use Rattle.typed_trees.specs.TypedTrees.{TypedTarget, TypedStatement, TypedList, TypedObject}
 use Rattle.typed_trees.specs.Views.{list_view}
 use Rattle.typing.specs.declared.fault.Cause.TheVariants.{DeclaredTwice, WrongUse, MisplacedAttribute}
 use Rattle.types.specs.declared.statements.Counter.{Counter as CodeCounter}
@@ -21,33 +17,21 @@ use Rattle.typing.specs.Checks.{Checked, ◌>>=◌, require, found}
 use Rattle.typing.specs.Nodes.{Destination, target_of}
 use Rattle.typing.specs.References.{Known, Given, line_of, scalar_of, is_writable}
 use Rattle.typing.specs.Expressions.{arguments}
-use Rattle.typing.specs.Functions.{call_arguments}
 use Rattle.typing.specs.Items.{is_not_based}
 use Rattle.typing.specs.Blocks.{OfProcedure, Block, Progress, is_reentrant, is_external}
-use Rattle.typing.specs.Statements.{with_here, with_constants, call, call_bound, Counter, labels_before, declare_labels, list_of}
+use Rattle.typing.specs.Statements.{with_here, call, Counter, labels_before, declare_labels, list_of}
 use Rattle.typing.specs.Procedures.{declare_parameters, no_more_parameters, check_visibility, check_reentrant, parameter_objects, check_body, close_procedure}
 use Rattle.typing.specs.Typing.{labelled, statements, declarations, module_block}
 
--- arguments as they stand in the text
+-- arguments as they stand in the text, where that is known
+abbrev pub given_in : Known → ArgumentTrees → Given
+given_in known trees = record { trees = trees; typed = arguments known trees }
+
 abbrev pub given : Progress → ArgumentTrees → Given
 given progress trees = record { trees = trees; typed = arguments progress.known trees }
 
 abbrev pub call_statement : Identifier → ArgumentTrees → Progress → Checked (TypedStatement × Progress)
 call_statement name trees progress = call name (given progress trees) progress
-
--- CALL of what a name is bound to
-abbrev pub call_of_bound :
-    Binding → Identifier → ArgumentTrees → Progress → Checked (TypedStatement × Progress)
-call_of_bound binding name trees progress = do
-  typed ← call_bound progress.known binding name (given progress trees) progress.constants
-  Ok (typed.0, with_constants typed.1 progress)
-
-abbrev pub call_of_procedure :
-    ℕ → Identifier → ArgumentTrees → Progress → Checked (TypedStatement × Progress)
-call_of_procedure number = call_of_bound (Declared (entities.Procedure number))
-
-abbrev pub call_of_move : Identifier → ArgumentTrees → Progress → Checked (TypedStatement × Progress)
-call_of_move = call_of_bound (BuiltInName Move)
 
 -- the targets of an assignment of a value of a type
 abbrev pub targets_for : List Destination → ScalarType → List TypedTarget
@@ -153,12 +137,3 @@ parameters_opened block heading before = do
   _ ← check_visibility block heading.linkage
   _ ← check_reentrant heading.linkage heading.reentrant
   Ok here
-
--- a call of a procedure, which is to be untyped
-abbrev pub untyped_call :
-    Known → (line : ℕ) → (number : ℕ) → TypedProcedure → ArgumentTrees → Constants
-    → Checked (TypedStatement × Constants)
-untyped_call known line number procedure trees constants = do
-  _ ← require (is_none procedure.result) WrongUse line
-  typed ← call_arguments procedure line (record { trees = trees; typed = arguments known trees }) constants
-  Ok (CallStatement number typed.0, typed.1)
