@@ -2,6 +2,7 @@
 pub mod Arguments
 pub mod Views
 pub mod Performs
+pub mod Plain
 pub mod Parts
 pub mod Moves
 pub mod Opened

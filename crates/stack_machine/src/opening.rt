@@ -11,7 +11,7 @@ use join::Joined;
 use std::alloc::AllocError;
 
 /// Opens the frame of a procedure.
-#[tactic(auto, using(crate::proofs::ModuleSlots::module_stands, crate::proofs::ModuleSlots::procedure_stands, crate::proofs::ModuleSlots::frame_zeroed))]
+#[tactic(auto, using(crate::proofs::ModuleSlots::frame_zeroed))]
 pub fn open_frame<'a>(
     frames: &mut Frames<'a>,
     joined: &Joined,
