@@ -1,5 +1,5 @@
 -- The shift of an ADDRESS to the left: by 16 or more it is 0, else it is doubled once for each that E counts.
-use Rattle.std.proofs.Common.{◌≡◌, ℕ, zero, suc, ◌+◌, ◌-◌, ◌*◌, ◌%◌, ◌^◌, ◌<◌, ◌≤◌, Bool, true, false, nat_lt, List, [], ◌∷◌, refl, sym, ap, ◌∙◌, arith, pow-add}
+use Rattle.std.proofs.Common.{◌≡◌, ℕ, zero, suc, ◌+◌, ◌-◌, ◌*◌, ◌%◌, ◌^◌, ◌<◌, ◌≤◌, min, Bool, true, false, nat_lt, List, [], ◌∷◌, refl, sym, ap, ◌∙◌, arith, pow-add}
 use Rattle.std.proofs.Math.Nat.{pow-suc}
 use Rattle.std.proofs.lemmas.Nat.{mul-mod_first}
 use Rattle.std.proofs.lemmas.Bool.{leb-false, leb-true}
@@ -108,7 +108,7 @@ steps_is : (n : ℕ) → steps_below twice n ≡ 4 * n + 2
 steps_is zero = refl
 steps_is (suc n) = let more : steps_below twice n ≡ 4 * n + 2 = steps_is n in omega arith
 
-few : (count n : ℕ) → count ≡ 4 * n + 2 → n < 16 → suc (suc (suc (suc count))) ≤ 66
+few : (count n : ℕ) → count ≡ 4 * n + 2 → n < 16 → suc (suc (suc (suc count))) ≤ min 66 (6 + 4 * n)
 few count n is less = omega arith
 
 count_again : (count : ℕ) → 16 ≤ count → count ≡ count - 16 + 16

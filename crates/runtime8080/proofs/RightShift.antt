@@ -1,7 +1,7 @@
 -- The shift of an ADDRESS to the right: by 1 and 2 it is halved and quartered; by 3 to 7 the 24 bits of A, H and L are
 -- doubled, 8 less the count times, and the higher 16 of them are the value; by 8 or more the high byte takes the place
 -- of the low one, and the rest of the count begins anew.
-use Rattle.std.proofs.Common.{◌≡◌, ℕ, zero, suc, ◌+◌, ◌-◌, ◌*◌, ◌/◌, ◌%◌, ◌^◌, ◌<◌, ◌≤◌, ◌==◌, Bool, true, false, not, nat_le, nat_lt, List, [], ◌∷◌, refl, sym, ap, ◌∙◌, arith}
+use Rattle.std.proofs.Common.{◌≡◌, ℕ, zero, suc, ◌+◌, ◌-◌, ◌*◌, ◌/◌, ◌%◌, ◌^◌, ◌<◌, ◌≤◌, ◌==◌, min, Bool, true, false, not, nat_le, nat_lt, List, [], ◌∷◌, refl, sym, ap, ◌∙◌, arith}
 use Rattle.std.proofs.lemmas.Bool.{eq-eqb, le-leb, leb-false, leb-true, lt-leb}
 use Rattle.mem80.specs.declared.memory.TheConstants.{MEMORY_SIZE}
 use Rattle.ports.specs.declared.event.Event.{Event}
@@ -393,7 +393,7 @@ few_ends :
     → n < 8
     → r.h < 256
     → r.l < 256
-    → Ends script from r memory events (word r.h r.l / 2 ^ n) 18
+    → Ends script from r memory events (word r.h r.l / 2 ^ n) (min 18 (7 + 4 * n))
 few_ends script layout first from to r memory events zero parts limit is less h l =
     let size = parts.size in
     let r1 = effect head r in
@@ -639,7 +639,7 @@ large_ends script layout first from to r memory events (suc n) false below parts
 
 body_of :
     (script : List (List ℕ)) (from : ℕ) (r : Registers) (memory : List ℕ) (events : List Event) (most : ℕ)
-    → most ≤ 37
+    → most ≤ min 37 (7 + 4 * r.a)
     → HoldBytes r
     → Ends script from r memory events (word r.h r.l / 2 ^ r.a) most
     → Body script routines.ShiftRightAddress from r memory events
@@ -672,7 +672,7 @@ right_body :
     → Body script routines.ShiftRightAddress from r memory events
 right_body script layout first from to r memory events true below stands limit are =
     let parts = parts_of layout memory first from to stands in
-    body_of script from r memory events 18 (omega arith) are
+    body_of script from r memory events (min 18 (7 + 4 * r.a)) (omega arith) are
     (few_ends script layout first from to r memory events r.a parts limit refl (leb-true (suc r.a) 8 below) are.h are.l)
 right_body script layout first from to r memory events false below stands limit are =
     let parts = parts_of layout memory first from to stands in

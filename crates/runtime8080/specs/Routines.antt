@@ -1,5 +1,5 @@
 -- What each routine promises to who calls it.
-use Rattle.std.specs.Prelude.{◌≡◌, ℕ, zero, suc, ◌+◌, ◌-◌, ◌*◌, ◌<◌, ◌≤◌, List, ◌++◌, All, Some, slice_set, not, IsTrue}
+use Rattle.std.specs.Prelude.{◌≡◌, ℕ, zero, suc, ◌+◌, ◌-◌, ◌*◌, ◌<◌, ◌≤◌, min, List, ◌++◌, All, Some, slice_set, not, IsTrue}
 use Rattle.trees.specs.declared.declaration.ScalarType.TheVariants.{Byte, Address}
 use Rattle.trees.specs.declared.expression.BinaryOperator.TheVariants.{Multiply, Divide, Modulo}
 use Rattle.typed_trees.specs.declared.parts.ShiftFunction.TheVariants.{ShiftLeft, ShiftRight, RotateLeft, RotateRight}
@@ -129,8 +129,8 @@ most_steps routines.Multiply registers = 107
 most_steps routines.Divide registers = 156
 most_steps routines.ShiftLeftByte registers = 36
 most_steps routines.ShiftRightByte registers = 43
-most_steps routines.ShiftLeftAddress registers = 66
-most_steps routines.ShiftRightAddress registers = 38
+most_steps routines.ShiftLeftAddress registers = min 66 (6 + 4 * registers.a)
+most_steps routines.ShiftRightAddress registers = min 38 (8 + 4 * registers.a)
 most_steps routines.RotateLeft registers = 29
 most_steps routines.RotateRight registers = 29
 most_steps routines.Move registers = 8 + 7 * pair_of Bc registers

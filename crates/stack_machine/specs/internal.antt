@@ -2,7 +2,6 @@
 pub mod Arguments
 pub mod Views
 pub mod Performs
-pub mod Plain
 pub mod Parts
 pub mod Moves
 pub mod Opened
