@@ -205,3 +205,5 @@ opened_first frame current callers frames before bytes size is_view is is_base i
     opened frame (reverse callers) before bytes size is_base is_size is_bytes
     ∙ ap (λ now. zeroed (sizes_of frame) ∷ frames_in (open_frames now callers) before) (sym is)
     ∙ ap (λ now. zeroed (sizes_of frame) ∷ now) is_view
+
+-- The end of `FrameBytes`.

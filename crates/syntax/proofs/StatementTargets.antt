@@ -56,3 +56,5 @@ pub target-smaller : (room : ℕ) (s r : List Symbol) (t : ReferenceTree)
 target-smaller room [] r t comma e = absurd cc
 target-smaller room (x ∷ s) r t comma e =
     let smaller : length r < length s = reference-shrinks room s r t e in omega arith
+
+-- The end of `StatementTargets`.

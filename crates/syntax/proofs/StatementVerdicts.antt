@@ -642,3 +642,5 @@ mutual
       declare_or-verdict strict room (block (declaration strict room) (statement strict room))
       (block-verdict strict room (declaration strict room) (statement strict room)
       (declaration-verdict strict room) (statement-verdict strict room)) s t r d
+
+-- The end of `StatementVerdicts`.

@@ -177,3 +177,5 @@ module_view typed = record {
   globals = typed.globals.items;
   main = procedure_view typed.main;
 }
+
+-- The end of `Views`.

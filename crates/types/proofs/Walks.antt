@@ -122,3 +122,5 @@ module _ (block : Block) where
   statements_ended trees i made label progress total past left =
       made_ended list_first list_all list_grown list_more trees i (label, progress) (statements_after made) total (NoStatements, progress) (statements_view made, progress)
       past left refl (ap (λ l. (l, progress)) (before_none made))
+
+-- The end of `Walks`.

@@ -112,3 +112,5 @@ object_listed linkage object line progress = do
     globals = with_global linkage (GlobalObject (length progress.known.objects)) progress.globals;
     frame = bytes;
   })
+
+-- The end of `Items`.

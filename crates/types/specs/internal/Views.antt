@@ -32,3 +32,5 @@ typed_item_view item = record {
   home = home_view item.home;
   linkage = item.linkage;
 }
+
+-- The end of `Views`.

@@ -137,3 +137,5 @@ parameters_opened block heading before = do
   _ ← check_visibility block heading.linkage
   _ ← check_reentrant heading.linkage heading.reentrant
   Ok here
+
+-- The end of `Walking`.
