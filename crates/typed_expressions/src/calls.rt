@@ -11,10 +11,11 @@ ghost use Rattle.typed_expressions.specs.internal.Given.{as_given, given};
 ghost use Rattle.typing.specs.Results.{Gives};
 ghost use Rattle.typed_expressions.specs.Views.{constants_view, known_view};
 
+use crate::checks::{refuse, require};
 use crate::expression_nodes;
 use crate::expression_nodes::as_type;
 use crate::functions::{function_of, shift_of};
-use crate::known::{Constants, Known, refuse, require};
+use crate::known::{Constants, Known};
 use crate::references::{number_of_arguments, port_of};
 use failure::Failure;
 use names::BuiltIn;

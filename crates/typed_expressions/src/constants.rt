@@ -6,7 +6,7 @@ ghost use Rattle.typing.specs.Constants.{line_of_constant as line_in_constant, m
 ghost use Rattle.typing.specs.Constants.{bytes_of_constant, bytes_of_constants as list_bytes, bytes_of_number};
 ghost use Rattle.typing.specs.Results.{Answers};
 
-use crate::known::refuse;
+use crate::checks::refuse;
 use failure::Failure;
 use std::alloc::{AllocError, Global};
 use trees::{Constant, Offset, Sign};

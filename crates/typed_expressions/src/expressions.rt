@@ -12,10 +12,11 @@ ghost use Rattle.typed_expressions.specs.internal.Given.{GivesScalar, extent_vie
 ghost use Rattle.typing.specs.Results.{Answers, Gives};
 ghost use Rattle.typed_expressions.specs.Views.{constants_view, destination_view, known_view};
 
+use crate::checks::{refuse, require};
 use crate::constants::{bytes_of_constants, number_of_constant};
 use crate::expression_nodes;
 use crate::expression_nodes::{target_of, type_of_number};
-use crate::known::{Constants, Destination, Known, refuse, require};
+use crate::known::{Constants, Destination, Known};
 use crate::members::{element_size, member_place};
 use crate::references::{
     Extent, FoundPart, FoundScalar, has_location, number_of_arguments, part_of_member, port_of,

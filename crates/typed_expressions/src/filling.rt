@@ -11,8 +11,9 @@ ghost use Rattle.typed_expressions.specs.internal.Fillings.{elements_listed, fil
 ghost use Rattle.typing.specs.Results.{Answers, Leaves};
 ghost use Rattle.typed_expressions.specs.Views.{contents_view, extents_view, known_view};
 
+use crate::checks::refuse;
 use crate::constants::{line_of_constant, number_of_characters, number_of_constant, with_offsets};
-use crate::known::{Known, refuse};
+use crate::known::Known;
 use crate::scalars::{Scalars, scalars_in_element};
 use failure::Failure;
 use names::{Binding, Entity};

@@ -8,9 +8,10 @@ ghost use Rattle.typed_expressions.specs.internal.Given.{is_plain, measured_view
 ghost use Rattle.typing.specs.Results.{Answers};
 ghost use Rattle.typed_expressions.specs.Views.{known_view};
 
+use crate::checks::refuse;
 use crate::expression_nodes;
 use crate::expression_nodes::type_of_number;
-use crate::known::{Known, refuse};
+use crate::known::Known;
 use crate::members::{member_place, object_size};
 use crate::references::only;
 use failure::Failure;

@@ -2,11 +2,11 @@
 
 ghost use Rattle.std.specs.Prelude.{◌≡◌, Some};
 ghost use Rattle.typed_trees.specs.Views.{object_view, procedure_view};
-ghost use Rattle.typing.specs.Checks.{require};
 ghost use Rattle.typing.specs.References.{bound, object_of, procedure_of};
-ghost use Rattle.typing.specs.Results.{Answers, fault_in};
+ghost use Rattle.typing.specs.Results.{Answers};
 ghost use Rattle.typed_expressions.specs.Views.{known_view};
 
+use crate::checks::refuse;
 use failure::Failure;
 use names::{Binding, Scopes};
 use std::alloc::Global;
@@ -46,24 +46,6 @@ pub enum Destination {
     },
     /// OUTPUT of a port.
     Port(u8),
-}
-
-/// A fault of a cause on a line, as a failure.
-pub fn refuse(cause: Cause, line: u32) -> Failure<Fault>
-    ensures { fault_in result ≡ Some (record { cause = cause; line = line }) }
-{
-    Failure::Fault(Fault { cause, line })
-}
-
-/// Checks a condition. Where it does not hold it is refused, by the cause on the line.
-pub fn require(holds: bool, cause: Cause, line: u32) -> Result<(), Failure<Fault>>
-    ensures { Answers (λ _. tt) result (require holds cause line) }
-{
-    if holds {
-        Ok(())
-    } else {
-        Err(refuse(cause, line))
-    }
 }
 
 impl Known {

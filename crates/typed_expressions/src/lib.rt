@@ -2,6 +2,7 @@
 #![tactic(auto)]
 
 mod calls;
+mod checks;
 mod constants;
 mod expression_nodes;
 mod expressions;
@@ -12,7 +13,8 @@ mod members;
 mod references;
 mod scalars;
 
+pub use checks::{refuse, require};
 pub use expression_nodes::{as_type, target_of};
 pub use filling::{Contents, Extents};
-pub use known::{Constants, Destination, Known, refuse, require};
+pub use known::{Constants, Destination, Known};
 pub use references::require_writable;

@@ -7,7 +7,7 @@ ghost use Rattle.typed_trees.specs.Views.{object_view, type_view};
 ghost use Rattle.typed_expressions.specs.internal.Given.{member_place as place_of, place_view};
 ghost use Rattle.typing.specs.Results.{Answers};
 
-use crate::known::refuse;
+use crate::checks::refuse;
 use failure::Failure;
 use trees::Identifier;
 use typed_trees::{ObjectType, TypedMember, TypedObject};

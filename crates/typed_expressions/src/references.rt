@@ -10,8 +10,9 @@ ghost use Rattle.typing.specs.References.{scalar_of as scalar_in, without_member
 ghost use Rattle.typed_expressions.specs.internal.Given.{extent_view, given_selector, member_part, only_tree, part_view, place_view};
 ghost use Rattle.typing.specs.Results.{Answers};
 
+use crate::checks::{refuse, require};
 use crate::expression_nodes::as_type;
-use crate::known::{Known, refuse, require};
+use crate::known::Known;
 use crate::members::MemberPlace;
 use failure::Failure;
 use std::alloc::{AllocError, Global};
