@@ -17,6 +17,8 @@ struct Row {
     takes: &'static str,
     gives: &'static str,
     changes: &'static str,
+    // How many steps a call takes at most, by the contract of `emit_routine`.
+    promised: &'static str,
     // The random arguments.
     random: &'static str,
     // The bits of a random second argument that are not 0.
@@ -30,6 +32,7 @@ const ROWS: [Row; 9] = [
         takes: "HL and DE",
         gives: "HL: HL times DE, modulo 65536",
         changes: "A, B, C, D, E, H, L and the flags",
+        promised: "107",
         random: "words",
         mask: 0xFFFF,
     },
@@ -37,8 +40,9 @@ const ROWS: [Row; 9] = [
         routine: Routine::Divide,
         name: "Divide",
         takes: "HL and DE",
-        gives: "HL: HL divided by DE; DE: the remainder; no value where DE is 0",
+        gives: "HL: HL divided by DE; DE: the remainder; where DE is 0 the call returns, with no promised values",
         changes: "A, B, C, D, E, H, L and the flags",
+        promised: "156",
         random: "words",
         mask: 0xFFFF,
     },
@@ -46,8 +50,9 @@ const ROWS: [Row; 9] = [
         routine: Routine::ShiftLeftByte,
         name: "Shift a BYTE to the left",
         takes: "A, and the count in E",
-        gives: "A: 0 where the count is 8 or more",
+        gives: "A: A shifted by the count, zeros shifted in; 0 where the count is 8 or more",
         changes: "A, D, E and the flags",
+        promised: "36",
         random: "counts to 15",
         mask: 0xF,
     },
@@ -55,8 +60,9 @@ const ROWS: [Row; 9] = [
         routine: Routine::ShiftRightByte,
         name: "Shift a BYTE to the right",
         takes: "A, and the count in E",
-        gives: "A: 0 where the count is 8 or more",
+        gives: "A: A shifted by the count, zeros shifted in; 0 where the count is 8 or more",
         changes: "A, D, E and the flags",
+        promised: "43",
         random: "counts to 15",
         mask: 0xF,
     },
@@ -64,8 +70,9 @@ const ROWS: [Row; 9] = [
         routine: Routine::ShiftLeftAddress,
         name: "Shift an ADDRESS to the left",
         takes: "HL, and the count in A",
-        gives: "HL: 0 where the count is 16 or more",
+        gives: "HL: HL shifted by the count, zeros shifted in; 0 where the count is 16 or more",
         changes: "A, E, H, L and the flags",
+        promised: "6 + 4n for a count of n, and never over 66",
         random: "counts to 31",
         mask: 0x1F,
     },
@@ -73,8 +80,9 @@ const ROWS: [Row; 9] = [
         routine: Routine::ShiftRightAddress,
         name: "Shift an ADDRESS to the right",
         takes: "HL, and the count in A",
-        gives: "HL: 0 where the count is 16 or more",
+        gives: "HL: HL shifted by the count, zeros shifted in; 0 where the count is 16 or more",
         changes: "A, H, L and the flags",
+        promised: "8 + 4n for a count of n, and never over 38",
         random: "counts to 31",
         mask: 0x1F,
     },
@@ -82,8 +90,9 @@ const ROWS: [Row; 9] = [
         routine: Routine::RotateLeft,
         name: "Rotate a BYTE to the left",
         takes: "A, and the count in E, modulo 8",
-        gives: "A",
+        gives: "A: A rotated",
         changes: "A, D, E and the flags",
+        promised: "29",
         random: "counts to 255",
         mask: 0xFF,
     },
@@ -91,8 +100,9 @@ const ROWS: [Row; 9] = [
         routine: Routine::RotateRight,
         name: "Rotate a BYTE to the right",
         takes: "A, and the count in E, modulo 8",
-        gives: "A",
+        gives: "A: A rotated",
         changes: "A, D, E and the flags",
+        promised: "29",
         random: "counts to 255",
         mask: 0xFF,
     },
@@ -100,8 +110,9 @@ const ROWS: [Row; 9] = [
         routine: Routine::Move,
         name: "Move",
         takes: "the count in BC, the source in DE and the destination in HL",
-        gives: "nothing in registers; the bytes are copied one after another, upwards",
+        gives: "nothing in registers; the bytes are copied from the first on, at addresses that go on from 65535 to 0; where the blocks overlap a byte may be copied again; a count of 0 copies nothing",
         changes: "A, B, C, D, E, H, L and the flags",
+        promised: "8 + 7n for n bytes",
         random: "blocks of 0 to 63 bytes",
         mask: 0xFFFF,
     },
@@ -116,11 +127,16 @@ const HEAD: &str = "\
 What the 8080 cannot do in one instruction, as code that a program calls. This document is made by the program
 `tables` (`bench/runtime --document`); the merge gate compares it with its copy in `crates/tables/data`.
 
+`emit_routine` of `runtime8080` adds a routine to code; nothing that `plm run` makes calls one yet. Numbers are unsigned.
 Each routine is called at its first byte. It pushes nothing: its stack is the return address alone, two bytes, and SP is
-after the call what it was before. Registers that are not named as changed stay as they were. Steps are instructions
-executed, with the CALL and the return: of 400 calls with each word of a table and each, the edges, and of 10,000 calls
-with random arguments, by bytes of as many with random words and a byte in DE. `Wrong` counts values, and bytes of
-memory, that are others than plain arithmetic gives. Addresses in the listings count from the first byte.
+after the call what it was before. These two bytes lie outside the routine and, for Move, outside both blocks, and Move's
+destination does not overlap the routine. Registers that are not named as changed stay as they were.
+
+Steps are instructions executed, with the CALL and the return, and not clock states. Those that are promised are proved of
+every call (`most_steps` in `crates/runtime8080/specs/Routines.antt`). The others were counted: of 400 calls with each pair
+of 20 words, the edges; of 10,000 calls with random arguments; and, by bytes, of 10,000 more whose DE is below 256. `Wrong`
+counts values, and bytes of memory, that are others than plain arithmetic gives. Addresses in the listings count from the
+first byte: where a routine lies elsewhere, its address is added to the word of each jump.
 ";
 
 // Prints a fact of a routine.
@@ -245,6 +261,7 @@ fn print_facts(page: &mut Page, row: &Row) {
     print_fact(page, "Takes", row.takes);
     print_fact(page, "Gives", row.gives);
     print_fact(page, "Changes", row.changes);
+    print_fact(page, "Promised steps, at most", row.promised);
 }
 
 // Prints what is said of a routine, and its code.
