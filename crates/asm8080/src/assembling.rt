@@ -126,8 +126,8 @@ fn fix_at(offset: u16, reference: Reference) -> Fix
     }
 }
 
-// The instruction of a form with its word.
-fn instruction_with(form: WordForm, word: u16) -> Instr
+/// The instruction of a form with its word.
+pub fn instruction_with(form: WordForm, word: u16) -> Instr
     ensures { result ≡ instruction_with form word }
 {
     match form {

@@ -1,6 +1,6 @@
 //! Code with labels.
 
-ghost use Rattle.std.specs.Prelude.{◌≡◌, ◌+◌, ◌^◌, ◌<◌, false, [], ◌∷◌, ◌++◌, OnErr, OnOk, IfOk, IsTrue, Ok, Err};
+ghost use Rattle.std.specs.Prelude.{◌≡◌, ◌+◌, ◌^◌, ◌<◌, false, [], ◌∷◌, ◌++◌, OnErr, OnOk, IfOk, IfSome, IsTrue, Ok, Err};
 ghost use Rattle.failure.specs.Failure.{IfFault};
 ghost use Rattle.asm8080.specs.declared.item.Item.TheVariants.{Plain, WithWord, Byte, Address, Gap, Mark};
 ghost use Rattle.asm8080.specs.declared.item.Reference.TheVariants.{AtLabel, AtTarget};
@@ -165,6 +165,18 @@ impl Code {
         };
         self.labels = labels;
         Ok(label)
+    }
+
+    /// The label of this number, if there are so many.
+    pub fn known(&self, number: usize) -> Option<Label>
+        ensures known { IfSome result (λ label. label < self.now.labels) }
+        ensures same { IfSome result (λ label. label ≡ number) }
+    {
+        if number < self.labels {
+            Some(Label { number })
+        } else {
+            None
+        }
     }
 
     /// Whether a label has its place. Looks at each item.

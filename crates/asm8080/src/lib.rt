@@ -7,6 +7,7 @@ mod code;
 mod fault;
 mod item;
 
+pub use assembling::instruction_with;
 pub use bytes::CodeBytes;
 pub use code::{Code, Label};
 pub use fault::Fault;

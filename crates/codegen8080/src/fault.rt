@@ -1,0 +1,24 @@
+//! Why there is no code of a module.
+
+use thiserror::Error;
+
+/// Why there is no code of a module.
+#[derive(Clone, Copy, Debug, PartialEq, Eq, Error)]
+pub enum Fault {
+    /// G1: its code segment would have more than 65535 bytes.
+    #[error("a code segment of more than 65535 bytes")]
+    TooLong,
+    /// A1: a label is not bound.
+    #[error("a label that is not bound")]
+    UnboundLabel,
+}
+
+impl Fault {
+    /// The number by which the documentation and the command line know the fault.
+    pub fn number(&self) -> &'static str {
+        match self {
+            Fault::TooLong => "G1",
+            Fault::UnboundLabel => "A1",
+        }
+    }
+}

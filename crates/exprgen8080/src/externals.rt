@@ -1,0 +1,51 @@
+//! The names of other modules that code refers to.
+
+use std::alloc::{AllocError, Global};
+
+/// The names of other modules that code refers to, numbered in the order of their first use.
+pub struct Externals {
+    /// The number of each name that is used, by its index among the external names of the module.
+    numbers: Vec<Option<u16>>,
+    used: u16,
+}
+
+impl Externals {
+    /// None is used of so many names.
+    pub fn new(alloc: Global, count: usize) -> Result<Externals, AllocError> {
+        Ok(Externals {
+            numbers: vec![in alloc; None; count]?,
+            used: 0,
+        })
+    }
+
+    /// The number of a name by its index, which is used from now on; 0 where there is none of that index. There are at
+    /// most as many uses as a segment has places for them, which is less than 65536.
+    pub fn number(&mut self, name: u32) -> u16 {
+        let index = name as usize;
+        if index >= self.numbers.len() {
+            return 0;
+        }
+        if let Some(number) = self.numbers[index] {
+            return number;
+        }
+        let number = self.used;
+        self.used = self.used.saturating_add(1);
+        self.numbers[index] = Some(number);
+        number
+    }
+
+    /// The number of each name that is used, by its index among the external names of the module.
+    pub fn numbers(&self) -> &[Option<u16>] {
+        self.numbers.as_slice()
+    }
+}
+
+// Written out, so that what it holds is let go here, and each crate that lets one go calls this.
+impl Drop for Externals {
+    fn drop(self) {
+        let Externals {
+            numbers: _,
+            used: _,
+        } = self;
+    }
+}

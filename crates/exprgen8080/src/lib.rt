@@ -1,0 +1,17 @@
+//! The code of expressions.
+#![tactic(auto)]
+
+mod emission;
+mod externals;
+mod facts;
+mod forms;
+mod site;
+mod step;
+mod writer;
+
+pub use emission::{Emission, ROUTINES, routine_label};
+pub use externals::Externals;
+pub use facts::Facts;
+pub use site::Site;
+pub use step::{LabelNumber, Part, Step, Steps, Task};
+pub use writer::{Finished, Writer};

@@ -1,0 +1,195 @@
+//! Code with numbered labels and the names of other modules.
+
+use crate::externals::Externals;
+use crate::step::LabelNumber;
+use asm8080::{Code, CodeBytes, Fault, Label, WordForm, instruction_with};
+use failure::Failure;
+use isa8080::Instr;
+use object_modules::{Segment, Target};
+use std::alloc::{AllocError, Global};
+use treecode::Place;
+
+/// Code to which more is added at its end, with the labels of a module by their numbers and the names of other modules
+/// that the code refers to.
+pub struct Writer {
+    code: Code,
+    /// Of each label of the code, whether it has its place.
+    is_bound: Vec<bool>,
+    /// Which label of the code each number is, where it is used.
+    labels: Vec<Option<usize>>,
+    externals: Externals,
+}
+
+// A word that counts from a target, or is a number.
+enum Value {
+    Number(u16),
+    From(Target, u16),
+}
+
+impl Writer {
+    /// No code, in a module that may refer to so many names of other modules.
+    pub fn new(alloc: Global, external_count: usize) -> Result<Writer, AllocError> {
+        Ok(Writer {
+            code: Code::new(alloc),
+            is_bound: Vec::new(alloc),
+            labels: Vec::new(alloc),
+            externals: Externals::new(alloc, external_count)?,
+        })
+    }
+
+    // What a place counts from.
+    fn value(&mut self, place: Place) -> Value {
+        match place {
+            Place::Number(number) => Value::Number(number),
+            Place::Code(offset) => Value::From(Target::InSegment(Segment::Code), offset),
+            Place::Data(offset) => Value::From(Target::InSegment(Segment::Data), offset),
+            Place::External { name, offset } => {
+                Value::From(Target::External(self.externals.number(name)), offset)
+            }
+        }
+    }
+
+    /// Adds an instruction.
+    pub fn plain(&mut self, instruction: Instr) -> Result<(), AllocError> {
+        self.code.emit(instruction)
+    }
+
+    /// Adds an instruction with the word of a place.
+    pub fn word(&mut self, form: WordForm, place: Place) -> Result<(), AllocError> {
+        match self.value(place) {
+            Value::Number(number) => self.code.emit(instruction_with(form, number)),
+            Value::From(target, offset) => self.code.emit_fixed(form, target, offset),
+        }
+    }
+
+    /// Adds an instruction whose word is the address just past the stack.
+    pub fn stack_end(&mut self, form: WordForm) -> Result<(), AllocError> {
+        self.code
+            .emit_fixed(form, Target::InSegment(Segment::Stack), 0)
+    }
+
+    /// Adds a call of a procedure of another module, by the index of its name among the external names.
+    pub fn call_external(&mut self, name: u32) -> Result<(), AllocError> {
+        let number = self.externals.number(name);
+        self.code
+            .emit_fixed(WordForm::CallTo, Target::External(number), 0)
+    }
+
+    /// Adds a byte of data.
+    pub fn byte(&mut self, value: u8) -> Result<(), AllocError> {
+        self.code.emit_byte(value)
+    }
+
+    /// Adds a word of data.
+    pub fn address(&mut self, place: Place) -> Result<(), AllocError> {
+        match self.value(place) {
+            Value::Number(number) => {
+                self.code.emit_byte((number % 256) as u8)?;
+                self.code.emit_byte((number / 256) as u8)
+            }
+            Value::From(target, offset) => self.code.emit_address(target, offset),
+        }
+    }
+
+    /// Adds so many bytes that stay unset.
+    pub fn gap(&mut self, count: u16) -> Result<(), AllocError> {
+        self.code.leave(count)
+    }
+
+    // A new label of the code.
+    fn new_label(&mut self) -> Result<usize, AllocError> {
+        let index = self.code.label_count();
+        self.is_bound.push(false)?;
+        let _ = self.code.label()?;
+        Ok(index)
+    }
+
+    // Which label of the code a number is, a new one where it is not used before.
+    fn label_of(&mut self, number: LabelNumber) -> Result<usize, AllocError> {
+        let entry = number.index as usize;
+        if entry >= self.labels.len() {
+            self.labels.resize(entry + 1, None)?;
+        }
+        if let Some(index) = self.labels[entry] {
+            return Ok(index);
+        }
+        let index = self.new_label()?;
+        self.labels[entry] = Some(index);
+        Ok(index)
+    }
+
+    /// Adds a jump to a label, or another instruction with its place.
+    pub fn jump(&mut self, form: WordForm, number: LabelNumber) -> Result<(), AllocError> {
+        let index = self.label_of(number)?;
+        match self.code.known(index) {
+            Some(label) => self.code.jump(form, label),
+            None => Ok(()),
+        }
+    }
+
+    // Gives a label of the code its place here, if it has none.
+    fn bind(&mut self, index: usize, label: Label) -> Result<(), AllocError> {
+        match self.is_bound.get(index) {
+            Some(false) => {
+                self.code.bind(label)?;
+                self.is_bound[index] = true;
+                Ok(())
+            }
+            _ => Ok(()),
+        }
+    }
+
+    /// Gives a label its place here. A label that has a place keeps it.
+    pub fn mark(&mut self, number: LabelNumber) -> Result<(), AllocError> {
+        let index = self.label_of(number)?;
+        match self.code.known(index) {
+            Some(label) => self.bind(index, label),
+            None => Ok(()),
+        }
+    }
+
+    /// The code as bytes and fixes, with its labels and the names that it refers to.
+    pub fn finish(self) -> Result<Finished, Failure<Fault>> {
+        let Writer {
+            code,
+            is_bound: _,
+            labels,
+            externals,
+        } = self;
+        let bytes = code.finish()?;
+        Ok(Finished {
+            bytes,
+            labels,
+            externals,
+        })
+    }
+}
+
+/// The bytes of code, with its labels and the names that it refers to.
+pub struct Finished {
+    pub bytes: CodeBytes,
+    pub labels: Vec<Option<usize>>,
+    pub externals: Externals,
+}
+
+// Written out, so that what these hold is let go here, and each crate that lets one go calls this.
+impl Drop for Writer {
+    fn drop(self) {
+        let Writer {
+            code: _,
+            is_bound: _,
+            labels: _,
+            externals: _,
+        } = self;
+    }
+}
+
+impl Drop for Finished {
+    fn drop(self) {
+        let Finished {
+            bytes: _,
+            labels: _,
+            externals: _,
+        } = self;
+    }
+}

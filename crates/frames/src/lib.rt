@@ -1,0 +1,8 @@
+//! The frames of REENTRANT procedures, and what a call of a procedure takes of the stack.
+#![tactic(auto)]
+
+mod charge;
+mod plan;
+
+pub use charge::charge;
+pub use plan::{FramePlan, plan};

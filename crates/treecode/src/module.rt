@@ -1,0 +1,139 @@
+//! Modules of tree code.
+
+use crate::expression::{Expression, ExpressionNumber};
+use crate::lists::Range;
+use crate::place::{Home, Place};
+use crate::procedure::TreeProcedure;
+use crate::reference::Target;
+use crate::statement::{Statement, StatementNumber};
+use trees::Name;
+
+/// What stands in a segment, from its start on.
+#[derive(Clone, Copy)]
+pub enum Content {
+    /// A byte.
+    Byte(u8),
+    /// Two bytes, the low one first.
+    Word(Place),
+    /// So many bytes that are not set.
+    Gap(u16),
+}
+
+/// A name of another module that this one declares EXTERNAL.
+#[derive(Clone, Copy)]
+pub struct ExternalName {
+    pub name: Name,
+}
+
+/// What a PUBLIC name stands for.
+#[derive(Clone, Copy)]
+pub enum PublicPlace {
+    Object(Place),
+    /// A procedure, by its number in the module.
+    Procedure(u32),
+}
+
+/// A name that other modules may use.
+#[derive(Clone, Copy)]
+pub struct PublicName {
+    pub name: Name,
+    pub place: PublicPlace,
+}
+
+/// A module of tree code. What its numbers stand for is in its tables.
+pub struct TreeModule {
+    pub name: Name,
+    /// Where each object begins, by its number.
+    pub(crate) homes: Vec<Home>,
+    pub(crate) expressions: Vec<Expression>,
+    pub(crate) statements: Vec<Statement>,
+    pub(crate) arguments: Vec<ExpressionNumber>,
+    pub(crate) targets: Vec<Target>,
+    pub(crate) lists: Vec<StatementNumber>,
+    /// The procedures, by their numbers.
+    pub procedures: Vec<TreeProcedure>,
+    /// The statements at the outer level.
+    pub main: TreeProcedure,
+    /// What the code segment begins with: the objects with DATA and the constant lists, in the order of the text.
+    pub constants: Vec<Content>,
+    /// The data segment: the objects without AT and DATA, in the order of their declarations.
+    pub variables: Vec<Content>,
+    /// The PUBLIC names, in the order of the text.
+    pub publics: Vec<PublicName>,
+    /// The EXTERNAL names, in the order of the text.
+    pub externals: Vec<ExternalName>,
+}
+
+impl TreeModule {
+    /// Where an object begins; the address 0 where there is none of that number.
+    pub fn home(&self, object: u32) -> Home {
+        match self.homes.get(object as usize) {
+            Some(home) => *home,
+            None => Home::Static(Place::Number(0)),
+        }
+    }
+
+    /// The expression of a number, if there is one.
+    pub fn expression(&self, number: ExpressionNumber) -> Option<Expression> {
+        self.expressions.get(number.index as usize).copied()
+    }
+
+    /// The statement of a number, if there is one.
+    pub fn statement(&self, number: StatementNumber) -> Option<Statement> {
+        self.statements.get(number.index as usize).copied()
+    }
+
+    /// An argument of a call, counted from 0.
+    pub fn argument(&self, arguments: Range, index: u32) -> Option<ExpressionNumber> {
+        match entry(arguments, index) {
+            Some(entry) => self.arguments.get(entry).copied(),
+            None => None,
+        }
+    }
+
+    /// A target of an assignment, counted from 0.
+    pub fn target(&self, targets: Range, index: u32) -> Option<Target> {
+        match entry(targets, index) {
+            Some(entry) => self.targets.get(entry).copied(),
+            None => None,
+        }
+    }
+
+    /// A statement of a list, counted from 0.
+    pub fn item(&self, list: Range, index: u32) -> Option<StatementNumber> {
+        match entry(list, index) {
+            Some(entry) => self.lists.get(entry).copied(),
+            None => None,
+        }
+    }
+}
+
+// Which entry of its table an item of a range is, counted from 0.
+fn entry(range: Range, index: u32) -> Option<usize> {
+    if index < range.count {
+        Some(range.first as usize + index as usize)
+    } else {
+        None
+    }
+}
+
+// Written out, so that what it holds is let go here, and each crate that lets one go calls this.
+impl Drop for TreeModule {
+    fn drop(self) {
+        let TreeModule {
+            name: _,
+            homes: _,
+            expressions: _,
+            statements: _,
+            arguments: _,
+            targets: _,
+            lists: _,
+            procedures: _,
+            main: _,
+            constants: _,
+            variables: _,
+            publics: _,
+            externals: _,
+        } = self;
+    }
+}

@@ -1,0 +1,71 @@
+//! Where things lie, before a module has its place in memory.
+
+/// A word that is known but for where the segments of the module and the names of other modules will lie.
+#[derive(Clone, Copy, PartialEq, Eq)]
+pub enum Place {
+    /// A number.
+    Number(u16),
+    /// So many bytes after the start of the code segment, which begins with the constants.
+    Code(u16),
+    /// So many bytes after the start of the data segment.
+    Data(u16),
+    /// So many bytes, modulo 65536, after what an EXTERNAL name stands for, by its index among the external names.
+    External { name: u32, offset: u16 },
+}
+
+/// Where a scalar lies that no subscript and no base has a part in.
+#[derive(Clone, Copy, PartialEq, Eq)]
+pub enum Location {
+    /// In memory.
+    Static(Place),
+    /// So many bytes after the start of a variable or parameter in the frame of a REENTRANT procedure, by its number
+    /// there.
+    Frame { variable: u16, offset: u16 },
+}
+
+/// Where an object begins.
+#[derive(Clone, Copy, PartialEq, Eq)]
+pub enum Home {
+    /// In memory.
+    Static(Place),
+    /// At the address that a scalar holds, its base.
+    Based(Location),
+    /// Where a variable or parameter in the frame of a REENTRANT procedure begins, by its number there.
+    Frame(u16),
+}
+
+impl Place {
+    /// The place so many bytes further on, modulo 65536.
+    pub fn after(self, distance: u16) -> Place {
+        match self {
+            Place::Number(number) => Place::Number(number.wrapping_add(distance)),
+            Place::Code(offset) => Place::Code(offset.wrapping_add(distance)),
+            Place::Data(offset) => Place::Data(offset.wrapping_add(distance)),
+            Place::External { name, offset } => Place::External {
+                name,
+                offset: offset.wrapping_add(distance),
+            },
+        }
+    }
+
+    /// The number that it is, if it depends on nothing.
+    pub fn number(self) -> Option<u16> {
+        match self {
+            Place::Number(number) => Some(number),
+            Place::Code(_) | Place::Data(_) | Place::External { .. } => None,
+        }
+    }
+}
+
+impl Location {
+    /// The location so many bytes further on, modulo 65536.
+    pub fn after(self, distance: u16) -> Location {
+        match self {
+            Location::Static(place) => Location::Static(place.after(distance)),
+            Location::Frame { variable, offset } => Location::Frame {
+                variable,
+                offset: offset.wrapping_add(distance),
+            },
+        }
+    }
+}

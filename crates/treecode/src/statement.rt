@@ -1,0 +1,73 @@
+//! Statements as numbered nodes.
+
+use crate::expression::ExpressionNumber;
+use crate::lists::Range;
+use trees::ScalarType;
+
+/// The number of a statement in its module: each part of a statement has a number below that of the whole.
+#[derive(Clone, Copy, PartialEq, Eq)]
+pub struct StatementNumber {
+    pub index: u32,
+}
+
+/// The head of an iterative DO: the variable, a whole scalar of the type `scalar` by its object's number, which the first
+/// value is converted to as it is stored.
+#[derive(Clone, Copy)]
+pub struct Iteration {
+    pub variable: u32,
+    pub scalar: ScalarType,
+    pub first: ExpressionNumber,
+    pub last: ExpressionNumber,
+    pub step: Option<ExpressionNumber>,
+}
+
+/// A statement. Lists of statements stand in the module's table of lists, targets in its table of targets, arguments in
+/// its table of arguments.
+#[derive(Clone, Copy)]
+pub enum Statement {
+    /// A label of the procedure, by its number there. It stands before the statement that it names.
+    Label(u32),
+    /// `;`
+    Null,
+    /// All targets get the one value.
+    Assignment {
+        targets: Range,
+        value: ExpressionNumber,
+    },
+    /// A call of a procedure without a result, by its number in the module.
+    Call {
+        procedure: u32,
+        arguments: Range,
+    },
+    /// CALL MOVE: so many bytes, from where, to where. Each is an ADDRESS.
+    Move {
+        count: ExpressionNumber,
+        source: ExpressionNumber,
+        destination: ExpressionNumber,
+    },
+    /// RETURN, in a typed procedure with a value of its type.
+    Return(Option<ExpressionNumber>),
+    Halt,
+    /// GOTO a label of the procedure, by its number there.
+    Goto(u32),
+    If {
+        condition: ExpressionNumber,
+        body: StatementNumber,
+        otherwise: Option<StatementNumber>,
+    },
+    /// A simple DO, with its list.
+    Do(Range),
+    While {
+        condition: ExpressionNumber,
+        body: Range,
+    },
+    Iterate {
+        head: Iteration,
+        body: Range,
+    },
+    /// DO CASE, with its statements.
+    Case {
+        choice: ExpressionNumber,
+        body: Range,
+    },
+}
