@@ -19,4 +19,4 @@ pub use place::{Home, Location, Place};
 pub use procedure::{FrameVariable, Parameter, ProcedureKind, TreeProcedure};
 pub use reference::{Reference, Subscript, Target};
 pub use statement::{Iteration, Statement, StatementNumber};
-pub use traits::{Keeps, Traits};
+pub use traits::{Keeps, Traits, keeps_of_address};

@@ -1,6 +1,8 @@
 //! What is known of an expression without looking at its parts again.
 
+use crate::module::TreeModule;
 use crate::place::Place;
+use crate::reference::Reference;
 use trees::ScalarType;
 
 /// Which registers the code that puts a value, or the address of an object, into HL leaves as they were. A register that
@@ -28,4 +30,14 @@ pub struct Traits {
     pub keeps: Keeps,
     /// Its height, as the stack charge counts it (65,535 where it is more).
     pub height: u16,
+}
+
+/// What the code that puts the address of an object or a part of it into HL keeps.
+pub fn keeps_of_address(tree: &TreeModule, reference: &Reference) -> Keeps {
+    let _ = tree;
+    let _ = reference;
+    Keeps {
+        a: false,
+        de: false,
+    }
 }
