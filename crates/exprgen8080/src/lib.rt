@@ -1,13 +1,16 @@
 //! The code of expressions.
 #![tactic(auto)]
 
+mod branches;
 mod emission;
 mod externals;
 mod facts;
 mod forms;
 mod queries;
+mod relations;
 mod site;
 mod step;
+mod stores;
 mod writer;
 
 pub use emission::{Emission, ROUTINES, routine_label};
