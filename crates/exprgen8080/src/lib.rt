@@ -6,11 +6,14 @@ mod emission;
 mod externals;
 mod facts;
 mod forms;
+mod instructions;
+mod pairs;
 mod queries;
 mod relations;
 mod site;
 mod step;
 mod stores;
+mod widths;
 mod writer;
 
 pub use emission::{Emission, ROUTINES, routine_label};
