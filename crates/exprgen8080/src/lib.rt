@@ -7,6 +7,7 @@ mod emission;
 mod externals;
 mod facts;
 mod forms;
+mod instructions;
 mod pairs;
 mod queries;
 mod questions;
@@ -14,6 +15,7 @@ mod relations;
 mod site;
 mod step;
 mod stores;
+mod widths;
 mod word_relations;
 mod writer;
 
