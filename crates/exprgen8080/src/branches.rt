@@ -1,9 +1,10 @@
 //! Jumps where a condition holds, or where it does not.
 
-use crate::questions::relation_of;
+use crate::questions::{Comparison, relation_of};
 use crate::relations::{Outcome, Purpose, Setting, plan_relation};
 use crate::site::Site;
 use crate::step::{LabelNumber, Steps, Task};
+use crate::word_relations::{equality_of_words, plan_words};
 use asm8080::WordForm;
 use isa8080::{Condition, Instr};
 use std::alloc::AllocError;
@@ -230,6 +231,29 @@ fn plan_by_bit(
     branch.where_flags(Condition::Carry, steps)
 }
 
+// The steps that jump where two ADDRESSes are equal, or where they are not. Where the low bytes differ, the high ones are
+// passed over. At each jump A is the difference, so nothing else is known of it there.
+fn plan_equality(
+    site: &Site<'_>,
+    comparison: &Comparison,
+    is_equal: bool,
+    branch: Branch,
+    steps: &mut Steps,
+) -> Result<(), AllocError> {
+    let words = plan_words(site, comparison, branch.pushed, steps)?;
+    words.plan_low_difference(steps)?;
+    if !is_equal {
+        steps.jump(WordForm::JumpWhere(Condition::NotZero), branch.label)?;
+        words.plan_high_difference(steps)?;
+        return steps.jump(WordForm::JumpWhere(Condition::NotZero), branch.label);
+    }
+    let past = steps.label();
+    steps.jump(WordForm::JumpWhere(Condition::NotZero), past)?;
+    words.plan_high_difference(steps)?;
+    steps.jump(WordForm::JumpWhere(Condition::Zero), branch.label)?;
+    steps.mark(past)
+}
+
 // The steps that jump by a relation, or by the lowest bit of a value that is none.
 fn plan_other(
     site: &Site<'_>,
@@ -240,6 +264,10 @@ fn plan_other(
     let Some(relation) = relation_of(site, condition) else {
         return plan_by_bit(condition, branch, steps);
     };
+    if let Some(words) = equality_of_words(site, &relation) {
+        let is_equal = branch.sense == relation.holds_if;
+        return plan_equality(site, &words, is_equal, branch, steps);
+    }
     let setting = Setting {
         purpose: Purpose::Branch,
         pushed: branch.pushed,

@@ -3,7 +3,7 @@
 use crate::byte_relations::{plan_byte_number, plan_byte_relation, plan_number_in_a};
 use crate::instructions::{copy, high, load, low, repeat, with_register};
 use crate::pairs::{PairOrder, plan_pair};
-use crate::questions::{Comparison, NumberQuestion, Question};
+use crate::questions::{Comparison, Inquiry, NumberQuestion, Question, Relation};
 use crate::relations::{Answer, Setting, plan_known};
 use crate::site::Site;
 use crate::step::{Steps, Task};
@@ -35,6 +35,15 @@ const IN_DE: Word = Word {
 struct Apart {
     place: Place,
     other: ExpressionNumber,
+}
+
+/// Two words that are compared.
+#[derive(Clone, Copy)]
+pub(crate) enum Words {
+    /// One is in memory at a place, the other one in HL.
+    PlaceAndHl(Place),
+    /// One is in DE, the other one in HL.
+    DeAndHl,
 }
 
 // The ADDRESS and the number of which an expression is the AND, if it is one.
@@ -313,6 +322,73 @@ fn plan_with_pair(
     plan_low(taken, question, steps)?;
     steps.plain(copy(Register::A, from.high))?;
     plan_high(taken, question, steps)
+}
+
+/// The two ADDRESSes of which a relation asks whether they are equal, where that takes both their bytes.
+pub(crate) fn equality_of_words(site: &Site<'_>, relation: &Relation) -> Option<Comparison> {
+    let Inquiry::Between(comparison) = relation.inquiry else {
+        return None;
+    };
+    let Comparison {
+        operands: ScalarType::Address,
+        left,
+        right,
+        question: Question::Equal,
+    } = comparison
+    else {
+        return None;
+    };
+    if site.fits_byte(left) && site.fits_byte(right) {
+        None
+    } else {
+        Some(comparison)
+    }
+}
+
+/// The steps that put two ADDRESSes where their bytes can be compared.
+pub(crate) fn plan_words(
+    site: &Site<'_>,
+    comparison: &Comparison,
+    pushed: u16,
+    steps: &mut Steps,
+) -> Result<Words, AllocError> {
+    match operand_apart(site, comparison) {
+        Some(apart) => {
+            steps.part(Task::Word(apart.other), pushed)?;
+            Ok(Words::PlaceAndHl(apart.place))
+        }
+        None => {
+            let _ = plan_pair(
+                site,
+                comparison.left,
+                comparison.right,
+                false,
+                pushed,
+                steps,
+            )?;
+            Ok(Words::DeAndHl)
+        }
+    }
+}
+
+impl Words {
+    /// The steps that put the difference of the low bytes into A. The words stay where they are.
+    pub(crate) fn plan_low_difference(self, steps: &mut Steps) -> Result<(), AllocError> {
+        match self {
+            Words::PlaceAndHl(place) => load_a(place, steps)?,
+            Words::DeAndHl => steps.plain(copy(Register::A, Register::E))?,
+        }
+        steps.plain(with_register(Operation::Subtract, Register::L))
+    }
+
+    /// The steps that put the difference of the high bytes into A. The words stay where they are.
+    pub(crate) fn plan_high_difference(self, steps: &mut Steps) -> Result<(), AllocError> {
+        match self {
+            Words::PlaceAndHl(place) => load_a(place.after(1), steps)?,
+            Words::DeAndHl => steps.plain(copy(Register::A, Register::D))?,
+        }
+        steps.plain(with_register(Operation::Subtract, Register::H))
+    }
 }
 
 /// The steps that answer what is asked of two ADDRESSes.
