@@ -61,6 +61,17 @@ impl Emission {
         })
     }
 
+    /// The code, and of each routine whether the code calls it.
+    pub fn into_code(self) -> (Writer, Vec<bool>) {
+        let Emission {
+            writer,
+            steps: _,
+            facts: _,
+            is_called,
+        } = self;
+        (writer, is_called)
+    }
+
     /// Where code stands at its end.
     pub fn site<'a>(&self, tree: &'a TreeModule, frame: &'a FramePlan) -> Site<'a> {
         Site {
