@@ -1,5 +1,6 @@
 //! Relations of BYTEs.
 
+use crate::instructions::{copy, with_memory, with_register};
 use crate::questions::{Comparison, NumberQuestion, Question};
 use crate::relations::{Answer, Purpose, Setting, plan_known};
 use crate::site::Site;
@@ -145,20 +146,17 @@ fn may_begin_with(site: &Site<'_>, comparison: &Comparison, is_left: bool) -> bo
 }
 
 // The comparison of A with a byte in memory, where it can be made.
-fn with_memory(site: &Site<'_>, comparison: &Comparison, sides: Sides) -> Option<Form> {
-    let Some(reference) = site.memory(sides.second) else {
-        return None;
-    };
-    let keeps_a = site.keeps_of_address(&reference).a;
-    if keeps_a && may_begin_with(site, comparison, sides.is_in_order) {
-        Some(Form::WithMemory(sides, reference))
-    } else {
-        None
+fn memory_form(site: &Site<'_>, comparison: &Comparison, sides: Sides) -> Option<Form> {
+    match site.operand_in_memory(sides.second) {
+        Some(reference) if may_begin_with(site, comparison, sides.is_in_order) => {
+            Some(Form::WithMemory(sides, reference))
+        }
+        _ => None,
     }
 }
 
 // The comparison of A with E, where it can be made.
-fn with_e(site: &Site<'_>, comparison: &Comparison, sides: Sides) -> Option<Form> {
+fn register_form(site: &Site<'_>, comparison: &Comparison, sides: Sides) -> Option<Form> {
     if site.is_free(sides.first) && may_begin_with(site, comparison, !sides.is_in_order) {
         Some(Form::WithE(sides))
     } else {
@@ -168,23 +166,23 @@ fn with_e(site: &Site<'_>, comparison: &Comparison, sides: Sides) -> Option<Form
 
 // The better one of the two comparisons without a push, where one can be made.
 fn without_push(site: &Site<'_>, comparison: &Comparison, sides: Sides) -> Option<Form> {
-    let by_e = with_e(site, comparison, sides);
-    if by_e.is_some() && site.is_in_a(sides.second) {
-        return by_e;
+    let by_register = register_form(site, comparison, sides);
+    if by_register.is_some() && site.is_byte_at_hand(sides.second) {
+        return by_register;
     }
-    match with_memory(site, comparison, sides) {
+    match memory_form(site, comparison, sides) {
         Some(form) => Some(form),
-        None => by_e,
+        None => by_register,
     }
 }
 
-// Whether the operands are better compared with the right one in A: it is there, or the address of the left one is in HL
+// Whether the operands are better compared with the right one in A: it is at hand, or the address of the left one is in HL
 // and stays there.
 fn is_better_exchanged(site: &Site<'_>, comparison: &Comparison) -> bool {
-    if site.is_in_a(comparison.left) {
+    if site.is_byte_at_hand(comparison.left) {
         return false;
     }
-    site.is_in_a(comparison.right)
+    site.is_byte_at_hand(comparison.right)
         || site.is_at_hl(comparison.left) && site.is_free(comparison.right)
 }
 
@@ -225,7 +223,7 @@ fn plan_with_memory(
 ) -> Result<(), AllocError> {
     steps.part(Task::Byte(sides.first), pushed)?;
     steps.part(Task::Address(reference), pushed)?;
-    steps.plain(Instr::Accumulate(operation, Operand::M))
+    steps.plain(with_memory(operation))
 }
 
 // The steps that compare the first operand with the second one in E.
@@ -236,9 +234,9 @@ fn plan_with_e(
     steps: &mut Steps,
 ) -> Result<(), AllocError> {
     steps.part(Task::Byte(sides.second), pushed)?;
-    steps.plain(Instr::Mov(Register::E, Operand::Of(Register::A)))?;
+    steps.plain(copy(Register::E, Register::A))?;
     steps.part(Task::Byte(sides.first), pushed)?;
-    steps.plain(Instr::Accumulate(operation, Operand::Of(Register::E)))
+    steps.plain(with_register(operation, Register::E))
 }
 
 // The steps that compare two operands of which the left one is pushed.
@@ -253,12 +251,12 @@ fn plan_pushed(
     steps.part(Task::Byte(comparison.right), pushed.wrapping_add(2))?;
     match comparison.question {
         Question::LeftBelow => steps.all(&[
-            Instr::Mov(Register::B, Operand::Of(Register::A)),
+            copy(Register::B, Register::A),
             Instr::Pop(StackPair::Psw),
         ])?,
         Question::RightBelow | Question::Equal => { steps.plain(Instr::Pop(StackPair::StackBc))? }
     }
-    steps.plain(Instr::Accumulate(operation, Operand::Of(Register::B)))
+    steps.plain(with_register(operation, Register::B))
 }
 
 /// The steps that answer what is asked of two BYTEs.

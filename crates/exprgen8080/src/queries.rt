@@ -306,19 +306,6 @@ impl<'a> Site<'a> {
         self.plain_in_memory(inner)
     }
 
-    /// The part of memory that holds an ADDRESS, where it is a reference.
-    pub fn word_in_memory(&self, number: ExpressionNumber) -> Option<Reference> {
-        match self.expression(number) {
-            Some(
-                Expression {
-                    form: ExpressionForm::Value(reference),
-                    traits,
-                },
-            ) if matches!(traits.scalar, ScalarType::Address) => Some(reference),
-            _ => None,
-        }
-    }
-
     // Where the low byte of an expression lies, where it lies in memory at a place without a computed part.
     fn location_of_byte(&self, number: ExpressionNumber) -> Option<Location> {
         match self.memory(number) {
@@ -327,23 +314,8 @@ impl<'a> Site<'a> {
         }
     }
 
-    /// Whether A is known to hold the low byte of an expression.
-    pub fn is_in_a(&self, number: ExpressionNumber) -> bool {
-        same_location(self.location_of_byte(number), self.facts.byte_in_a)
-    }
-
     /// Whether HL is known to hold the address of the low byte of an expression.
     pub fn is_at_hl(&self, number: ExpressionNumber) -> bool {
         same_location(self.location_of_byte(number), self.facts.address_in_hl)
-    }
-
-    /// Whether HL is known to hold the value of an expression that is an ADDRESS in memory.
-    pub fn is_in_hl(&self, number: ExpressionNumber) -> bool {
-        match self.word_in_memory(number) {
-            Some(reference) => {
-                same_location(self.location_of(&reference), self.facts.word_in_hl)
-            }
-            None => false,
-        }
     }
 }

@@ -1,11 +1,12 @@
 //! Relations, as flags and as values.
 
 use crate::byte_relations::{plan_byte_number, plan_byte_relation};
+use crate::instructions::{clear_a, set, with_register};
 use crate::questions::{Comparison, Inquiry, NumberQuestion, Relation, relation_of};
 use crate::site::Site;
 use crate::step::{Steps, Task};
 use crate::word_relations::{plan_word_number, plan_word_relation};
-use isa8080::{Condition, Instr, Operand, Operation, Register};
+use isa8080::{Condition, Instr, Operation, Register};
 use std::alloc::AllocError;
 use treecode::ExpressionNumber;
 use trees::ScalarType;
@@ -126,14 +127,11 @@ fn plan_carry(condition: Condition, steps: &mut Steps) -> Result<(), AllocError>
 // The steps that put 0FFH into A where an outcome is true, else 0.
 fn plan_outcome_value(outcome: Outcome, steps: &mut Steps) -> Result<(), AllocError> {
     match outcome {
-        Outcome::Known(true) => steps.plain(Instr::Mvi(Operand::Of(Register::A), 255)),
-        Outcome::Known(false) => steps.plain(Instr::Accumulate(
-            Operation::ExclusiveOr,
-            Operand::Of(Register::A),
-        )),
+        Outcome::Known(true) => steps.plain(set(Register::A, 255)),
+        Outcome::Known(false) => steps.plain(clear_a()),
         Outcome::Where(condition) => {
             plan_carry(condition, steps)?;
-            steps.plain(Instr::Accumulate(Operation::SubtractWithBorrow, Operand::Of(Register::A)))
+            steps.plain(with_register(Operation::SubtractWithBorrow, Register::A))
         }
     }
 }

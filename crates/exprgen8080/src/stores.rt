@@ -1,13 +1,13 @@
 //! Stores of a value that is in A or HL.
 
 use crate::facts::Facts;
-use crate::queries::Base;
+use crate::instructions::{copy, plan_extension};
 use crate::site::Site;
 use crate::step::{Step, Steps, Task};
 use asm8080::WordForm;
 use isa8080::{Instr, Operand, Pair, Register, StackPair};
 use std::alloc::AllocError;
-use treecode::{Keeps, Location, Place, Reference, Target};
+use treecode::{Keeps, Location, Reference, Target};
 use trees::ScalarType;
 
 // A scalar that is stored in: its type, its place, and where it lies if no computed part has a part in that.
@@ -65,14 +65,6 @@ fn byte_is_here(location: Option<Location>, steps: &mut Steps) -> Result<(), All
         byte_in_a: location,
         ..Facts::none()
     }))
-}
-
-// The steps that put the BYTE in A into HL, with zeros added.
-fn extend(steps: &mut Steps) -> Result<(), AllocError> {
-    steps.all(&[
-        Instr::Mov(Register::L, Operand::Of(Register::A)),
-        Instr::Mvi(Operand::Of(Register::H), 0),
-    ])
 }
 
 // The steps that store HL in a word next to the stack pointer.
@@ -150,12 +142,12 @@ fn store_extended(
 ) -> Result<(), AllocError> {
     match (location, word_near(site, location, pushed)) {
         (Location::Static(place), _) => {
-            extend(steps)?;
+            plan_extension(steps)?;
             steps.word(WordForm::StoreHl, place)?;
             byte_is_here(Some(location), steps)
         }
         (Location::Frame { .. }, Some(near)) => {
-            extend(steps)?;
+            plan_extension(steps)?;
             store_near(near, location, steps)?;
             byte_is_here(Some(location), steps)
         }
@@ -193,7 +185,7 @@ fn store_low_byte(
     pushed: u16,
     steps: &mut Steps,
 ) -> Result<(), AllocError> {
-    let to_a = Instr::Mov(Register::A, Operand::Of(Register::L));
+    let to_a = copy(Register::A, Register::L);
     match goal.location {
         Some(Location::Static(place)) => {
             steps.plain(to_a)?;
@@ -229,7 +221,7 @@ fn store_word(
 fn send(from: ScalarType, port: u8, steps: &mut Steps) -> Result<(), AllocError> {
     match from {
         ScalarType::Byte => {}
-        ScalarType::Address => { steps.plain(Instr::Mov(Register::A, Operand::Of(Register::L)))? }
+        ScalarType::Address => { steps.plain(copy(Register::A, Register::L))? }
     }
     steps.plain(Instr::Out(port))
 }

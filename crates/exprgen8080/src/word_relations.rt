@@ -1,18 +1,17 @@
 //! Relations of ADDRESSes.
 
 use crate::byte_relations::{plan_byte_number, plan_byte_relation, plan_number_in_a};
+use crate::instructions::{copy, high, load, low, repeat, with_register};
 use crate::pairs::{PairOrder, plan_pair};
-use crate::queries::reference_after;
 use crate::questions::{Comparison, NumberQuestion, Question};
 use crate::relations::{Answer, Setting, plan_known};
 use crate::site::Site;
 use crate::step::{Steps, Task};
 use asm8080::WordForm;
-use isa8080::{Instr, Operand, Operation, Pair, Register};
+use isa8080::{Instr, Operation, Pair, Register};
 use std::alloc::AllocError;
 use treecode::{ExpressionForm, ExpressionNumber, Place};
 use trees::{BinaryOperator, ScalarType};
-use typed_trees::UnaryFunction;
 
 // Two registers of a word.
 #[derive(Clone, Copy)]
@@ -36,25 +35,6 @@ const IN_DE: Word = Word {
 struct Apart {
     place: Place,
     other: ExpressionNumber,
-}
-
-// The BYTE that an ADDRESS is with zeros added, if it is one.
-fn extended_byte(site: &Site<'_>, number: ExpressionNumber) -> Option<ExpressionNumber> {
-    let Some(expression) = site.expression(number) else {
-        return None;
-    };
-    let inner = match expression.form {
-        ExpressionForm::Conversion(inner) => inner,
-        ExpressionForm::Function {
-            function: UnaryFunction::Double,
-            operand,
-        } => operand,
-        _ => return None,
-    };
-    match site.scalar(inner) {
-        ScalarType::Byte => Some(inner),
-        ScalarType::Address => None,
-    }
 }
 
 // The ADDRESS and the number of which an expression is the AND, if it is one.
@@ -90,40 +70,27 @@ fn plan_high_byte(
     pushed: u16,
     steps: &mut Steps,
 ) -> Result<(), AllocError> {
-    match site.word_in_memory(number) {
-        Some(reference) if !site.is_in_hl(number) => {
-            let high = reference_after(reference, 1);
-            match site.direct(&high) {
-                Some(place) => load_a(place, steps),
-                None => {
-                    steps.part(Task::Address(high), pushed)?;
-                    steps.plain(Instr::Mov(Register::A, Operand::M))
-                }
+    match site.high_byte_in_memory(number) {
+        Some(reference) if !site.is_word_at_hand(number) => match site.direct(&reference) {
+            Some(place) => load_a(place, steps),
+            None => {
+                steps.part(Task::Address(reference), pushed)?;
+                steps.plain(load(Register::A))
             }
-        }
+        },
         _ => {
             steps.part(Task::Word(number), pushed)?;
-            steps.plain(Instr::Mov(Register::A, Operand::Of(Register::H)))
+            steps.plain(copy(Register::A, Register::H))
         }
     }
-}
-
-// The high byte of a word.
-fn high(word: u16) -> u8 {
-    (word / 256) as u8
-}
-
-// The low byte of a word.
-fn low(word: u16) -> u8 {
-    (word % 256) as u8
 }
 
 // The steps that tell whether HL is below a number.
 fn plan_below(number: u16, steps: &mut Steps) -> Result<Answer, AllocError> {
     steps.all(&[
-        Instr::Mov(Register::A, Operand::Of(Register::L)),
+        copy(Register::A, Register::L),
         Instr::AccumulateImmediate(Operation::Subtract, low(number)),
-        Instr::Mov(Register::A, Operand::Of(Register::H)),
+        copy(Register::A, Register::H),
         Instr::AccumulateImmediate(Operation::SubtractWithBorrow, high(number)),
     ])?;
     Ok(Answer::Carry)
@@ -131,16 +98,9 @@ fn plan_below(number: u16, steps: &mut Steps) -> Result<Answer, AllocError> {
 
 // The steps that take a number from HL.
 fn plan_difference(number: u16, steps: &mut Steps) -> Result<(), AllocError> {
-    let sum = 0_u16.wrapping_sub(number);
-    match sum {
-        1 => steps.plain(Instr::Inx(Pair::Hl)),
-        2 => steps.all(&[Instr::Inx(Pair::Hl), Instr::Inx(Pair::Hl)]),
-        3 => steps.all(&[
-            Instr::Inx(Pair::Hl),
-            Instr::Inx(Pair::Hl),
-            Instr::Inx(Pair::Hl),
-        ]),
-        _ => steps.all(&[Instr::Lxi(Pair::De, sum), Instr::Dad(Pair::De)]),
+    match 0_u16.wrapping_sub(number) {
+        sum if sum < 4 => repeat(Instr::Inx(Pair::Hl), sum, steps),
+        sum => steps.all(&[Instr::Lxi(Pair::De, sum), Instr::Dad(Pair::De)]),
     }
 }
 
@@ -149,11 +109,11 @@ fn plan_is(number: u16, steps: &mut Steps) -> Result<Answer, AllocError> {
     if number > 255 {
         plan_difference(number, steps)?;
     }
-    steps.plain(Instr::Mov(Register::A, Operand::Of(Register::L)))?;
+    steps.plain(copy(Register::A, Register::L))?;
     if number > 0 && number < 256 {
         steps.plain(Instr::AccumulateImmediate(Operation::ExclusiveOr, low(number)))?;
     }
-    steps.plain(Instr::Accumulate(Operation::Or, Operand::Of(Register::H)))?;
+    steps.plain(with_register(Operation::Or, Register::H))?;
     Ok(Answer::Zero)
 }
 
@@ -216,8 +176,8 @@ pub(crate) fn plan_word_number(
     setting: Setting,
     steps: &mut Steps,
 ) -> Result<Answer, AllocError> {
-    if let Some(inner) = extended_byte(site, operand) {
-        return plan_byte_number(inner, question, setting, steps);
+    if site.fits_byte(operand) {
+        return plan_byte_number(operand, question, setting, steps);
     }
     match question {
         NumberQuestion::Never => plan_known(operand, false, setting, steps),
@@ -234,13 +194,10 @@ pub(crate) fn plan_word_number(
 
 // The place of an ADDRESS that lies in memory at a place without a computed part, if it is one that is not in HL already.
 fn place_apart(site: &Site<'_>, number: ExpressionNumber) -> Option<Place> {
-    if site.is_in_hl(number) {
+    if site.is_word_at_hand(number) {
         return None;
     }
-    match site.word_in_memory(number) {
-        Some(reference) => site.direct(&reference),
-        None => None,
-    }
+    site.direct_word(number)
 }
 
 // The left operand as one that stays in memory, where that can be.
@@ -296,19 +253,19 @@ fn plan_with_place(
 
 // The steps that take the low byte of a word from A.
 fn plan_low(word: Word, question: Question, steps: &mut Steps) -> Result<(), AllocError> {
-    steps.plain(Instr::Accumulate(Operation::Subtract, Operand::Of(word.low)))?;
+    steps.plain(with_register(Operation::Subtract, word.low))?;
     match question {
-        Question::Equal => steps.plain(Instr::Mov(Register::B, Operand::Of(Register::A))),
+        Question::Equal => steps.plain(copy(Register::B, Register::A)),
         Question::LeftBelow | Question::RightBelow => Ok(()),
     }
 }
 
 // The steps that take the high byte of a word from A, after those for the low one.
 fn plan_high(word: Word, question: Question, steps: &mut Steps) -> Result<Answer, AllocError> {
-    steps.plain(Instr::Accumulate(Operation::SubtractWithBorrow, Operand::Of(word.high)))?;
+    steps.plain(with_register(Operation::SubtractWithBorrow, word.high))?;
     match question {
         Question::Equal => {
-            steps.plain(Instr::Accumulate(Operation::Or, Operand::Of(Register::B)))?;
+            steps.plain(with_register(Operation::Or, Register::B))?;
             Ok(Answer::Zero)
         }
         Question::LeftBelow | Question::RightBelow => Ok(Answer::Carry),
@@ -352,9 +309,9 @@ fn plan_with_pair(
     )?;
     let from = word_taken_from(question, order);
     let taken = other_word(from);
-    steps.plain(Instr::Mov(Register::A, Operand::Of(from.low)))?;
+    steps.plain(copy(Register::A, from.low))?;
     plan_low(taken, question, steps)?;
-    steps.plain(Instr::Mov(Register::A, Operand::Of(from.high)))?;
+    steps.plain(copy(Register::A, from.high))?;
     plan_high(taken, question, steps)
 }
 
@@ -365,18 +322,8 @@ pub(crate) fn plan_word_relation(
     setting: Setting,
     steps: &mut Steps,
 ) -> Result<Answer, AllocError> {
-    let bytes = (
-        extended_byte(site, comparison.left),
-        extended_byte(site, comparison.right),
-    );
-    if let (Some(left), Some(right)) = bytes {
-        let comparison = Comparison {
-            operands: ScalarType::Byte,
-            left,
-            right,
-            question: comparison.question,
-        };
-        return plan_byte_relation(site, &comparison, setting, steps);
+    if site.fits_byte(comparison.left) && site.fits_byte(comparison.right) {
+        return plan_byte_relation(site, comparison, setting, steps);
     }
     match operand_apart(site, comparison) {
         Some(apart) => plan_with_place(apart, comparison.question, setting.pushed, steps),
