@@ -1,13 +1,22 @@
 //! The code of expressions.
 #![tactic(auto)]
 
+mod branches;
+mod byte_relations;
 mod emission;
 mod externals;
 mod facts;
 mod forms;
+mod instructions;
+mod pairs;
 mod queries;
+mod questions;
+mod relations;
 mod site;
 mod step;
+mod stores;
+mod widths;
+mod word_relations;
 mod writer;
 
 pub use emission::{Emission, ROUTINES, routine_label};
