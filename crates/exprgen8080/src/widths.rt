@@ -181,4 +181,21 @@ impl<'a> Site<'a> {
             None => None,
         }
     }
+
+    /// How often 2 is to be multiplied with itself to give the number that an expression is, if that gives it.
+    pub(crate) fn power(&self, number: ExpressionNumber) -> Option<u16> {
+        match self.number(number) {
+            Some(number) => power_of_two(number),
+            None => None,
+        }
+    }
+
+    /// The same place, of whose registers nothing is known.
+    pub(crate) fn unknown(&self) -> Site<'a> {
+        Site {
+            tree: self.tree,
+            frame: self.frame,
+            facts: Facts::none(),
+        }
+    }
 }
