@@ -109,13 +109,11 @@ fn plan_byte(
 ) -> Result<(), AllocError> {
     if let Some(number) = site.number(value) {
         plan.part(Task::Address(reference), 0)?;
-        plan.plain(Instr::Mvi(Operand::M, (number % 256) as u8))?;
-        return plan.holds_address(site.location_of(&reference));
+        return plan.plain(Instr::Mvi(Operand::M, (number % 256) as u8));
     }
     if let Some(instruction) = count_of(site, &reference, value) {
         plan.part(Task::Address(reference), 0)?;
-        plan.plain(instruction)?;
-        return plan.holds_address(site.location_of(&reference));
+        return plan.plain(instruction);
     }
     if is_address_first(site, &reference, value) {
         plan.part(Task::Address(reference), 0)?;

@@ -124,19 +124,9 @@ impl Generator {
         Ok(here)
     }
 
-    // The code of a part. Where it uses A alone, what is known of HL stays.
+    // The code of a part.
     fn part(&mut self, body: &Body<'_>, part: Part) -> Result<(), AllocError> {
-        let before = self.emission.facts;
-        let is_free = match part.task {
-            Task::Byte(number) => self.emission.site(body.tree, body.frame).is_free(number),
-            _ => false,
-        };
-        self.emission.emit(body.tree, body.frame, part)?;
-        if is_free {
-            self.emission.facts.word_in_hl = before.word_in_hl;
-            self.emission.facts.address_in_hl = before.address_in_hl;
-        }
-        Ok(())
+        self.emission.emit(body.tree, body.frame, part)
     }
 
     // The address of a reference comes into HL.
@@ -148,6 +138,11 @@ impl Generator {
                 pushed: 0,
             },
         )
+    }
+
+    // What holds here beside what is known already.
+    fn holds(&mut self, body: &Body<'_>, facts: Facts) -> Result<(), AllocError> {
+        self.emission.step(body.tree, Step::Holds(facts))
     }
 
     // An instruction.
@@ -179,18 +174,17 @@ impl Generator {
         let Some(location) = site.location_of(&reference) else {
             return Ok(());
         };
-        let facts = self.emission.facts;
-        if is_of(facts.byte_in_a, location) {
+        if is_of(self.emission.facts.byte_in_a, location) {
             return Ok(());
         }
         self.byte_at(body, reference, location)?;
-        let points = is_of(facts.address_in_hl, location);
-        self.emission.facts = Facts {
-            byte_in_a: Some(location),
-            address_in_hl: if points { Some(location) } else { None },
-            ..Facts::none()
-        };
-        Ok(())
+        self.holds(
+            body,
+            Facts {
+                byte_in_a: Some(location),
+                ..Facts::none()
+            },
+        )
     }
 
     // An ADDRESS in memory comes into HL.
@@ -208,11 +202,13 @@ impl Generator {
                 .step(body.tree, Step::Word(WordForm::LoadHl, place))?,
             Location::Frame { .. } => self.frame_word(body, reference)?,
         }
-        self.emission.facts = Facts {
-            word_in_hl: Some(location),
-            ..Facts::none()
-        };
-        Ok(())
+        self.holds(
+            body,
+            Facts {
+                word_in_hl: Some(location),
+                ..Facts::none()
+            },
+        )
     }
 
     // An ADDRESS in the frame comes into HL.
@@ -294,6 +290,7 @@ impl Generator {
 
     // Adds the code of a statement. A part of it whose number is not below its own is left out: there is none in what
     // `lower` gives.
+    #[cycle(statement)]
     fn statement(&mut self, body: &Body<'_>, number: StatementNumber) -> Result<(), AllocError> {
         let start = self.plan.count();
         self.plan_next(body, number)?;
@@ -317,6 +314,7 @@ impl Generator {
     }
 
     /// Adds the code of the statements of a list, one after another. Those whose number is not below a bound are left out.
+    #[cycle(statement)]
     pub(crate) fn list(
         &mut self,
         body: &Body<'_>,

@@ -162,16 +162,15 @@ fn plan_next_byte(
     plan.part(Task::Address(counter.reference), 0)?;
     if last >= 255 {
         plan.plain(Instr::Inr(Operand::M))?;
-        plan.jump(WordForm::JumpWhere(Condition::NotZero), turn)?;
+        plan.jump(WordForm::JumpWhere(Condition::NotZero), turn)
     } else {
         plan.all(&[
             Instr::Mov(Register::A, Operand::M),
             Instr::AccumulateImmediate(Operation::Compare, (last % 256) as u8),
             Instr::Inr(Operand::M),
         ])?;
-        plan.jump(WordForm::JumpWhere(Condition::Carry), turn)?;
+        plan.jump(WordForm::JumpWhere(Condition::Carry), turn)
     }
-    plan.holds(counter.address_fact())
 }
 
 // The ADDRESS at a place is counted, and there is another turn if it was less than the bound.
@@ -191,8 +190,7 @@ fn plan_next_word(
         Instr::Inx(Pair::Hl),
     ])?;
     plan.word(WordForm::StoreHl, place)?;
-    plan.jump(WordForm::JumpWhere(Condition::Carry), turn)?;
-    plan.holds(counter.word_fact())
+    plan.jump(WordForm::JumpWhere(Condition::Carry), turn)
 }
 
 // Counting by 1 to a known bound: the test stands at the end, together with the counting.
@@ -234,10 +232,7 @@ fn plan_count(plan: &mut Plan, counter: &Counter, labels: &LoopLabels) -> Result
     plan.part(Task::Address(counter.reference), 0)?;
     plan.plain(Instr::Inr(Operand::M))?;
     match counter.scalar {
-        ScalarType::Byte => {
-            plan.jump(WordForm::JumpWhere(Condition::Zero), labels.end)?;
-            plan.holds(counter.address_fact())
-        }
+        ScalarType::Byte => { plan.jump(WordForm::JumpWhere(Condition::Zero), labels.end) }
         ScalarType::Address => {
             plan.jump(WordForm::JumpWhere(Condition::NotZero), labels.test)?;
             plan.plain(Instr::Inx(Pair::Hl))?;
@@ -258,11 +253,7 @@ fn plan_add_byte(
     plan.part(Task::Address(counter.reference), 0)?;
     plan.plain(Instr::Accumulate(Operation::Add, Operand::M))?;
     plan.plain(Instr::MovToMemory(Register::A))?;
-    plan.jump(WordForm::JumpWhere(Condition::Carry), end)?;
-    plan.holds(Facts {
-        byte_in_a: counter.location,
-        ..counter.address_fact()
-    })
+    plan.jump(WordForm::JumpWhere(Condition::Carry), end)
 }
 
 // An ADDRESS is added to the BYTE. Where the whole sum is no BYTE the loop ends.
@@ -284,8 +275,7 @@ fn plan_add_word_to_byte(
     ])?;
     plan.jump(WordForm::JumpWhere(Condition::Carry), end)?;
     plan.plain(Instr::Accumulate(Operation::Or, Operand::Of(Register::A)))?;
-    plan.jump(WordForm::JumpWhere(Condition::NotZero), end)?;
-    plan.holds(counter.address_fact())
+    plan.jump(WordForm::JumpWhere(Condition::NotZero), end)
 }
 
 // The value of the step comes into DE.
@@ -316,8 +306,7 @@ fn plan_add_word(
         plan.push(Planned::LoadWord(counter.reference))?;
         plan.plain(Instr::Dad(Pair::De))?;
         plan.word(WordForm::StoreHl, place)?;
-        plan.jump(WordForm::JumpWhere(Condition::Carry), end)?;
-        return plan.holds(counter.word_fact());
+        return plan.jump(WordForm::JumpWhere(Condition::Carry), end);
     }
     plan.part(Task::Address(counter.reference), 0)?;
     plan.all(&[
@@ -392,10 +381,10 @@ fn plan_general(
     let labels = LoopLabels::new(plan);
     let test: Test = test_of(site, counter, head.last);
     if is_tested {
-        plan.jump(WordForm::Jump, labels.test)?;
         plan.push(Planned::Jumped {
             is_the_only_one: true,
         })?;
+        plan.jump(WordForm::Jump, labels.test)?;
     }
     plan.push(Planned::Again {
         label: labels.turn,

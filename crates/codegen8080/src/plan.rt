@@ -19,8 +19,8 @@ pub(crate) enum Planned {
     LoadByte(Reference),
     /// An ADDRESS without a base and subscripts comes into HL.
     LoadWord(Reference),
-    /// The code before this jumps to the next label of `Turn` or `Meet`. What is known here holds there too if that jump
-    /// `is_the_only_one`.
+    /// The code before this, or a jump just after it, goes to the next label of `Turn` or `Meet`. What is known here holds
+    /// there too if that jump `is_the_only_one`.
     Jumped {
         is_the_only_one: bool,
     },
@@ -134,17 +134,9 @@ impl Plan {
         self.push(Planned::Code(Step::Part(Part { task, pushed })))
     }
 
-    /// What holds from here on.
+    /// What holds here, beside what is known by the instructions alone.
     pub(crate) fn holds(&mut self, facts: Facts) -> Result<(), AllocError> {
         self.push(Planned::Code(Step::Holds(facts)))
-    }
-
-    /// From here on HL holds the address of this, where it lies at a place that is known.
-    pub(crate) fn holds_address(&mut self, location: Option<Location>) -> Result<(), AllocError> {
-        self.holds(Facts {
-            address_in_hl: location,
-            ..Facts::none()
-        })
     }
 
     /// How many steps there are.
