@@ -6,13 +6,12 @@ use Rattle.words.specs.declared.vocabulary.Mark.{Mark}
 use Rattle.words.specs.declared.vocabulary.Mark.TheVariants.{Semicolon}
 use Rattle.words.specs.declared.vocabulary.ReservedWord.{ReservedWord}
 use Rattle.words.specs.declared.vocabulary.ReservedWord.TheVariants.{At, Call, Data, Do, External, Goto, Halt, If, Initial, Public, Reentrant, Return}
-use Rattle.words.specs.Names.{name_of}
 use Rattle.words.specs.Spelling.{Lexeme}
 use Rattle.words.specs.Strings.{characters_of}
 use Rattle.trees.specs.declared.identifier.Identifier.{Identifier}
 use Rattle.trees.specs.declared.identifier.Number.{Number}
 use Rattle.trees.specs.declared.identifier.Place.{Place}
-use Rattle.symbols.specs.Names.{is_name}
+use Rattle.symbols.specs.Names.{is_name, name_of}
 use Rattle.trees.specs.Trees.{StringTree}
 
 -- A name, a number and a string by what they stand for and where, a reserved word, for some with where it stands,

@@ -1,3 +1,1 @@
-pub mod Examples
-pub mod Placings
 pub mod Offsets

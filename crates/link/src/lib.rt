@@ -1,7 +1,6 @@
 //! Object modules merged into one.
 #![tactic(auto)]
 
-mod fault;
 mod highs;
 mod mains;
 mod merged;
@@ -14,6 +13,6 @@ mod runs;
 mod segments;
 mod targets;
 
-pub use fault::LinkFault;
+pub use link_laws::LinkFault;
 pub use merged::Merged;
 pub use merging::link;

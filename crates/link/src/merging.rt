@@ -6,12 +6,11 @@ ghost use Rattle.failure.specs.Failure.{IfFault};
 ghost use Rattle.object_modules.specs.Displacements.{all_publics, linked_modules, starts_of as start_list};
 ghost use Rattle.object_modules.specs.Merge.{HighByteMoves, main_modules, merge_of, public_names, some_high_byte_moves, some_segment_is_too_long};
 ghost use Rattle.object_modules.specs.Module.{IsObjectModule};
-ghost use Rattle.link.specs.Merging.{refusal_of};
+ghost use Rattle.link_laws.specs.Faults.{refusal_of};
 ghost use Rattle.link.specs.Views.{main_view};
 ghost use Rattle.link_laws.specs.internal.Building.{AreJoined};
 ghost use Rattle.link_laws.specs.internal.Passes.{externals_of, gathered, missing_in};
 
-use crate::fault::LinkFault;
 use crate::highs::high_byte_moves;
 use crate::mains::{MainModule, first_main, has_one_main};
 use crate::merged::Merged;
@@ -21,6 +20,7 @@ use crate::placed::Placed;
 use crate::publics::{Publics, publics_of};
 use crate::segments::merged_segment;
 use failure::Failure;
+use link_laws::LinkFault;
 use object_modules::{ModuleParts, ObjectModule, Segment};
 use std::alloc::{AllocError, Global};
 

@@ -6,12 +6,12 @@ ghost use Rattle.indexmap.specs.IndexSet.{insert_key};
 ghost use Rattle.failure.specs.Failure.{IfFault};
 ghost use Rattle.object_modules.specs.Merge.{public_names};
 ghost use Rattle.object_modules.specs.Module.{is_among};
-ghost use Rattle.link.specs.Merging.{refusal_of};
+ghost use Rattle.link_laws.specs.Faults.{refusal_of};
 ghost use Rattle.link_laws.specs.internal.Passes.{externals_of, gathered, missing_in, name_of};
 
-use crate::fault::LinkFault;
 use failure::Failure;
 use indexmap::IndexSet;
+use link_laws::LinkFault;
 use object_modules::{Name, ObjectModule, OwnedPublic};
 use std::alloc::Global;
 use std::marker::Model;

@@ -5,13 +5,13 @@ ghost use Rattle.failure.specs.Failure.{IfFault};
 ghost use Rattle.object_modules.specs.Displacements.{linked_modules, start_after};
 ghost use Rattle.object_modules.specs.Merge.{SegmentTooLong, some_segment_is_too_long};
 ghost use Rattle.object_modules.specs.Module.{IsObjectModule};
-ghost use Rattle.link.specs.Merging.{refusal_of};
+ghost use Rattle.link_laws.specs.Faults.{refusal_of};
 ghost use Rattle.link.specs.Views.{start_view};
 ghost use Rattle.link_laws.specs.internal.Building.{starts_in};
 
-use crate::fault::LinkFault;
 use crate::placed::{ModuleStart, Placed};
 use failure::Failure;
+use link_laws::LinkFault;
 use object_modules::{Alignment, ObjectModule, SEGMENT_LIMIT, Segment};
 use std::alloc::{AllocError, Global};
 

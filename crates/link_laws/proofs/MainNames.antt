@@ -3,8 +3,7 @@ use Rattle.std.proofs.Common.{◌≡◌, ◌↔◌, ℕ, ◌+◌, ◌%◌, ◌�
 use Rattle.std.specs.Char.{is_ascii_uppercase, is_ascii_digit, to_ascii_uppercase}
 use Rattle.std.specs.List.{filter, list_all}
 use Rattle.std.proofs.lemmas.Bool.{and_parts, or_left, and_from, ne_eqb, leb-true, lt-ltb}
-use Rattle.words.specs.Names.{name_of}
-use Rattle.symbols.specs.Names.{is_name, is_name_character}
+use Rattle.symbols.specs.Names.{is_name, is_name_character, name_of}
 use Rattle.object_modules.specs.declared.segment.Segment.TheVariants.{Code}
 use Rattle.object_modules.specs.Displacements.{Linked, displacement_in}
 use Rattle.object_merges.proofs.MergeValid.{main_of}

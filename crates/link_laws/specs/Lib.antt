@@ -1,1 +1,3 @@
+pub use Rattle.object_modules.specs.Merge
+pub mod Faults
 pub mod internal

@@ -1,4 +1,4 @@
-pub use Rattle.link.specs.Merging
+pub use Rattle.link_laws.specs.Faults
 pub use Rattle.writing.specs.Writing
 pub mod Streams
 pub mod internal

@@ -8,7 +8,7 @@ use Rattle.object_modules.specs.Module.{ObjectModule}
 use Rattle.object_modules.specs.Spelling.{Spells, HasFirstFault}
 use Rattle.object_modules.specs.Merge.{LinkRefusal, merge_of}
 use Rattle.object_modules.specs.Text.{text_of}
-use Rattle.link.specs.Merging.{refusal_of}
+use Rattle.link_laws.specs.Faults.{refusal_of}
 use Rattle.link_records.specs.declared.StreamFault.{StreamFault}
 use Rattle.link_records.specs.declared.StreamFault.TheVariants as stream
 

@@ -24,7 +24,7 @@ ghost use Rattle.link_records.specs.internal.Causes.{HasNoMerge, IsFaultyAt};
 use crate::files::ObjectFile;
 use crate::merging::merge_files;
 use failure::Failure;
-use link::LinkFault;
+pub use link_laws::LinkFault;
 use object_modules::{Fault, ObjectModule};
 use object_writer::write;
 use objmod::walk;

@@ -7,7 +7,7 @@ ghost use Rattle.object_modules.specs.declared.segment.Segment.TheVariants.{Code
 ghost use Rattle.object_modules.specs.Displacements.{linked_modules};
 ghost use Rattle.object_modules.specs.Merge.{HighByteMoves, main_modules, merge_of, public_names, some_high_byte_moves, some_segment_is_too_long};
 ghost use Rattle.object_modules.specs.Module.{IsObjectModule};
-ghost use Rattle.link.specs.Merging.{refusal_of};
+ghost use Rattle.link_laws.specs.Faults.{refusal_of};
 ghost use Rattle.link_laws.specs.internal.Building.{AreJoined, alignment_joined, end_in, end_joined};
 ghost use Rattle.link_laws.specs.internal.Passes.{externals_of, gathered, missing_in};
 ghost use Rattle.file_merges.specs.internal.Growing.{all_grown, nothing_grown};
@@ -22,7 +22,7 @@ use crate::pieces::{Pieces, pieces_of};
 use crate::placed::PlacedFile;
 use crate::publics::{Publics, publics_of};
 use failure::Failure;
-use link::LinkFault;
+use link_laws::LinkFault;
 use object_modules::{Alignment, ModuleParts, ObjectModule, Segment};
 use std::alloc::Global;
 

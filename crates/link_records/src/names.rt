@@ -8,14 +8,14 @@ ghost use Rattle.failure.specs.Failure.{IfFault};
 ghost use Rattle.symbols.specs.Names.{is_name};
 ghost use Rattle.object_modules.specs.Merge.{public_names};
 ghost use Rattle.object_modules.specs.Module.{Public, is_among};
-ghost use Rattle.link.specs.Merging.{refusal_of};
+ghost use Rattle.link_laws.specs.Faults.{refusal_of};
 ghost use Rattle.link_laws.specs.internal.Passes.{externals_of, gathered, missing_in};
 ghost use Rattle.file_merges.specs.internal.Growing.{public_name};
 
 use crate::files::{ObjectFile, name_of};
 use failure::Failure;
 use indexmap::IndexSet;
-use link::LinkFault;
+use link_laws::LinkFault;
 use object_modules::Name;
 use objmod::Walk;
 use std::alloc::Global;

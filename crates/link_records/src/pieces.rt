@@ -5,12 +5,12 @@ ghost use Rattle.failure.specs.Failure.{IfFault};
 ghost use Rattle.object_modules.specs.Displacements.{linked_modules, start_after};
 ghost use Rattle.object_modules.specs.Merge.{SegmentTooLong, some_segment_is_too_long};
 ghost use Rattle.object_modules.specs.Module.{IsObjectModule};
-ghost use Rattle.link.specs.Merging.{refusal_of};
+ghost use Rattle.link_laws.specs.Faults.{refusal_of};
 
 use crate::files::ObjectFile;
 use crate::placed::{ModuleStart, PlacedFile};
 use failure::Failure;
-use link::LinkFault;
+use link_laws::LinkFault;
 use object_modules::{Alignment, SEGMENT_LIMIT, Segment};
 use std::alloc::Global;
 

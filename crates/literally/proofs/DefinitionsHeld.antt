@@ -9,7 +9,7 @@ use Rattle.std.specs.declared.alloc.Global.{Global}
 use Rattle.indexmap.specs.IndexMap.{IndexMap, insert_entry}
 use Rattle.words.specs.declared.word.Word.{Word}
 use Rattle.words.specs.declared.vocabulary.Kind.TheVariants.{Name}
-use Rattle.words.specs.Names.{name_of}
+use Rattle.symbols.specs.Names.{name_of}
 use Rattle.words.specs.Spelling.{Lexeme, lexemes_of}
 use Rattle.literally.specs.Expansion.{IsSound, IsSoundText, is_defined_again, begins_with_literally}
 use Rattle.literally.specs.internal.Steps.{Adds}

@@ -4,7 +4,7 @@ use Rattle.std.proofs.lemmas.List.{append-nil, append_assoc, reverse-append}
 use Rattle.std.specs.Option.{option_map}
 use Rattle.words.specs.declared.vocabulary.Kind.{Kind}
 use Rattle.words.specs.declared.vocabulary.Kind.TheVariants.{Name, Reserved, Number, String, Mark}
-use Rattle.words.specs.Names.{name_of}
+use Rattle.symbols.specs.Names.{name_of}
 use Rattle.words.specs.Spelling.{Lexeme}
 use Rattle.literally.specs.Definitions.{is_name, is_string, text_of, name_before, definition_by, text_if, text_in, in_force}
 use Rattle.literally.proofs.DefinitionsNoStrings.{HasNoString}

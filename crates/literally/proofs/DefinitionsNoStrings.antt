@@ -10,11 +10,12 @@ use Rattle.words.specs.declared.items.Item.TheVariants.{Spelled, Wrong}
 use Rattle.words.specs.declared.vocabulary.Kind.TheVariants.{Name, Reserved, Number, Mark}
 use Rattle.words.specs.declared.vocabulary.Mark.{Mark as AMark}
 use Rattle.words.specs.declared.vocabulary.ReservedWord.{ReservedWord}
-use Rattle.words.specs.declared.limits.TheConstants.{LONGEST_NAME}
+use Rattle.symbols.specs.declared.name.TheConstants.{LONGEST_NAME}
 use Rattle.words.specs.Characters.{is_blank, is_word_byte}
 use Rattle.words.specs.Items.{item_at}
 use Rattle.words.specs.Marks.{mark_at, mark_item}
-use Rattle.words.specs.Names.{kind_of_name, name_item, name_of, reserved_of}
+use Rattle.symbols.specs.Names.{name_of}
+use Rattle.words.specs.Names.{kind_of_name, name_item, reserved_of}
 use Rattle.words.specs.Strings.{comment_end, comment_item}
 use Rattle.words.specs.Spelling.{Lexeme, SpellsFrom, at_end, after_blank, word_then}
 use Rattle.literally.specs.Definitions.{is_string, has_quote, in_force}

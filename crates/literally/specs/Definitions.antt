@@ -7,7 +7,7 @@ use Rattle.std.specs.Str.{bytes_eq}
 use Rattle.words.specs.declared.vocabulary.Kind.{Kind}
 use Rattle.words.specs.declared.vocabulary.Kind.TheVariants.{Name, Reserved, String}
 use Rattle.words.specs.declared.vocabulary.ReservedWord.TheVariants.{Literally}
-use Rattle.words.specs.Names.{name_of}
+use Rattle.symbols.specs.Names.{name_of}
 use Rattle.words.specs.Spelling.{Lexeme}
 
 -- tests of a word's kind

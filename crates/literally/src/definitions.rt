@@ -5,7 +5,7 @@ ghost use Rattle.std.specs.Prelude.{OnOk, MatchOption, Some, if◌then◌else◌
 ghost use Rattle.std.specs.Option.{option_map};
 ghost use Rattle.std.specs.Str.{bytes_eq};
 ghost use Rattle.failure.specs.Failure.{IfFault};
-ghost use Rattle.words.specs.Names.{name_of};
+ghost use Rattle.symbols.specs.Names.{name_of};
 ghost use Rattle.words.specs.Spelling.{Lexeme, lexeme_of, lexemes_of};
 ghost use Rattle.literally.specs.Definitions.{name_defined, has_quote, in_force};
 ghost use Rattle.literally.specs.Expansion.{IsSound, on_line};

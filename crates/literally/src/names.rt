@@ -6,7 +6,7 @@ ghost use Rattle.std.specs.Str.{bytes_eq};
 ghost use Rattle.std.specs.Cmp.{partial_equiv_from_equiv};
 ghost use Rattle.std.specs.Cmp.Lexicographic.{on_texts_equal};
 ghost use Rattle.std.specs.Hash as fed;
-ghost use Rattle.words.specs.Names.{name_of};
+ghost use Rattle.symbols.specs.Names.{name_of};
 ghost use Rattle.literally.specs.internal.Keys.{name_respects};
 
 use std::hash::{Hash, Hasher};

@@ -9,8 +9,7 @@ use crate::writing_files::write_file;
 use answers::{Ending, read_files, refuse_file, refuse_memory, refuse_output};
 use failure::Failure;
 use files::Files;
-use link::LinkFault;
-use link_records::{StreamFault, link_records};
+use link_records::{LinkFault, StreamFault, link_records};
 use std::alloc::{AllocError, Global};
 use std::io::Write;
 

@@ -4,8 +4,7 @@ use Rattle.std.specs.Char.{is_ascii_uppercase, to_ascii_uppercase}
 use Rattle.std.specs.List.{list_all}
 use Rattle.std.proofs.lemmas.Bool.{and_parts}
 use Rattle.std.proofs.lemmas.Grind.{common_steps}
-use Rattle.words.specs.Names.{name_of}
-use Rattle.symbols.specs.Names.{is_name, is_name_character}
+use Rattle.symbols.specs.Names.{is_name, is_name_character, name_of}
 
 -- a character of a name is no dollar sign, and its own capital
 kept : (c : ℕ) → is_name_character c ≡ true → not (c == 36) ≡ true

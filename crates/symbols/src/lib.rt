@@ -3,4 +3,4 @@
 
 mod name;
 
-pub use name::Name;
+pub use name::{LONGEST_NAME, Name};

@@ -1,11 +1,13 @@
 //! Names.
 
 ghost use Rattle.std.specs.Prelude.{◌≡◌, ◌↔◌, ◌<◌, [], ◌∷◌, length, IsTrue, IsSome, IfSome, MatchOption};
-ghost use Rattle.words.specs.Names.{name_of};
-ghost use Rattle.symbols.specs.Names.{is_name, is_name_character};
+ghost use Rattle.symbols.specs.Names.{is_name, is_name_character, name_of};
 
 use std::fmt;
 use std::marker::Model;
+
+/// How many characters a name may have.
+pub const LONGEST_NAME: usize = 31;
 
 /// A name: a capital letter, and then at most 30 capital letters and digits. It borrows nothing from a
 /// source.

@@ -15,11 +15,12 @@ use Rattle.std.proofs.lemmas.Bool.Decides.{nat_tests}
 use Rattle.words.specs.declared.vocabulary.Mark.{Mark}
 use Rattle.words.specs.declared.items.Item.{Item}
 use Rattle.words.specs.declared.items.Item.TheVariants.{Spelled, Wrong}
-use Rattle.words.specs.declared.limits.TheConstants.{LONGEST_NAME}
+use Rattle.symbols.specs.declared.name.TheConstants.{LONGEST_NAME}
 use Rattle.words.specs.Characters.{is_word_byte, is_blank, is_printable, is_comment_byte}
 use Rattle.words.specs.Items.{item_at, comment_or_mark}
 use Rattle.words.specs.Marks.{marks, mark_at, mark_item}
-use Rattle.words.specs.Names.{name_item, name_of, kind_of_name}
+use Rattle.symbols.specs.Names.{name_of}
+use Rattle.words.specs.Names.{name_item, kind_of_name}
 use Rattle.words.specs.Numbers.{number_item, number_of}
 use Rattle.words.specs.internal.Fits.{FitsIn}
 use Rattle.words.specs.Strings.{further, string_end, string_item, comment_end, comment_item}

@@ -4,7 +4,7 @@ use Rattle.std.specs.Char.{to_ascii_uppercase}
 use Rattle.std.specs.List.{list_all}
 use Rattle.std.specs.Prelude.{nat_lt, nat_le}
 use Rattle.words.specs.declared.limits.TheConstants.{GREATEST_NUMBER}
-use Rattle.words.specs.Names.{name_of}
+use Rattle.symbols.specs.Names.{name_of}
 use Rattle.words.specs.Numbers.{digit_value, value_of, number_in, number_of, number_with, base_of}
 use Rattle.words.proofs.NamesLemmas.{name_of-append, name_of-character}
 use Rattle.std.proofs.lemmas.List.{take_more, take_all, take_at, get_or_at, length_push}

@@ -1,22 +1,17 @@
 -- Names and reserved words (PL/M-80 Programming Manual, on identifiers and reserved words).
-use Rattle.std.specs.Prelude.{ℕ, Option, None, Some, ◌==◌, not, nat_lt, if◌then◌else◌}
-use Rattle.std.specs.Prelude.{List, [], ◌∷◌, map, length, filter}
+use Rattle.std.specs.Prelude.{ℕ, Option, None, Some, nat_lt, if◌then◌else◌}
+use Rattle.std.specs.Prelude.{List, [], ◌∷◌, map, length}
 use Rattle.std.specs.Str.{bytes_eq}
 use Rattle.std.specs.Option.{option_map_or}
-use Rattle.std.specs.Char.{to_ascii_uppercase}
+use Rattle.symbols.specs.declared.name.TheConstants.{LONGEST_NAME}
+use Rattle.symbols.specs.Names.{name_of}
 use Rattle.words.specs.declared.items.Cause.TheVariants.{LongName}
 use Rattle.words.specs.declared.items.Item.{Item}
 use Rattle.words.specs.declared.items.Item.TheVariants.{Spelled, Wrong}
 use Rattle.words.specs.declared.vocabulary.Kind.{Kind}
 use Rattle.words.specs.declared.vocabulary.Kind.TheVariants.{Name, Reserved}
 use Rattle.words.specs.declared.vocabulary.ReservedWord.{ReservedWord}
-use Rattle.words.specs.declared.limits.TheConstants.{LONGEST_NAME}
 use Rattle.words.specs.declared.vocabulary.TheConstants.{RESERVED_WORDS}
-
--- the characters of a name or a number, from the bytes of its word: `$` is ignored, and a small letter is read
--- as its capital
-abbrev pub name_of : List ℕ → List ℕ
-name_of text = map to_ascii_uppercase (filter (λ b. not (b == 36)) text)
 
 -- how each reserved word is written: the table of the module `vocabulary`
 unfoldable pub reserved_words : List (List ℕ × ReservedWord)

@@ -9,7 +9,7 @@ use Rattle.words.specs.declared.items.Item.{Item}
 use Rattle.words.specs.declared.items.Item.TheVariants.{Spelled, Wrong}
 use Rattle.words.specs.declared.limits.TheConstants.{GREATEST_NUMBER}
 use Rattle.words.specs.declared.vocabulary.Kind.TheVariants.{Number}
-use Rattle.words.specs.Names.{name_of}
+use Rattle.symbols.specs.Names.{name_of}
 
 -- the base that the last character of a number stands for: B for 2, O and Q for 8, D for 10, H for 16
 abbrev pub base_of : ℕ → Option ℕ

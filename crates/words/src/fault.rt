@@ -3,7 +3,8 @@
 ghost use Rattle.std.specs.Prelude.{◌≡◌};
 ghost use Rattle.words.specs.Fault.{number_of, line_of};
 
-use crate::limits::{GREATEST_NUMBER, LONGEST_NAME};
+use crate::limits::GREATEST_NUMBER;
+use symbols::LONGEST_NAME;
 use thiserror::Error;
 
 /// Why a source text is not a list of words. `line` is the line on which the word or comment at fault begins, counted

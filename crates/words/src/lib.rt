@@ -15,7 +15,7 @@ mod vocabulary;
 mod word;
 
 pub use fault::Fault;
-pub use limits::{GREATEST_NUMBER, LONGEST_NAME, LONGEST_SOURCE};
+pub use limits::{GREATEST_NUMBER, LONGEST_SOURCE};
 pub use scanner::scan;
 pub use vocabulary::{Kind, Mark, ReservedWord};
 pub use word::Word;

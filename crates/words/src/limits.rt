@@ -3,8 +3,5 @@
 /// How many bytes a source text may have.
 pub const LONGEST_SOURCE: usize = 1_048_576;
 
-/// How many characters a name may have.
-pub const LONGEST_NAME: usize = 31;
-
 /// The greatest number that may be written.
 pub const GREATEST_NUMBER: u32 = 65535;

@@ -2,11 +2,12 @@
 
 ghost use Rattle.std.specs.Prelude.{◌≡◌, length, map};
 ghost use Rattle.std.specs.Str.{bytes_eq};
-ghost use Rattle.words.specs.Names.{name_of, reserved_of, name_item, word_in};
+ghost use Rattle.symbols.specs.Names.{name_of};
+ghost use Rattle.words.specs.Names.{reserved_of, name_item, word_in};
 
 use crate::items::{Cause, Item};
-use crate::limits::LONGEST_NAME;
 use crate::vocabulary::{Kind, RESERVED_WORDS, ReservedWord};
+use symbols::LONGEST_NAME;
 
 // The item of a word that begins with a letter.
 pub(crate) fn name_item(text: &[u8]) -> Item

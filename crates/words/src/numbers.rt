@@ -2,7 +2,7 @@
 
 ghost use Rattle.std.specs.Prelude.{◌≡◌, ◌≢◌, ◌<◌, ◌≤◌, ◌-◌, length, slice_index, IfSome};
 ghost use Rattle.std.specs.Char.{to_ascii_uppercase};
-ghost use Rattle.words.specs.Names.{name_of};
+ghost use Rattle.symbols.specs.Names.{name_of};
 ghost use Rattle.words.specs.Numbers.{base_of, digit_value, number_in, number_of, number_item};
 
 use crate::items::{Cause, Item};

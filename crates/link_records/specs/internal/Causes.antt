@@ -2,7 +2,7 @@
 use Rattle.std.specs.Prelude.{◌≡◌, ℕ, List}
 use Rattle.object_modules.specs.Module.{ObjectModule}
 use Rattle.object_modules.specs.Spelling.{Spells, HasFirstFault}
-use Rattle.link.specs.Merging.{refusal_of}
+use Rattle.link_laws.specs.Faults.{refusal_of}
 use Rattle.link_records.specs.Streams.{IsFirstFaulty, IsRefused}
 use Rattle.link_records.specs.declared.StreamFault.{StreamFault}
 use Rattle.link_records.specs.declared.StreamFault.TheVariants as stream

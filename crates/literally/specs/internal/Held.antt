@@ -5,7 +5,7 @@ use Rattle.std.specs.declared.vec.Vec.{Vec}
 use Rattle.std.specs.declared.alloc.Global.{Global}
 use Rattle.indexmap.specs.IndexMap.{IndexMap, get_by}
 use Rattle.words.specs.declared.word.Word.{Word}
-use Rattle.words.specs.Names.{name_of}
+use Rattle.symbols.specs.Names.{name_of}
 use Rattle.words.specs.Spelling.{Lexeme, lexemes_of, Spells}
 use Rattle.literally.specs.declared.names.Name.{Name}
 use Rattle.literally.specs.Definitions.{has_quote, text_in, in_force}

@@ -7,7 +7,8 @@ use Rattle.words.specs.declared.vocabulary.Mark.TheVariants.{LessEqualSign, Less
 use Rattle.words.specs.declared.vocabulary.ReservedWord.TheVariants.{Declare}
 use Rattle.words.specs.Items.{item_at}
 use Rattle.words.specs.Marks.{mark_at}
-use Rattle.words.specs.Names.{name_of, reserved_of, reserved_words}
+use Rattle.symbols.specs.Names.{name_of}
+use Rattle.words.specs.Names.{reserved_of, reserved_words}
 use Rattle.words.specs.Strings.{characters_of}
 
 reserved : item_at (codes "DECL$ARE X") ≡ Spelled (Reserved Declare) 8

@@ -1,7 +1,7 @@
 use Rattle.std.proofs.Common.{◌≡◌, [], Err, rules}
 use Rattle.object_modules.specs.Merge.{merge_of, public_names}
-use Rattle.link.specs.Merging.{refusal_of}
-use Rattle.link.specs.declared.fault.LinkFault.{LinkFault}
+use Rattle.link_laws.specs.Faults.{refusal_of}
+use Rattle.link_laws.specs.declared.fault.LinkFault.{LinkFault}
 use Rattle.link_laws.specs.internal.Passes.{gathered}
 use Rattle.link_laws.proofs.Linkings.{by_names, handed_on}
 use Rattle.link.proofs.merging.link.Goals as goal

@@ -4,8 +4,8 @@ use Rattle.object_modules.specs.Displacements.{Linked, all_publics}
 use Rattle.object_modules.specs.Merge.{HighByteMoves, merge_of, public_names, some_high_byte_moves}
 use Rattle.object_modules.specs.Module.{Public}
 use Rattle.object_merges.proofs.MergeValid.{names_from}
-use Rattle.link.specs.Merging.{refusal_of}
-use Rattle.link.specs.declared.fault.LinkFault.{LinkFault}
+use Rattle.link_laws.specs.Faults.{refusal_of}
+use Rattle.link_laws.specs.declared.fault.LinkFault.{LinkFault}
 use Rattle.link_laws.proofs.Refusals.{all_gathered}
 use Rattle.link_laws.proofs.Linkings.{by_highs, none_refused, joined_merged, made_kept, made_merged, handed_on}
 use Rattle.link.proofs.merging.link_placed.Goals as goal

@@ -1,8 +1,8 @@
 use Rattle.std.proofs.Common.{◌≡◌, true, Err, sym, ◌∙◌, rules}
 use Rattle.object_modules.specs.Displacements.{linked_modules}
 use Rattle.object_modules.specs.Merge.{SegmentTooLong, merge_of, some_segment_is_too_long}
-use Rattle.link.specs.Merging.{refusal_of}
-use Rattle.link.specs.declared.fault.LinkFault.{LinkFault}
+use Rattle.link_laws.specs.Faults.{refusal_of}
+use Rattle.link_laws.specs.declared.fault.LinkFault.{LinkFault}
 use Rattle.link_laws.proofs.Linkings.{by_externals, by_lengths, handed_on}
 use Rattle.link_records.proofs.merging.merge_named.Goals as goal
 

@@ -1,5 +1,5 @@
 use Rattle.std.proofs.Common.{◌≡◌, ◌≤◌, length}
-use Rattle.words.specs.Names.{name_of}
+use Rattle.symbols.specs.Names.{name_of}
 use Rattle.symbols.proofs.name.first_character.Given as goal
 
 abbrev pub invariant-loop-rest : goal.invariant-loop-rest

@@ -1,5 +1,6 @@
 use Rattle.std.proofs.Common.{◌≡◌, drop, map}
-use Rattle.words.specs.Names.{name_of, word_in}
+use Rattle.symbols.specs.Names.{name_of}
+use Rattle.words.specs.Names.{word_in}
 use Rattle.words.proofs.names.find_word.Given as goal
 
 -- no entry so far has the characters, and what is left decides

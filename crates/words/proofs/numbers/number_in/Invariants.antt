@@ -2,7 +2,7 @@ use Rattle.std.proofs.Common.{◌≡◌, ◌≤◌, ◌+◌, ◌*◌, drop, fold
 use Rattle.std.specs.List.{list_all}
 use Rattle.std.specs.Prelude.{nat_lt}
 use Rattle.words.specs.declared.limits.TheConstants.{GREATEST_NUMBER}
-use Rattle.words.specs.Names.{name_of}
+use Rattle.symbols.specs.Names.{name_of}
 use Rattle.words.specs.Numbers.{digit_value, value_of}
 use Rattle.words.proofs.numbers.number_in.Given as goal
 

@@ -1,5 +1,5 @@
 use Rattle.std.proofs.Common.{◌≡◌, false, true, ◌∷◌, reverse, sym, ◌∙◌, ap, subst}
-use Rattle.words.specs.Names.{name_of}
+use Rattle.symbols.specs.Names.{name_of}
 use Rattle.words.specs.Spelling.{lexeme_of, lexemes_of, Spells, IsFirstFault}
 use Rattle.literally.specs.Definitions.{has_quote, text_of}
 use Rattle.literally.specs.declared.fault.Fault.TheVariants.{Text}

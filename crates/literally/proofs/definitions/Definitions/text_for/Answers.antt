@@ -1,6 +1,6 @@
 use Rattle.std.proofs.Common.{◌≡◌, Some, refl, reverse, sym, subst, ap, ◌∙◌}
 use Rattle.std.specs.Option.{option_copied}
-use Rattle.words.specs.Names.{name_of}
+use Rattle.symbols.specs.Names.{name_of}
 use Rattle.words.specs.Spelling.{lexeme_of, lexemes_of}
 use Rattle.literally.specs.Definitions.{text_in}
 use Rattle.literally.specs.internal.Held.{words_for, Agree, StandsFor}

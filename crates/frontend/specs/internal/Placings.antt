@@ -11,7 +11,7 @@ use Rattle.layout.specs.Storage.{storage_with}
 use Rattle.layout.specs.Placement.{Placement, range_of}
 use Rattle.layout.specs.Following.{Bases, address_of_slot}
 use Rattle.layout.specs.Placing.{Plan, placement_by, PlacingRefusal, SegmentTooLarge, PassesMemory, RangesOverlap, ObjectMisplaced, placing_refusal}
-use Rattle.layout.specs.internal.Examples.{typed, filled_module, filled_placement}
+use Rattle.frontend.specs.internal.Examples.{typed, filled_module, filled_placement}
 
 abbrev pub plan_of : (code_base data_base stack_base stack_size : ℕ) → Plan
 plan_of code_base data_base stack_base stack_size = record {

@@ -26,7 +26,7 @@ pub enum LinkFault {
 impl LinkFault {
     ghost use Rattle.std.specs.Prelude.{◌≡◌};
     ghost use Rattle.object_modules.specs.Merge.{link_number};
-    ghost use Rattle.link.specs.Merging.{refusal_of};
+    ghost use Rattle.link_laws.specs.Faults.{refusal_of};
 
     /// The number by which the documentation knows the fault.
     pub fn number(&self) -> &'static str
