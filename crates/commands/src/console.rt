@@ -9,6 +9,7 @@ ghost use Rattle.command_line.specs.Command.{plm_app, place_in, program_in, want
 ghost use Rattle.commands.specs.Orders.{AsksHelpAtMost, ChangesAsWanted, ChangesByWords, LinksAsWanted, LinksByWords, PrintsAsWanted, PrintsByWords, PrintsWanted, RefusesNoText, StopsAsWanted, StopsByWords, TellsText, TellsTextByWords, names_by_words, names_of};
 ghost use Rattle.commands.specs.internal.LineFaults.{IsWrong};
 
+use crate::compiling::compile_file;
 use crate::interpreting::interpret_sources;
 use crate::loading::sources_of;
 use crate::refusals::refuse_value;
@@ -27,7 +28,8 @@ use tool::Source;
 /// Carries out the words of a command line, the first of which is the program's name, and answers the exit status. What
 /// it prints goes to `out`, and faults go to `err`, which has nothing more where the status is neither 1 nor 2; a failure of
 /// `err` changes no status. It changes no file but that of `link --out`, which has the merge of the objects where the
-/// status is 0, and may have a beginning of it otherwise, and none where the words have a fault or ask for help. That a
+/// status is 0, and that of `compile`, which has an object module then; both may have a beginning of it otherwise. None changes
+/// where the words have a fault or ask for help. That a
 /// file can't be read or written is told, with status 1, just where a failure of the files was counted, but for a count that
 /// is at its greatest value.
 #[tactic(auto, using(crate::proofs::OrdersKept::status_bound, crate::proofs::OrdersKept::done_is, crate::proofs::OrdersKept::not_done, crate::proofs::OrdersKept::not_refused, crate::proofs::OrdersKept::not_wrong, crate::proofs::OrdersKept::refused_is, crate::proofs::TextsTold::wrong_is))]
@@ -144,6 +146,7 @@ fn carry_out<F: Files, O: Write, E: Write>(
         E.contents err.new ≡ E.contents err.old }
 {
     match order {
+        Order::Compile(compile) => compile_file(alloc, compile, files, err),
         Order::Program(program) => carry_out_program(alloc, program, files, out, err),
         Order::Link(link) => link_files(alloc, link.objects.as_slice(), link.out, files, err),
         Order::Place(place) => carry_out_place(alloc, place, files, out, err),
