@@ -3,6 +3,8 @@
 
 mod charge;
 mod plan;
+#[cfg(test)]
+mod tests;
 
 pub use charge::charge;
 pub use plan::{FramePlan, plan};
