@@ -61,8 +61,8 @@ fn with_routines(
     let mut writer = writer;
     for (index, routine) in ROUTINES.iter().enumerate() {
         if let Some(true) = is_called.get(index) {
-            writer.mark(routine_label(tree, (index % 256) as u32))?;
-            writer = writer.with_routine(*routine)?;
+            let label = routine_label(tree, (index % 256) as u32);
+            writer = writer.with_routine(*routine, label)?;
         }
     }
     Ok(writer)

@@ -44,24 +44,22 @@ impl<'a> Site<'a> {
             .wrapping_add(offset)
             .wrapping_add(pushed)
     }
+}
 
-    // What holds once code that keeps A and the zero flag has put the address of something into HL.
-    fn with_address(&self, location: Location) -> Facts {
-        Facts {
-            word_in_hl: None,
-            address_in_hl: Some(location),
-            ..self.facts
-        }
-    }
+// HL holds the address of a location.
+fn hold_address(location: Location, steps: &mut Steps) -> Result<(), AllocError> {
+    steps.push(Step::Holds(Facts {
+        address_in_hl: Some(location),
+        ..Facts::none()
+    }))
+}
 
-    // What holds once code that keeps A and the zero flag has put the word that lies somewhere into HL.
-    fn with_word(&self, location: Location) -> Facts {
-        Facts {
-            word_in_hl: Some(location),
-            address_in_hl: None,
-            ..self.facts
-        }
-    }
+/// HL holds the word at a location.
+pub(crate) fn hold_word(location: Location, steps: &mut Steps) -> Result<(), AllocError> {
+    steps.push(Step::Holds(Facts {
+        word_in_hl: Some(location),
+        ..Facts::none()
+    }))
 }
 
 // The address of a location into HL, whatever is there.
@@ -98,7 +96,7 @@ pub(crate) fn plan_location_address(
     } else {
         plan_far_address(site, location, pushed, steps)?;
     }
-    steps.push(Step::Holds(site.with_address(location)))
+    hold_address(location, steps)
 }
 
 /// Loads HL with the word at the address that it holds. DE is kept.
@@ -123,21 +121,17 @@ fn plan_frame_word(
     let give = Instr::Push(StackPair::StackHl);
     if distance == 0 {
         steps.all(&[take, give])?;
-        return steps.push(Step::Holds(site.with_word(location)));
+        return hold_word(location, steps);
     }
     if distance == 2 {
         let lift = Instr::Pop(StackPair::StackBc);
         let lower = Instr::Push(StackPair::StackBc);
         steps.all(&[lift, take, give, lower])?;
-        return steps.push(Step::Holds(site.with_word(location)));
+        return hold_word(location, steps);
     }
     plan_location_address(site, location, pushed, steps)?;
     plan_word_behind_hl(steps)?;
-    steps.push(Step::Holds(Facts {
-        byte_in_a: Some(location),
-        word_in_hl: Some(location),
-        ..Facts::none()
-    }))
+    hold_word(location, steps)
 }
 
 /// The word at a location into HL, where this comes first. DE is kept, and A where the location is static.
@@ -151,10 +145,7 @@ pub(crate) fn plan_location_word(
         return Ok(());
     }
     match location {
-        Location::Static(place) => {
-            steps.word(WordForm::LoadHl, place)?;
-            steps.push(Step::Holds(site.with_word(location)))
-        }
+        Location::Static(place) => { steps.word(WordForm::LoadHl, place) }
         Location::Frame { variable, offset } => {
             let distance = site.distance(variable, offset, pushed);
             plan_frame_word(site, location, distance, pushed, steps)

@@ -3,8 +3,8 @@
 
 mod addresses;
 mod branches;
-mod byte_relations;
 mod byte_operators;
+mod byte_relations;
 mod byte_shifts;
 mod bytes;
 mod calls;
@@ -24,8 +24,8 @@ mod site;
 mod step;
 mod stores;
 mod widths;
-mod word_relations;
 mod word_operators;
+mod word_relations;
 mod word_shifts;
 mod words;
 mod writer;

@@ -1,10 +1,9 @@
 //! Values in memory.
 
-use crate::addresses::{plan_location_address, plan_location_word, plan_word_behind_hl};
-use crate::facts::Facts;
+use crate::addresses::{hold_word, plan_location_address, plan_location_word, plan_word_behind_hl};
 use crate::instructions::{copy, load, set};
 use crate::site::Site;
-use crate::step::{Step, Steps, Task};
+use crate::step::{Steps, Task};
 use crate::widths::{before, is_at};
 use asm8080::WordForm;
 use isa8080::{Instr, Register, StackPair};
@@ -12,15 +11,6 @@ use std::alloc::AllocError;
 use treecode::{Location, Reference};
 
 impl<'a> Site<'a> {
-    // What holds once code that keeps HL has put the byte that lies somewhere into A.
-    fn with_byte(&self, location: Location) -> Facts {
-        Facts {
-            byte_in_a: Some(location),
-            zero_shows_a: false,
-            ..self.facts
-        }
-    }
-
     // The instruction that puts the byte at a location into A, where the facts give one.
     fn byte_at_hand(&self, location: Location) -> Option<Instr> {
         if is_at(self.facts.word_in_hl, location) {
@@ -48,18 +38,12 @@ impl<'a> Site<'a> {
     }
 }
 
-// The byte at a location of the frame, next to the stack pointer, into a register. The word there is in HL then.
-fn plan_near_byte(to: Register, is_high: bool, steps: &mut Steps) -> Result<(), AllocError> {
+// The word in the frame that the stack pointer points to into HL.
+fn plan_near_word(steps: &mut Steps) -> Result<(), AllocError> {
     steps.all(&[
         Instr::Pop(StackPair::StackHl),
         Instr::Push(StackPair::StackHl),
-    ])?;
-    let from = if is_high { Register::H } else { Register::L };
-    if from == to {
-        Ok(())
-    } else {
-        steps.plain(copy(to, from))
-    }
+    ])
 }
 
 // The byte at a location of the frame into A, where this comes first.
@@ -73,20 +57,13 @@ fn plan_frame_byte(
     if distance <= 1 {
         let is_high = distance == 1;
         let word = if is_high { before(location) } else { location };
-        plan_near_byte(Register::A, is_high, steps)?;
-        return steps.push(Step::Holds(Facts {
-            byte_in_a: Some(location),
-            word_in_hl: Some(word),
-            ..Facts::none()
-        }));
+        plan_near_word(steps)?;
+        hold_word(word, steps)?;
+        let from = if is_high { Register::H } else { Register::L };
+        return steps.plain(copy(Register::A, from));
     }
     plan_location_address(site, location, pushed, steps)?;
-    steps.plain(load(Register::A))?;
-    steps.push(Step::Holds(Facts {
-        byte_in_a: Some(location),
-        address_in_hl: Some(location),
-        ..Facts::none()
-    }))
+    steps.plain(load(Register::A))
 }
 
 // The byte at a location into A, where this comes first. Where the location is static, A alone changes.
@@ -100,14 +77,10 @@ fn plan_location_byte(
         return Ok(());
     }
     if let Some(instruction) = site.byte_at_hand(location) {
-        steps.plain(instruction)?;
-        return steps.push(Step::Holds(site.with_byte(location)));
+        return steps.plain(instruction);
     }
     match location {
-        Location::Static(place) => {
-            steps.word(WordForm::LoadA, place)?;
-            steps.push(Step::Holds(site.with_byte(location)))
-        }
+        Location::Static(place) => { steps.word(WordForm::LoadA, place) }
         Location::Frame { variable, offset } => {
             let distance = site.distance(variable, offset, pushed);
             plan_frame_byte(site, location, distance, pushed, steps)
@@ -131,6 +104,27 @@ pub(crate) fn plan_byte_in_memory(
     }
 }
 
+// The byte at a location of the frame into L, where this comes first. A and DE are kept.
+fn plan_frame_byte_to_l(
+    site: &Site<'_>,
+    location: Location,
+    distance: u16,
+    pushed: u16,
+    steps: &mut Steps,
+) -> Result<(), AllocError> {
+    match distance {
+        0 => plan_near_word(steps),
+        1 => {
+            plan_near_word(steps)?;
+            steps.plain(copy(Register::L, Register::H))
+        }
+        _ => {
+            plan_location_address(site, location, pushed, steps)?;
+            steps.plain(load(Register::L))
+        }
+    }
+}
+
 // The byte at a location into L, where this comes first. A and DE are kept.
 fn plan_byte_to_l(
     site: &Site<'_>,
@@ -148,11 +142,7 @@ fn plan_byte_to_l(
         Location::Static(place) => steps.word(WordForm::LoadHl, place),
         Location::Frame { variable, offset } => {
             let distance = site.distance(variable, offset, pushed);
-            if distance <= 1 {
-                return plan_near_byte(Register::L, distance == 1, steps);
-            }
-            plan_location_address(site, location, pushed, steps)?;
-            steps.plain(load(Register::L))
+            plan_frame_byte_to_l(site, location, distance, pushed, steps)
         }
     }
 }
@@ -168,12 +158,7 @@ pub(crate) fn plan_extended_byte_in_memory(
     match site.location_of(reference) {
         Some(location) => {
             plan_byte_to_l(site, location, pushed, steps)?;
-            steps.plain(set(Register::H, 0))?;
-            steps.push(Step::Holds(Facts {
-                word_in_hl: None,
-                address_in_hl: None,
-                ..site.facts
-            }))
+            steps.plain(set(Register::H, 0))
         }
         None => {
             steps.part(Task::Address(*reference), pushed)?;

@@ -18,27 +18,8 @@ fn plan_zero(value: ExpressionNumber, pushed: u16, steps: &mut Steps) -> Result<
     steps.word(WordForm::LoadPair(Pair::Hl), Place::Number(0))
 }
 
-// The low byte of a value into H, and 0 into L. Where the code of the value in HL keeps a register, so does this.
-fn plan_low_as_high(
-    site: &Site<'_>,
-    value: ExpressionNumber,
-    pushed: u16,
-    steps: &mut Steps,
-) -> Result<(), AllocError> {
-    let keeps = site.keeps(value);
-    if keeps.a || keeps.de {
-        steps.part(Task::Word(value), pushed)?;
-        steps.plain(copy(Register::H, Register::L))?;
-    } else {
-        steps.part(Task::Byte(value), pushed)?;
-        steps.plain(copy(Register::H, Register::A))?;
-    }
-    steps.plain(set(Register::L, 0))
-}
-
 // A word shifted to the left by a number into HL.
 fn plan_shifted_left(
-    site: &Site<'_>,
     value: ExpressionNumber,
     count: u16,
     pushed: u16,
@@ -49,7 +30,8 @@ fn plan_shifted_left(
     }
     let twice = Instr::Dad(Pair::Hl);
     if count >= 8 {
-        plan_low_as_high(site, value, pushed, steps)?;
+        steps.part(Task::Byte(value), pushed)?;
+        steps.all(&[copy(Register::H, Register::A), set(Register::L, 0)])?;
         return repeat(twice, count.saturating_sub(8), steps);
     }
     steps.part(Task::Word(value), pushed)?;
@@ -158,7 +140,7 @@ pub(crate) fn plan_word_shift(
             plan_word_shifted_right(site, shifted.value, count, pushed, steps)
         }
         ShiftFunction::ShiftLeft | ShiftFunction::RotateLeft => {
-            plan_shifted_left(site, shifted.value, count, pushed, steps)
+            plan_shifted_left(shifted.value, count, pushed, steps)
         }
     }
 }

@@ -1,5 +1,6 @@
 //! Values in HL.
 
+use crate::addresses::plan_location_address;
 use crate::byte_operators::Operands;
 use crate::byte_shifts::Shifted;
 use crate::bytes::plan_embedded;
@@ -10,10 +11,9 @@ use crate::site::Site;
 use crate::step::{Steps, Task};
 use crate::word_operators::plan_word_binary;
 use crate::word_shifts::plan_word_shift;
-use asm8080::WordForm;
-use isa8080::{Instr, Operation, Pair, Register};
+use isa8080::{Instr, Operation, Register};
 use std::alloc::AllocError;
-use treecode::{ExpressionForm, ExpressionNumber};
+use treecode::{ExpressionForm, ExpressionNumber, Location};
 use trees::{ScalarType, UnaryOperator};
 use typed_trees::UnaryFunction;
 
@@ -122,7 +122,7 @@ pub(crate) fn plan_word(
     steps: &mut Steps,
 ) -> Result<(), AllocError> {
     if let Some(place) = site.known(number) {
-        return steps.word(WordForm::LoadPair(Pair::Hl), place);
+        return plan_location_address(site, Location::Static(place), pushed, steps);
     }
     match site.expression(number) {
         Some(expression) => match expression.traits.scalar {

@@ -1,5 +1,8 @@
 //! Code with numbered labels and the names of other modules.
 
+ghost use Rattle.std.specs.Prelude.{IfOk};
+ghost use Rattle.exprgen8080.specs.internal.Labels.{Follows};
+
 use crate::externals::Externals;
 use crate::step::LabelNumber;
 use asm8080::{Code, CodeBytes, Fault, Label, WordForm, instruction_with};
@@ -8,6 +11,7 @@ use isa8080::Instr;
 use object_modules::{Segment, Target};
 use runtime8080::{Routine, emit_routine};
 use std::alloc::{AllocError, Global};
+use std::marker::Model;
 use treecode::Place;
 
 /// Code to which more is added at its end, with the labels of a module by their numbers and the names of other modules
@@ -19,6 +23,17 @@ pub struct Writer {
     /// Which label of the code each number is, where it is used.
     labels: Vec<Option<usize>>,
     externals: Externals,
+}
+
+impl Model for Writer {
+    ghost use Rattle.asm8080.specs.Items.{Assembly};
+    ghost use Rattle.exprgen8080.specs.internal.Labels.{Follows};
+
+    ghost Value = { Assembly };
+
+    ghost view = { λ writer. writer.code };
+
+    ghost invariant = { λ writer. Follows writer.is_bound.items writer.code };
 }
 
 // A word that counts from a target, or is a number.
@@ -155,16 +170,20 @@ impl Writer {
         }
     }
 
-    /// Adds a routine, whose labels are its own. Where there is no memory for it, the code is dropped.
-    pub fn with_routine(self, routine: Routine) -> Result<Writer, AllocError> {
+    /// The code with a routine at its end, which begins at a label. Where there is no memory for it, the code is dropped.
+    pub fn with_routine(
+        mut self,
+        routine: Routine,
+        number: LabelNumber,
+    ) -> Result<Writer, AllocError> {
+        self.mark(number)?;
         let Writer {
             code,
-            mut is_bound,
+            is_bound,
             labels,
             externals,
         } = self;
-        let code = emit_routine(code, routine)?;
-        is_bound.resize(code.label_count(), true)?;
+        let (code, is_bound) = add_routine(code, is_bound, routine)?;
         Ok(Writer {
             code,
             is_bound,
@@ -206,6 +225,22 @@ fn known_labels(
         labels.push(label)?;
     }
     Ok(labels)
+}
+
+// Adds a routine to code, and to the flags that tell which labels have their places those of the routine's own labels.
+fn add_routine(
+    code: Code,
+    is_bound: Vec<bool>,
+    routine: Routine,
+) -> Result<(Code, Vec<bool>), AllocError>
+    requires { Follows is_bound.items code }
+    ensures { IfOk result (λ both. Follows both.1.items both.0) }
+{
+    let mut is_bound = is_bound;
+    is_bound.resize(code.label_count(), false)?;
+    let code = emit_routine(code, routine)?;
+    is_bound.resize(code.label_count(), true)?;
+    Ok((code, is_bound))
 }
 
 /// The bytes of code, with its labels and the names that it refers to.
