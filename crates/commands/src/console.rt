@@ -6,7 +6,7 @@ ghost use Rattle.clap.specs.Walk.{texts};
 ghost use Rattle.clap.specs.Words.{fault_of};
 ghost use Rattle.files.specs.Files.{KeepsFiles};
 ghost use Rattle.command_line.specs.Command.{plm_app, place_in, program_in, wanted_by, wanted_in, wants_place, wants_program};
-ghost use Rattle.commands.specs.Orders.{AsksHelpAtMost, ChangesAsWanted, ChangesByWords, LinksAsWanted, LinksByWords, PrintsAsWanted, PrintsByWords, PrintsWanted, RefusesNoText, StopsAsWanted, StopsByWords, TellsText, TellsTextByWords, names_by_words, names_of};
+ghost use Rattle.commands.specs.Orders.{AsksHelpAtMost, ChangesAsWanted, ChangesByWords, PrintsAsWanted, PrintsByWords, PrintsWanted, RefusesNoText, StopsAsWanted, StopsByWords, TellsText, TellsTextByWords, WritesAsWanted, WritesByWords, names_by_words, names_of};
 ghost use Rattle.commands.specs.internal.LineFaults.{IsWrong};
 
 use crate::compiling::compile_file;
@@ -44,8 +44,8 @@ pub fn run_command<F: Files, O: Write, E: Write>(
     ensures unchanged { ChangesByWords (wanted_by (texts words.now)) (F.files files.old) (F.files files.new) }
     ensures idle { (fault_of plm_app (texts words.now) ≡ [] → ⊥) →
         KeepsFiles (F.files files.old) (F.files files.new) }
-    ensures linked { fault_of plm_app (texts words.now) ≡ [] → result ≡ 0 →
-        LinksByWords (wanted_by (texts words.now)) (F.files files.old) (F.files files.new) }
+    ensures written { fault_of plm_app (texts words.now) ≡ [] → result ≡ 0 →
+        WritesByWords (wanted_by (texts words.now)) (F.files files.old) (F.files files.new) }
     ensures printed { fault_of plm_app (texts words.now) ≡ [] → result ≡ 0 → PrintsByWords
         (wanted_by (texts words.now)) (F.files files.old) (O.contents out.old) (O.contents out.new) }
     ensures stopped { (result ≡ 0 → ⊥) →
@@ -66,7 +66,7 @@ pub fn run_command<F: Files, O: Write, E: Write>(
 }
 
 // Carries out the words of a command line.
-#[tactic(auto, using(crate::proofs::OrdersKept::by_words, crate::proofs::OrdersKept::linked_by_words, crate::proofs::OrdersKept::prints_by_words, crate::proofs::OrdersKept::stops_by_words, crate::proofs::OrdersKept::told_by_words, crate::proofs::TextsTold::text_by_words))]
+#[tactic(auto, using(crate::proofs::OrdersKept::by_words, crate::proofs::OrdersKept::written_by_words, crate::proofs::OrdersKept::prints_by_words, crate::proofs::OrdersKept::stops_by_words, crate::proofs::OrdersKept::told_by_words, crate::proofs::TextsTold::text_by_words))]
 fn end_words<F: Files, O: Write, E: Write>(
     alloc: Global,
     words: &[&str],
@@ -77,8 +77,8 @@ fn end_words<F: Files, O: Write, E: Write>(
     ensures unchanged { ChangesByWords (wanted_by (texts words.now)) (F.files files.old) (F.files files.new) }
     ensures idle { (fault_of plm_app (texts words.now) ≡ [] → ⊥) →
         KeepsFiles (F.files files.old) (F.files files.new) }
-    ensures linked { fault_of plm_app (texts words.now) ≡ [] → result ≡ Ending.Done →
-        LinksByWords (wanted_by (texts words.now)) (F.files files.old) (F.files files.new) }
+    ensures written { fault_of plm_app (texts words.now) ≡ [] → result ≡ Ending.Done →
+        WritesByWords (wanted_by (texts words.now)) (F.files files.old) (F.files files.new) }
     ensures printed { fault_of plm_app (texts words.now) ≡ [] → result ≡ Ending.Done → PrintsByWords
         (wanted_by (texts words.now)) (F.files files.old) (O.contents out.old) (O.contents out.new) }
     ensures stopped { (result ≡ Ending.Done → ⊥) →
@@ -130,8 +130,8 @@ fn carry_out<F: Files, O: Write, E: Write>(
     err: &mut E,
 ) -> Ending
     ensures unchanged { ChangesAsWanted (wanted_in order.now) (F.files files.old) (F.files files.new) }
-    ensures linked { result ≡ Ending.Done →
-        LinksAsWanted (wanted_in order.now) (F.files files.old) (F.files files.new) }
+    ensures written { result ≡ Ending.Done →
+        WritesAsWanted (wanted_in order.now) (F.files files.old) (F.files files.new) }
     ensures printed { result ≡ Ending.Done → PrintsAsWanted (wanted_in order.now) (F.files files.old)
         (O.contents out.old) (O.contents out.new) }
     ensures stopped { (result ≡ Ending.Done → ⊥) →

@@ -3,13 +3,18 @@
 ghost use Rattle.std.specs.Prelude.{◌≡◌, ◌≤◌, ◌∷◌, ◌++◌, [], length, map, flat_map, All, IfOk, OnOk};
 ghost use Rattle.std.specs.List.{list_all};
 ghost use Rattle.failure.specs.Failure.{IfFault};
+ghost use Rattle.typed_trees.specs.Jumps.{JumpsAreSound};
+ghost use Rattle.typed_trees.specs.Storable.{IsStorable};
+ghost use Rattle.typed_trees.specs.Views.{module_view};
+ghost use Rattle.layout.specs.Storage.{storage_with};
 ghost use Rattle.layout.specs.Views.{layout_view};
+ghost use Rattle.frontend.specs.Reading.{IsSourceOf};
 ghost use Rattle.object_modules.specs.Module.{length_of};
 ghost use Rattle.object_modules.specs.declared.segment.Segment.TheVariants as segments;
 ghost use Rattle.program_sources.specs.Programs.{texts_of};
-ghost use Rattle.tool.specs.Sources.{AreWithoutFault, HasCause, IsInOrder};
+ghost use Rattle.tool.specs.Sources.{AreWithoutFault, HasCause, IsInOrder, IsReadable, IsRefusedAlone};
 ghost use Rattle.tool.specs.declared.code.TheConstants.{MOST_CODE};
-ghost use Rattle.tool.specs.internal.Compiling.{AreCompiled, HasCompileCause, HasGenerationCause, IsCompiled};
+ghost use Rattle.tool.specs.internal.Compiling.{AreCompiled, HasCompileCause, HasGenerationCause, HasSourceCause, IsCompiled};
 
 use crate::code::code_of_module;
 use crate::fault::ToolFault;
@@ -34,7 +39,10 @@ pub struct Compiled {
 }
 
 /// The object module of one source, which is the source 0 of its faults.
-pub fn compile(alloc: Global, text: &[u8]) -> Result<ObjectModule, Failure<ToolFault>> {
+pub fn compile(alloc: Global, text: &[u8]) -> Result<ObjectModule, Failure<ToolFault>>
+    ensures source { IfOk result (λ _. IsReadable text.now) }
+    ensures refused { IfFault result (IsRefusedAlone text.now) }
+{
     let source = read(alloc, 0, text)?;
     object_of(alloc, 0, &source)
 }
@@ -59,7 +67,13 @@ pub fn compile_all(
 }
 
 // Reads a source.
-fn read(alloc: Global, file: usize, text: &[u8]) -> Result<SourceModule, Failure<ToolFault>> {
+fn read(alloc: Global, file: usize, text: &[u8]) -> Result<SourceModule, Failure<ToolFault>>
+    ensures source { IfOk result (λ read. IsSourceOf text.now (module_view read.typed)) }
+    ensures storage { IfOk result (λ read. layout_view read.storage ≡ storage_with (module_view read.typed)) }
+    ensures storable { IfOk result (λ read. IsStorable (module_view read.typed)) }
+    ensures jumps { IfOk result (λ read. JumpsAreSound (module_view read.typed)) }
+    ensures refused { IfFault result (HasSourceCause file text.now) }
+{
     match read_source(alloc, text) {
         Ok(source) => Ok(source),
         Err(Failure::Fault(fault)) => Err(Failure::Fault(ToolFault::Source { file, fault })),

@@ -26,6 +26,8 @@ pub fn execute<P: Ports>(built: &Built, memory: Memory, ports: P, limit: u64) ->
         → IsScript (P.script ports) → NeverOutside source → IsFaithful source result.0 result.1 }
 {
     let image = built.image();
+    // A look at a byte says that a memory has all of its bytes, which the headline asks for.
+    let _ = memory.get(0);
     let mut memory = memory;
     image.load(&mut memory);
     let mut machine = Machine::new(memory, ports, image.start());

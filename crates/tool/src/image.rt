@@ -1,7 +1,9 @@
 //! The bytes of a program at their places.
 
-ghost use Rattle.std.specs.Prelude.{◌≡◌, ◌∷◌, [], IfOk, true};
+ghost use Rattle.std.specs.Prelude.{◌≡◌, ◌+◌, IfOk, true};
+ghost use Rattle.failure.specs.Failure.{IfFault};
 ghost use Rattle.tool.specs.Image.{IsImageOfCode};
+ghost use Rattle.tool.specs.internal.Compiling.{IsOfImage};
 
 use crate::fault::ToolFault;
 use failure::Failure;
@@ -32,7 +34,9 @@ pub fn image_of(
 }
 
 // How many bytes there are from an address of memory to the end.
-fn room_from(address: u16) -> usize {
+fn room_from(address: u16) -> usize
+    ensures { address + result ≡ 65536 }
+{
     65536 - address as usize
 }
 

@@ -82,7 +82,7 @@ fn build_program(
     requires served { All IsServed (map module_view parts.modules.items) → is_served ≡ true }
     ensures program { IfOk result (IsBuiltFrom (map module_view parts.modules.items) plan.now) }
     ensures refused { IfFault result
-        (λ fault. HasBuildCause fault (map module_view parts.modules.items) plan.now) }
+        (λ fault. HasBuildCause fault (map module_view parts.modules.items) parts.lengths.items plan.now) }
 {
     let Parts {
         modules,
