@@ -63,7 +63,7 @@ pub(crate) fn hold_word(location: Location, steps: &mut Steps) -> Result<(), All
 }
 
 // The address of a location into HL, whatever is there.
-fn plan_far_address(
+fn plan_new_address(
     site: &Site<'_>,
     location: Location,
     pushed: u16,
@@ -94,13 +94,13 @@ pub(crate) fn plan_location_address(
     } else if is_at(held, location.after(1)) {
         steps.plain(Instr::Dcx(Pair::Hl))?;
     } else {
-        plan_far_address(site, location, pushed, steps)?;
+        plan_new_address(site, location, pushed, steps)?;
     }
     hold_address(location, steps)
 }
 
 /// Loads HL with the word at the address that it holds. DE is kept.
-pub(crate) fn plan_word_behind_hl(steps: &mut Steps) -> Result<(), AllocError> {
+pub(crate) fn plan_word_at_hl(steps: &mut Steps) -> Result<(), AllocError> {
     steps.all(&[
         load(Register::A),
         Instr::Inx(Pair::Hl),
@@ -130,7 +130,7 @@ fn plan_frame_word(
         return hold_word(location, steps);
     }
     plan_location_address(site, location, pushed, steps)?;
-    plan_word_behind_hl(steps)?;
+    plan_word_at_hl(steps)?;
     hold_word(location, steps)
 }
 

@@ -109,8 +109,14 @@ fn plan_from_number(
 }
 
 // The form where the right operand is in a register already, if that makes one shorter.
-fn form_at_hand(site: &Site<'_>, operation: Operation, operands: Operands) -> Option<ByteForm> {
-    if !site.is_byte_at_hand(operands.right) || !site.may_exchange(operands.left, operands.right) {
+fn form_from_register(
+    site: &Site<'_>,
+    operation: Operation,
+    operands: Operands,
+) -> Option<ByteForm> {
+    if !site.is_byte_in_register(operands.right)
+        || !site.may_exchange(operands.left, operands.right)
+    {
         return None;
     }
     if commutes(operation) {
@@ -128,7 +134,7 @@ fn form_at_hand(site: &Site<'_>, operation: Operation, operands: Operands) -> Op
 
 // The form in which two operands, neither of which is a number, come to an operation.
 fn form_of(site: &Site<'_>, operation: Operation, operands: Operands) -> ByteForm {
-    if let Some(form) = form_at_hand(site, operation, operands) {
+    if let Some(form) = form_from_register(site, operation, operands) {
         return form;
     }
     if let Some(reference) = site.operand_in_memory(operands.right) {

@@ -167,7 +167,7 @@ fn register_form(site: &Site<'_>, comparison: &Comparison, sides: Sides) -> Opti
 // The better one of the two comparisons without a push, where one can be made.
 fn without_push(site: &Site<'_>, comparison: &Comparison, sides: Sides) -> Option<Form> {
     let by_register = register_form(site, comparison, sides);
-    if by_register.is_some() && site.is_byte_at_hand(sides.second) {
+    if by_register.is_some() && site.is_byte_in_register(sides.second) {
         return by_register;
     }
     match memory_form(site, comparison, sides) {
@@ -179,10 +179,10 @@ fn without_push(site: &Site<'_>, comparison: &Comparison, sides: Sides) -> Optio
 // Whether the operands are better compared with the right one in A: it is at hand, or the address of the left one is in HL
 // and stays there.
 fn is_better_exchanged(site: &Site<'_>, comparison: &Comparison) -> bool {
-    if site.is_byte_at_hand(comparison.left) {
+    if site.is_byte_in_register(comparison.left) {
         return false;
     }
-    site.is_byte_at_hand(comparison.right)
+    site.is_byte_in_register(comparison.right)
         || site.is_at_hl(comparison.left) && site.is_free(comparison.right)
 }
 

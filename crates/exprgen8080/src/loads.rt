@@ -1,6 +1,6 @@
 //! Values in memory.
 
-use crate::addresses::{hold_word, plan_location_address, plan_location_word, plan_word_behind_hl};
+use crate::addresses::{hold_word, plan_location_address, plan_location_word, plan_word_at_hl};
 use crate::instructions::{copy, load, set};
 use crate::site::Site;
 use crate::step::{Steps, Task};
@@ -12,7 +12,7 @@ use treecode::{Location, Reference};
 
 impl<'a> Site<'a> {
     // The instruction that puts the byte at a location into A, where the facts give one.
-    fn byte_at_hand(&self, location: Location) -> Option<Instr> {
+    fn byte_from_hl(&self, location: Location) -> Option<Instr> {
         if is_at(self.facts.word_in_hl, location) {
             Some(copy(Register::A, Register::L))
         } else if is_at(self.facts.word_in_hl, before(location)) {
@@ -24,7 +24,7 @@ impl<'a> Site<'a> {
         }
     }
 
-    // The instruction that puts the byte at a location into L, where the facts give one, or one that does nothing.
+    // The instruction that puts the byte at a location into L, where the facts give one.
     fn byte_for_l(&self, location: Location) -> Option<Instr> {
         if is_at(self.facts.byte_in_a, location) {
             Some(copy(Register::L, Register::A))
@@ -38,8 +38,8 @@ impl<'a> Site<'a> {
     }
 }
 
-// The word in the frame that the stack pointer points to into HL.
-fn plan_near_word(steps: &mut Steps) -> Result<(), AllocError> {
+// The word at the stack pointer into HL.
+fn plan_top_word(steps: &mut Steps) -> Result<(), AllocError> {
     steps.all(&[
         Instr::Pop(StackPair::StackHl),
         Instr::Push(StackPair::StackHl),
@@ -57,7 +57,7 @@ fn plan_frame_byte(
     if distance <= 1 {
         let is_high = distance == 1;
         let word = if is_high { before(location) } else { location };
-        plan_near_word(steps)?;
+        plan_top_word(steps)?;
         hold_word(word, steps)?;
         let from = if is_high { Register::H } else { Register::L };
         return steps.plain(copy(Register::A, from));
@@ -76,7 +76,7 @@ fn plan_location_byte(
     if is_at(site.facts.byte_in_a, location) {
         return Ok(());
     }
-    if let Some(instruction) = site.byte_at_hand(location) {
+    if let Some(instruction) = site.byte_from_hl(location) {
         return steps.plain(instruction);
     }
     match location {
@@ -113,9 +113,9 @@ fn plan_frame_byte_to_l(
     steps: &mut Steps,
 ) -> Result<(), AllocError> {
     match distance {
-        0 => plan_near_word(steps),
+        0 => plan_top_word(steps),
         1 => {
-            plan_near_word(steps)?;
+            plan_top_word(steps)?;
             steps.plain(copy(Register::L, Register::H))
         }
         _ => {
@@ -178,7 +178,7 @@ pub(crate) fn plan_word_in_memory(
         Some(location) => plan_location_word(site, location, pushed, steps),
         None => {
             steps.part(Task::Address(*reference), pushed)?;
-            plan_word_behind_hl(steps)
+            plan_word_at_hl(steps)
         }
     }
 }

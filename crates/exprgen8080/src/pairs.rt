@@ -46,8 +46,8 @@ struct Choices {
     // The left one is a byte whose code changes A alone, and may come second.
     left_is_free: bool,
     // HL holds it.
-    left_is_at_hand: bool,
-    right_is_at_hand: bool,
+    left_is_in_hl: bool,
+    right_is_in_hl: bool,
 }
 
 // Whether an operand is a byte that can be put into A by code that changes A alone.
@@ -63,15 +63,15 @@ fn choices_of(site: &Site<'_>, left: ExpressionNumber, right: ExpressionNumber) 
         left_keeps: may_exchange && site.keeps(left).de,
         right_is_free: is_free_byte(site, right),
         left_is_free: may_exchange && is_free_byte(site, left),
-        left_is_at_hand: site.is_word_at_hand(left),
-        right_is_at_hand: site.is_word_at_hand(right),
+        left_is_in_hl: site.is_word_in_hl(left),
+        right_is_in_hl: site.is_word_in_hl(right),
     }
 }
 
 impl Choices {
     // The form where either order will do.
     fn any_order(&self) -> PairForm {
-        if self.left_keeps && self.right_is_at_hand {
+        if self.left_keeps && self.right_is_in_hl {
             PairForm::LeftKeeps
         } else if self.right_keeps {
             PairForm::RightKeeps
@@ -88,9 +88,9 @@ impl Choices {
 
     // The form where the left one is wanted in HL.
     fn left_in_hl(&self) -> PairForm {
-        if self.left_is_at_hand && self.right_is_free {
+        if self.left_is_in_hl && self.right_is_free {
             PairForm::RightFree
-        } else if self.left_is_at_hand && self.right_keeps {
+        } else if self.left_is_in_hl && self.right_keeps {
             PairForm::RightKeeps
         } else if self.left_keeps {
             PairForm::LeftKeeps
@@ -103,9 +103,9 @@ impl Choices {
 
     // The form where the right one is wanted in HL.
     fn right_in_hl(&self) -> PairForm {
-        if self.right_is_at_hand && self.left_is_free {
+        if self.right_is_in_hl && self.left_is_free {
             PairForm::LeftFree
-        } else if self.right_is_at_hand && self.left_keeps {
+        } else if self.right_is_in_hl && self.left_keeps {
             PairForm::LeftKeeps
         } else if self.right_keeps {
             PairForm::RightKeeps

@@ -153,7 +153,7 @@ impl<'a> Site<'a> {
     }
 
     /// Whether HL holds the word that an expression is.
-    pub(crate) fn is_word_at_hand(&self, number: ExpressionNumber) -> bool {
+    pub(crate) fn is_word_in_hl(&self, number: ExpressionNumber) -> bool {
         match self.word_in_memory(number) {
             Some(reference) => match self.location_of(&reference) {
                 Some(location) => is_at(self.facts.word_in_hl, location),
@@ -164,7 +164,7 @@ impl<'a> Site<'a> {
     }
 
     /// Whether A, H or L holds the low byte of an expression.
-    pub(crate) fn is_byte_at_hand(&self, number: ExpressionNumber) -> bool {
+    pub(crate) fn is_byte_in_register(&self, number: ExpressionNumber) -> bool {
         match self.memory(number) {
             Some(reference) => match self.location_of(&reference) {
                 Some(location) => self.facts.holds_byte(location),

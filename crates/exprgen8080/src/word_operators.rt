@@ -246,7 +246,7 @@ fn with_simple(site: &Site<'_>, operands: Operands) -> Option<(ExpressionNumber,
         None
     };
     match (simple_operand(site, right), exchanged) {
-        (Some(_), Some(exchanged)) if site.is_word_at_hand(right) => Some((right, exchanged)),
+        (Some(_), Some(exchanged)) if site.is_word_in_hl(right) => Some((right, exchanged)),
         (Some(operand), _) => Some((left, operand)),
         (None, Some(exchanged)) => Some((right, exchanged)),
         (None, None) => None,

@@ -71,7 +71,7 @@ fn plan_high_byte(
     steps: &mut Steps,
 ) -> Result<(), AllocError> {
     match site.high_byte_in_memory(number) {
-        Some(reference) if !site.is_word_at_hand(number) => match site.direct(&reference) {
+        Some(reference) if !site.is_word_in_hl(number) => match site.direct(&reference) {
             Some(place) => load_a(place, steps),
             None => {
                 steps.part(Task::Address(reference), pushed)?;
@@ -194,7 +194,7 @@ pub(crate) fn plan_word_number(
 
 // The place of an ADDRESS that lies in memory at a place without a computed part, if it is one that is not in HL already.
 fn place_apart(site: &Site<'_>, number: ExpressionNumber) -> Option<Place> {
-    if site.is_word_at_hand(number) {
+    if site.is_word_in_hl(number) {
         return None;
     }
     site.direct_word(number)

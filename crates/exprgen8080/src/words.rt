@@ -67,6 +67,36 @@ fn plan_word_function(
     }
 }
 
+// The value of an operator with two ADDRESS operands or a shift of an ADDRESS into HL. No other form comes here.
+fn plan_word_of_two(
+    site: &Site<'_>,
+    form: ExpressionForm,
+    pushed: u16,
+    steps: &mut Steps,
+) -> Result<(), AllocError> {
+    match form {
+        ExpressionForm::Binary {
+            operands: _,
+            operator,
+            left,
+            right,
+        } => plan_word_binary(site, operator, Operands { left, right }, pushed, steps),
+        ExpressionForm::Shift {
+            function,
+            value,
+            count,
+        } => {
+            let shifted = Shifted {
+                function,
+                value,
+                count,
+            };
+            plan_word_shift(site, shifted, pushed, steps)
+        }
+        _ => Ok(()),
+    }
+}
+
 // The value of an ADDRESS expression that is not known into HL.
 fn plan_word_form(
     site: &Site<'_>,
@@ -85,23 +115,8 @@ fn plan_word_form(
             steps.part(Task::Word(operand), pushed)?;
             plan_word_unary(operator, steps)
         }
-        ExpressionForm::Binary {
-            operands: _,
-            operator,
-            left,
-            right,
-        } => plan_word_binary(site, operator, Operands { left, right }, pushed, steps),
-        ExpressionForm::Shift {
-            function,
-            value,
-            count,
-        } => {
-            let shifted = Shifted {
-                function,
-                value,
-                count,
-            };
-            plan_word_shift(site, shifted, pushed, steps)
+        ExpressionForm::Binary { .. } | ExpressionForm::Shift { .. } => {
+            plan_word_of_two(site, form, pushed, steps)
         }
         ExpressionForm::Assignment { target, value } => {
             plan_embedded(target, value, true, pushed, steps)
