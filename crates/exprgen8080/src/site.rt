@@ -15,11 +15,11 @@ pub struct Site<'a> {
 }
 
 // How many ranks there are for each number.
-const RANKS: u64 = 16;
+const RANKS: u8 = 16;
 
 // A rank for a number of an expression, above all those for lower numbers.
-fn rank_at(bound: u32, level: u64) -> u64 {
-    bound as u64 * RANKS + level
+fn rank_at(bound: u32, level: u8) -> u64 {
+    bound as u64 * RANKS as u64 + level as u64
 }
 
 impl<'a> Site<'a> {
