@@ -13,29 +13,17 @@ fn is_set_at(is_set: &[bool], index: usize) -> bool {
     }
 }
 
-// Whether the byte before an index is set.
-fn is_set_before(is_set: &[bool], index: usize) -> bool {
-    match index.checked_sub(1) {
-        Some(before) => is_set_at(is_set, before),
-        None => false,
-    }
-}
-
-// Adds a byte that is set at an index to runs: to the last one, or where the byte before is not set to a new one.
-fn add_byte(
-    alloc: Global,
-    runs: &mut Vec<Run>,
-    index: usize,
-    byte: u8,
-    begins: bool,
-) -> Result<(), AllocError> {
-    if begins {
-        let offset = u16::try_from(index).unwrap_or(u16::MAX);
-        runs.push(Run::new(offset, Vec::new(alloc)))?;
-    }
+// Adds a byte that is set at an offset to runs: to the last one where that ends there, else as a new one.
+fn add_byte(alloc: Global, runs: &mut Vec<Run>, offset: u16, byte: u8) -> Result<(), AllocError> {
     match runs.last_mut() {
-        Some(run) => run.append(&[byte]),
-        None => Ok(()),
+        Some(run) if run.offset() as usize + run.bytes().len() == offset as usize => {
+            run.append(&[byte])
+        }
+        _ => {
+            let bytes = Vec::from_slice(alloc, &[byte])?;
+            runs.push(Run::new(offset, bytes))?;
+            Ok(())
+        }
     }
 }
 
@@ -44,8 +32,7 @@ fn runs_of(alloc: Global, bytes: &[u8], is_set: &[bool]) -> Result<Vec<Run>, All
     let mut runs = Vec::new(alloc);
     for (index, byte) in bytes.iter().enumerate() {
         if is_set_at(is_set, index) {
-            let begins = !is_set_before(is_set, index);
-            add_byte(alloc, &mut runs, index, *byte, begins)?;
+            add_byte(alloc, &mut runs, (index % 65536) as u16, *byte)?;
         }
     }
     Ok(runs)
