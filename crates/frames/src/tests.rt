@@ -1,7 +1,7 @@
 //! Frames that are worked out by hand.
 
-use crate::charge::charge;
-use crate::plan::plan;
+use crate::charges::charge;
+use crate::plans::plan;
 use std::alloc::Global;
 use std::test::Fail;
 use treecode::{FrameVariable, Location, Parameter, ProcedureKind, TreeProcedure};
