@@ -1,6 +1,7 @@
 //! Code with numbered labels and the names of other modules.
 
 ghost use Rattle.std.specs.Prelude.{IfOk};
+ghost use Rattle.asm8080.specs.Assembled.{Assembles};
 ghost use Rattle.exprgen8080.specs.internal.Labels.{Follows};
 
 use crate::externals::Externals;
@@ -26,6 +27,7 @@ pub struct Writer {
 }
 
 impl Model for Writer {
+    ghost use Rattle.asm8080.specs.Assembled.{Assembles};
     ghost use Rattle.asm8080.specs.Items.{Assembly};
     ghost use Rattle.exprgen8080.specs.internal.Labels.{Follows};
 
@@ -198,8 +200,10 @@ impl Writer {
         })
     }
 
-    /// The code as bytes and fixes, with its labels and the names that it refers to.
-    pub fn finish(self) -> Result<Finished, Failure<Fault>> {
+    /// The code as bytes and fixes with its labels, and the names that it refers to.
+    pub fn finish(self) -> Result<(Finished, Externals), Failure<Fault>>
+        ensures { IfOk result (λ both. Assembles self both.0.bytes) }
+    {
         let Writer {
             code,
             is_bound: _,
@@ -208,11 +212,7 @@ impl Writer {
         } = self;
         let labels = known_labels(&code, numbers)?;
         let bytes = code.finish()?;
-        Ok(Finished {
-            bytes,
-            labels,
-            externals,
-        })
+        Ok((Finished { bytes, labels }, externals))
     }
 }
 
@@ -249,11 +249,10 @@ fn add_routine(
     Ok((code, is_bound))
 }
 
-/// The bytes of code, with its labels and the names that it refers to.
+/// The bytes of code, with its labels.
 pub struct Finished {
     pub bytes: CodeBytes,
     pub labels: Vec<Option<Label>>,
-    pub externals: Externals,
 }
 
 impl Finished {
@@ -265,14 +264,12 @@ impl Finished {
         }
     }
 
-    /// The bytes, and the names that the code refers to.
-    pub fn into_bytes(self) -> (CodeBytes, Externals) {
-        let Finished {
-            bytes,
-            labels: _,
-            externals,
-        } = self;
-        (bytes, externals)
+    /// The bytes.
+    pub fn into_bytes(self) -> CodeBytes
+        ensures { result ≡ self.bytes }
+    {
+        let Finished { bytes, labels: _ } = self;
+        bytes
     }
 }
 
@@ -293,7 +290,6 @@ impl Drop for Finished {
         let Finished {
             bytes: _,
             labels: _,
-            externals: _,
         } = self;
     }
 }
