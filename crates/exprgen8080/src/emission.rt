@@ -10,7 +10,7 @@ use frames::FramePlan;
 use isa8080::{Instr, Operand, Operation, Register};
 use runtime8080::Routine;
 use std::alloc::{AllocError, Global};
-use treecode::{ProcedureKind, TreeModule};
+use treecode::{Place, ProcedureKind, TreeModule};
 
 /// The routines, in the order of their labels.
 pub const ROUTINES: [Routine; 9] = [
@@ -61,6 +61,17 @@ impl Emission {
         })
     }
 
+    /// The code, and of each routine whether the code calls it.
+    pub fn into_code(self) -> (Writer, Vec<bool>) {
+        let Emission {
+            writer,
+            steps: _,
+            facts: _,
+            is_called,
+        } = self;
+        (writer, is_called)
+    }
+
     /// Where code stands at its end.
     pub fn site<'a>(&self, tree: &'a TreeModule, frame: &'a FramePlan) -> Site<'a> {
         Site {
@@ -70,11 +81,28 @@ impl Emission {
         }
     }
 
-    // Adds an instruction, of which nothing is known afterwards but what the zero flag shows.
+    // Adds an instruction.
     fn plain(&mut self, instruction: Instr) -> Result<(), AllocError> {
-        self.writer.plain(instruction)?;
-        self.facts = Facts::after(instruction);
-        Ok(())
+        self.facts = self.facts.after(instruction);
+        self.writer.plain(instruction)
+    }
+
+    // Adds an instruction with a word.
+    fn word(&mut self, form: WordForm, place: Place) -> Result<(), AllocError> {
+        self.facts = self.facts.after_word(form, place);
+        self.writer.word(form, place)
+    }
+
+    // Adds a jump, or another instruction with the place of a label.
+    fn jump(&mut self, form: WordForm, label: LabelNumber) -> Result<(), AllocError> {
+        self.facts = self.facts.after_form(form);
+        self.writer.jump(form, label)
+    }
+
+    // Gives a label its place here, to which code may jump from anywhere.
+    fn mark(&mut self, label: LabelNumber) -> Result<(), AllocError> {
+        self.facts = Facts::none();
+        self.writer.mark(label)
     }
 
     // Adds a test of A, where the zero flag does not show yet whether it is 0.
@@ -82,14 +110,7 @@ impl Emission {
         if self.facts.zero_shows_a {
             return Ok(());
         }
-        let facts = self.facts;
-        self.writer
-            .plain(Instr::Accumulate(Operation::Or, Operand::Of(Register::A)))?;
-        self.facts = Facts {
-            zero_shows_a: true,
-            ..facts
-        };
-        Ok(())
+        self.plain(Instr::Accumulate(Operation::Or, Operand::Of(Register::A)))
     }
 
     // Adds a call of a routine.
@@ -122,20 +143,18 @@ impl Emission {
     pub fn step(&mut self, tree: &TreeModule, step: Step) -> Result<(), AllocError> {
         match step {
             Step::Plain(instruction) => self.plain(instruction),
-            Step::Word(form, place) => {
-                self.facts = Facts::none();
-                self.writer.word(form, place)
-            }
-            Step::Jump(form, label) => self.writer.jump(form, label),
-            Step::Mark(label) => {
-                self.facts = Facts::none();
-                self.writer.mark(label)
-            }
+            Step::Word(form, place) => self.word(form, place),
+            Step::Jump(form, label) => self.jump(form, label),
+            Step::Mark(label) => self.mark(label),
             Step::CallRoutine(routine) => self.call_routine(tree, routine),
             Step::CallProcedure(procedure) => self.call_procedure(tree, procedure),
             Step::TestA => self.test_a(),
             Step::Holds(facts) => {
-                self.facts = facts;
+                self.facts = self.facts.with(facts);
+                Ok(())
+            }
+            Step::MemoryChanged => {
+                self.facts = self.facts.without_memory();
                 Ok(())
             }
             Step::Part(_) => Ok(()),

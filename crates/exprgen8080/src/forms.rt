@@ -1,13 +1,33 @@
 //! Which steps carry out a task.
 
+use crate::addresses::plan_address;
+use crate::branches::plan_branch;
+use crate::bytes::plan_byte;
+use crate::calls::plan_call;
+use crate::effects::plan_effects;
 use crate::site::Site;
-use crate::step::{Part, Steps};
+use crate::step::{Part, Steps, Task};
+use crate::stores::plan_store;
+use crate::words::plan_word;
 use std::alloc::AllocError;
 
-/// The steps that carry out a task.
+/// The steps that carry out a task. What is known of the registers at the site is used for the first step alone.
 pub fn plan_task(site: &Site<'_>, part: Part, steps: &mut Steps) -> Result<(), AllocError> {
-    let _ = site;
-    let _ = part;
-    let _ = steps;
-    Err(AllocError)
+    let pushed = part.pushed;
+    match part.task {
+        Task::Byte(number) => plan_byte(site, number, pushed, steps),
+        Task::Word(number) => plan_word(site, number, pushed, steps),
+        Task::Effects(number) => plan_effects(site, number, pushed, steps),
+        Task::Address(reference) => plan_address(site, &reference, pushed, steps),
+        Task::Branch {
+            condition,
+            label,
+            sense,
+        } => plan_branch(site, condition, label, sense, pushed, steps),
+        Task::Store { target, is_wanted } => plan_store(site, target, is_wanted, pushed, steps),
+        Task::Call {
+            procedure,
+            arguments,
+        } => plan_call(site, procedure, arguments, pushed, steps),
+    }
 }

@@ -63,6 +63,14 @@ fn base_of(home: Home) -> Base {
     }
 }
 
+// Whether there are two locations, and they are the same.
+fn same_location(first: Option<Location>, second: Option<Location>) -> bool {
+    match (first, second) {
+        (Some(first), Some(second)) => first == second,
+        _ => false,
+    }
+}
+
 /// A reference to what lies so many bytes further on.
 pub fn reference_after(reference: Reference, distance: u16) -> Reference {
     Reference {
@@ -296,5 +304,18 @@ impl<'a> Site<'a> {
     pub fn memory(&self, number: ExpressionNumber) -> Option<Reference> {
         let inner = self.same_low_byte(self.same_low_byte(number));
         self.plain_in_memory(inner)
+    }
+
+    // Where the low byte of an expression lies, where it lies in memory at a place without a computed part.
+    fn location_of_byte(&self, number: ExpressionNumber) -> Option<Location> {
+        match self.memory(number) {
+            Some(reference) => self.location_of(&reference),
+            None => None,
+        }
+    }
+
+    /// Whether HL is known to hold the address of the low byte of an expression.
+    pub fn is_at_hl(&self, number: ExpressionNumber) -> bool {
+        same_location(self.location_of_byte(number), self.facts.address_in_hl)
     }
 }

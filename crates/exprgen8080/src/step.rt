@@ -68,8 +68,11 @@ pub enum Step {
     CallProcedure(u32),
     /// The zero flag shows whether A is 0. No code where it shows that already.
     TestA,
-    /// What holds from here on of the registers, beside nothing else.
+    /// What holds here of the registers, beside what is known already by the instructions alone.
     Holds(Facts),
+    /// Bytes in the frame may have changed by instructions that change the stack alone, as POP and PUSH of a variable next
+    /// to the stack pointer.
+    MemoryChanged,
     /// The code of a part.
     Part(Part),
 }

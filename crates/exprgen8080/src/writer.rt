@@ -1,12 +1,17 @@
 //! Code with numbered labels and the names of other modules.
 
+ghost use Rattle.std.specs.Prelude.{IfOk};
+ghost use Rattle.exprgen8080.specs.internal.Labels.{Follows};
+
 use crate::externals::Externals;
 use crate::step::LabelNumber;
 use asm8080::{Code, CodeBytes, Fault, Label, WordForm, instruction_with};
 use failure::Failure;
 use isa8080::Instr;
 use object_modules::{Segment, Target};
+use runtime8080::{Routine, emit_routine};
 use std::alloc::{AllocError, Global};
+use std::marker::Model;
 use treecode::Place;
 
 /// Code to which more is added at its end, with the labels of a module by their numbers and the names of other modules
@@ -20,6 +25,17 @@ pub struct Writer {
     externals: Externals,
 }
 
+impl Model for Writer {
+    ghost use Rattle.asm8080.specs.Items.{Assembly};
+    ghost use Rattle.exprgen8080.specs.internal.Labels.{Follows};
+
+    ghost Value = { Assembly };
+
+    ghost view = { λ writer. writer.code };
+
+    ghost invariant = { λ writer. Follows writer.is_bound.items writer.code };
+}
+
 // A word that counts from a target, or is a number.
 enum Value {
     Number(u16),
@@ -29,12 +45,18 @@ enum Value {
 impl Writer {
     /// No code, in a module that may refer to so many names of other modules.
     pub fn new(alloc: Global, external_count: usize) -> Result<Writer, AllocError> {
-        Ok(Writer {
+        let externals = Externals::new(alloc, external_count)?;
+        Ok(Writer::sharing(alloc, externals))
+    }
+
+    /// No code, in a module of which other code refers to these names already.
+    pub fn sharing(alloc: Global, externals: Externals) -> Writer {
+        Writer {
             code: Code::new(alloc),
             is_bound: Vec::new(alloc),
             labels: Vec::new(alloc),
-            externals: Externals::new(alloc, external_count)?,
-        })
+            externals,
+        }
     }
 
     // What a place counts from.
@@ -148,14 +170,37 @@ impl Writer {
         }
     }
 
+    /// The code with a routine at its end, which begins at a label. Where there is no memory for it, the code is dropped.
+    pub fn with_routine(
+        mut self,
+        routine: Routine,
+        number: LabelNumber,
+    ) -> Result<Writer, AllocError> {
+        self.mark(number)?;
+        let Writer {
+            code,
+            is_bound,
+            labels,
+            externals,
+        } = self;
+        let (code, is_bound) = add_routine(code, is_bound, routine)?;
+        Ok(Writer {
+            code,
+            is_bound,
+            labels,
+            externals,
+        })
+    }
+
     /// The code as bytes and fixes, with its labels and the names that it refers to.
     pub fn finish(self) -> Result<Finished, Failure<Fault>> {
         let Writer {
             code,
             is_bound: _,
-            labels,
+            labels: numbers,
             externals,
         } = self;
+        let labels = known_labels(&code, numbers)?;
         let bytes = code.finish()?;
         Ok(Finished {
             bytes,
@@ -165,11 +210,64 @@ impl Writer {
     }
 }
 
+// The labels of code by their numbers, where they are used.
+fn known_labels(
+    code: &Code,
+    numbers: Vec<Option<usize>>,
+) -> Result<Vec<Option<Label>>, AllocError> {
+    let alloc = *numbers.allocator();
+    let mut labels = Vec::new(alloc);
+    for number in numbers.iter() {
+        let label = match *number {
+            Some(index) => code.known(index),
+            None => None,
+        };
+        labels.push(label)?;
+    }
+    Ok(labels)
+}
+
+// Adds a routine to code, and to the flags that tell which labels have their places those of the routine's own labels.
+fn add_routine(
+    code: Code,
+    is_bound: Vec<bool>,
+    routine: Routine,
+) -> Result<(Code, Vec<bool>), AllocError>
+    requires { Follows is_bound.items code }
+    ensures { IfOk result (λ both. Follows both.1.items both.0) }
+{
+    let mut is_bound = is_bound;
+    is_bound.resize(code.label_count(), false)?;
+    let code = emit_routine(code, routine)?;
+    is_bound.resize(code.label_count(), true)?;
+    Ok((code, is_bound))
+}
+
 /// The bytes of code, with its labels and the names that it refers to.
 pub struct Finished {
     pub bytes: CodeBytes,
-    pub labels: Vec<Option<usize>>,
+    pub labels: Vec<Option<Label>>,
     pub externals: Externals,
+}
+
+impl Finished {
+    /// How far a label is from the start of the code; 0 where the code does not use it.
+    pub fn place(&self, number: LabelNumber) -> u16 {
+        match self.labels.get(number.index as usize) {
+            Some(Some(label)) => self.bytes.place(*label),
+            _ => 0,
+        }
+    }
+
+    /// The bytes, and the names that the code refers to.
+    pub fn into_bytes(self) -> (CodeBytes, Externals) {
+        let Finished {
+            bytes,
+            labels: _,
+            externals,
+        } = self;
+        (bytes, externals)
+    }
 }
 
 // Written out, so that what these hold is let go here, and each crate that lets one go calls this.

@@ -1,8 +1,10 @@
 //! The frames of REENTRANT procedures, and what a call of a procedure takes of the stack.
 #![tactic(auto)]
 
-mod charge;
-mod plan;
+mod charges;
+mod plans;
+#[cfg(test)]
+mod tests;
 
-pub use charge::charge;
-pub use plan::{FramePlan, plan};
+pub use charges::charge;
+pub use plans::{FramePlan, plan};

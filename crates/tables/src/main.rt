@@ -11,7 +11,8 @@
 //! A line `damage` between blocks has the bytes of an object file in hexadecimal digits. Each of them is changed to each other
 //! value, and a line is printed at once: how many changes there were, how many were answered otherwise than by the first fault of
 //! a record's length or sum, as a plain walk over the records finds it, and how many have which of these faults.
-//! Then it prints what the machine, its parts and the interpreter do, as the manuals say it; what merges of object files
+//! Then it prints what the machine, its parts and the interpreter do, as the manuals say it; whether programs of outputs of
+//! numbers have the images of their object modules; what merges of object files
 //! are, made of modules and of files; objects that are read, placed and loaded, texts of Intel HEX that are read, and how
 //! commands end whose output fails part way; what long code and code with many labels is; and at last whether the document
 //! of the routines, the file `runtime.md` where the program runs, is as it is made here, or else that document.
@@ -31,6 +32,7 @@ mod codes;
 mod damage;
 mod events;
 mod faulty;
+mod images;
 mod interpreting;
 mod memory_files;
 mod merging;
@@ -51,6 +53,7 @@ use block::{Answer, Block};
 use codes::print_codes;
 use damage::print_damage;
 use files::HostFiles;
+use images::print_images;
 use interpreting::print_programs;
 use merging::print_merges;
 use objects::print_objects;
@@ -147,6 +150,7 @@ fn print_parts(page: &mut Page) {
     print_runs(page);
     print_scripts(page);
     print_programs(page);
+    print_images(page);
     print_merges(page);
     print_adjusting(page);
     print_objects(page);

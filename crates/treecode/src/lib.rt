@@ -1,17 +1,31 @@
 //! Tree code: the trees of a typed module as numbered nodes, in which each object has its place.
 #![tactic(auto)]
 
+mod contents;
+mod effects;
 mod expression;
+mod expressions;
+mod freedom;
+mod globals;
+mod heights;
+mod homes;
+mod keeping;
+mod known;
 mod lists;
 mod lowering;
+mod memory;
 mod module;
+mod numbers;
 mod place;
 mod procedure;
+mod procedures;
 mod reference;
 mod statement;
+mod statements;
 mod traits;
 
 pub use expression::{Expression, ExpressionForm, ExpressionNumber};
+pub use keeping::keeps_of_address;
 pub use lists::Range;
 pub use lowering::lower;
 pub use module::{Content, ExternalName, PublicName, PublicPlace, TreeModule};
@@ -19,4 +33,12 @@ pub use place::{Home, Location, Place};
 pub use procedure::{FrameVariable, Parameter, ProcedureKind, TreeProcedure};
 pub use reference::{Reference, Subscript, Target};
 pub use statement::{Iteration, Statement, StatementNumber};
-pub use traits::{Keeps, Traits, keeps_of_address};
+pub use traits::{Keeps, Traits};
+
+#[cfg(test)]
+mod tests {
+    #[test]
+    fn nothing(rt: HostRuntime) -> Result<(), std::io::Error> {
+        Ok(())
+    }
+}

@@ -1,12 +1,14 @@
 //! Modules of tree code.
 
-use crate::expression::{Expression, ExpressionNumber};
+use crate::expression::{Expression, ExpressionForm, ExpressionNumber};
 use crate::lists::Range;
 use crate::place::{Home, Place};
 use crate::procedure::TreeProcedure;
 use crate::reference::Target;
 use crate::statement::{Statement, StatementNumber};
-use trees::Name;
+use crate::traits::{Traits, traits_of};
+use std::alloc::AllocError;
+use trees::{Name, ScalarType};
 
 /// What stands in a segment, from its start on.
 #[derive(Clone, Copy)]
@@ -105,6 +107,79 @@ impl TreeModule {
             Some(entry) => self.lists.get(entry).copied(),
             None => None,
         }
+    }
+
+    /// What is known of an expression; nothing where there is none of that number.
+    pub(crate) fn traits(&self, number: ExpressionNumber) -> Traits {
+        match self.expression(number) {
+            Some(expression) => expression.traits,
+            None => Traits::none(),
+        }
+    }
+
+    /// The number that an expression is, where it is known and depends on nothing.
+    pub(crate) fn number(&self, number: ExpressionNumber) -> Option<u16> {
+        match self.traits(number).known {
+            Some(place) => place.number(),
+            None => None,
+        }
+    }
+
+    /// Adds an expression of a type, whose parts stand already.
+    pub(crate) fn add_expression(
+        &mut self,
+        scalar: ScalarType,
+        form: ExpressionForm,
+    ) -> Result<ExpressionNumber, AllocError> {
+        let index = next_index(self.expressions.len())?;
+        let traits = traits_of(self, scalar, &form);
+        self.expressions.push(Expression { form, traits })?;
+        Ok(ExpressionNumber { index })
+    }
+
+    /// Adds a statement, whose parts stand already.
+    pub(crate) fn add_statement(
+        &mut self,
+        statement: Statement,
+    ) -> Result<StatementNumber, AllocError> {
+        let index = next_index(self.statements.len())?;
+        self.statements.push(statement)?;
+        Ok(StatementNumber { index })
+    }
+
+    /// Adds arguments in a row.
+    pub(crate) fn add_arguments(
+        &mut self,
+        arguments: &[ExpressionNumber],
+    ) -> Result<Range, AllocError> {
+        let first = next_index(self.arguments.len())?;
+        let count = next_index(arguments.len())?;
+        self.arguments.extend_from_slice(arguments)?;
+        Ok(Range { first, count })
+    }
+
+    /// Adds targets in a row.
+    pub(crate) fn add_targets(&mut self, targets: &[Target]) -> Result<Range, AllocError> {
+        let first = next_index(self.targets.len())?;
+        let count = next_index(targets.len())?;
+        self.targets.extend_from_slice(targets)?;
+        Ok(Range { first, count })
+    }
+
+    /// Adds a list of statements in a row.
+    pub(crate) fn add_list(&mut self, list: &[StatementNumber]) -> Result<Range, AllocError> {
+        let first = next_index(self.lists.len())?;
+        let count = next_index(list.len())?;
+        self.lists.extend_from_slice(list)?;
+        Ok(Range { first, count })
+    }
+}
+
+// The index that follows so many entries. A table of more than 4,294,967,295 entries is out of memory.
+fn next_index(count: usize) -> Result<u32, AllocError> {
+    match u32::try_from(count) {
+        Ok(index) => Ok(index),
+        Err(_) => Err(AllocError),
     }
 }
 

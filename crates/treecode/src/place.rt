@@ -10,7 +10,7 @@ pub enum Place {
     /// So many bytes after the start of the data segment.
     Data(u16),
     /// So many bytes, modulo 65536, after what an EXTERNAL name stands for, by its index among the external names.
-    External { name: u32, offset: u16 },
+    External { offset: u16, name: u32 },
 }
 
 /// Where a scalar lies that no subscript and no base has a part in.

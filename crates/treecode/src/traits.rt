@@ -1,8 +1,13 @@
 //! What is known of an expression without looking at its parts again.
 
+use crate::effects::{is_quiet, stores_nothing};
+use crate::expression::ExpressionForm;
+use crate::freedom::is_free;
+use crate::heights::height_of;
+use crate::keeping::keeps_of;
+use crate::known::known_value;
 use crate::module::TreeModule;
 use crate::place::Place;
-use crate::reference::Reference;
 use trees::ScalarType;
 
 /// Which registers the code that puts a value, or the address of an object, into HL leaves as they were. A register that
@@ -16,10 +21,12 @@ pub struct Keeps {
 /// What is known of an expression.
 #[derive(Clone, Copy)]
 pub struct Traits {
-    /// The type of its value.
-    pub scalar: ScalarType,
     /// Its value, exact in its type, where that is known but for where things lie.
     pub known: Option<Place>,
+    /// Its height, as the stack charge counts it (65,535 where it is more).
+    pub height: u16,
+    /// The type of its value.
+    pub scalar: ScalarType,
     /// It calls nothing, stores nothing and reads no port: evaluating it changes nothing.
     pub is_quiet: bool,
     /// It calls nothing and stores nothing.
@@ -28,16 +35,48 @@ pub struct Traits {
     pub is_free: bool,
     /// What the code that puts its value into HL keeps.
     pub keeps: Keeps,
-    /// Its height, as the stack charge counts it (65,535 where it is more).
-    pub height: u16,
 }
 
-/// What the code that puts the address of an object or a part of it into HL keeps.
-pub fn keeps_of_address(tree: &TreeModule, reference: &Reference) -> Keeps {
-    let _ = tree;
-    let _ = reference;
-    Keeps {
-        a: false,
-        de: false,
+impl Keeps {
+    /// Both registers are kept.
+    pub(crate) fn both() -> Keeps {
+        Keeps { a: true, de: true }
+    }
+
+    /// No register is kept.
+    pub(crate) fn none() -> Keeps {
+        Keeps {
+            a: false,
+            de: false,
+        }
+    }
+}
+
+impl Traits {
+    /// Nothing is known.
+    pub(crate) fn none() -> Traits {
+        Traits {
+            scalar: ScalarType::Byte,
+            known: None,
+            is_quiet: false,
+            stores_nothing: false,
+            is_free: false,
+            keeps: Keeps::none(),
+            height: 0,
+        }
+    }
+}
+
+/// What is known of an expression of a type and a form, whose parts stand in the module.
+pub(crate) fn traits_of(tree: &TreeModule, scalar: ScalarType, form: &ExpressionForm) -> Traits {
+    let known = known_value(tree, scalar, form);
+    Traits {
+        scalar,
+        known,
+        is_quiet: is_quiet(tree, form),
+        stores_nothing: stores_nothing(tree, form),
+        is_free: is_free(tree, scalar, known, form),
+        keeps: keeps_of(tree, scalar, known, form),
+        height: height_of(tree, form),
     }
 }

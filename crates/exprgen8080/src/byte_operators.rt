@@ -1,0 +1,303 @@
+//! Operators whose low byte comes into A.
+
+use crate::byte_shifts::plan_low_byte_shifted_right;
+use crate::bytes::{plan_byte_number, plan_low_of_word};
+use crate::instructions::{clear_a, copy, low, with_memory, with_register};
+use crate::pairs::plan_pair;
+use crate::products::plan_byte_product;
+use crate::relations::plan_relation_value;
+use crate::site::Site;
+use crate::step::{Step, Steps, Task};
+use isa8080::{Instr, Operand, Operation, Register, StackPair};
+use runtime8080::Routine;
+use std::alloc::AllocError;
+use treecode::{ExpressionNumber, Reference};
+use trees::BinaryOperator;
+
+/// The operands of an operator.
+#[derive(Clone, Copy)]
+pub(crate) struct Operands {
+    pub(crate) left: ExpressionNumber,
+    pub(crate) right: ExpressionNumber,
+}
+
+// How two operands, neither of which is a number, come to an operation.
+#[derive(Clone, Copy)]
+enum ByteForm {
+    // The left one in A, the right one in memory.
+    RightInMemory(Reference),
+    // The right one in A, the left one in memory.
+    LeftInMemory(Reference),
+    // The right one first, into E, then the left one.
+    LeftFree,
+    // The left one first, into E, then the right one.
+    RightFree,
+    // The left one first, onto the stack.
+    Pushed,
+}
+
+// Whether the sides of an operation may be changed.
+fn commutes(operation: Operation) -> bool {
+    match operation {
+        Operation::Add | Operation::And | Operation::ExclusiveOr | Operation::Or => true,
+        Operation::AddWithCarry
+        | Operation::Subtract
+        | Operation::SubtractWithBorrow
+        | Operation::Compare => false,
+    }
+}
+
+// Adds a number to A.
+fn plan_added(number: u8, steps: &mut Steps) -> Result<(), AllocError> {
+    match number {
+        0 => Ok(()),
+        1 => steps.plain(Instr::Inr(Operand::Of(Register::A))),
+        255 => steps.plain(Instr::Dcr(Operand::Of(Register::A))),
+        _ => steps.plain(Instr::AccumulateImmediate(Operation::Add, number)),
+    }
+}
+
+// Carries out an operation with A and a number for which it has no shorter form.
+fn plan_immediate(operation: Operation, number: u8, steps: &mut Steps) -> Result<(), AllocError> {
+    match (operation, number) {
+        (Operation::Add, _) => plan_added(number, steps),
+        (Operation::Subtract, _) => plan_added(0_u8.wrapping_sub(number), steps),
+        (Operation::Or | Operation::ExclusiveOr, 0) | (Operation::And, 255) => Ok(()),
+        (Operation::ExclusiveOr, 255) => steps.plain(Instr::Cma),
+        _ => steps.plain(Instr::AccumulateImmediate(operation, number)),
+    }
+}
+
+/// An operation with a byte on the left and a number on the right into A.
+pub(crate) fn plan_with_number(
+    operation: Operation,
+    value: ExpressionNumber,
+    number: u8,
+    pushed: u16,
+    steps: &mut Steps,
+) -> Result<(), AllocError> {
+    match (operation, number) {
+        (Operation::And, 0) => {
+            steps.part(Task::Effects(value), pushed)?;
+            steps.plain(clear_a())
+        }
+        (Operation::Or, 255) => {
+            steps.part(Task::Effects(value), pushed)?;
+            plan_byte_number(255, steps)
+        }
+        _ => {
+            steps.part(Task::Byte(value), pushed)?;
+            plan_immediate(operation, number, steps)
+        }
+    }
+}
+
+// An operation with a number on the left and a byte on the right into A. A difference is a sum with the complement.
+fn plan_from_number(
+    operation: Operation,
+    number: u8,
+    value: ExpressionNumber,
+    pushed: u16,
+    steps: &mut Steps,
+) -> Result<(), AllocError> {
+    if commutes(operation) {
+        return plan_with_number(operation, value, number, pushed, steps);
+    }
+    steps.part(Task::Byte(value), pushed)?;
+    steps.plain(Instr::Cma)?;
+    plan_added(number.wrapping_add(1), steps)
+}
+
+// The form where the right operand is in a register already, if that makes one shorter.
+fn form_at_hand(site: &Site<'_>, operation: Operation, operands: Operands) -> Option<ByteForm> {
+    if !site.is_byte_at_hand(operands.right) || !site.may_exchange(operands.left, operands.right) {
+        return None;
+    }
+    if commutes(operation) {
+        return match site.operand_in_memory(operands.left) {
+            Some(reference) => Some(ByteForm::LeftInMemory(reference)),
+            None => None,
+        };
+    }
+    if site.is_free(operands.left) {
+        Some(ByteForm::LeftFree)
+    } else {
+        None
+    }
+}
+
+// The form in which two operands, neither of which is a number, come to an operation.
+fn form_of(site: &Site<'_>, operation: Operation, operands: Operands) -> ByteForm {
+    if let Some(form) = form_at_hand(site, operation, operands) {
+        return form;
+    }
+    if let Some(reference) = site.operand_in_memory(operands.right) {
+        return ByteForm::RightInMemory(reference);
+    }
+    let may_exchange = site.may_exchange(operands.left, operands.right);
+    if may_exchange && commutes(operation) {
+        if let Some(reference) = site.operand_in_memory(operands.left) {
+            return ByteForm::LeftInMemory(reference);
+        }
+    }
+    if may_exchange && site.is_free(operands.left) {
+        ByteForm::LeftFree
+    } else if commutes(operation) && site.is_free(operands.right) {
+        ByteForm::RightFree
+    } else {
+        ByteForm::Pushed
+    }
+}
+
+// One operand into A, and an operation with the other one, which is in memory.
+fn plan_with_memory(
+    operation: Operation,
+    value: ExpressionNumber,
+    other: Reference,
+    pushed: u16,
+    steps: &mut Steps,
+) -> Result<(), AllocError> {
+    steps.part(Task::Byte(value), pushed)?;
+    steps.part(Task::Address(other), pushed)?;
+    steps.plain(with_memory(operation))
+}
+
+// One operand into E, then the other one, whose code changes A alone, and an operation with E.
+fn plan_with_e(
+    operation: Operation,
+    first: ExpressionNumber,
+    second: ExpressionNumber,
+    pushed: u16,
+    steps: &mut Steps,
+) -> Result<(), AllocError> {
+    steps.part(Task::Byte(first), pushed)?;
+    steps.plain(copy(Register::E, Register::A))?;
+    steps.part(Task::Byte(second), pushed)?;
+    steps.plain(with_register(operation, Register::E))
+}
+
+// The left operand onto the stack, then the right one, and an operation with both.
+fn plan_with_stack(
+    operation: Operation,
+    operands: Operands,
+    pushed: u16,
+    steps: &mut Steps,
+) -> Result<(), AllocError> {
+    steps.part(Task::Byte(operands.left), pushed)?;
+    steps.plain(Instr::Push(StackPair::Psw))?;
+    steps.part(Task::Byte(operands.right), pushed.wrapping_add(2))?;
+    if commutes(operation) {
+        steps.plain(Instr::Pop(StackPair::StackBc))?;
+    } else {
+        steps.all(&[copy(Register::B, Register::A), Instr::Pop(StackPair::Psw)])?;
+    }
+    steps.plain(with_register(operation, Register::B))
+}
+
+/// An operation with the low bytes of two operands into A.
+pub(crate) fn plan_byte_operation(
+    site: &Site<'_>,
+    operation: Operation,
+    operands: Operands,
+    pushed: u16,
+    steps: &mut Steps,
+) -> Result<(), AllocError> {
+    let Operands { left, right } = operands;
+    if let Some(number) = site.low_number(right) {
+        return plan_with_number(operation, left, number, pushed, steps);
+    }
+    if let Some(number) = site.low_number(left) {
+        return plan_from_number(operation, number, right, pushed, steps);
+    }
+    match form_of(site, operation, operands) {
+        ByteForm::RightInMemory(reference) => {
+            plan_with_memory(operation, left, reference, pushed, steps)
+        }
+        ByteForm::LeftInMemory(reference) => {
+            plan_with_memory(operation, right, reference, pushed, steps)
+        }
+        ByteForm::LeftFree => plan_with_e(operation, right, left, pushed, steps),
+        ByteForm::RightFree => plan_with_e(operation, left, right, pushed, steps),
+        ByteForm::Pushed => plan_with_stack(operation, operands, pushed, steps),
+    }
+}
+
+// The low byte of a product into A.
+fn plan_product_byte(
+    site: &Site<'_>,
+    number: ExpressionNumber,
+    operands: Operands,
+    pushed: u16,
+    steps: &mut Steps,
+) -> Result<(), AllocError> {
+    if let Some(factor) = site.low_number(operands.right) {
+        return plan_byte_product(operands.left, factor, pushed, steps);
+    }
+    if let Some(factor) = site.low_number(operands.left) {
+        return plan_byte_product(operands.right, factor, pushed, steps);
+    }
+    plan_low_of_word(number, pushed, steps)
+}
+
+// The low byte of a quotient into A.
+fn plan_quotient_byte(
+    site: &Site<'_>,
+    number: ExpressionNumber,
+    operands: Operands,
+    pushed: u16,
+    steps: &mut Steps,
+) -> Result<(), AllocError> {
+    match site.power(operands.right) {
+        Some(power) => plan_low_byte_shifted_right(site, operands.left, power, pushed, steps),
+        None => plan_low_of_word(number, pushed, steps),
+    }
+}
+
+// The low byte of a remainder into A.
+fn plan_remainder_byte(
+    site: &Site<'_>,
+    operands: Operands,
+    pushed: u16,
+    steps: &mut Steps,
+) -> Result<(), AllocError> {
+    let Operands { left, right } = operands;
+    if let (Some(number), Some(_)) = (site.number(right), site.power(right)) {
+        let mask = low(number.wrapping_sub(1));
+        return plan_with_number(Operation::And, left, mask, pushed, steps);
+    }
+    let _ = plan_pair(site, left, right, true, pushed, steps)?;
+    steps.push(Step::CallRoutine(Routine::Divide))?;
+    steps.plain(copy(Register::A, Register::E))
+}
+
+/// The low byte of the value of an operator with two operands into A.
+pub(crate) fn plan_byte_binary(
+    site: &Site<'_>,
+    number: ExpressionNumber,
+    operator: BinaryOperator,
+    operands: Operands,
+    pushed: u16,
+    steps: &mut Steps,
+) -> Result<(), AllocError> {
+    let operation = match operator {
+        BinaryOperator::Add => Operation::Add,
+        BinaryOperator::Subtract => Operation::Subtract,
+        BinaryOperator::And => Operation::And,
+        BinaryOperator::Or => Operation::Or,
+        BinaryOperator::Xor => Operation::ExclusiveOr,
+        BinaryOperator::Multiply => {
+            return plan_product_byte(site, number, operands, pushed, steps);
+        }
+        BinaryOperator::Divide => {
+            return plan_quotient_byte(site, number, operands, pushed, steps);
+        }
+        BinaryOperator::Modulo => return plan_remainder_byte(site, operands, pushed, steps),
+        BinaryOperator::Equal
+        | BinaryOperator::Less
+        | BinaryOperator::Greater
+        | BinaryOperator::LessOrEqual
+        | BinaryOperator::GreaterOrEqual
+        | BinaryOperator::Unequal => return plan_relation_value(site, number, pushed, steps),
+    };
+    plan_byte_operation(site, operation, operands, pushed, steps)
+}

@@ -1,0 +1,217 @@
+//! Shifts and rotations of bytes in A.
+
+use crate::bytes::{plan_high_byte, plan_low_of_word};
+use crate::instructions::{clear_a, copy, load, repeat, with_register};
+use crate::site::Site;
+use crate::step::{Step, Steps, Task};
+use isa8080::{Instr, Operation, Pair, Register, StackPair};
+use runtime8080::Routine;
+use std::alloc::AllocError;
+use treecode::{ExpressionNumber, Reference};
+use trees::ScalarType;
+use typed_trees::ShiftFunction;
+
+/// A value that is shifted or rotated, and by how much.
+#[derive(Clone, Copy)]
+pub(crate) struct Shifted {
+    pub(crate) function: ShiftFunction,
+    pub(crate) value: ExpressionNumber,
+    pub(crate) count: ExpressionNumber,
+}
+
+// The ones that stay of a byte shifted to the right by a count below 8.
+fn kept_bits(count: u16) -> u8 {
+    if count < 8 { 255_u8 >> count } else { 0 }
+}
+
+/// Shifts A to the right by a count below 8.
+pub(crate) fn plan_right_shift(count: u16, steps: &mut Steps) -> Result<(), AllocError> {
+    if count == 0 {
+        return Ok(());
+    }
+    if count == 1 {
+        return steps.all(&[with_register(Operation::Or, Register::A), Instr::Rar]);
+    }
+    if count <= 4 {
+        repeat(Instr::Rrc, count, steps)?;
+    } else {
+        repeat(Instr::Rlc, 8_u16.saturating_sub(count), steps)?;
+    }
+    steps.plain(Instr::AccumulateImmediate(Operation::And, kept_bits(count)))
+}
+
+// Rotates A to the left by a count below 8.
+fn plan_rotation(count: u16, steps: &mut Steps) -> Result<(), AllocError> {
+    if count <= 4 {
+        repeat(Instr::Rlc, count, steps)
+    } else {
+        repeat(Instr::Rrc, 8_u16.saturating_sub(count), steps)
+    }
+}
+
+// 0 into A, after what an expression does.
+fn plan_zero(value: ExpressionNumber, pushed: u16, steps: &mut Steps) -> Result<(), AllocError> {
+    steps.part(Task::Effects(value), pushed)?;
+    steps.plain(clear_a())
+}
+
+// The low byte of a value shifted to the left by a count into A.
+fn plan_shifted_left(
+    value: ExpressionNumber,
+    count: u16,
+    pushed: u16,
+    steps: &mut Steps,
+) -> Result<(), AllocError> {
+    if count >= 8 {
+        return plan_zero(value, pushed, steps);
+    }
+    steps.part(Task::Byte(value), pushed)?;
+    repeat(with_register(Operation::Add, Register::A), count, steps)
+}
+
+/// A value below 256 shifted to the right by a count into A.
+pub(crate) fn plan_byte_shifted_right(
+    value: ExpressionNumber,
+    count: u16,
+    pushed: u16,
+    steps: &mut Steps,
+) -> Result<(), AllocError> {
+    if count >= 8 {
+        return plan_zero(value, pushed, steps);
+    }
+    steps.part(Task::Byte(value), pushed)?;
+    plan_right_shift(count, steps)
+}
+
+// The low byte of a word shifted to the right by a count from 1 to 7 into A.
+fn plan_middle_byte(
+    value: ExpressionNumber,
+    count: u16,
+    pushed: u16,
+    steps: &mut Steps,
+) -> Result<(), AllocError> {
+    steps.part(Task::Word(value), pushed)?;
+    if count == 1 {
+        return steps.all(&[
+            with_register(Operation::Or, Register::A),
+            copy(Register::A, Register::H),
+            Instr::Rar,
+            copy(Register::A, Register::L),
+            Instr::Rar,
+        ]);
+    }
+    repeat(Instr::Dad(Pair::Hl), 8_u16.saturating_sub(count), steps)?;
+    steps.plain(copy(Register::A, Register::H))
+}
+
+/// The low byte of a value shifted to the right by a count into A.
+pub(crate) fn plan_low_byte_shifted_right(
+    site: &Site<'_>,
+    value: ExpressionNumber,
+    count: u16,
+    pushed: u16,
+    steps: &mut Steps,
+) -> Result<(), AllocError> {
+    if site.fits_byte(value) {
+        return plan_byte_shifted_right(value, count, pushed, steps);
+    }
+    if count >= 16 {
+        return plan_zero(value, pushed, steps);
+    }
+    if count >= 8 {
+        plan_high_byte(site, value, pushed, steps)?;
+        return plan_right_shift(count.saturating_sub(8), steps);
+    }
+    if count == 0 {
+        return steps.part(Task::Byte(value), pushed);
+    }
+    plan_middle_byte(value, count, pushed, steps)
+}
+
+// The low byte of a value shifted or rotated by a number into A.
+fn plan_by_number(
+    site: &Site<'_>,
+    shifted: Shifted,
+    count: u16,
+    pushed: u16,
+    steps: &mut Steps,
+) -> Result<(), AllocError> {
+    match shifted.function {
+        ShiftFunction::ShiftLeft => plan_shifted_left(shifted.value, count, pushed, steps),
+        ShiftFunction::ShiftRight => {
+            plan_low_byte_shifted_right(site, shifted.value, count, pushed, steps)
+        }
+        ShiftFunction::RotateLeft => {
+            steps.part(Task::Byte(shifted.value), pushed)?;
+            plan_rotation(count % 8, steps)
+        }
+        ShiftFunction::RotateRight => {
+            steps.part(Task::Byte(shifted.value), pushed)?;
+            plan_rotation(8_u16.saturating_sub(count % 8) % 8, steps)
+        }
+    }
+}
+
+// The routine that shifts or rotates A by the count in E.
+fn byte_routine(function: ShiftFunction) -> Routine {
+    match function {
+        ShiftFunction::ShiftLeft => Routine::ShiftLeftByte,
+        ShiftFunction::ShiftRight => Routine::ShiftRightByte,
+        ShiftFunction::RotateLeft => Routine::RotateLeft,
+        ShiftFunction::RotateRight => Routine::RotateRight,
+    }
+}
+
+// A BYTE into A, and a count in memory, whose address keeps A, into E.
+fn plan_count_in_memory(
+    value: ExpressionNumber,
+    count: Reference,
+    pushed: u16,
+    steps: &mut Steps,
+) -> Result<(), AllocError> {
+    steps.part(Task::Byte(value), pushed)?;
+    steps.part(Task::Address(count), pushed)?;
+    steps.plain(load(Register::E))
+}
+
+// A BYTE into A, and a count into E.
+fn plan_operands(
+    site: &Site<'_>,
+    shifted: Shifted,
+    pushed: u16,
+    steps: &mut Steps,
+) -> Result<(), AllocError> {
+    if let Some(count) = site.operand_in_memory(shifted.count) {
+        return plan_count_in_memory(shifted.value, count, pushed, steps);
+    }
+    let is_free = site.known(shifted.value).is_some() || site.is_free(shifted.value);
+    if is_free && site.may_exchange(shifted.value, shifted.count) {
+        steps.part(Task::Byte(shifted.count), pushed)?;
+        steps.plain(copy(Register::E, Register::A))?;
+        return steps.part(Task::Byte(shifted.value), pushed);
+    }
+    steps.part(Task::Byte(shifted.value), pushed)?;
+    steps.plain(Instr::Push(StackPair::Psw))?;
+    steps.part(Task::Byte(shifted.count), pushed.wrapping_add(2))?;
+    steps.all(&[copy(Register::E, Register::A), Instr::Pop(StackPair::Psw)])
+}
+
+/// The low byte of a shift or a rotation into A.
+pub(crate) fn plan_byte_shift(
+    site: &Site<'_>,
+    number: ExpressionNumber,
+    shifted: Shifted,
+    pushed: u16,
+    steps: &mut Steps,
+) -> Result<(), AllocError> {
+    if let Some(count) = site.number(shifted.count) {
+        return plan_by_number(site, shifted, count, pushed, steps);
+    }
+    match site.scalar(number) {
+        ScalarType::Byte => {
+            plan_operands(site, shifted, pushed, steps)?;
+            steps.push(Step::CallRoutine(byte_routine(shifted.function)))
+        }
+        ScalarType::Address => plan_low_of_word(number, pushed, steps),
+    }
+}

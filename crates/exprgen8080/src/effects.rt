@@ -1,0 +1,92 @@
+//! Expressions whose value is not wanted.
+
+use crate::bytes::plan_embedded;
+use crate::calls::plan_call;
+use crate::site::Site;
+use crate::step::{Steps, Task};
+use isa8080::Instr;
+use std::alloc::AllocError;
+use treecode::{ExpressionForm, ExpressionNumber, Reference, Subscript};
+
+// What a subscript, if there is one, does.
+fn plan_subscript_effects(
+    subscript: Option<Subscript>,
+    pushed: u16,
+    steps: &mut Steps,
+) -> Result<(), AllocError> {
+    match subscript {
+        Some(subscript) => steps.part(Task::Effects(subscript.index), pushed),
+        None => Ok(()),
+    }
+}
+
+// What the subscripts of an object or a part of it do.
+fn plan_reference_effects(
+    reference: &Reference,
+    pushed: u16,
+    steps: &mut Steps,
+) -> Result<(), AllocError> {
+    plan_subscript_effects(reference.subscript, pushed, steps)?;
+    plan_subscript_effects(reference.member_subscript, pushed, steps)
+}
+
+// What two expressions do.
+fn plan_both_effects(
+    first: ExpressionNumber,
+    second: ExpressionNumber,
+    pushed: u16,
+    steps: &mut Steps,
+) -> Result<(), AllocError> {
+    steps.part(Task::Effects(first), pushed)?;
+    steps.part(Task::Effects(second), pushed)
+}
+
+// What an expression of a form does.
+fn plan_form_effects(
+    site: &Site<'_>,
+    form: ExpressionForm,
+    pushed: u16,
+    steps: &mut Steps,
+) -> Result<(), AllocError> {
+    match form {
+        ExpressionForm::Number(_) | ExpressionForm::List(_) => Ok(()),
+        ExpressionForm::Value(reference) | ExpressionForm::Location(reference) => {
+            plan_reference_effects(&reference, pushed, steps)
+        }
+        ExpressionForm::Conversion(operand)
+        | ExpressionForm::Unary { operand, .. }
+        | ExpressionForm::Function { operand, .. } => steps.part(Task::Effects(operand), pushed),
+        ExpressionForm::Binary { left, right, .. } => {
+            plan_both_effects(left, right, pushed, steps)
+        }
+        ExpressionForm::Shift { value, count, .. } => {
+            plan_both_effects(value, count, pushed, steps)
+        }
+        ExpressionForm::Assignment { target, value } => {
+            plan_embedded(target, value, false, pushed, steps)
+        }
+        ExpressionForm::Call {
+            procedure,
+            arguments,
+        } => plan_call(site, procedure, arguments, pushed, steps),
+        ExpressionForm::Input(port) => steps.plain(Instr::In(port)),
+    }
+}
+
+/// What an expression does beside its value.
+pub(crate) fn plan_effects(
+    site: &Site<'_>,
+    number: ExpressionNumber,
+    pushed: u16,
+    steps: &mut Steps,
+) -> Result<(), AllocError> {
+    match site.expression(number) {
+        Some(expression) => {
+            if expression.traits.is_quiet {
+                return Ok(());
+            }
+            plan_form_effects(site, expression.form, pushed, steps)
+        }
+        None => Ok(()),
+    }
+}

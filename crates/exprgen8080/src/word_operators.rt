@@ -1,0 +1,371 @@
+//! Operators whose value comes into HL.
+
+use crate::addresses::plan_addition;
+use crate::byte_operators::{Operands, plan_byte_operation, plan_with_number};
+use crate::bytes::plan_high_byte;
+use crate::instructions::{clear_a, copy, high, low, plan_extension, set, with_register};
+use crate::pairs::{PairOrder, plan_pair, plan_pair_in_order};
+use crate::products::plan_product;
+use crate::site::Site;
+use crate::step::{Step, Steps, Task};
+use crate::word_shifts::plan_word_shifted_right;
+use asm8080::WordForm;
+use isa8080::{Instr, Operation, Pair, Register};
+use runtime8080::Routine;
+use std::alloc::AllocError;
+use treecode::{ExpressionNumber, Place};
+use trees::BinaryOperator;
+
+// A sum into HL.
+fn plan_sum(
+    site: &Site<'_>,
+    operands: Operands,
+    pushed: u16,
+    steps: &mut Steps,
+) -> Result<(), AllocError> {
+    let Operands { left, right } = operands;
+    if let Some(place) = site.known(right) {
+        steps.part(Task::Word(left), pushed)?;
+        return plan_addition(place, steps);
+    }
+    if let Some(place) = site.known(left) {
+        steps.part(Task::Word(right), pushed)?;
+        return plan_addition(place, steps);
+    }
+    let _ = plan_pair(site, left, right, false, pushed, steps)?;
+    steps.plain(Instr::Dad(Pair::De))
+}
+
+// Takes HL from a number, into HL.
+fn plan_taken_from_number(number: u16, steps: &mut Steps) -> Result<(), AllocError> {
+    if low(number) == 0 {
+        steps.plain(clear_a())?;
+    } else {
+        steps.plain(set(Register::A, low(number)))?;
+    }
+    steps.all(&[
+        with_register(Operation::Subtract, Register::L),
+        copy(Register::L, Register::A),
+        set(Register::A, high(number)),
+        with_register(Operation::SubtractWithBorrow, Register::H),
+        copy(Register::H, Register::A),
+    ])
+}
+
+// Carries out an operation with HL and a word in memory, which is on the left, into HL.
+fn plan_with_word(
+    place: Place,
+    on_low: Operation,
+    on_high: Operation,
+    steps: &mut Steps,
+) -> Result<(), AllocError> {
+    steps.word(WordForm::LoadA, place)?;
+    steps.all(&[
+        with_register(on_low, Register::L),
+        copy(Register::L, Register::A),
+    ])?;
+    steps.word(WordForm::LoadA, place.after(1))?;
+    steps.all(&[
+        with_register(on_high, Register::H),
+        copy(Register::H, Register::A),
+    ])
+}
+
+// Carries out an operation with HL and DE, of which the left operand is in one, into HL.
+fn plan_with_pair(
+    order: PairOrder,
+    on_low: Operation,
+    on_high: Operation,
+    steps: &mut Steps,
+) -> Result<(), AllocError> {
+    match order {
+        PairOrder::LeftInHl => steps.all(&[
+            copy(Register::A, Register::L),
+            with_register(on_low, Register::E),
+            copy(Register::L, Register::A),
+            copy(Register::A, Register::H),
+            with_register(on_high, Register::D),
+            copy(Register::H, Register::A),
+        ]),
+        PairOrder::RightInHl => steps.all(&[
+            copy(Register::A, Register::E),
+            with_register(on_low, Register::L),
+            copy(Register::L, Register::A),
+            copy(Register::A, Register::D),
+            with_register(on_high, Register::H),
+            copy(Register::H, Register::A),
+        ]),
+    }
+}
+
+// A difference into HL.
+fn plan_difference(
+    site: &Site<'_>,
+    operands: Operands,
+    pushed: u16,
+    steps: &mut Steps,
+) -> Result<(), AllocError> {
+    let Operands { left, right } = operands;
+    if let Some(number) = site.number(right) {
+        steps.part(Task::Word(left), pushed)?;
+        return plan_addition(Place::Number(0_u16.wrapping_sub(number)), steps);
+    }
+    if let Some(number) = site.number(left) {
+        steps.part(Task::Word(right), pushed)?;
+        return plan_taken_from_number(number, steps);
+    }
+    let on_low = Operation::Subtract;
+    let on_high = Operation::SubtractWithBorrow;
+    if let (Some(place), true) = (site.direct_word(left), site.may_exchange(left, right)) {
+        steps.part(Task::Word(right), pushed)?;
+        return plan_with_word(place, on_low, on_high, steps);
+    }
+    let order = plan_pair(site, left, right, false, pushed, steps)?;
+    plan_with_pair(order, on_low, on_high, steps)
+}
+
+// Carries out an operation with a byte of HL and a number.
+fn plan_half(
+    operation: Operation,
+    register: Register,
+    number: u8,
+    steps: &mut Steps,
+) -> Result<(), AllocError> {
+    match (operation, number) {
+        (Operation::And, 255) | (Operation::Or | Operation::ExclusiveOr, 0) => Ok(()),
+        (Operation::And, 0) | (Operation::Or, 255) => steps.plain(set(register, number)),
+        (Operation::ExclusiveOr, 255) => steps.all(&[
+            copy(Register::A, register),
+            Instr::Cma,
+            copy(register, Register::A),
+        ]),
+        _ => steps.all(&[
+            copy(Register::A, register),
+            Instr::AccumulateImmediate(operation, number),
+            copy(register, Register::A),
+        ]),
+    }
+}
+
+// The high byte of a value AND a number as the high byte of HL, whose low byte is 0.
+fn plan_high_half(
+    site: &Site<'_>,
+    value: ExpressionNumber,
+    number: u8,
+    pushed: u16,
+    steps: &mut Steps,
+) -> Result<(), AllocError> {
+    plan_high_byte(site, value, pushed, steps)?;
+    if number != 255 {
+        steps.plain(Instr::AccumulateImmediate(Operation::And, number))?;
+    }
+    steps.all(&[copy(Register::H, Register::A), set(Register::L, 0)])
+}
+
+// AND, OR or XOR of a value and a number into HL.
+fn plan_logic_with_number(
+    site: &Site<'_>,
+    operation: Operation,
+    value: ExpressionNumber,
+    number: u16,
+    pushed: u16,
+    steps: &mut Steps,
+) -> Result<(), AllocError> {
+    if operation == Operation::And && number < 256 {
+        plan_with_number(operation, value, low(number), pushed, steps)?;
+        return plan_extension(steps);
+    }
+    if operation == Operation::And && low(number) == 0 {
+        return plan_high_half(site, value, high(number), pushed, steps);
+    }
+    steps.part(Task::Word(value), pushed)?;
+    plan_half(operation, Register::L, low(number), steps)?;
+    plan_half(operation, Register::H, high(number), steps)
+}
+
+// OR or XOR of a value and a byte whose code changes A alone into HL.
+fn plan_logic_with_byte(
+    operation: Operation,
+    value: ExpressionNumber,
+    byte: ExpressionNumber,
+    pushed: u16,
+    steps: &mut Steps,
+) -> Result<(), AllocError> {
+    steps.part(Task::Word(value), pushed)?;
+    steps.part(Task::Byte(byte), pushed)?;
+    steps.all(&[
+        with_register(operation, Register::L),
+        copy(Register::L, Register::A),
+    ])
+}
+
+// An operand whose code leaves HL alone, of AND, OR or XOR.
+#[derive(Clone, Copy)]
+enum Simple {
+    // A byte whose code changes A alone.
+    Byte(ExpressionNumber),
+    // A word in memory.
+    Word(Place),
+}
+
+// An operand whose code leaves HL alone, if it is one.
+fn simple_operand(site: &Site<'_>, number: ExpressionNumber) -> Option<Simple> {
+    if site.fits_byte(number) && site.is_free(number) {
+        return Some(Simple::Byte(number));
+    }
+    match site.direct_word(number) {
+        Some(place) => Some(Simple::Word(place)),
+        None => None,
+    }
+}
+
+// AND, OR or XOR of a value and a simple operand into HL.
+fn plan_logic_with_simple(
+    operation: Operation,
+    value: ExpressionNumber,
+    operand: Simple,
+    pushed: u16,
+    steps: &mut Steps,
+) -> Result<(), AllocError> {
+    match operand {
+        Simple::Byte(byte) => plan_logic_with_byte(operation, value, byte, pushed, steps),
+        Simple::Word(place) => {
+            steps.part(Task::Word(value), pushed)?;
+            plan_with_word(place, operation, operation, steps)
+        }
+    }
+}
+
+// The operand of AND, OR or XOR that comes first, and the other one, which is simple.
+fn with_simple(site: &Site<'_>, operands: Operands) -> Option<(ExpressionNumber, Simple)> {
+    let Operands { left, right } = operands;
+    let may_exchange = site.may_exchange(left, right);
+    let exchanged = if may_exchange {
+        simple_operand(site, left)
+    } else {
+        None
+    };
+    match (simple_operand(site, right), exchanged) {
+        (Some(_), Some(exchanged)) if site.is_word_at_hand(right) => Some((right, exchanged)),
+        (Some(operand), _) => Some((left, operand)),
+        (None, Some(exchanged)) => Some((right, exchanged)),
+        (None, None) => None,
+    }
+}
+
+// AND, OR or XOR into HL.
+fn plan_logic(
+    site: &Site<'_>,
+    operation: Operation,
+    operands: Operands,
+    pushed: u16,
+    steps: &mut Steps,
+) -> Result<(), AllocError> {
+    let Operands { left, right } = operands;
+    if let Some(number) = site.number(right) {
+        return plan_logic_with_number(site, operation, left, number, pushed, steps);
+    }
+    if let Some(number) = site.number(left) {
+        return plan_logic_with_number(site, operation, right, number, pushed, steps);
+    }
+    if operation == Operation::And && (site.fits_byte(left) || site.fits_byte(right)) {
+        plan_byte_operation(site, operation, operands, pushed, steps)?;
+        return plan_extension(steps);
+    }
+    if let Some((first, operand)) = with_simple(site, operands) {
+        return plan_logic_with_simple(operation, first, operand, pushed, steps);
+    }
+    let order = plan_pair(site, left, right, false, pushed, steps)?;
+    plan_with_pair(order, operation, operation, steps)
+}
+
+// A product into HL. The routine is faster where DE is below 256.
+fn plan_product_word(
+    site: &Site<'_>,
+    operands: Operands,
+    pushed: u16,
+    steps: &mut Steps,
+) -> Result<(), AllocError> {
+    let Operands { left, right } = operands;
+    if let Some(number) = site.number(right) {
+        return plan_product(left, number, pushed, steps);
+    }
+    if let Some(number) = site.number(left) {
+        return plan_product(right, number, pushed, steps);
+    }
+    let wish = match (site.fits_byte(left), site.fits_byte(right)) {
+        (false, true) => Some(PairOrder::LeftInHl),
+        (true, false) => Some(PairOrder::RightInHl),
+        (true, true) | (false, false) => None,
+    };
+    let _ = plan_pair_in_order(site, left, right, wish, pushed, steps)?;
+    steps.push(Step::CallRoutine(Routine::Multiply))
+}
+
+// Divides one operand by the other one: the quotient into HL, the remainder into DE.
+fn plan_division(
+    site: &Site<'_>,
+    operands: Operands,
+    pushed: u16,
+    steps: &mut Steps,
+) -> Result<(), AllocError> {
+    let Operands { left, right } = operands;
+    let _ = plan_pair(site, left, right, true, pushed, steps)?;
+    steps.push(Step::CallRoutine(Routine::Divide))
+}
+
+// A quotient into HL.
+fn plan_quotient(
+    site: &Site<'_>,
+    operands: Operands,
+    pushed: u16,
+    steps: &mut Steps,
+) -> Result<(), AllocError> {
+    match site.power(operands.right) {
+        Some(power) => plan_word_shifted_right(site, operands.left, power, pushed, steps),
+        None => plan_division(site, operands, pushed, steps),
+    }
+}
+
+// A remainder into HL.
+fn plan_remainder(
+    site: &Site<'_>,
+    operands: Operands,
+    pushed: u16,
+    steps: &mut Steps,
+) -> Result<(), AllocError> {
+    let Operands { left, right } = operands;
+    if let (Some(number), Some(_)) = (site.number(right), site.power(right)) {
+        let mask = number.wrapping_sub(1);
+        return plan_logic_with_number(site, Operation::And, left, mask, pushed, steps);
+    }
+    plan_division(site, operands, pushed, steps)?;
+    steps.plain(Instr::Xchg)
+}
+
+/// The value of an operator with two ADDRESS operands into HL.
+pub(crate) fn plan_word_binary(
+    site: &Site<'_>,
+    operator: BinaryOperator,
+    operands: Operands,
+    pushed: u16,
+    steps: &mut Steps,
+) -> Result<(), AllocError> {
+    match operator {
+        BinaryOperator::Add => plan_sum(site, operands, pushed, steps),
+        BinaryOperator::Subtract => plan_difference(site, operands, pushed, steps),
+        BinaryOperator::And => plan_logic(site, Operation::And, operands, pushed, steps),
+        BinaryOperator::Or => plan_logic(site, Operation::Or, operands, pushed, steps),
+        BinaryOperator::Xor => plan_logic(site, Operation::ExclusiveOr, operands, pushed, steps),
+        BinaryOperator::Multiply => plan_product_word(site, operands, pushed, steps),
+        BinaryOperator::Divide => plan_quotient(site, operands, pushed, steps),
+        BinaryOperator::Modulo => plan_remainder(site, operands, pushed, steps),
+        // These give a BYTE.
+        BinaryOperator::Equal
+        | BinaryOperator::Less
+        | BinaryOperator::Greater
+        | BinaryOperator::LessOrEqual
+        | BinaryOperator::GreaterOrEqual
+        | BinaryOperator::Unequal => Ok(()),
+    }
+}

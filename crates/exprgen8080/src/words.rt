@@ -1,0 +1,134 @@
+//! Values in HL.
+
+use crate::addresses::plan_location_address;
+use crate::byte_operators::Operands;
+use crate::byte_shifts::Shifted;
+use crate::bytes::plan_embedded;
+use crate::calls::plan_call;
+use crate::instructions::{clear_a, copy, plan_extension, set, with_register};
+use crate::loads::{plan_extended_byte_in_memory, plan_word_in_memory};
+use crate::site::Site;
+use crate::step::{Steps, Task};
+use crate::word_operators::plan_word_binary;
+use crate::word_shifts::plan_word_shift;
+use isa8080::{Instr, Operation, Register};
+use std::alloc::AllocError;
+use treecode::{ExpressionForm, ExpressionNumber, Location};
+use trees::{ScalarType, UnaryOperator};
+use typed_trees::UnaryFunction;
+
+// NOT or `-` of the word in HL.
+fn plan_word_unary(operator: UnaryOperator, steps: &mut Steps) -> Result<(), AllocError> {
+    match operator {
+        UnaryOperator::Not => steps.all(&[
+            copy(Register::A, Register::L),
+            Instr::Cma,
+            copy(Register::L, Register::A),
+            copy(Register::A, Register::H),
+            Instr::Cma,
+            copy(Register::H, Register::A),
+        ]),
+        UnaryOperator::Negate => steps.all(&[
+            clear_a(),
+            with_register(Operation::Subtract, Register::L),
+            copy(Register::L, Register::A),
+            set(Register::A, 0),
+            with_register(Operation::SubtractWithBorrow, Register::H),
+            copy(Register::H, Register::A),
+        ]),
+    }
+}
+
+// The value of a BYTE expression into HL.
+fn plan_extended_byte(
+    site: &Site<'_>,
+    number: ExpressionNumber,
+    pushed: u16,
+    steps: &mut Steps,
+) -> Result<(), AllocError> {
+    if let Some(reference) = site.memory(number) {
+        return plan_extended_byte_in_memory(site, &reference, pushed, steps);
+    }
+    steps.part(Task::Byte(number), pushed)?;
+    plan_extension(steps)
+}
+
+// LOW, HIGH or DOUBLE of a value, an ADDRESS, into HL.
+fn plan_word_function(
+    function: UnaryFunction,
+    operand: ExpressionNumber,
+    pushed: u16,
+    steps: &mut Steps,
+) -> Result<(), AllocError> {
+    match function {
+        UnaryFunction::Double => steps.part(Task::Word(operand), pushed),
+        // These two give a BYTE.
+        UnaryFunction::Low | UnaryFunction::High => Ok(()),
+    }
+}
+
+// The value of an ADDRESS expression that is not known into HL.
+fn plan_word_form(
+    site: &Site<'_>,
+    form: ExpressionForm,
+    pushed: u16,
+    steps: &mut Steps,
+) -> Result<(), AllocError> {
+    match form {
+        ExpressionForm::Value(reference) => plan_word_in_memory(site, &reference, pushed, steps),
+        ExpressionForm::Location(reference) => steps.part(Task::Address(reference), pushed),
+        ExpressionForm::Conversion(inner) => steps.part(Task::Word(inner), pushed),
+        ExpressionForm::Function { function, operand } => {
+            plan_word_function(function, operand, pushed, steps)
+        }
+        ExpressionForm::Unary { operator, operand } => {
+            steps.part(Task::Word(operand), pushed)?;
+            plan_word_unary(operator, steps)
+        }
+        ExpressionForm::Binary {
+            operands: _,
+            operator,
+            left,
+            right,
+        } => plan_word_binary(site, operator, Operands { left, right }, pushed, steps),
+        ExpressionForm::Shift {
+            function,
+            value,
+            count,
+        } => {
+            let shifted = Shifted {
+                function,
+                value,
+                count,
+            };
+            plan_word_shift(site, shifted, pushed, steps)
+        }
+        ExpressionForm::Assignment { target, value } => {
+            plan_embedded(target, value, true, pushed, steps)
+        }
+        ExpressionForm::Call {
+            procedure,
+            arguments,
+        } => plan_call(site, procedure, arguments, pushed, steps),
+        ExpressionForm::Number(_) | ExpressionForm::List(_) | ExpressionForm::Input(_) => Ok(()),
+    }
+}
+
+/// The value of an expression into HL, a BYTE with zeros added.
+pub(crate) fn plan_word(
+    site: &Site<'_>,
+    number: ExpressionNumber,
+    pushed: u16,
+    steps: &mut Steps,
+) -> Result<(), AllocError> {
+    if let Some(place) = site.known(number) {
+        return plan_location_address(site, Location::Static(place), pushed, steps);
+    }
+    match site.expression(number) {
+        Some(expression) => match expression.traits.scalar {
+            ScalarType::Byte => plan_extended_byte(site, number, pushed, steps),
+            ScalarType::Address => plan_word_form(site, expression.form, pushed, steps),
+        },
+        None => Ok(()),
+    }
+}

@@ -1,0 +1,117 @@
+//! Where the variables and parameters of a call lie.
+
+use std::alloc::{AllocError, Global};
+use treecode::{FrameVariable, ProcedureKind, TreeProcedure};
+
+/// Where the variables and parameters of a call of a REENTRANT procedure lie on the stack. Upwards from the stack pointer,
+/// where nothing is pushed: the variables in the order of their declarations; a word with the last parameter, a BYTE as
+/// its high byte; the return address; a word with each other parameter, from the last to the first. Without parameters
+/// the return address follows the variables.
+pub struct FramePlan {
+    /// How far above the stack pointer each variable or parameter begins, by its number in the frame.
+    distances: Vec<u16>,
+    /// How many bytes the variables take.
+    pub variable_bytes: u16,
+    /// How many parameters there are.
+    pub parameter_count: u16,
+}
+
+impl FramePlan {
+    /// The plan of a procedure without a frame.
+    pub fn empty(alloc: Global) -> FramePlan {
+        FramePlan {
+            distances: Vec::new(alloc),
+            variable_bytes: 0,
+            parameter_count: 0,
+        }
+    }
+
+    /// How far above the stack pointer, where nothing is pushed, a variable or parameter begins, by its number in the
+    /// frame (0 where there is none of that number).
+    pub fn distance(&self, variable: u16) -> u16 {
+        match self.distances.get(variable as usize) {
+            Some(distance) => *distance,
+            None => 0,
+        }
+    }
+}
+
+// How many bytes the variables of a frame take, without parameters (65,535 where they take more).
+fn variable_bytes(frame: &[FrameVariable]) -> u16 {
+    let mut bytes: u16 = 0;
+    for variable in frame {
+        if variable.parameter.is_none() {
+            bytes = bytes.saturating_add(variable.size);
+        }
+    }
+    bytes
+}
+
+// How far above the stack pointer a parameter begins that so many others follow. The return address lies between the word
+// of the last one and those of the others. A BYTE is the high byte of its word.
+fn parameter_distance(variable_bytes: u16, followers: u16, size: u16) -> u16 {
+    let words = match followers {
+        0 => 0,
+        _ => followers.saturating_add(1),
+    };
+    let word = variable_bytes.saturating_add(words.saturating_mul(2));
+    match size {
+        1 => word.saturating_add(1),
+        _ => word,
+    }
+}
+
+// How far above the stack pointer each variable or parameter of a frame begins.
+fn distances_of(
+    alloc: Global,
+    frame: &[FrameVariable],
+    variable_bytes: u16,
+    parameter_count: u16,
+) -> Result<Vec<u16>, AllocError> {
+    let mut distances = Vec::with_capacity(alloc, frame.len())?;
+    let mut next: u16 = 0;
+    for variable in frame {
+        match variable.parameter {
+            Some(index) => {
+                let followers = parameter_count.saturating_sub(index).saturating_sub(1);
+                distances.push(parameter_distance(variable_bytes, followers, variable.size))?;
+            }
+            None => {
+                distances.push(next)?;
+                next = next.saturating_add(variable.size);
+            }
+        }
+    }
+    Ok(distances)
+}
+
+// Where the variables and parameters of a call of a REENTRANT procedure lie.
+fn reentrant_plan(alloc: Global, procedure: &TreeProcedure) -> Result<FramePlan, AllocError> {
+    let frame = procedure.frame.as_slice();
+    let variable_bytes = variable_bytes(frame);
+    let parameter_count = u16::try_from(procedure.parameters.len()).unwrap_or(u16::MAX);
+    Ok(FramePlan {
+        distances: distances_of(alloc, frame, variable_bytes, parameter_count)?,
+        variable_bytes,
+        parameter_count,
+    })
+}
+
+/// Where the variables and parameters of a call of a procedure lie. The plan of a procedure that is not REENTRANT is empty.
+pub fn plan(alloc: Global, procedure: &TreeProcedure) -> Result<FramePlan, AllocError> {
+    match procedure.kind {
+        ProcedureKind::Reentrant => reentrant_plan(alloc, procedure),
+        ProcedureKind::Static | ProcedureKind::External(_) => Ok(FramePlan::empty(alloc)),
+    }
+}
+
+// Written out, so that what it holds is let go here, and each crate that lets one go calls this.
+impl Drop for FramePlan {
+    fn drop(self) {
+        let FramePlan {
+            distances: _,
+            variable_bytes: _,
+            parameter_count: _,
+        } = self;
+    }
+}

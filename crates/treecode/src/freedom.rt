@@ -1,0 +1,94 @@
+//! Expressions whose low byte is computed in A alone.
+
+use crate::expression::{ExpressionForm, ExpressionNumber};
+use crate::known::place_of;
+use crate::memory::memory_of;
+use crate::module::TreeModule;
+use crate::place::Place;
+use trees::{BinaryOperator, ScalarType};
+use typed_trees::{ShiftFunction, UnaryFunction};
+
+// Whether the low byte of an expression of a form lies in memory at a place that is known but for where things lie.
+fn is_direct(tree: &TreeModule, form: &ExpressionForm) -> bool {
+    match memory_of(tree, *form) {
+        Some(reference) => place_of(tree, &reference).is_some(),
+        None => false,
+    }
+}
+
+// Whether an operator has an instruction with a byte that is part of it.
+fn has_immediate(operator: BinaryOperator) -> bool {
+    match operator {
+        BinaryOperator::Or
+        | BinaryOperator::Xor
+        | BinaryOperator::And
+        | BinaryOperator::Add
+        | BinaryOperator::Subtract => true,
+        BinaryOperator::Equal
+        | BinaryOperator::Less
+        | BinaryOperator::Greater
+        | BinaryOperator::LessOrEqual
+        | BinaryOperator::GreaterOrEqual
+        | BinaryOperator::Unequal
+        | BinaryOperator::Multiply
+        | BinaryOperator::Divide
+        | BinaryOperator::Modulo => false,
+    }
+}
+
+// Whether a shift of a value of a type by a number needs the low byte of that alone.
+fn is_of_low_byte(scalar: ScalarType, function: ShiftFunction) -> bool {
+    match (function, scalar) {
+        (ShiftFunction::ShiftRight, ScalarType::Address) => false,
+        _ => true,
+    }
+}
+
+// Whether the low byte of an expression with a number as its right part is computed in A alone.
+fn is_free_with(tree: &TreeModule, left: ExpressionNumber, right: ExpressionNumber) -> bool {
+    tree.traits(left).is_free && tree.number(right).is_some()
+}
+
+/// Whether the low byte of an expression of a type and a form can be put into A by code that changes A and the flags
+/// alone: a number, a byte at a known place, INPUT, and NOT, `-`, the operators + - AND OR XOR with a number on the right,
+/// and shifts of the low byte by a number, over these.
+pub(crate) fn is_free(
+    tree: &TreeModule,
+    scalar: ScalarType,
+    known: Option<Place>,
+    form: &ExpressionForm,
+) -> bool {
+    if let Some(place) = known {
+        return place.number().is_some();
+    }
+    match form {
+        ExpressionForm::Input(_) => true,
+        ExpressionForm::Conversion(operand)
+        | ExpressionForm::Unary { operand, .. }
+        | ExpressionForm::Function {
+            function: UnaryFunction::Low | UnaryFunction::Double,
+            operand,
+        } => tree.traits(*operand).is_free,
+        ExpressionForm::Value(_)
+        | ExpressionForm::Function {
+            function: UnaryFunction::High,
+            ..
+        } => is_direct(tree, form),
+        ExpressionForm::Binary {
+            operator,
+            left,
+            right,
+            ..
+        } => has_immediate(*operator) && is_free_with(tree, *left, *right),
+        ExpressionForm::Shift {
+            function,
+            value,
+            count,
+        } => is_of_low_byte(scalar, *function) && is_free_with(tree, *value, *count),
+        ExpressionForm::Number(_)
+        | ExpressionForm::Location(_)
+        | ExpressionForm::List(_)
+        | ExpressionForm::Assignment { .. }
+        | ExpressionForm::Call { .. } => false,
+    }
+}

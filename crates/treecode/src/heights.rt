@@ -1,0 +1,72 @@
+//! Heights of expressions, as the stack charge counts them, in numbers that stop at 65,535.
+
+use crate::expression::{ExpressionForm, ExpressionNumber};
+use crate::lists::Range;
+use crate::module::TreeModule;
+use crate::reference::{Reference, Subscript, Target};
+
+// The height of an expression.
+fn height(tree: &TreeModule, number: ExpressionNumber) -> u16 {
+    tree.traits(number).height
+}
+
+// The height of a subscript, 0 where there is none.
+fn height_of_subscript(tree: &TreeModule, subscript: Option<Subscript>) -> u16 {
+    match subscript {
+        Some(subscript) => height(tree, subscript.index),
+        None => 0,
+    }
+}
+
+// The height of an object or a part of it.
+fn height_of_reference(tree: &TreeModule, reference: &Reference) -> u16 {
+    height_of_subscript(tree, reference.subscript)
+        .max(height_of_subscript(tree, reference.member_subscript))
+        .saturating_add(1)
+}
+
+/// The height of a target.
+pub(crate) fn height_of_target(tree: &TreeModule, target: &Target) -> u16 {
+    match target {
+        Target::Stored { reference, .. } => height_of_reference(tree, reference),
+        Target::Sent { .. } => 1,
+    }
+}
+
+/// The height of a call with these arguments.
+pub(crate) fn height_of_call(tree: &TreeModule, arguments: Range) -> u16 {
+    let mut highest: u16 = 0;
+    for index in 0..arguments.count {
+        if let Some(argument) = tree.argument(arguments, index) {
+            highest = highest.max(height(tree, argument));
+        }
+    }
+    u16::try_from(arguments.count)
+        .unwrap_or(u16::MAX)
+        .saturating_add(highest)
+        .saturating_add(1)
+}
+
+/// The height of an expression of a form.
+pub(crate) fn height_of(tree: &TreeModule, form: &ExpressionForm) -> u16 {
+    match form {
+        ExpressionForm::Number(_) | ExpressionForm::List(_) => 1,
+        ExpressionForm::Value(reference) | ExpressionForm::Location(reference) => {
+            height_of_reference(tree, reference)
+        }
+        ExpressionForm::Conversion(inner) => height(tree, *inner),
+        ExpressionForm::Assignment { target, value } => height_of_target(tree, target)
+            .max(height(tree, *value))
+            .saturating_add(1),
+        ExpressionForm::Unary { operand, .. } => height(tree, *operand).saturating_add(1),
+        ExpressionForm::Binary { left, right, .. } => height(tree, *left)
+            .max(height(tree, *right))
+            .saturating_add(1),
+        ExpressionForm::Call { arguments, .. } => height_of_call(tree, *arguments),
+        ExpressionForm::Function { operand, .. } => height(tree, *operand).saturating_add(2),
+        ExpressionForm::Shift { value, count, .. } => height(tree, *value)
+            .max(height(tree, *count))
+            .saturating_add(3),
+        ExpressionForm::Input(_) => 3,
+    }
+}

@@ -1,0 +1,166 @@
+//! Which registers code keeps that puts something into HL.
+
+use crate::expression::{ExpressionForm, ExpressionNumber};
+use crate::known::place_of;
+use crate::memory::memory_of;
+use crate::module::TreeModule;
+use crate::place::{Home, Location, Place};
+use crate::reference::{Reference, Subscript};
+use crate::traits::Keeps;
+use trees::{BinaryOperator, ScalarType};
+use typed_trees::ShiftFunction;
+
+// What the code of a computed subscript keeps. None where there is no subscript, or it is a number, which goes into the
+// offset.
+fn keeps_of_subscript(tree: &TreeModule, subscript: Option<Subscript>) -> Option<Keeps> {
+    let index = subscript?.index;
+    match tree.number(index) {
+        Some(_) => None,
+        None => Some(tree.traits(index).keeps),
+    }
+}
+
+// What the code of the sum of two computed subscripts, of which there may be less, keeps. For a sum of two one of them
+// stands in DE.
+fn keeps_of_sum(first: Option<Keeps>, second: Option<Keeps>) -> Keeps {
+    match (first, second) {
+        (Some(first), Some(second)) => Keeps {
+            a: first.a && second.a,
+            de: false,
+        },
+        (Some(keeps), None) | (None, Some(keeps)) => keeps,
+        (None, None) => Keeps::both(),
+    }
+}
+
+// What the code keeps that adds the address that a base holds to what the code of computed subscripts gives, if there are
+// any. They stand in DE meanwhile. A base in a frame comes through A.
+fn keeps_with_base(base: Location, is_computed: bool, keeps: Keeps) -> Keeps {
+    let is_static = match base {
+        Location::Static(_) => true,
+        Location::Frame { .. } => false,
+    };
+    Keeps {
+        a: keeps.a && is_static,
+        de: keeps.de && !is_computed,
+    }
+}
+
+/// What the code that puts the address of an object or a part of it into HL keeps.
+pub fn keeps_of_address(tree: &TreeModule, reference: &Reference) -> Keeps {
+    let first = keeps_of_subscript(tree, reference.subscript);
+    let second = keeps_of_subscript(tree, reference.member_subscript);
+    let keeps = keeps_of_sum(first, second);
+    match tree.home(reference.object) {
+        Home::Static(_) | Home::Frame(_) => keeps,
+        Home::Based(base) => {
+            let is_computed = first.is_some() || second.is_some();
+            keeps_with_base(base, is_computed, keeps)
+        }
+    }
+}
+
+// What the code of the value of a scalar keeps. A word that does not lie at a known place comes through A.
+fn keeps_of_value(tree: &TreeModule, scalar: ScalarType, reference: &Reference) -> Keeps {
+    let keeps = keeps_of_address(tree, reference);
+    match scalar {
+        ScalarType::Byte => keeps,
+        ScalarType::Address => Keeps {
+            a: place_of(tree, reference).is_some(),
+            de: keeps.de,
+        },
+    }
+}
+
+// What the code keeps that puts the low byte of an expression of a form into HL, with zeros added. What does not lie in
+// memory comes through A.
+fn keeps_of_byte(tree: &TreeModule, form: &ExpressionForm) -> Keeps {
+    match memory_of(tree, *form) {
+        Some(reference) => keeps_of_address(tree, &reference),
+        None => Keeps::none(),
+    }
+}
+
+// What the code of an operand as an ADDRESS keeps, which is that of a whole expression of this form.
+fn keeps_of_extended(tree: &TreeModule, form: &ExpressionForm, operand: ExpressionNumber) -> Keeps {
+    let traits = tree.traits(operand);
+    match traits.scalar {
+        ScalarType::Byte => keeps_of_byte(tree, form),
+        ScalarType::Address => traits.keeps,
+    }
+}
+
+// What the code of an operator on two ADDRESS values keeps: where one is a number, or is known and is added, what the code
+// of the other keeps.
+fn keeps_of_binary(
+    tree: &TreeModule,
+    operator: BinaryOperator,
+    left: ExpressionNumber,
+    right: ExpressionNumber,
+) -> Keeps {
+    let first = tree.traits(left);
+    let second = tree.traits(right);
+    match operator {
+        BinaryOperator::Add if second.known.is_some() => first.keeps,
+        BinaryOperator::Add if first.known.is_some() => second.keeps,
+        BinaryOperator::Multiply if tree.number(right).is_some() => first.keeps,
+        BinaryOperator::Multiply if tree.number(left).is_some() => second.keeps,
+        BinaryOperator::Subtract if tree.number(right).is_some() => first.keeps,
+        _ => Keeps::none(),
+    }
+}
+
+// What the code of a shift of an ADDRESS keeps: where it is one to the left within a byte, what the code of the value
+// keeps.
+fn keeps_of_shift(
+    tree: &TreeModule,
+    function: ShiftFunction,
+    value: ExpressionNumber,
+    count: ExpressionNumber,
+) -> Keeps {
+    match (function, tree.number(count)) {
+        (ShiftFunction::ShiftLeft, Some(count)) if count < 8 => tree.traits(value).keeps,
+        _ => Keeps::none(),
+    }
+}
+
+/// What the code keeps that puts the value of an expression of a type and a form into HL.
+pub(crate) fn keeps_of(
+    tree: &TreeModule,
+    scalar: ScalarType,
+    known: Option<Place>,
+    form: &ExpressionForm,
+) -> Keeps {
+    if known.is_some() {
+        return Keeps::both();
+    }
+    match (form, scalar) {
+        (ExpressionForm::Value(reference), _) => keeps_of_value(tree, scalar, reference),
+        (ExpressionForm::Location(reference), _) => keeps_of_address(tree, reference),
+        (ExpressionForm::Conversion(operand), ScalarType::Address)
+        | (ExpressionForm::Function { operand, .. }, ScalarType::Address) => {
+            keeps_of_extended(tree, form, *operand)
+        }
+        (ExpressionForm::Conversion(_) | ExpressionForm::Function { .. }, ScalarType::Byte) => {
+            keeps_of_byte(tree, form)
+        }
+        (
+            ExpressionForm::Binary {
+                operator,
+                left,
+                right,
+                ..
+            },
+            ScalarType::Address,
+        ) => keeps_of_binary(tree, *operator, *left, *right),
+        (
+            ExpressionForm::Shift {
+                function,
+                value,
+                count,
+            },
+            ScalarType::Address,
+        ) => keeps_of_shift(tree, *function, *value, *count),
+        _ => Keeps::none(),
+    }
+}

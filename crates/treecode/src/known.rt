@@ -1,0 +1,136 @@
+//! Values that are known but for where things lie.
+
+use crate::expression::{ExpressionForm, ExpressionNumber};
+use crate::module::TreeModule;
+use crate::place::{Home, Place};
+use crate::reference::{Reference, Subscript};
+use operators::{binary, convert, shift, unary, unary_function};
+use trees::{BinaryOperator, ScalarType};
+use typed_trees::UnaryFunction;
+
+/// How many bytes a subscript, if there is one, adds to an address, modulo 65536, where that is known.
+pub(crate) fn known_distance(tree: &TreeModule, subscript: Option<Subscript>) -> Option<u16> {
+    match subscript {
+        Some(subscript) => {
+            let index = tree.number(subscript.index)?;
+            Some(index.wrapping_mul(subscript.stride))
+        }
+        None => Some(0),
+    }
+}
+
+/// The place in memory of an object or a part of it, where it is known but for where things lie.
+pub(crate) fn place_of(tree: &TreeModule, reference: &Reference) -> Option<Place> {
+    let first = known_distance(tree, reference.subscript)?;
+    let second = known_distance(tree, reference.member_subscript)?;
+    match tree.home(reference.object) {
+        Home::Static(place) => Some(place.after(reference.offset).after(first).after(second)),
+        Home::Based(_) | Home::Frame(_) => None,
+    }
+}
+
+// A known value as one of a type. Where something lies has no low byte that is known.
+fn converted(scalar: ScalarType, known: Option<Place>) -> Option<Place> {
+    match (scalar, known?) {
+        (_, Place::Number(number)) => Some(Place::Number(convert(scalar, number))),
+        (ScalarType::Address, place) => Some(place),
+        (ScalarType::Byte, _) => None,
+    }
+}
+
+// What LOW, HIGH or DOUBLE gives of a known value.
+fn function_value(function: UnaryFunction, known: Option<Place>) -> Option<Place> {
+    match (function, known?) {
+        (_, Place::Number(number)) => Some(Place::Number(unary_function(function, number))),
+        (UnaryFunction::Double, place) => Some(place),
+        (UnaryFunction::Low | UnaryFunction::High, _) => None,
+    }
+}
+
+// What an operator gives of two numbers.
+fn number_value(
+    operands: ScalarType,
+    operator: BinaryOperator,
+    left: u16,
+    right: u16,
+) -> Option<Place> {
+    let number = binary(operands, operator, left, right)?;
+    Some(Place::Number(number))
+}
+
+// What an operator gives of two ADDRESS values that are known but for where things lie.
+fn place_value(operator: BinaryOperator, left: Place, right: Place) -> Option<Place> {
+    match (operator, left, right) {
+        (BinaryOperator::Add, place, Place::Number(distance))
+        | (BinaryOperator::Add, Place::Number(distance), place) => Some(place.after(distance)),
+        (BinaryOperator::Subtract, place, Place::Number(distance)) => {
+            Some(place.after(0_u16.wrapping_sub(distance)))
+        }
+        _ => None,
+    }
+}
+
+// What an operator gives of two known values.
+fn binary_value(
+    operands: ScalarType,
+    operator: BinaryOperator,
+    left: Option<Place>,
+    right: Option<Place>,
+) -> Option<Place> {
+    match (left?, right?) {
+        (Place::Number(left), Place::Number(right)) => {
+            number_value(operands, operator, left, right)
+        }
+        (left, right) => place_value(operator, left, right),
+    }
+}
+
+// The known value of an expression.
+fn known(tree: &TreeModule, number: ExpressionNumber) -> Option<Place> {
+    tree.traits(number).known
+}
+
+/// The value of an expression of a type and a form, exact in that type, where it is known but for where things lie.
+pub(crate) fn known_value(
+    tree: &TreeModule,
+    scalar: ScalarType,
+    form: &ExpressionForm,
+) -> Option<Place> {
+    match form {
+        ExpressionForm::Number(number) => Some(Place::Number(*number)),
+        ExpressionForm::Location(reference) => place_of(tree, reference),
+        ExpressionForm::List(offset) => Some(Place::Code(*offset)),
+        ExpressionForm::Conversion(inner) => converted(scalar, known(tree, *inner)),
+        ExpressionForm::Unary { operator, operand } => {
+            let operand = tree.number(*operand)?;
+            Some(Place::Number(unary(scalar, *operator, operand)))
+        }
+        ExpressionForm::Binary {
+            operands,
+            operator,
+            left,
+            right,
+        } => binary_value(
+            *operands,
+            *operator,
+            known(tree, *left),
+            known(tree, *right),
+        ),
+        ExpressionForm::Function { function, operand } => {
+            function_value(*function, known(tree, *operand))
+        }
+        ExpressionForm::Shift {
+            function,
+            value,
+            count,
+        } => {
+            let value = tree.number(*value)?;
+            let count = tree.number(*count)?;
+            Some(Place::Number(shift(scalar, *function, value, count)))
+        }
+        ExpressionForm::Value(_)
+        | ExpressionForm::Assignment { .. }
+        | ExpressionForm::Call { .. }
+        | ExpressionForm::Input(_) => None,
+    }
+}

@@ -1,0 +1,48 @@
+//! Expressions whose low byte lies in memory.
+
+use crate::expression::{ExpressionForm, ExpressionNumber};
+use crate::module::TreeModule;
+use crate::reference::Reference;
+use trees::ScalarType;
+use typed_trees::UnaryFunction;
+
+// The form inside LOW, DOUBLE or a conversion, which has the same low byte; else the form itself.
+fn same_low_byte(tree: &TreeModule, form: ExpressionForm) -> ExpressionForm {
+    let inner = match form {
+        ExpressionForm::Conversion(inner) => inner,
+        ExpressionForm::Function {
+            function: UnaryFunction::Low | UnaryFunction::Double,
+            operand,
+        } => operand,
+        _ => return form,
+    };
+    match tree.expression(inner) {
+        Some(expression) => expression.form,
+        None => form,
+    }
+}
+
+// The part of memory that HIGH of an expression is, if it is one.
+fn high_in_memory(tree: &TreeModule, operand: ExpressionNumber) -> Option<Reference> {
+    let expression = tree.expression(operand)?;
+    match (expression.form, expression.traits.scalar) {
+        (ExpressionForm::Value(reference), ScalarType::Address) => Some(Reference {
+            offset: reference.offset.wrapping_add(1),
+            ..reference
+        }),
+        _ => None,
+    }
+}
+
+/// The part of memory that holds the low byte of an expression of a form, where the expression is a scalar, or LOW, HIGH,
+/// DOUBLE or a conversion of one.
+pub(crate) fn memory_of(tree: &TreeModule, form: ExpressionForm) -> Option<Reference> {
+    match same_low_byte(tree, same_low_byte(tree, form)) {
+        ExpressionForm::Value(reference) => Some(reference),
+        ExpressionForm::Function {
+            function: UnaryFunction::High,
+            operand,
+        } => high_in_memory(tree, operand),
+        _ => None,
+    }
+}

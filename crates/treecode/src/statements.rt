@@ -1,0 +1,270 @@
+//! Typed statements as tree code.
+
+use crate::expression::ExpressionNumber;
+use crate::heights::{height_of_call, height_of_target};
+use crate::lists::Range;
+use crate::lowering::Lowering;
+use crate::statement::{Iteration, Statement, StatementNumber};
+use operators::holds;
+use std::alloc::AllocError;
+use typed_trees::{
+    TypedAssignment, TypedCase, TypedExpression, TypedIf, TypedIterate, TypedIteration, TypedList,
+    TypedMove, TypedStatement, TypedTarget, TypedWhile,
+};
+
+/// A statement that is added, and whether its end can be reached.
+#[derive(Clone, Copy)]
+pub(crate) struct AddedStatement {
+    number: StatementNumber,
+    reaches_its_end: bool,
+}
+
+/// A list of statements that is added, and whether its end can be reached.
+#[derive(Clone, Copy)]
+pub(crate) struct AddedList {
+    pub(crate) range: Range,
+    pub(crate) reaches_its_end: bool,
+}
+
+impl Lowering {
+    // Adds an expression of the body.
+    fn value(&mut self, expression: &TypedExpression) -> Result<ExpressionNumber, AllocError> {
+        let number = self.expression(expression)?;
+        let height = self.tree.traits(number).height;
+        self.note_height(height);
+        Ok(number)
+    }
+
+    // Adds an expression of the body, if there is one.
+    fn value_if_any(
+        &mut self,
+        expression: &Option<TypedExpression>,
+    ) -> Result<Option<ExpressionNumber>, AllocError> {
+        match expression {
+            Some(expression) => Ok(Some(self.value(expression)?)),
+            None => Ok(None),
+        }
+    }
+
+    // Adds a statement after its parts.
+    fn add(
+        &mut self,
+        statement: Statement,
+        reaches_its_end: bool,
+    ) -> Result<AddedStatement, AllocError> {
+        let number = self.tree.add_statement(statement)?;
+        Ok(AddedStatement {
+            number,
+            reaches_its_end,
+        })
+    }
+
+    // Adds targets in a row.
+    fn targets(&mut self, targets: &[TypedTarget]) -> Result<Range, AllocError> {
+        let mut added = Vec::with_capacity(self.alloc, targets.len())?;
+        for target in targets {
+            let target = self.target(target)?;
+            self.note_height(height_of_target(&self.tree, &target));
+            added.push(target)?;
+        }
+        self.tree.add_targets(added.as_slice())
+    }
+
+    // Adds an assignment.
+    fn assign(&mut self, assignment: &TypedAssignment) -> Result<AddedStatement, AllocError> {
+        let value = self.value(&assignment.value)?;
+        let targets = self.targets(assignment.targets.as_slice())?;
+        self.add(Statement::Assignment { targets, value }, true)
+    }
+
+    // Adds a call of a procedure without a result.
+    fn call(
+        &mut self,
+        procedure: u32,
+        arguments: &[TypedExpression],
+    ) -> Result<AddedStatement, AllocError> {
+        let arguments = self.arguments(arguments)?;
+        self.note_height(height_of_call(&self.tree, arguments));
+        let statement = Statement::Call {
+            procedure,
+            arguments,
+        };
+        self.add(statement, true)
+    }
+
+    // Adds CALL MOVE, a call with three arguments.
+    fn move_bytes(&mut self, moved: &TypedMove) -> Result<AddedStatement, AllocError> {
+        let count = self.value(&moved.count)?;
+        let source = self.value(&moved.source)?;
+        let destination = self.value(&moved.destination)?;
+        let highest = self
+            .tree
+            .traits(count)
+            .height
+            .max(self.tree.traits(source).height)
+            .max(self.tree.traits(destination).height);
+        self.note_height(highest.saturating_add(4));
+        let statement = Statement::Move {
+            count,
+            source,
+            destination,
+        };
+        self.add(statement, true)
+    }
+
+    // Adds RETURN.
+    fn give_back(
+        &mut self,
+        value: &Option<Box<TypedExpression>>,
+    ) -> Result<AddedStatement, AllocError> {
+        let value = match value {
+            Some(value) => Some(self.value(value)?),
+            None => None,
+        };
+        self.add(Statement::Return(value), false)
+    }
+
+    // Adds the expressions of the head of an iterative DO.
+    fn iteration(&mut self, head: &TypedIteration) -> Result<Iteration, AllocError> {
+        self.note_height(1);
+        let first = self.value(&head.first)?;
+        let last = self.value(&head.last)?;
+        let step = self.value_if_any(&head.step)?;
+        Ok(Iteration {
+            variable: head.variable,
+            scalar: head.scalar,
+            first,
+            last,
+            step,
+        })
+    }
+
+    // Adds a statement, after its parts.
+    #[cycle(statement)]
+    fn statement(&mut self, statement: &TypedStatement) -> Result<AddedStatement, AllocError> {
+        match statement {
+            TypedStatement::Label(label) => {
+                let label = self.label(*label);
+                self.add(Statement::Label(label), true)
+            }
+            TypedStatement::Null => self.add(Statement::Null, true),
+            TypedStatement::Assignment(assignment) => self.assign(assignment),
+            TypedStatement::Call {
+                procedure,
+                arguments,
+            } => self.call(*procedure, arguments.as_slice()),
+            TypedStatement::Move(moved) => self.move_bytes(moved),
+            TypedStatement::Return(value) => self.give_back(value),
+            TypedStatement::Halt => self.add(Statement::Halt, false),
+            TypedStatement::Goto(label) => {
+                let label = self.label(*label);
+                self.add(Statement::Goto(label), false)
+            }
+            TypedStatement::If(branch) => self.choose(branch),
+            TypedStatement::Do(body) => {
+                let list = self.list(body)?;
+                self.add(Statement::Do(list.range), list.reaches_its_end)
+            }
+            TypedStatement::While(turns) => self.repeat(turns),
+            TypedStatement::Iterate(turns) => self.iterate(turns),
+            TypedStatement::Case(choice) => self.choose_case(choice),
+        }
+    }
+
+    // Adds IF. Its end can't be reached where no end of its two statements can.
+    #[cycle(statement)]
+    fn choose(&mut self, branch: &TypedIf) -> Result<AddedStatement, AllocError> {
+        let condition = self.value(&branch.condition)?;
+        let body = self.statement(&branch.body)?;
+        let otherwise = self.otherwise(&branch.otherwise)?;
+        let reaches_its_end = match otherwise {
+            Some(otherwise) => body.reaches_its_end || otherwise.reaches_its_end,
+            None => true,
+        };
+        let statement = Statement::If {
+            condition,
+            body: body.number,
+            otherwise: match otherwise {
+                Some(otherwise) => Some(otherwise.number),
+                None => None,
+            },
+        };
+        self.add(statement, reaches_its_end)
+    }
+
+    // Adds the statement after ELSE, if there is one.
+    #[cycle(statement)]
+    fn otherwise(
+        &mut self,
+        otherwise: &Option<TypedStatement>,
+    ) -> Result<Option<AddedStatement>, AllocError> {
+        match otherwise {
+            Some(statement) => Ok(Some(self.statement(statement)?)),
+            None => Ok(None),
+        }
+    }
+
+    // Adds DO WHILE. Its end can't be reached where the condition is known and true.
+    #[cycle(statement)]
+    fn repeat(&mut self, turns: &TypedWhile) -> Result<AddedStatement, AllocError> {
+        let condition = self.value(&turns.condition)?;
+        let body = self.list(&turns.body)?;
+        let reaches_its_end = match self.tree.number(condition) {
+            Some(number) => !holds(number),
+            None => true,
+        };
+        let statement = Statement::While {
+            condition,
+            body: body.range,
+        };
+        self.add(statement, reaches_its_end)
+    }
+
+    // Adds an iterative DO.
+    #[cycle(statement)]
+    fn iterate(&mut self, turns: &TypedIterate) -> Result<AddedStatement, AllocError> {
+        let head = self.iteration(&turns.head)?;
+        let body = self.list(&turns.body)?;
+        let statement = Statement::Iterate {
+            head,
+            body: body.range,
+        };
+        self.add(statement, true)
+    }
+
+    // Adds DO CASE.
+    #[cycle(statement)]
+    fn choose_case(&mut self, choice: &TypedCase) -> Result<AddedStatement, AllocError> {
+        let number = self.value(&choice.choice)?;
+        let body = self.statements(choice.body.as_slice())?;
+        let statement = Statement::Case {
+            choice: number,
+            body: body.range,
+        };
+        self.add(statement, true)
+    }
+
+    /// Adds a list of statements, with its labels.
+    #[cycle(statement)]
+    pub(crate) fn list(&mut self, list: &TypedList) -> Result<AddedList, AllocError> {
+        self.number_labels(list.first_label, list.places.len())?;
+        self.statements(list.statements.as_slice())
+    }
+
+    // Adds statements in a row. Their end can be reached where that of the last one can.
+    #[cycle(statement)]
+    fn statements(&mut self, statements: &[TypedStatement]) -> Result<AddedList, AllocError> {
+        let mut numbers = Vec::with_capacity(self.alloc, statements.len())?;
+        let mut reaches_its_end = true;
+        for statement in statements {
+            let added = self.statement(statement)?;
+            numbers.push(added.number)?;
+            reaches_its_end = added.reaches_its_end;
+        }
+        let range = self.tree.add_list(numbers.as_slice())?;
+        Ok(AddedList {
+            range,
+            reaches_its_end,
+        })
+    }
+}
