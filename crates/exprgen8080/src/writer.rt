@@ -6,7 +6,7 @@ ghost use Rattle.exprgen8080.specs.internal.Labels.{Follows};
 
 use crate::externals::Externals;
 use crate::step::LabelNumber;
-use asm8080::{Code, CodeBytes, Fault, WordForm, instruction_with};
+use asm8080::{Code, CodeBytes, Fault, Label, WordForm, instruction_with};
 use failure::Failure;
 use isa8080::Instr;
 use object_modules::{Segment, Target};
