@@ -1,6 +1,6 @@
 use Rattle.std.proofs.Common.{refl}
-use Rattle.exprgen8080.proofs.Labels.{routine_added}
-use Rattle.exprgen8080.proofs.writer.add_routine.Goals as goal
+use Rattle.steps8080.proofs.Labels.{routine_added}
+use Rattle.steps8080.proofs.writer.add_routine.Goals as goal
 
 pub returns : goal.returns
 returns c =

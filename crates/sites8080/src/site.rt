@@ -1,8 +1,7 @@
 //! Where code stands.
 
-use crate::facts::Facts;
-use crate::step::Task;
 use frames::FramePlan;
+use steps8080::{Facts, Task};
 use treecode::{Expression, ExpressionNumber, Reference, Target, TreeModule};
 use trees::ScalarType;
 
@@ -34,6 +33,15 @@ impl<'a> Site<'a> {
             Some(expression) => expression.traits.scalar,
             None => ScalarType::Byte,
         }
+    }
+
+    /// How far above the stack pointer a byte of a variable or parameter in the frame lies, where so many bytes are
+    /// pushed.
+    pub fn distance(&self, variable: u16, offset: u16, pushed: u16) -> u16 {
+        self.frame
+            .distance(variable)
+            .wrapping_add(offset)
+            .wrapping_add(pushed)
     }
 
     /// A number for a task that is above that of each part of its code.

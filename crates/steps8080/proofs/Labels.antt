@@ -7,7 +7,7 @@ use Rattle.asm8080.specs.Items.{Assembly, IsAssembly, is_bound, marks}
 use Rattle.asm8080.proofs.ItemLemmas.{unbound_from}
 use Rattle.runtime8080.specs.declared.routine.Routine.{Routine}
 use Rattle.runtime8080.specs.Routines.{AddsRoutine}
-use Rattle.exprgen8080.specs.internal.Labels.{Follows}
+use Rattle.steps8080.specs.internal.Labels.{Follows}
 
 -- a flag more that is not set
 pub one_more :

@@ -1,5 +1,5 @@
-use Rattle.exprgen8080.proofs.Labels.{more_labels, one_more, unchanged}
-use Rattle.exprgen8080.proofs.writer.Writer.new_label.Goals as goal
+use Rattle.steps8080.proofs.Labels.{more_labels, one_more, unchanged}
+use Rattle.steps8080.proofs.writer.Writer.new_label.Goals as goal
 
 pub invariant_of-self-in_err-label : goal.invariant_of-self-in_err-label
 invariant_of-self-in_err-label c =

@@ -2,7 +2,7 @@
 
 ghost use Rattle.std.specs.Prelude.{IfOk};
 ghost use Rattle.asm8080.specs.Assembled.{Assembles};
-ghost use Rattle.exprgen8080.specs.internal.Labels.{Follows};
+ghost use Rattle.steps8080.specs.internal.Labels.{Follows};
 
 use crate::externals::Externals;
 use crate::step::LabelNumber;
@@ -29,7 +29,7 @@ pub struct Writer {
 impl Model for Writer {
     ghost use Rattle.asm8080.specs.Assembled.{Assembles};
     ghost use Rattle.asm8080.specs.Items.{Assembly};
-    ghost use Rattle.exprgen8080.specs.internal.Labels.{Follows};
+    ghost use Rattle.steps8080.specs.internal.Labels.{Follows};
 
     ghost Value = { Assembly };
 

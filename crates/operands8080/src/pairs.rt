@@ -1,16 +1,15 @@
 //! Two words, one in HL and the other in DE.
 
-use crate::instructions::{copy, set};
-use crate::site::Site;
-use crate::step::{Steps, Task};
 use asm8080::WordForm;
 use isa8080::{Instr, Pair, Register, StackPair};
+use sites8080::Site;
 use std::alloc::AllocError;
+use steps8080::{Steps, Task, copy, set};
 use treecode::{ExpressionNumber, Place};
 
 /// Which of two operands is in HL. The other one is in DE.
 #[derive(Clone, Copy, PartialEq, Eq)]
-pub(crate) enum PairOrder {
+pub enum PairOrder {
     LeftInHl,
     RightInHl,
 }
@@ -220,7 +219,7 @@ impl PairForm {
 }
 
 /// Two operands into HL and DE, in the order that is wished for, if one is.
-pub(crate) fn plan_pair_in_order(
+pub fn plan_pair_in_order(
     site: &Site<'_>,
     left: ExpressionNumber,
     right: ExpressionNumber,
@@ -242,7 +241,7 @@ pub(crate) fn plan_pair_in_order(
 }
 
 /// Two operands into HL and DE; the left one into HL where that is wanted.
-pub(crate) fn plan_pair(
+pub fn plan_pair(
     site: &Site<'_>,
     left: ExpressionNumber,
     right: ExpressionNumber,

@@ -1,15 +1,13 @@
 //! Relations of ADDRESSes.
 
 use crate::byte_relations::{plan_byte_number, plan_byte_relation, plan_number_in_a};
-use crate::instructions::{copy, high, load, low, repeat, with_register};
-use crate::pairs::{PairOrder, plan_pair};
-use crate::questions::{Comparison, NumberQuestion, Question};
 use crate::relations::{Answer, Setting, plan_known};
-use crate::site::Site;
-use crate::step::{Steps, Task};
 use asm8080::WordForm;
 use isa8080::{Instr, Operation, Pair, Register};
+use operands8080::{PairOrder, plan_pair};
+use sites8080::{Comparison, NumberQuestion, Question, Site};
 use std::alloc::AllocError;
+use steps8080::{Steps, Task, copy, high, load, low, repeat, with_register};
 use treecode::{ExpressionForm, ExpressionNumber, Place};
 use trees::{BinaryOperator, ScalarType};
 
@@ -169,7 +167,7 @@ fn plan_word_below(
 }
 
 /// The steps that answer what is asked of an ADDRESS and a number.
-pub(crate) fn plan_word_number(
+pub fn plan_word_number(
     site: &Site<'_>,
     operand: ExpressionNumber,
     question: NumberQuestion,
@@ -316,7 +314,7 @@ fn plan_with_pair(
 }
 
 /// The steps that answer what is asked of two ADDRESSes.
-pub(crate) fn plan_word_relation(
+pub fn plan_word_relation(
     site: &Site<'_>,
     comparison: &Comparison,
     setting: Setting,
