@@ -14,8 +14,13 @@ pub enum Fault {
 }
 
 impl Fault {
+    ghost use Rattle.std.specs.Prelude.{◌≡◌};
+    ghost use Rattle.codegen8080.specs.Faults.{number_of};
+
     /// The number by which the documentation and the command line know the fault.
-    pub fn number(&self) -> &'static str {
+    pub fn number(&self) -> &'static str
+        ensures { result.now ≡ number_of self.now }
+    {
         match self {
             Fault::TooLong => "G1",
             Fault::UnboundLabel => "A1",

@@ -1,8 +1,23 @@
 //! The code of modules.
 #![tactic(auto)]
 
+mod assignment;
+mod body;
+mod bound;
+mod branching;
+mod case;
 mod fault;
+mod generator;
+mod iteration;
 mod module;
+mod moving;
+mod names;
+mod plan;
+mod procedures;
+mod same;
+mod segments;
+mod statements;
+mod targets;
 
 pub use fault::Fault;
 pub use module::generate;

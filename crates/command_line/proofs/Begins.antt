@@ -3,7 +3,7 @@ use Rattle.std.proofs.Common.{◌≡◌, ◌∙◌, List, [], ◌∷◌, ◌++�
 use Rattle.std.specs.Prelude.{fold}
 use Rattle.std.specs.List.{AllByRecursion}
 use Rattle.clap.proofs.OnLiterals.{clap_on_literals}
-use Rattle.clap.specs.Words.{Kinds, Row, Text}
+use Rattle.clap.specs.Words.{Kinds, Row, Shape, Text}
 use Rattle.clap.specs.Walk.{Held, Walk, idle, option, has_row, nothing_held, reading_by, settled, walk, walk_from, walked}
 use Rattle.clap.specs.Simple.{filled}
 use Rattle.clap.specs.Faults.{settle_fault, turn_fault, walk_fault}
@@ -32,7 +32,7 @@ pub record Begins (form : Form) (name : Text) (first : List Text) (before : List
       → walk_fault (leaf form name) [] (walk_from nothing_held) (first ++ file ∷ rest) ≡ walk_fault (leaf form name) [] (state before [] file) rest
 
 -- a walk with nothing pending, and what it has found
-abbrev found_walk : List Row → Walk
+abbrev pub found_walk : List Row → Walk
 found_walk rows = record {
   held = record { rows = rows; pending = None; skip = 0 };
   waiting = idle;
@@ -253,12 +253,12 @@ option_begins name o text fits = record {
 }
 
 -- where the walk over such words ends
-pub record Ends (form : Form) (name : Text) (words : List Text) (rows : List Row) : Type 0 where
+pub record Ends (s : Shape) (words : List Text) (rows : List Row) : Type 0 where
   pub held : Held
-  pub fine : walk_fault (leaf form name) [] (walk_from nothing_held) words ≡ []
-  pub is : (walk (rules form) [] nothing_held words).held ≡ held
-  pub settle : settle_fault (rules form) false held ≡ []
-  pub settles : (settled (rules form) held).rows ≡ rows
+  pub fine : walk_fault s [] (walk_from nothing_held) words ≡ []
+  pub is : (walk s.rules [] nothing_held words).held ≡ held
+  pub settle : settle_fault s.rules false held ≡ []
+  pub settles : (settled s.rules held).rows ≡ rows
 
 settle_by : (form : Form) (before : List Row) (done : List Text) (last : Text) → settle_fault (rules form) false (state before done last).held ≡ []
 settle_by Sources before done last = refl
@@ -272,7 +272,7 @@ settles_by Objects before done last none = rows_more before done last none
 settles_by Placed before done last none = rows_more before done last none
 
 pub ends_by : (form : Form) (name : Text) (first : List Text) (before : List Row) → Begins form name first before → (file : Text) (files : List Text) → IsBare file
-    → AllByRecursion IsBare files → Ends form name (first ++ file ∷ files) (before ++ files_row (file ∷ files) ∷ [])
+    → AllByRecursion IsBare files → Ends (leaf form name) (first ++ file ∷ files) (before ++ files_row (file ∷ files) ∷ [])
 ends_by form name first before b file files bare others = record {
   held = (state before (done_of [] file files) (last_of file files)).held;
   fine = b.goes_well file bare files ∙ files_fault form name before b.no_file [] file files others;

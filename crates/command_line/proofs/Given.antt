@@ -9,10 +9,11 @@ use Rattle.command_line.specs.declared.orders.Order.{Order}
 use Rattle.command_line.specs.declared.orders.PlaceAction.{PlaceAction}
 use Rattle.command_line.specs.declared.reading.LineFault.{LineFault}
 use Rattle.command_line.specs.internal.Errors.{IsFailureFor}
-use Rattle.command_line.specs.Command.{Gives, IsBare, Orders, OrdersFiles, OrdersLink, OrdersMap, OrdersPlace, OrdersPlaceText, OrdersText, PlanOption, ValueOption, Wanted, name_of_action, name_of_place_action, option_name, option_words, plan_option_name, plm_app, usual, usual_place, usual_plan, wanted_by, wanted_in, wants_link, wants_place, wants_program, with_plan_text, with_text}
+use Rattle.command_line.specs.Command.{Gives, IsBare, Orders, OrdersCompile, OrdersFiles, OrdersLink, OrdersMap, OrdersPlace, OrdersPlaceText, OrdersText, PlanOption, ValueOption, Wanted, name_of_action, name_of_place_action, option_name, option_words, plan_option_name, plm_app, usual, usual_place, usual_plan, wanted_by, wanted_in, wants_compile, wants_link, wants_place, wants_program, with_plan_text, with_text}
 use Rattle.command_line.proofs.Begins.{ends_by, map_begins, map_row, of_place, of_program, option_begins, option_row, out, plain_begins}
 use Rattle.command_line.proofs.Lines.{Line, link_line, map_line, option_line, place_line, place_option_line, plain_line}
-use Rattle.command_line.proofs.Verbs.{Objects, Placed, Sources, Verb, link, name_of, place, program}
+use Rattle.command_line.proofs.Verbs.{Objects, Placed, Sources, Verb, compile, link, name_of, place, program}
+use Rattle.command_line.proofs.Compiles.{compile_line}
 use Rattle.command_line.proofs.CommandLemmas.{only_memory}
 use Rattle.command_line.proofs.PlmWords.{line_fine, line_wanted}
 
@@ -47,6 +48,11 @@ text_wanted words name action (file ∷ files) option text bare g =
     wants_by words (option_words (option_name option) text ++ file ∷ files) name (program action) (wants_program (with_text option text (usual action (file ∷ files)))) g.words_are
     (option_line action option text file files
     (ends_by Sources (name_of (program action)) (option_words (option_name option) text) (option_row (of_program option) text ∷ []) (option_begins (name_of (program action)) (of_program option) text bare) file files g.bare.0 g.bare.1))
+
+compile_wanted : (words : List Text) (name source object : Text) → IsBare source
+    → Gives words name (codes "compile") (source ∷ []) (object ∷ []) → Wants words (wants_compile (record { source = source; object = object }))
+compile_wanted words name source object bare g =
+    wants_by words (source ∷ object ∷ []) name compile (wants_compile (record { source = source; object = object })) g.words_are (compile_line source object bare g.bare.0)
 
 link_wanted : (words : List Text) (name : Text) (target : Text) (files : List Text) → IsBare target
     → Gives words name (codes "link") (option_words (codes "out") target) files → Wants words (wants_link (record { out = target; objects = files }))
@@ -85,6 +91,9 @@ map_ordered words order found = λ name action files g. order_is words order (wa
 pub text_ordered : (words : List Text) (order : Order) → Orders words order → OrdersText words (Ok order)
 text_ordered words order found = λ name action files option text bare g. order_is words order (wants_program (with_text option text (usual action files))) found (text_wanted words name action files option text bare g)
 
+pub compile_ordered : (words : List Text) (order : Order) → Orders words order → OrdersCompile words (Ok order)
+compile_ordered words order found = λ name source object bare g. order_is words order (wants_compile (record { source = source; object = object })) found (compile_wanted words name source object bare g)
+
 pub link_ordered : (words : List Text) (order : Order) → Orders words order → OrdersLink words (Ok order)
 link_ordered words order found = λ name target files bare g. order_is words order (wants_link (record { out = target; objects = files })) found (link_wanted words name target files bare g)
 
@@ -106,6 +115,10 @@ map_failed words error failure has is = λ name action files g. only_memory erro
 pub text_failed : (words : List Text) (error : Error) (failure : Failure LineFault) → HasKind (fault_of plm_app words) error → IsFailureFor error failure
     → OrdersText words (Err failure)
 text_failed words error failure has is = λ name action files option text bare g. only_memory error failure (fault_of plm_app words) (text_wanted words name action files option text bare g).fine has is
+
+pub compile_failed : (words : List Text) (error : Error) (failure : Failure LineFault) → HasKind (fault_of plm_app words) error → IsFailureFor error failure
+    → OrdersCompile words (Err failure)
+compile_failed words error failure has is = λ name source object bare g. only_memory error failure (fault_of plm_app words) (compile_wanted words name source object bare g).fine has is
 
 pub link_failed : (words : List Text) (error : Error) (failure : Failure LineFault) → HasKind (fault_of plm_app words) error → IsFailureFor error failure
     → OrdersLink words (Err failure)

@@ -5,6 +5,7 @@ pub mod Verbs
 pub mod Files
 pub mod Begins
 pub mod Lines
+pub mod Compiles
 pub mod Full
 pub mod PlmWords
 pub mod Given

@@ -9,34 +9,34 @@ use Rattle.command_line.specs.declared.orders.PlaceAction.{PlaceAction}
 use Rattle.command_line.specs.Command.{Code, DataBase, Input, Limit, OfPlan, PlanOption, Stack, StackSize, ValueOption, Wanted, option_words, plan_option_name, option_name, usual, usual_place, usual_plan, wants_link, wants_place, wants_program, with_plan_text, with_text}
 use Rattle.command_line.proofs.Files.{files_row, level_of, rows_of_level}
 use Rattle.command_line.proofs.Begins.{Ends, map_row, of_place, of_program, option_row, out}
-use Rattle.command_line.proofs.Verbs.{Objects, Placed, Sources, Verb, form_of, leaf, link, name_of, place, program, rules, wanted_of}
+use Rattle.command_line.proofs.Verbs.{Objects, Placed, Sources, Verb, leaf, leaf_of, link, name_of, place, program, rules_of, wanted_of}
 
 -- such words have no fault, and give what is wanted
 pub record Line (verb : Verb) (words : List Text) (wanted : Wanted) : Type 0 where
-  pub level : level_fault (leaf (form_of verb) (name_of verb)) [] nothing_held words false [] ≡ []
-  pub gives : wanted_of verb (rows_after (rules (form_of verb)) [] words) ≡ wanted
+  pub level : level_fault (leaf_of verb) [] nothing_held words false [] ≡ []
+  pub gives : wanted_of verb (rows_after (rules_of verb) [] words) ≡ wanted
 
-line_of : (verb : Verb) (words : List Text) (rows : List Row) (wanted : Wanted) (e : Ends (form_of verb) (name_of verb) words rows) → defaults_fault rows (rules (form_of verb)) ≡ []
-    → check_fault (leaf (form_of verb) (name_of verb)) (fold with_default rows (rules (form_of verb))) false ≡ []
-    → wanted_of verb (fold with_default rows (rules (form_of verb))) ≡ wanted → Line verb words wanted
+pub line_of : (verb : Verb) (words : List Text) (rows : List Row) (wanted : Wanted) (e : Ends (leaf_of verb) words rows) → defaults_fault rows (rules_of verb) ≡ []
+    → check_fault (leaf_of verb) (fold with_default rows (rules_of verb)) false ≡ []
+    → wanted_of verb (fold with_default rows (rules_of verb)) ≡ wanted → Line verb words wanted
 line_of verb words rows wanted e defaults check gives = record {
-  level = level_of (leaf (form_of verb) (name_of verb)) words e.held rows e.fine e.is e.settle e.settles defaults check;
-  gives = ap (wanted_of verb) (rows_of_level (rules (form_of verb)) words e.held rows e.is e.settles) ∙ gives;
+  level = level_of (leaf_of verb) words e.held rows e.fine e.is e.settle e.settles defaults check;
+  gives = ap (wanted_of verb) (rows_of_level (rules_of verb) words e.held rows e.is e.settles) ∙ gives;
 }
 
-pub plain_line : (action : Action) (file : Text) (files : List Text) → Ends Sources (name_of (program action)) (file ∷ files) (files_row (file ∷ files) ∷ [])
+pub plain_line : (action : Action) (file : Text) (files : List Text) → Ends (leaf Sources (name_of (program action))) (file ∷ files) (files_row (file ∷ files) ∷ [])
     → Line (program action) (file ∷ files) (wants_program (usual action (file ∷ files)))
 unfolding defaults_fault
 plain_line action file files e = line_of (program action) (file ∷ files) (files_row (file ∷ files) ∷ []) (wants_program (usual action (file ∷ files))) e refl refl refl
 
-pub map_line : (action : Action) (file : Text) (files : List Text) → Ends Sources (name_of (program action)) (codes "--map" ∷ file ∷ files) (map_row ∷ files_row (file ∷ files) ∷ [])
+pub map_line : (action : Action) (file : Text) (files : List Text) → Ends (leaf Sources (name_of (program action))) (codes "--map" ∷ file ∷ files) (map_row ∷ files_row (file ∷ files) ∷ [])
     → Line (program action) (codes "--map" ∷ file ∷ files) (wants_program (record (usual action (file ∷ files)) { map = true }))
 unfolding defaults_fault
 map_line action file files e =
     line_of (program action) (codes "--map" ∷ file ∷ files) (map_row ∷ files_row (file ∷ files) ∷ []) (wants_program (record (usual action (file ∷ files)) { map = true })) e refl refl refl
 
 pub option_line : (action : Action) (o : ValueOption) (text file : Text) (files : List Text)
-    → Ends Sources (name_of (program action)) (option_words (option_name o) text ++ file ∷ files) (option_row (of_program o) text ∷ files_row (file ∷ files) ∷ [])
+    → Ends (leaf Sources (name_of (program action))) (option_words (option_name o) text ++ file ∷ files) (option_row (of_program o) text ∷ files_row (file ∷ files) ∷ [])
     → Line (program action) (option_words (option_name o) text ++ file ∷ files) (wants_program (with_text o text (usual action (file ∷ files))))
 unfolding defaults_fault
 option_line action (OfPlan Code) text file files e =
@@ -58,19 +58,19 @@ option_line action Input text file files e =
     line_of (program action) (option_words (option_name Input) text ++ file ∷ files) (option_row (of_program Input) text ∷ files_row (file ∷ files) ∷ [])
     (wants_program (with_text Input text (usual action (file ∷ files)))) e refl refl refl
 
-pub link_line : (name file : Text) (files : List Text) → Ends Objects (codes "link") (option_words (codes "out") name ++ file ∷ files) (option_row out name ∷ files_row (file ∷ files) ∷ [])
+pub link_line : (name file : Text) (files : List Text) → Ends (leaf Objects (codes "link")) (option_words (codes "out") name ++ file ∷ files) (option_row out name ∷ files_row (file ∷ files) ∷ [])
     → Line link (option_words (codes "out") name ++ file ∷ files) (wants_link (record { out = name; objects = file ∷ files }))
 unfolding defaults_fault
 link_line name file files e =
     line_of link (option_words (codes "out") name ++ file ∷ files) (option_row out name ∷ files_row (file ∷ files) ∷ []) (wants_link (record { out = name; objects = file ∷ files })) e refl refl refl
 
-pub place_line : (action : PlaceAction) (file : Text) (files : List Text) → Ends Placed (name_of (place action)) (file ∷ files) (files_row (file ∷ files) ∷ [])
+pub place_line : (action : PlaceAction) (file : Text) (files : List Text) → Ends (leaf Placed (name_of (place action))) (file ∷ files) (files_row (file ∷ files) ∷ [])
     → Line (place action) (file ∷ files) (wants_place (usual_place action (file ∷ files)))
 unfolding defaults_fault
 place_line action file files e = line_of (place action) (file ∷ files) (files_row (file ∷ files) ∷ []) (wants_place (usual_place action (file ∷ files))) e refl refl refl
 
 pub place_option_line : (action : PlaceAction) (o : PlanOption) (text file : Text) (files : List Text)
-    → Ends Placed (name_of (place action)) (option_words (plan_option_name o) text ++ file ∷ files) (option_row (of_place o) text ∷ files_row (file ∷ files) ∷ [])
+    → Ends (leaf Placed (name_of (place action))) (option_words (plan_option_name o) text ++ file ∷ files) (option_row (of_place o) text ∷ files_row (file ∷ files) ∷ [])
     → Line (place action) (option_words (plan_option_name o) text ++ file ∷ files)
     (wants_place (record (usual_place action (file ∷ files)) { plan = with_plan_text o text usual_plan }))
 unfolding defaults_fault

@@ -1,5 +1,5 @@
 -- The words of a whole command line: without a fault they give an order.
-use Rattle.std.proofs.Common.{◌≡◌, ℕ, List, [], ◌∷◌, Option, Some, None, Bool, true, false, refl, sym, subst, codes, drop, is_some, ap, ◌∙◌, ◌++◌, append_assoc, ◌<◌, length}
+use Rattle.std.proofs.Common.{◌≡◌, ℕ, List, [], ◌∷◌, Option, Some, None, Bool, true, false, refl, sym, subst, codes, drop, is_some, ap, ◌∙◌, ◌++◌, append_assoc, ◌<◌, length, arith}
 use Rattle.std.specs.Prelude.{find, fold, option_and_then, option_map, if◌then◌else◌, not, ◌&&◌, ◌||◌}
 use Rattle.std.specs.List.{AllByRecursion}
 use Rattle.std.specs.Option.{option_map_or}
@@ -19,7 +19,7 @@ use Rattle.command_line.specs.declared.orders.Action.TheVariants.{Run, Interpret
 use Rattle.command_line.specs.declared.orders.PlaceAction.TheVariants.{Locate, Hex}
 use Rattle.command_line.proofs.CommandLemmas.{same_text_of}
 use Rattle.command_line.proofs.Full.{some_file}
-use Rattle.command_line.proofs.Verbs.{Objects, Placed, Sources, Verb, form_of, leaf, link, name_of, place, program, rules, wanted_of}
+use Rattle.command_line.proofs.Verbs.{Objects, Placed, Sources, Verb, compile, leaf, leaf_of, link, name_of, place, program, rules_of, wanted_of}
 use Rattle.command_line.proofs.Levels.{level_passes_by, never, none_of_both}
 
 pub plm_is_simple : is_simple plm_app ≡ true
@@ -117,7 +117,7 @@ help_built = built_leaf help_shape
 abbrev plm_built : App
 plm_built = record {
   top = top_built;
-  subs = leaf Sources (codes "run") ∷ leaf Sources (codes "interpret") ∷ leaf Objects (codes "link") ∷ leaf Placed (codes "locate") ∷ leaf Placed (codes "hex") ∷ help_built ∷ [];
+  subs = leaf_of compile ∷ leaf Sources (codes "run") ∷ leaf Sources (codes "interpret") ∷ leaf Objects (codes "link") ∷ leaf Placed (codes "locate") ∷ leaf Placed (codes "hex") ∷ help_built ∷ [];
 }
 
 built_is : built plm_app ≡ plm_built
@@ -161,7 +161,10 @@ all_commands name other = (
       λ e rows missing. some_is_none _ missing,
       (
         λ e rows missing. some_is_none _ missing,
-        (λ e rows missing. some_is_none _ missing, (λ e rows missing. help_named name e other, tt)),
+        (
+          λ e rows missing. some_is_none _ missing,
+          (λ e rows missing. some_is_none _ missing, (λ e rows missing. help_named name e other, tt)),
+        ),
       ),
     ),
   ),
@@ -196,6 +199,7 @@ stopped_walk c names w name seen (word ∷ rest) = stopped_walk c names w name (
 
 command_met : (verb : Verb) → walked top_built.rules (names_of plm_built) (walk_from nothing_held) (name_of verb) ≡ record (walk_from nothing_held) { stopped = Some (name_of verb, []) }
 unfolding clap_on_literals
+command_met compile = refl
 command_met (program Run) = refl
 command_met (program Interpret) = refl
 command_met link = refl
@@ -210,6 +214,7 @@ command_walk verb rest =
 
 command_turn : (verb : Verb) → turn_fault top_built (names_of plm_built) (walk_from nothing_held) (name_of verb) ≡ []
 unfolding clap_on_literals
+command_turn compile = refl
 command_turn (program Run) = refl
 command_turn (program Interpret) = refl
 command_turn link = refl
@@ -223,11 +228,8 @@ command_fault verb rest =
     ∙ ap (λ (w : Walk). walk_fault top_built (names_of plm_built) w rest) (command_met verb)
     ∙ stopped_fault top_built (names_of plm_built) (walk_from nothing_held) (name_of verb, []) rest
 
--- the command that is entered
-abbrev leaf_of : Verb → Shape
-leaf_of verb = leaf (form_of verb) (name_of verb)
-
 entered_is : (verb : Verb) (rest : List Text) → entered plm_built (Some (name_of verb, rest)) ≡ Some (rows_at (leaf_of verb) rest)
+entered_is compile rest = refl
 entered_is (program Run) rest = refl
 entered_is (program Interpret) rest = refl
 entered_is link rest = refl
@@ -235,6 +237,7 @@ entered_is (place Locate) rest = refl
 entered_is (place Hex) rest = refl
 
 entered_fine : (verb : Verb) (rest : List Text) → level_fault (leaf_of verb) [] nothing_held rest false [] ≡ [] → entered_fault plm_built (Some (name_of verb, rest)) ≡ []
+entered_fine compile rest fine = fine
 entered_fine (program Run) rest fine = fine
 entered_fine (program Interpret) rest fine = fine
 entered_fine link rest fine = fine
@@ -255,14 +258,15 @@ line_fine name verb rest fine =
     (record (walk_from nothing_held) { stopped = Some (name_of verb, rest) }) (command_fault verb rest) (command_walk verb rest) (entered_fine verb rest fine) refl refl
     (rw (entered_is verb rest) refl)
 
-wanted_named : (verb : Verb) (rest : List Text) → wanted_of_match (rows_at (leaf_of verb) rest) ≡ Some (wanted_of verb (rows_after (rules (form_of verb)) [] rest))
+wanted_named : (verb : Verb) (rest : List Text) → wanted_of_match (rows_at (leaf_of verb) rest) ≡ Some (wanted_of verb (rows_after (rules_of verb) [] rest))
+wanted_named compile rest = refl
 wanted_named (program Run) rest = refl
 wanted_named (program Interpret) rest = refl
 wanted_named link rest = refl
 wanted_named (place Locate) rest = refl
 wanted_named (place Hex) rest = refl
 
-pub line_wanted : (name : Text) (verb : Verb) (rest : List Text) (wanted : Wanted) → wanted_of verb (rows_after (rules (form_of verb)) [] rest) ≡ wanted
+pub line_wanted : (name : Text) (verb : Verb) (rest : List Text) (wanted : Wanted) → wanted_of verb (rows_after (rules_of verb) [] rest) ≡ wanted
     → wanted_by (name ∷ name_of verb ∷ rest) ≡ Some wanted
 line_wanted name verb rest wanted gives =
     ap (λ (w : Walk). option_and_then wanted_of_match (entered plm_built w.stopped)) (command_walk verb rest) ∙ ap (option_and_then wanted_of_match) (entered_is verb rest)
@@ -275,26 +279,31 @@ HasFile s = (rest : List Text) (wanted : Wanted) → level_fault s [] nothing_he
 same_wanted : (x y : Wanted) → Some x ≡ Some y → x ≡ y
 same_wanted x y e = cc
 
+verb_wants : (verb : Verb) (rest : List Text) (wanted : Wanted) → wanted_of_match (rows_at (leaf_of verb) rest) ≡ Some wanted → wanted_of verb (rows_after (rules_of verb) [] rest) ≡ wanted
+verb_wants verb rest wanted found = same_wanted (wanted_of verb (rows_after (rules_of verb) [] rest)) wanted (sym (wanted_named verb rest) ∙ found)
+
 verb_has_file : (verb : Verb) → HasFile (leaf_of verb)
-verb_has_file verb rest wanted fine found =
-    let is = same_wanted (wanted_of verb (rows_after (rules (form_of verb)) [] rest)) wanted (sym (wanted_named verb rest) ∙ found) in
-    subst (λ (w : Wanted). 0 < length (files_in w)) is (has_file verb (some_file (form_of verb) (name_of verb) rest fine))
+verb_has_file verb rest wanted fine found = subst (λ (w : Wanted). 0 < length (files_in w)) (verb_wants verb rest wanted found) (has_file verb fine)
   where
-    has_file : (v : Verb) → 0 < length (files_of (rows_after (rules (form_of v)) [] rest)) → 0 < length (files_in (wanted_of v (rows_after (rules (form_of v)) [] rest)))
-    has_file (program action) some = some
-    has_file link some = some
-    has_file (place action) some = some
+    has_file : (v : Verb) → level_fault (leaf_of v) [] nothing_held rest false [] ≡ [] → 0 < length (files_in (wanted_of v (rows_after (rules_of v) [] rest)))
+    has_file compile fine = omega arith
+    has_file (program action) fine = some_file Sources (name_of (program action)) rest fine
+    has_file link fine = some_file Objects (name_of link) rest fine
+    has_file (place action) fine = some_file Placed (name_of (place action)) rest fine
 
 all_have_files : (name : Text) → bytes_eq name (codes "help") ≡ false → AllByRecursion (λ s. answers_to name (label_of s) ≡ true → HasFile s) plm_built.subs
 all_have_files name other = (
-  λ e. verb_has_file (program Run),
+  λ e. verb_has_file compile,
   (
-    λ e. verb_has_file (program Interpret),
+    λ e. verb_has_file (program Run),
     (
-      λ e. verb_has_file link,
+      λ e. verb_has_file (program Interpret),
       (
-        λ e. verb_has_file (place Locate),
-        (λ e. verb_has_file (place Hex), (λ e rest wanted fine found. absurd (help_named name e other), tt)),
+        λ e. verb_has_file link,
+        (
+          λ e. verb_has_file (place Locate),
+          (λ e. verb_has_file (place Hex), (λ e rest wanted fine found. absurd (help_named name e other), tt)),
+        ),
       ),
     ),
   ),

@@ -4,7 +4,7 @@ use Rattle.clap.specs.Words.{Row, Rule, Shape, Text}
 use Rattle.clap.specs.Simple.{built_leaf, new_shape}
 use Rattle.command_line.specs.declared.orders.Action.{Action}
 use Rattle.command_line.specs.declared.orders.PlaceAction.{PlaceAction}
-use Rattle.command_line.specs.Command.{Wanted, link_app, link_of, name_of_action, name_of_place_action, place_app, place_of, program_app, program_of, wants_link, wants_place, wants_program}
+use Rattle.command_line.specs.Command.{Wanted, compile_app, compile_of, link_app, link_of, name_of_action, name_of_place_action, place_app, place_of, program_app, program_of, wants_compile, wants_link, wants_place, wants_program}
 
 -- what the files of a command are
 pub data Form : Type 0 where
@@ -22,23 +22,35 @@ rules Placed = (built_leaf (place_app []).top).rules
 abbrev pub leaf : Form → Text → Shape
 leaf form name = record (built_leaf (new_shape name)) { rules = rules form }
 
+-- the arguments of the command that compiles, which has no list of files
+abbrev pub compile_rules : List Rule
+compile_rules = (built_leaf (compile_app []).top).rules
+
 pub data Verb : Type 0 where
+  compile : Verb
   program : Action → Verb
   link : Verb
   place : PlaceAction → Verb
 
-abbrev pub form_of : Verb → Form
-form_of (program action) = Sources
-form_of link = Objects
-form_of (place action) = Placed
-
 abbrev pub name_of : Verb → Text
+name_of compile = codes "compile"
 name_of (program action) = name_of_action action
 name_of link = codes "link"
 name_of (place action) = name_of_place_action action
 
+abbrev pub rules_of : Verb → List Rule
+rules_of compile = compile_rules
+rules_of (program action) = rules Sources
+rules_of link = rules Objects
+rules_of (place action) = rules Placed
+
+-- the command that was built
+abbrev pub leaf_of : Verb → Shape
+leaf_of verb = record (built_leaf (new_shape (name_of verb))) { rules = rules_of verb }
+
 -- what a command with these matches wants
 abbrev pub wanted_of : Verb → List Row → Wanted
+wanted_of compile rows = wants_compile (compile_of rows)
 wanted_of (program action) rows = wants_program (program_of action rows)
 wanted_of link rows = wants_link (link_of rows)
 wanted_of (place action) rows = wants_place (place_of action rows)

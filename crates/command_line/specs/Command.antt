@@ -17,9 +17,10 @@ use Rattle.command_line.specs.declared.orders.Action.{Action}
 use Rattle.command_line.specs.declared.orders.Action.TheVariants.{Run, Interpret}
 use Rattle.command_line.specs.declared.orders.PlaceAction.{PlaceAction}
 use Rattle.command_line.specs.declared.orders.PlaceAction.TheVariants.{Locate, Hex}
+use Rattle.command_line.specs.declared.orders.CompileOrder.{CompileOrder}
 use Rattle.command_line.specs.declared.orders.LinkOrder.{LinkOrder}
 use Rattle.command_line.specs.declared.orders.Order.{Order}
-use Rattle.command_line.specs.declared.orders.Order.TheVariants.{Link, Place, Program}
+use Rattle.command_line.specs.declared.orders.Order.TheVariants.{Compile, Link, Place, Program}
 use Rattle.command_line.specs.declared.orders.PlaceOrder.{PlaceOrder}
 use Rattle.command_line.specs.declared.orders.PlanTexts.{PlanTexts}
 use Rattle.command_line.specs.declared.orders.ProgramOrder.{ProgramOrder}
@@ -46,6 +47,10 @@ out_rule = record (option_rule (codes "out")) { required = true }
 abbrev pub files_rule : Rule
 files_rule = record (new_rule (codes "FILES")) { required = true; action = Some Append; value_names = 1 }
 
+-- a file that has to be there
+abbrev pub file_rule : Text → Rule
+file_rule name = record (new_rule name) { required = true; value_names = 1 }
+
 -- a command with the options of a plan
 abbrev pub with_plan : App → App
 with_plan app =
@@ -67,6 +72,11 @@ with_run app =
 abbrev pub program_app : Text → App
 program_app name = with_rule (with_run (with_plan (new_app name))) files_rule
 
+-- the command `name SOURCE OBJECT`
+abbrev pub compile_app : Text → App
+compile_app name =
+    with_rule (with_rule (new_app name) (file_rule (codes "SOURCE"))) (file_rule (codes "OBJECT"))
+
 -- the command `name --out FILE OBJECT...`
 abbrev pub link_app : Text → App
 link_app name = with_rule (with_rule (new_app name) out_rule) files_rule
@@ -79,10 +89,11 @@ place_app name = with_rule (with_plan (new_app name)) files_rule
 abbrev pub bare_app : App
 bare_app = record { top = record (new_app (codes "plm")).top { subcommand_required = true }; subs = [] }
 
--- the program with the commands that build sources
+-- the program with the commands that take sources
 abbrev pub programs_app : App
 programs_app =
-    with_subcommand (with_subcommand bare_app (program_app (codes "run")).top)
+    with_subcommand (with_subcommand (with_subcommand bare_app (compile_app (codes "compile")).top)
+    (program_app (codes "run")).top)
     (program_app (codes "interpret")).top
 
 -- the program `plm` with its commands
@@ -109,6 +120,11 @@ pub record ProgramWanted : Type 0 where
   pub input : Option Text
   pub map : Bool
 
+-- the source to be compiled, and the file to which its object module goes
+pub record CompileWanted : Type 0 where
+  pub source : Text
+  pub object : Text
+
 -- the objects to be linked, and the file to which the merge goes
 pub record LinkWanted : Type 0 where
   pub out : Text
@@ -122,12 +138,14 @@ pub record PlaceWanted : Type 0 where
 
 -- what the words want, as texts
 pub data Wanted : Type 0 where
+  wants_compile : CompileWanted → Wanted
   wants_program : ProgramWanted → Wanted
   wants_link : LinkWanted → Wanted
   wants_place : PlaceWanted → Wanted
 
 -- the files that are read
 abbrev pub files_in : Wanted → List Text
+files_in (wants_compile wanted) = wanted.source ∷ []
 files_in (wants_program wanted) = wanted.files
 files_in (wants_link wanted) = wanted.objects
 files_in (wants_place wanted) = wanted.files
@@ -164,6 +182,9 @@ program_of action rows = record {
   map = is_set (codes "map") rows;
 }
 
+abbrev pub compile_of : List Row → CompileWanted
+compile_of rows = record { source = text_of (codes "SOURCE") rows; object = text_of (codes "OBJECT") rows }
+
 abbrev pub link_of : List Row → LinkWanted
 link_of rows = record { out = text_of (codes "out") rows; objects = files_of rows }
 
@@ -173,11 +194,12 @@ place_of action rows = record { action = action; files = files_of rows; plan = p
 -- the same of a command's name and matches
 abbrev pub wanted_of_match : Text × List Row → Option Wanted
 wanted_of_match (name, rows) =
-    if bytes_eq name (codes "run") then Some (wants_program (program_of Run rows))
+    if bytes_eq name (codes "compile") then Some (wants_compile (compile_of rows))
+    else (if bytes_eq name (codes "run") then Some (wants_program (program_of Run rows))
     else (if bytes_eq name (codes "interpret") then Some (wants_program (program_of Interpret rows))
     else (if bytes_eq name (codes "link") then Some (wants_link (link_of rows))
     else (if bytes_eq name (codes "locate") then Some (wants_place (place_of Locate rows))
-    else (if bytes_eq name (codes "hex") then Some (wants_place (place_of Hex rows)) else None))))
+    else (if bytes_eq name (codes "hex") then Some (wants_place (place_of Hex rows)) else None)))))
 
 -- what the words, with the program's name in front, want
 abbrev pub wanted_by : List Text → Option Wanted
@@ -202,6 +224,9 @@ program_in order = record {
   map = order.map;
 }
 
+abbrev pub compile_in : CompileOrder → CompileWanted
+compile_in order = record { source = order.source.now; object = order.object.now }
+
 abbrev pub link_in : LinkOrder → LinkWanted
 link_in order = record { out = order.out.now; objects = texts order.objects.items }
 
@@ -210,6 +235,7 @@ place_in order =
     record { action = order.action; files = texts order.files.items; plan = plan_in order.plan }
 
 abbrev pub wanted_in : Order → Wanted
+wanted_in (Compile order) = wants_compile (compile_in order)
 wanted_in (Program order) = wants_program (program_in order)
 wanted_in (Link order) = wants_link (link_in order)
 wanted_in (Place order) = wants_place (place_in order)
@@ -323,6 +349,13 @@ abbrev pub OrdersMap : List Text → Result Order (Failure LineFault) → Type 0
 OrdersMap words answer = (name : Text) (action : Action) (files : List Text)
     → Gives words name (name_of_action action) (codes "--map" ∷ []) files
     → IsOrderOf (wants_program (record (usual action files) { map = true })) answer
+
+-- `compile` with two bare files wants the first compiled to the second
+abbrev pub OrdersCompile : List Text → Result Order (Failure LineFault) → Type 0
+OrdersCompile words answer = (name source object : Text)
+    → IsBare source
+    → Gives words name (codes "compile") (source ∷ []) (object ∷ [])
+    → IsOrderOf (wants_compile (record { source = source; object = object })) answer
 
 -- `link --out FILE` with bare files wants their merge in that file
 abbrev pub OrdersLink : List Text → Result Order (Failure LineFault) → Type 0

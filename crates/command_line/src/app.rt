@@ -3,12 +3,13 @@
 ghost use Rattle.std.specs.Prelude.{◌≡◌, codes, false};
 ghost use Rattle.clap.specs.Words.{App, Rule, new_app, rule_of, with_rule, with_subcommand};
 ghost use Rattle.command_line.specs.internal.Building.{Builds, IsBuilt};
-ghost use Rattle.command_line.specs.Command.{bare_app, default_rule, files_rule, link_app, map_rule};
+ghost use Rattle.command_line.specs.Command.{bare_app, compile_app, default_rule, file_rule, files_rule, link_app, map_rule};
 ghost use Rattle.command_line.specs.Command.{option_rule, out_rule, place_app, plm_app, program_app};
 ghost use Rattle.command_line.specs.Command.{programs_app, with_plan, with_run};
 
 use crate::help::{
-    ABOUT, EXAMPLE, HEX, INTERPRET, INTERPRET_LIMIT, LINK, LOCATE, RUN, RUN_LIMIT, Teaching,
+    ABOUT, COMPILE, EXAMPLE, HEX, INTERPRET, INTERPRET_LIMIT, LINK, LOCATE, RUN, RUN_LIMIT,
+    Teaching,
 };
 use clap::{Arg, ArgAction, Command};
 use std::alloc::{AllocError, Global};
@@ -164,6 +165,17 @@ fn map<'a>(alloc: Global) -> Arg<'a>
         .help("Print where each object lies, before all else")
 }
 
+// An argument that is a file and has to be there, by its name and its line in help.
+fn file<'a>(alloc: Global, name: &'a str, help: &'a str) -> Arg<'a>
+    ensures rule { rule_of result ≡ file_rule name.entry.now }
+    ensures local { result.global ≡ false }
+{
+    Arg::new(alloc, name)
+        .value_name(name)
+        .required(true)
+        .help(help)
+}
+
 // The option `--out`, which has to be there.
 fn out<'a>(alloc: Global) -> Arg<'a>
     ensures rule { rule_of result ≡ out_rule }
@@ -207,6 +219,17 @@ fn program<'a>(alloc: Global, name: &'a str, teaching: Teaching, limit_help: &'a
     )
 }
 
+// The command that compiles a source.
+fn compile<'a>(alloc: Global) -> Built<'a>
+    ensures { Builds (compile_app (codes "compile")) result }
+{
+    let with_source = add(
+        named(alloc, "compile", COMPILE),
+        file(alloc, "SOURCE", "The file with the source"),
+    );
+    add(with_source, file(alloc, "OBJECT", "The file to write"))
+}
+
 // The command that links object files.
 fn link<'a>(alloc: Global) -> Built<'a>
     ensures { Builds (link_app (codes "link")) result }
@@ -237,12 +260,13 @@ fn bare_command<'a>(alloc: Global) -> Built<'a>
         .bin_name("plm")
 }
 
-// The program with the commands that build sources.
+// The program with the commands that take sources.
 fn with_programs<'a>(alloc: Global) -> Built<'a>
     ensures { Builds programs_app result }
 {
+    let with_compile = add_leaf(bare_command(alloc), compile(alloc));
     let run = program(alloc, "run", RUN, RUN_LIMIT);
-    let with_run = add_leaf(bare_command(alloc), run);
+    let with_run = add_leaf(with_compile, run);
     let interpret = program(alloc, "interpret", INTERPRET, INTERPRET_LIMIT);
     add_leaf(with_run, interpret)
 }

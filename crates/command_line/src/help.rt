@@ -8,7 +8,7 @@ pub(crate) struct Teaching {
 }
 
 pub(crate) const ABOUT: &str = "\
-Builds PL/M-80 sources, and runs their image on a simulated 8080 or interprets them;
+Compiles PL/M-80 sources, and runs their image on a simulated 8080 or interprets them;
 links object files, and places them in memory";
 
 pub(crate) const EXAMPLE: &str = "\
@@ -17,6 +17,11 @@ A source is a module, as in this file of one line:
 Both `plm run FILE` and `plm interpret FILE` print
   OUT 01 2A
   HALT";
+
+pub(crate) const COMPILE: Teaching = Teaching {
+    about: "Compiles a source to an object file",
+    printed: PRINTED_BY_COMPILE,
+};
 
 pub(crate) const RUN: Teaching = Teaching {
     about: "Builds sources to an image, places it in memory, and runs it on a simulated 8080",
@@ -47,6 +52,25 @@ pub(crate) const RUN_LIMIT: &str = "The most instructions that are run, to 10000
 
 pub(crate) const INTERPRET_LIMIT: &str =
     "The budget: the most calls, GOTOs and turns of loops, to 1000000000000";
+
+const PRINTED_BY_COMPILE: &str = "\
+The source is one module. Names that it declares EXTERNAL are found by `plm link`.
+
+Prints nothing. The file is written once the source was compiled; until then it stays as it was.
+A write that fails leaves a beginning of the object, which no command takes for a whole one.
+
+Exit status:
+  0  the object file was written, or help was asked for
+  1  the source was refused, memory ran out, or a file can't be read or written
+  2  the command line is wrong
+
+A refusal prints `number file line` to standard error, where the line is 0 if it is of none.
+
+Example: compile two modules, link them, and print the bytes of the program
+  plm compile main.plm main.obj
+  plm compile show.plm show.obj
+  plm link --out program.obj main.obj show.obj
+  plm hex program.obj";
 
 const PRINTED_BY_RUN: &str = "\
 The sources are the modules of one program, with one main module.

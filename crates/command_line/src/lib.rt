@@ -7,7 +7,9 @@ mod orders;
 mod reading;
 mod values;
 
-pub use orders::{Action, LinkOrder, Order, PlaceAction, PlaceOrder, PlanTexts, ProgramOrder};
+pub use orders::{
+    Action, CompileOrder, LinkOrder, Order, PlaceAction, PlaceOrder, PlanTexts, ProgramOrder,
+};
 pub use plans::Plan;
 pub use reading::{LineFault, command};
 pub use values::{InputByte, Settings, ValueFault};

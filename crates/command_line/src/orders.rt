@@ -48,6 +48,15 @@ pub struct ProgramOrder<'a> {
     pub map: bool,
 }
 
+/// An order to compile a source to an object file.
+#[derive(Clone, Copy)]
+pub struct CompileOrder<'a> {
+    /// The file of the source.
+    pub source: &'a str,
+    /// The file to which the object module goes.
+    pub object: &'a str,
+}
+
 /// An order to link object files.
 #[derive(Drop)]
 pub struct LinkOrder<'a> {
@@ -71,6 +80,8 @@ pub struct PlaceOrder<'a> {
 /// What the command line asks for.
 #[derive(Drop)]
 pub enum Order<'a> {
+    /// Compile a source to an object file.
+    Compile(CompileOrder<'a>),
     /// Build sources and run or interpret them.
     Program(ProgramOrder<'a>),
     /// Link object files.

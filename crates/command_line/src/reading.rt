@@ -5,16 +5,18 @@ ghost use Rattle.std.specs.Prelude.{Some, option_and_then, option_map, unwrap_or
 ghost use Rattle.clap.specs.Walk.{texts};
 ghost use Rattle.clap.specs.Words.{all_of, fault_of, first_of, found_of, rows_of, subcommand_rows_of};
 ghost use Rattle.failure.specs.Failure.{IfFault};
-ghost use Rattle.command_line.specs.Command.{IsFaultOf, Orders, OrdersFiles, OrdersLink, OrdersMap};
+ghost use Rattle.command_line.specs.Command.{IsFaultOf, Orders, OrdersCompile, OrdersFiles, OrdersLink, OrdersMap};
 ghost use Rattle.command_line.specs.Command.{OrdersPlace, OrdersPlaceText, OrdersText};
 ghost use Rattle.command_line.specs.Command.{files_in, is_set, link_of, place_of, plan_in, plan_of};
 ghost use Rattle.command_line.specs.Command.{plm_app, program_of, text_of};
 ghost use Rattle.command_line.specs.Command.{wanted_in, wanted_of_match};
-ghost use Rattle.command_line.specs.Command.{wants_link, wants_place, wants_program};
+ghost use Rattle.command_line.specs.Command.{compile_of, wants_compile, wants_link, wants_place, wants_program};
 ghost use Rattle.command_line.specs.internal.Errors.{IsFailureFor};
 
 use crate::app::plm_command;
-use crate::orders::{Action, LinkOrder, Order, PlaceAction, PlaceOrder, PlanTexts, ProgramOrder};
+use crate::orders::{
+    Action, CompileOrder, LinkOrder, Order, PlaceAction, PlaceOrder, PlanTexts, ProgramOrder,
+};
 use clap::ArgMatches;
 use clap::error::ErrorKind;
 use failure::Failure;
@@ -114,6 +116,17 @@ fn program<'a>(
     })))
 }
 
+// The order to compile, from the matches of its arguments. It is there in each answer, as that of `program`.
+fn compile<'a>(matches: &ArgMatches<'a>) -> Result<Option<Order<'a>>, AllocError>
+    ensures { IfOk result (λ order. option_map wanted_in order
+        ≡ Some (wants_compile (compile_of (rows_of (found_of matches.now))))) }
+{
+    Ok(Some(Order::Compile(CompileOrder {
+        source: text(matches, "SOURCE"),
+        object: text(matches, "OBJECT"),
+    })))
+}
+
 // The order to link, from the matches of its arguments.
 fn link<'a>(alloc: Global, matches: &ArgMatches<'a>) -> Result<Option<Order<'a>>, AllocError>
     ensures { IfOk result (λ order. option_map wanted_in order
@@ -153,6 +166,7 @@ fn order_named<'a>(
         option_map wanted_in order ≡ wanted_of_match (name.now, rows_of (found_of matches.now))) }
 {
     match name {
+        "compile" => compile(matches),
         "run" => program(alloc, Action::Run, matches),
         "interpret" => program(alloc, Action::Interpret, matches),
         "link" => link(alloc, matches),
@@ -190,6 +204,7 @@ pub fn command<'a>(alloc: Global, words: &'a [&'a str]) -> Result<Order<'a>, Fai
     ensures files { OrdersFiles (texts words.entry.now) result }
     ensures option { OrdersText (texts words.entry.now) result }
     ensures map { OrdersMap (texts words.entry.now) result }
+    ensures compile { OrdersCompile (texts words.entry.now) result }
     ensures link { OrdersLink (texts words.entry.now) result }
     ensures place { OrdersPlace (texts words.entry.now) result }
     ensures place_option { OrdersPlaceText (texts words.entry.now) result }

@@ -1,3 +1,4 @@
 pub mod OrdersKept
 pub mod TextsTold
 pub mod Refused
+pub mod Compiled

@@ -7,13 +7,14 @@ use Rattle.answers.specs.Reading.{StopsAt}
 use Rattle.answers.specs.Refusals.{TellsRefusal}
 use Rattle.answers.specs.declared.endings.Ending.{Ending}
 use Rattle.answers.specs.declared.endings.Ending.TheVariants.{Done, Refused, WrongLine, Limit, Stopped, Outside}
-use Rattle.command_line.specs.Command.{Wanted, wants_link, wants_place, wants_program}
+use Rattle.command_line.specs.Command.{Wanted, wants_compile, wants_link, wants_place, wants_program}
 use Rattle.command_line.specs.Settings.{only_file}
 use Rattle.object_commands.proofs.FilesWritten.{kept_others}
-use Rattle.commands.specs.Orders.{ChangesAsWanted, ChangesByWords, LinksAsWanted, LinksByWords, PrintsAsWanted, PrintsByWords, StopsAsWanted, StopsByWords, names_by_words, names_of}
+use Rattle.commands.specs.Orders.{ChangesAsWanted, ChangesByWords, WritesAsWanted, WritesByWords, PrintsAsWanted, PrintsByWords, StopsAsWanted, StopsByWords, names_by_words, names_of}
 
 -- where no file changed, none changed but what was wanted
 pub kept_as_wanted : (wanted : Wanted) (old new : Option Directory) → KeepsFiles old new → ChangesAsWanted wanted old new
+kept_as_wanted (wants_compile compile) old new kept = kept_others old new compile.object kept
 kept_as_wanted (wants_program program) old new kept = kept
 kept_as_wanted (wants_link link) old new kept = kept_others old new link.out kept
 kept_as_wanted (wants_place place) old new kept = kept
@@ -26,11 +27,12 @@ kept_by_words (Some wanted) old new kept = kept_as_wanted wanted old new kept
 pub by_words : (found : Option Wanted) (wanted : Wanted) (old new : Option Directory) → found ≡ Some wanted → ChangesAsWanted wanted old new → ChangesByWords found old new
 by_words found wanted old new e changes = rw e changes
 
-pub linked_by_words : (found : Option Wanted) (wanted : Wanted) (old new : Option Directory) → found ≡ Some wanted → LinksAsWanted wanted old new → LinksByWords found old new
-linked_by_words found wanted old new e links = rw e links
+pub written_by_words : (found : Option Wanted) (wanted : Wanted) (old new : Option Directory) → found ≡ Some wanted → WritesAsWanted wanted old new → WritesByWords found old new
+written_by_words found wanted old new e links = rw e links
 
 -- where no file changed, and where the words give the order that was not carried out
 pub stops_as_wanted : (wanted : Wanted) (old new : Option Directory) → KeepsFiles old new → StopsAsWanted wanted old new
+stops_as_wanted (wants_compile compile) old new kept = inl kept
 stops_as_wanted (wants_program program) old new kept = kept
 stops_as_wanted (wants_link link) old new kept = inl kept
 stops_as_wanted (wants_place place) old new kept = kept

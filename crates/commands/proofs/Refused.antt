@@ -23,9 +23,21 @@ use Rattle.join.specs.declared.fault.Fault.TheVariants as join_faults
 use Rattle.placing.specs.Views as of_placement
 use Rattle.placing.specs.declared.fault.Fault as placing_fault
 use Rattle.placing.specs.declared.fault.Fault.TheVariants as placing_faults
+use Rattle.codegen8080.specs.Faults as of_code
+use Rattle.codegen8080.specs.declared.fault.Fault as code_fault
+use Rattle.codegen8080.specs.declared.fault.Fault.TheVariants as code_faults
+use Rattle.object_modules.specs.Image.{placement_number}
+use Rattle.object_modules.specs.Merge.{link_number}
+use Rattle.link_laws.specs.Faults as of_linking
+use Rattle.link_laws.specs.declared.fault.LinkFault.{LinkFault}
+use Rattle.link_laws.specs.declared.fault.LinkFault.TheVariants as link_faults
+use Rattle.locate.specs.Locating as of_locating
+use Rattle.locate.specs.declared.fault.LocateFault.{LocateFault}
+use Rattle.locate.specs.declared.fault.LocateFault.TheVariants as locate_faults
+use Rattle.program_sources.specs.declared.fault.ProgramFault.TheVariants as program_faults
 use Rattle.tool.specs.Faults.{number_of}
 use Rattle.tool.specs.declared.fault.ToolFault.{ToolFault}
-use Rattle.tool.specs.declared.fault.ToolFault.TheVariants.{TooManySources, Source, CodeTooLong, NotServed, Join, Placement}
+use Rattle.tool.specs.declared.fault.ToolFault.TheVariants.{TooManySources, Source, CodeTooLong, Code, ConstantsMissing, Program, Link, Locate}
 
 words_other : (fault : word_fault.Fault) → is_other (of_words.number_of fault) ≡ true
 words_other (word_faults.Character line) = refl
@@ -77,13 +89,35 @@ placement_other placing_faults.PassesMemory = refl
 placement_other placing_faults.RangesOverlap = refl
 placement_other (placing_faults.ObjectMisplaced name) = refl
 
+code_other : (fault : code_fault.Fault) → is_other (of_code.number_of fault) ≡ true
+code_other code_faults.TooLong = refl
+code_other code_faults.UnboundLabel = refl
+
+linking_other : (fault : LinkFault) → is_other (link_number (of_linking.refusal_of fault)) ≡ true
+linking_other (link_faults.DuplicatePublic name) = refl
+linking_other (link_faults.UnresolvedExternal name) = refl
+linking_other link_faults.SegmentTooLong = refl
+linking_other link_faults.NotOneMain = refl
+linking_other link_faults.HighByteMoves = refl
+
+locating_other : (fault : LocateFault) → is_other (placement_number (of_locating.refusal_of fault)) ≡ true
+locating_other locate_faults.ExternalLeft = refl
+locating_other locate_faults.NoStart = refl
+locating_other locate_faults.PassesMemory = refl
+locating_other locate_faults.SegmentsMeet = refl
+locating_other locate_faults.PageBroken = refl
+locating_other locate_faults.HighByteBroken = refl
+
 sources_other : (fault : ToolFault) → is_other (number_of fault) ≡ true
 sources_other TooManySources = refl
 sources_other (Source file fault) = source_other fault
 sources_other (CodeTooLong file) = refl
-sources_other (NotServed file line) = refl
-sources_other (Join fault) = joining_other fault
-sources_other (Placement fault) = placement_other fault
+sources_other (Code file fault) = code_other fault
+sources_other (ConstantsMissing file) = refl
+sources_other (Program (program_faults.Join fault)) = joining_other fault
+sources_other (Program (program_faults.Placement fault)) = placement_other fault
+sources_other (Link fault) = linking_other fault
+sources_other (Locate fault) = locating_other fault
 
 -- the line of any fault of sources
 pub sources_told : (fault : ToolFault) (number name : List ℕ) (line : ℕ) (old new : Option (List ℕ)) → number ≡ number_of fault → Tells (refusal_line number name line) old new → TellsOther old new

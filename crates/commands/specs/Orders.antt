@@ -5,29 +5,34 @@ use Rattle.clap.specs.declared.error.ErrorKind.{ErrorKind}
 use Rattle.clap.specs.declared.error.ErrorKind.TheVariants.{DisplayHelp}
 use Rattle.files.specs.Files.{Directory, KeepsFiles}
 use Rattle.answers.specs.Refusals.{Tells, refusal_line}
-use Rattle.command_line.specs.Command.{PlaceWanted, Wanted, wants_link, wants_place, wants_program}
+use Rattle.command_line.specs.Command.{PlaceWanted, Wanted, wants_compile, wants_link, wants_place, wants_program}
 use Rattle.command_line.specs.Settings.{Read, ◌>>=◌, only_file, plan_read, values_read}
 use Rattle.command_line.specs.declared.orders.PlaceAction.{PlaceAction}
 use Rattle.command_line.specs.declared.orders.PlaceAction.TheVariants.{Locate, Hex}
 use Rattle.object_commands.specs.Linking.{KeepsOthers, LinksFiles, StopsLinking}
 use Rattle.object_commands.specs.Placing.{PrintsHex, PrintsPlaces}
+use Rattle.commands.specs.Compiling.{CompilesFile, StopsCompiling}
 use Rattle.plans.specs.declared.Plan.{Plan}
 
--- an order to link changes no file but the one that it names, and others change none
+-- an order to compile or to link changes no file but the one that it names, and others change none
 abbrev pub ChangesAsWanted : Wanted → Option Directory → Option Directory → Type 0
+ChangesAsWanted (wants_compile compile) old new = KeepsOthers old new compile.object
 ChangesAsWanted (wants_link link) old new = KeepsOthers old new link.out
 ChangesAsWanted (wants_program program) old new = KeepsFiles old new
 ChangesAsWanted (wants_place place) old new = KeepsFiles old new
 
--- the objects that an order to link names are merged in its file
-abbrev pub LinksAsWanted : Wanted → Option Directory → Option Directory → Type 0
-LinksAsWanted (wants_link link) old new = LinksFiles old new link.objects link.out
-LinksAsWanted (wants_program program) old new = Unit {0}
-LinksAsWanted (wants_place place) old new = Unit {0}
+-- the objects that an order to link names are merged in its file, and the source of an order to compile is compiled to its
+-- object
+abbrev pub WritesAsWanted : Wanted → Option Directory → Option Directory → Type 0
+WritesAsWanted (wants_compile compile) old new = CompilesFile old new compile.source compile.object
+WritesAsWanted (wants_link link) old new = LinksFiles old new link.objects link.out
+WritesAsWanted (wants_program program) old new = Unit {0}
+WritesAsWanted (wants_place place) old new = Unit {0}
 
--- where an order is not carried out, no file changes, but that of an order to link may have a beginning of
--- the merge
+-- where an order is not carried out, no file changes, but that of an order to compile or to link may have a beginning of
+-- its object
 abbrev pub StopsAsWanted : Wanted → Option Directory → Option Directory → Type 0
+StopsAsWanted (wants_compile compile) old new = StopsCompiling old new compile.source compile.object
 StopsAsWanted (wants_link link) old new = StopsLinking old new link.objects link.out
 StopsAsWanted (wants_program program) old new = KeepsFiles old new
 StopsAsWanted (wants_place place) old new = KeepsFiles old new
@@ -50,11 +55,13 @@ pub record PrintsWanted (place : PlaceWanted) (files : Option Directory)
 -- what an order on an object file prints; of other orders nothing is said
 abbrev pub PrintsAsWanted : Wanted → Option Directory → (old new : Option (List ℕ)) → Type 0
 PrintsAsWanted (wants_place place) files old new = PrintsWanted place files old new
+PrintsAsWanted (wants_compile compile) files old new = Unit {0}
 PrintsAsWanted (wants_link link) files old new = Unit {0}
 PrintsAsWanted (wants_program program) files old new = Unit {0}
 
 -- the files that an order reads, in their order, and then the one that it writes
 abbrev pub names_of : Wanted → List (List ℕ)
+names_of (wants_compile compile) = compile.source ∷ compile.object ∷ []
 names_of (wants_program program) = program.files
 names_of (wants_link link) = link.objects ++ link.out ∷ []
 names_of (wants_place place) = place.files
@@ -68,9 +75,9 @@ abbrev pub names_by_words : Option Wanted → List (List ℕ)
 names_by_words None = []
 names_by_words (Some wanted) = names_of wanted
 
-abbrev pub LinksByWords : Option Wanted → Option Directory → Option Directory → Type 0
-LinksByWords None old new = Unit {0}
-LinksByWords (Some wanted) old new = LinksAsWanted wanted old new
+abbrev pub WritesByWords : Option Wanted → Option Directory → Option Directory → Type 0
+WritesByWords None old new = Unit {0}
+WritesByWords (Some wanted) old new = WritesAsWanted wanted old new
 
 abbrev pub StopsByWords : Option Wanted → Option Directory → Option Directory → Type 0
 StopsByWords None old new = KeepsFiles old new
@@ -90,6 +97,7 @@ file_read place = plan_read place.plan >>= (λ plan. only_file place.files)
 abbrev pub RefusesText : Wanted → (text : List ℕ) → Type 0
 RefusesText (wants_program program) text = values_read program ≡ Err text
 RefusesText (wants_place place) text = file_read place ≡ Err text
+RefusesText (wants_compile compile) text = ⊥
 RefusesText (wants_link link) text = ⊥
 
 -- the line of a text that is refused was printed, or a beginning of it, which may be nothing

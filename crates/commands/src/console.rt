@@ -6,9 +6,10 @@ ghost use Rattle.clap.specs.Walk.{texts};
 ghost use Rattle.clap.specs.Words.{fault_of};
 ghost use Rattle.files.specs.Files.{KeepsFiles};
 ghost use Rattle.command_line.specs.Command.{plm_app, place_in, program_in, wanted_by, wanted_in, wants_place, wants_program};
-ghost use Rattle.commands.specs.Orders.{AsksHelpAtMost, ChangesAsWanted, ChangesByWords, LinksAsWanted, LinksByWords, PrintsAsWanted, PrintsByWords, PrintsWanted, RefusesNoText, StopsAsWanted, StopsByWords, TellsText, TellsTextByWords, names_by_words, names_of};
+ghost use Rattle.commands.specs.Orders.{AsksHelpAtMost, ChangesAsWanted, ChangesByWords, PrintsAsWanted, PrintsByWords, PrintsWanted, RefusesNoText, StopsAsWanted, StopsByWords, TellsText, TellsTextByWords, WritesAsWanted, WritesByWords, names_by_words, names_of};
 ghost use Rattle.commands.specs.internal.LineFaults.{IsWrong};
 
+use crate::compiling::compile_file;
 use crate::interpreting::interpret_sources;
 use crate::loading::sources_of;
 use crate::refusals::refuse_value;
@@ -27,7 +28,8 @@ use tool::Source;
 /// Carries out the words of a command line, the first of which is the program's name, and answers the exit status. What
 /// it prints goes to `out`, and faults go to `err`, which has nothing more where the status is neither 1 nor 2; a failure of
 /// `err` changes no status. It changes no file but that of `link --out`, which has the merge of the objects where the
-/// status is 0, and may have a beginning of it otherwise, and none where the words have a fault or ask for help. That a
+/// status is 0, and that of `compile`, which has an object module then; both may have a beginning of it otherwise. None changes
+/// where the words have a fault or ask for help. That a
 /// file can't be read or written is told, with status 1, just where a failure of the files was counted, but for a count that
 /// is at its greatest value.
 #[tactic(auto, using(crate::proofs::OrdersKept::status_bound, crate::proofs::OrdersKept::done_is, crate::proofs::OrdersKept::not_done, crate::proofs::OrdersKept::not_refused, crate::proofs::OrdersKept::not_wrong, crate::proofs::OrdersKept::refused_is, crate::proofs::TextsTold::wrong_is))]
@@ -42,8 +44,8 @@ pub fn run_command<F: Files, O: Write, E: Write>(
     ensures unchanged { ChangesByWords (wanted_by (texts words.now)) (F.files files.old) (F.files files.new) }
     ensures idle { (fault_of plm_app (texts words.now) ≡ [] → ⊥) →
         KeepsFiles (F.files files.old) (F.files files.new) }
-    ensures linked { fault_of plm_app (texts words.now) ≡ [] → result ≡ 0 →
-        LinksByWords (wanted_by (texts words.now)) (F.files files.old) (F.files files.new) }
+    ensures written { fault_of plm_app (texts words.now) ≡ [] → result ≡ 0 →
+        WritesByWords (wanted_by (texts words.now)) (F.files files.old) (F.files files.new) }
     ensures printed { fault_of plm_app (texts words.now) ≡ [] → result ≡ 0 → PrintsByWords
         (wanted_by (texts words.now)) (F.files files.old) (O.contents out.old) (O.contents out.new) }
     ensures stopped { (result ≡ 0 → ⊥) →
@@ -64,7 +66,7 @@ pub fn run_command<F: Files, O: Write, E: Write>(
 }
 
 // Carries out the words of a command line.
-#[tactic(auto, using(crate::proofs::OrdersKept::by_words, crate::proofs::OrdersKept::linked_by_words, crate::proofs::OrdersKept::prints_by_words, crate::proofs::OrdersKept::stops_by_words, crate::proofs::OrdersKept::told_by_words, crate::proofs::TextsTold::text_by_words))]
+#[tactic(auto, using(crate::proofs::OrdersKept::by_words, crate::proofs::OrdersKept::written_by_words, crate::proofs::OrdersKept::prints_by_words, crate::proofs::OrdersKept::stops_by_words, crate::proofs::OrdersKept::told_by_words, crate::proofs::TextsTold::text_by_words))]
 fn end_words<F: Files, O: Write, E: Write>(
     alloc: Global,
     words: &[&str],
@@ -75,8 +77,8 @@ fn end_words<F: Files, O: Write, E: Write>(
     ensures unchanged { ChangesByWords (wanted_by (texts words.now)) (F.files files.old) (F.files files.new) }
     ensures idle { (fault_of plm_app (texts words.now) ≡ [] → ⊥) →
         KeepsFiles (F.files files.old) (F.files files.new) }
-    ensures linked { fault_of plm_app (texts words.now) ≡ [] → result ≡ Ending.Done →
-        LinksByWords (wanted_by (texts words.now)) (F.files files.old) (F.files files.new) }
+    ensures written { fault_of plm_app (texts words.now) ≡ [] → result ≡ Ending.Done →
+        WritesByWords (wanted_by (texts words.now)) (F.files files.old) (F.files files.new) }
     ensures printed { fault_of plm_app (texts words.now) ≡ [] → result ≡ Ending.Done → PrintsByWords
         (wanted_by (texts words.now)) (F.files files.old) (O.contents out.old) (O.contents out.new) }
     ensures stopped { (result ≡ Ending.Done → ⊥) →
@@ -128,8 +130,8 @@ fn carry_out<F: Files, O: Write, E: Write>(
     err: &mut E,
 ) -> Ending
     ensures unchanged { ChangesAsWanted (wanted_in order.now) (F.files files.old) (F.files files.new) }
-    ensures linked { result ≡ Ending.Done →
-        LinksAsWanted (wanted_in order.now) (F.files files.old) (F.files files.new) }
+    ensures written { result ≡ Ending.Done →
+        WritesAsWanted (wanted_in order.now) (F.files files.old) (F.files files.new) }
     ensures printed { result ≡ Ending.Done → PrintsAsWanted (wanted_in order.now) (F.files files.old)
         (O.contents out.old) (O.contents out.new) }
     ensures stopped { (result ≡ Ending.Done → ⊥) →
@@ -144,6 +146,7 @@ fn carry_out<F: Files, O: Write, E: Write>(
         E.contents err.new ≡ E.contents err.old }
 {
     match order {
+        Order::Compile(compile) => compile_file(alloc, compile, files, err),
         Order::Program(program) => carry_out_program(alloc, program, files, out, err),
         Order::Link(link) => link_files(alloc, link.objects.as_slice(), link.out, files, err),
         Order::Place(place) => carry_out_place(alloc, place, files, out, err),

@@ -1,12 +1,7 @@
 //! Programs that are interpreted.
 
-ghost use Rattle.std.specs.Prelude.{◌≡◌, All};
+ghost use Rattle.std.specs.Prelude.{◌≡◌};
 ghost use Rattle.answers.specs.Refusals.{TellsOther};
-ghost use Rattle.typed_trees.specs.Jumps.{JumpsAreSound};
-ghost use Rattle.layout.specs.Placement.{pieces_of};
-ghost use Rattle.placing.specs.Tables.{IsTableOf};
-ghost use Rattle.placing.specs.Views.{placement_view};
-ghost use Rattle.tool.specs.Construction.{program_modules};
 
 use crate::loading::script_of;
 use crate::map::print_map;
@@ -14,16 +9,15 @@ use crate::refusals::refuse_sources;
 use answers::{Ending, refuse_memory, refuse_output, refuse_write};
 use command_line::{ProgramOrder, Settings};
 use failure::Failure;
-use interpretation::{Readied, read_program};
 use interpreter::{RunFault, SourceEnd, interpret};
 use meaning::Reason;
 use mem80::Memory;
 use report::report;
 use std::alloc::Global;
 use std::io::Write;
-use tool::Source;
+use tool::{Built, Source, build};
 
-/// Reads the program of sources, and interprets it from a memory of zeros.
+/// Builds the program of sources, and interprets it from a memory of zeros.
 pub(crate) fn interpret_sources<O: Write, E: Write>(
     alloc: Global,
     order: &ProgramOrder,
@@ -36,8 +30,8 @@ pub(crate) fn interpret_sources<O: Write, E: Write>(
     ensures told { result ≡ Ending.Refused → TellsOther (E.contents err.old) (E.contents err.new) }
     ensures quiet { (result ≡ Ending.Refused → ⊥) → E.contents err.new ≡ E.contents err.old }
 {
-    match read_program(alloc, sources, &settings.plan) {
-        Ok(readied) => interpret_program(alloc, order, settings, &readied, out, err),
+    match build(alloc, sources, &settings.plan) {
+        Ok(built) => interpret_program(alloc, order, settings, &built, out, err),
         Err(Failure::Fault(fault)) => refuse_sources(&fault, order.files.as_slice(), err),
         Err(Failure::Memory) => refuse_memory(err),
     }
@@ -48,20 +42,16 @@ fn interpret_program<O: Write, E: Write>(
     alloc: Global,
     order: &ProgramOrder,
     settings: &Settings,
-    readied: &Readied,
+    built: &Built,
     out: &mut O,
     err: &mut E,
 ) -> Ending
-    requires table { IsTableOf
-        (pieces_of (program_modules readied.now.program) (placement_view readied.now.placement))
-        readied.now.placement.kinds.value }
-    requires jumps { All JumpsAreSound (program_modules readied.now.program) }
     ensures not_wrong { result ≡ Ending.WrongLine → ⊥ }
     ensures told { result ≡ Ending.Refused → TellsOther (E.contents err.old) (E.contents err.new) }
     ensures quiet { (result ≡ Ending.Refused → ⊥) → E.contents err.new ≡ E.contents err.old }
 {
     if order.map
-        && let Err(error) = print_map(&readied.program, &readied.placement, out)
+        && let Err(error) = print_map(built.program(), built.placement(), out)
     {
         return refuse_write(&error, err);
     }
@@ -73,8 +63,8 @@ fn interpret_program<O: Write, E: Write>(
     };
     let end = interpret(
         alloc,
-        &readied.program,
-        &readied.placement,
+        built.program(),
+        built.placement(),
         settings.plan.stack_size,
         memory,
         &mut script,

@@ -1,6 +1,7 @@
 //! The commands of `plm`, over files and output streams that are handed in.
 #![tactic(auto)]
 
+mod compiling;
 mod console;
 mod interpreting;
 mod loading;

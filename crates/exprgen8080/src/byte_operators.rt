@@ -2,15 +2,13 @@
 
 use crate::byte_shifts::plan_low_byte_shifted_right;
 use crate::bytes::{plan_byte_number, plan_low_of_word};
-use crate::instructions::{clear_a, copy, low, with_memory, with_register};
-use crate::pairs::plan_pair;
-use crate::products::plan_byte_product;
-use crate::relations::plan_relation_value;
-use crate::site::Site;
-use crate::step::{Step, Steps, Task};
 use isa8080::{Instr, Operand, Operation, Register, StackPair};
+use operands8080::{plan_byte_product, plan_pair};
+use relations8080::plan_relation_value;
 use runtime8080::Routine;
+use sites8080::Site;
 use std::alloc::AllocError;
+use steps8080::{Step, Steps, Task, clear_a, copy, low, with_memory, with_register};
 use treecode::{ExpressionNumber, Reference};
 use trees::BinaryOperator;
 

@@ -3,13 +3,12 @@
 use crate::byte_operators::{Operands, plan_byte_binary};
 use crate::byte_shifts::{Shifted, plan_byte_shift};
 use crate::calls::plan_call;
-use crate::instructions::{clear_a, copy, high, low, set};
-use crate::loads::plan_byte_in_memory;
-use crate::site::Site;
-use crate::step::{Steps, Task};
 use asm8080::WordForm;
 use isa8080::{Instr, Operand, Pair, Register};
+use operands8080::plan_byte_in_memory;
+use sites8080::Site;
 use std::alloc::AllocError;
+use steps8080::{Steps, Task, clear_a, copy, high, low, set};
 use treecode::{ExpressionForm, ExpressionNumber, Place, Range, Target};
 use trees::{ScalarType, UnaryOperator};
 use typed_trees::UnaryFunction;

@@ -1,15 +1,13 @@
 //! Planned code as it is written.
 
-use crate::facts::Facts;
 use crate::forms::plan_task;
-use crate::site::Site;
-use crate::step::{LabelNumber, Part, Step, Steps};
-use crate::writer::Writer;
 use asm8080::WordForm;
 use frames::FramePlan;
 use isa8080::{Instr, Operand, Operation, Register};
 use runtime8080::Routine;
+use sites8080::Site;
 use std::alloc::{AllocError, Global};
+use steps8080::{Facts, LabelNumber, Part, Step, Steps, Writer};
 use treecode::{Place, ProcedureKind, TreeModule};
 
 /// The routines, in the order of their labels.
@@ -59,6 +57,17 @@ impl Emission {
             facts: Facts::none(),
             is_called: vec![in alloc; false; 9]?,
         })
+    }
+
+    /// The code, and of each routine whether the code calls it.
+    pub fn into_code(self) -> (Writer, Vec<bool>) {
+        let Emission {
+            writer,
+            steps: _,
+            facts: _,
+            is_called,
+        } = self;
+        (writer, is_called)
     }
 
     /// Where code stands at its end.

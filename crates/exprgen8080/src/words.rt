@@ -1,18 +1,16 @@
 //! Values in HL.
 
-use crate::addresses::plan_location_address;
 use crate::byte_operators::Operands;
 use crate::byte_shifts::Shifted;
 use crate::bytes::plan_embedded;
 use crate::calls::plan_call;
-use crate::instructions::{clear_a, copy, plan_extension, set, with_register};
-use crate::loads::{plan_extended_byte_in_memory, plan_word_in_memory};
-use crate::site::Site;
-use crate::step::{Steps, Task};
 use crate::word_operators::plan_word_binary;
 use crate::word_shifts::plan_word_shift;
 use isa8080::{Instr, Operation, Register};
+use operands8080::{plan_extended_byte_in_memory, plan_location_address, plan_word_in_memory};
+use sites8080::Site;
 use std::alloc::AllocError;
+use steps8080::{Steps, Task, clear_a, copy, plan_extension, set, with_register};
 use treecode::{ExpressionForm, ExpressionNumber, Location};
 use trees::{ScalarType, UnaryOperator};
 use typed_trees::UnaryFunction;

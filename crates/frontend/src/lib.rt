@@ -2,7 +2,6 @@
 #![tactic(auto)]
 
 mod read;
-mod unserved;
 
 pub use read::{ReadFault, SourceModule, read_source};
 pub use words::LONGEST_SOURCE;

@@ -15,7 +15,6 @@ ghost use Rattle.frontend.specs.Reading.{HasTyping, IsSourceOf, IsText};
 ghost use Rattle.frontend.specs.Causes.{HasReadCause, IsSyntaxFault};
 ghost use Rattle.frontend.specs.internal.Steps.{failure_as};
 
-use crate::unserved::unserved_line;
 use failure::Failure;
 use layout::Layout;
 use std::alloc::Global;
@@ -80,13 +79,11 @@ impl ReadFault {
     }
 }
 
-/// A source as it is read: its typed module, where the objects and constants of that lie in its segments, and the line of
-/// its first construct that is not served yet (1 where there is none).
+/// A source as it is read: its typed module, and where the objects and constants of that lie in its segments.
 #[derive(Drop)]
 pub struct SourceModule {
     pub typed: Typed,
     pub storage: Layout,
-    pub unserved_line: u32,
 }
 
 /// The typed module that a text is, with its storage.
@@ -103,41 +100,23 @@ pub fn read_source(alloc: Global, text: &[u8]) -> Result<SourceModule, Failure<R
     if text.len() > LONGEST_SOURCE {
         return Err(Failure::Fault(ReadFault::TooLong));
     }
-    let TypedText {
-        typed,
-        unserved_line,
-    } = type_text(alloc, text)?;
+    let typed = type_text(alloc, text)?;
     let storage = layout::layout(alloc, &typed).map_err(from_storage)?;
-    Ok(SourceModule {
-        typed,
-        storage,
-        unserved_line,
-    })
-}
-
-// The typed module that a text is, and the line of its first construct that is not served yet.
-#[derive(Drop)]
-struct TypedText {
-    typed: Typed,
-    unserved_line: u32,
+    Ok(SourceModule { typed, storage })
 }
 
 // The typing of a text that is not too long.
 #[tactic(auto, using(crate::proofs::ReadLemmas::has_typing))]
-fn type_text(alloc: Global, text: &[u8]) -> Result<TypedText, Failure<ReadFault>>
+fn type_text(alloc: Global, text: &[u8]) -> Result<Typed, Failure<ReadFault>>
     requires { length text.now ≤ LONGEST_SOURCE }
-    ensures typing { IfOk result (λ read. HasTyping text.now (module_view read.typed)) }
-    ensures storable { IfOk result (λ read. IsStorable (module_view read.typed)) }
-    ensures jumps { IfOk result (λ read. JumpsAreSound (module_view read.typed)) }
+    ensures typing { IfOk result (λ typed. HasTyping text.now (module_view typed)) }
+    ensures storable { IfOk result (λ typed. IsStorable (module_view typed)) }
+    ensures jumps { IfOk result (λ typed. JumpsAreSound (module_view typed)) }
     ensures refused { IfFault result (λ fault. HasReadCause fault text.now) }
 {
     let tree = parse_text(alloc, text)?;
-    let unserved_line = unserved_line(&tree);
     let typed = types::check(alloc, tree).map_err(from_typing)?;
-    Ok(TypedText {
-        typed,
-        unserved_line,
-    })
+    Ok(typed)
 }
 
 // The module that a text is which is not too long.

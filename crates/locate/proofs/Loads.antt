@@ -9,7 +9,7 @@ use Rattle.std.proofs.lemmas.List.Kept.{AllPairs-cons}
 use Rattle.mem80.specs.declared.range.Piece.{Piece}
 use Rattle.mem80.specs.Memory.{with_bytes}
 use Rattle.mem80.specs.Pieces.{AreApart, AreWritable, EndsInMemory, IsLoaded, byte_in, are_runs}
-use Rattle.locate.specs.internal.Putting.{loaded}
+use Rattle.locate.specs.Locating.{loaded}
 use Rattle.locate.proofs.Pieces.{piece_end, byte_of_piece, one_more, within, below, above, Begins, Begins-less, Ends, runs_parts}
 use Rattle.locate.proofs.Images.{none_before}
 

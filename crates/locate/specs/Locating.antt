@@ -1,5 +1,6 @@
 -- Plans, placed modules and faults.
-use Rattle.std.specs.Prelude.{◌≡◌, ℕ, IsTrue, List, All, Ok}
+use Rattle.std.specs.Prelude.{◌≡◌, ℕ, IsTrue, List, [], ◌∷◌, All, Ok}
+use Rattle.mem80.specs.Memory.{with_bytes}
 use Rattle.mem80.specs.declared.range.Piece.{Piece}
 use Rattle.mem80.specs.Pieces.{AreLongestRuns, are_runs, EndsInMemory}
 use Rattle.object_modules.specs.Module.{ObjectModule}
@@ -47,3 +48,8 @@ pub record IsAbsolute (absolute : Absolute) : Type 0 where
 
 abbrev pub symbol_view : CodeSymbol → Symbol
 symbol_view symbol = record { name = symbol.name; address = symbol.address }
+
+-- a memory with pieces put into it
+abbrev pub loaded : List Piece → (memory : List ℕ) → List ℕ
+loaded [] memory = memory
+loaded (piece ∷ others) memory = loaded others (with_bytes piece.bytes piece.start memory)

@@ -1,10 +1,12 @@
 //! Placed modules.
 
-ghost use Rattle.std.specs.Prelude.{◌≡◌, All, IsTrue, map};
+ghost use Rattle.std.specs.Prelude.{◌≡◌, ◌+◌, ◌<◌, ◌≤◌, ◌∷◌, [], All, IsTrue, IfOk, length, map};
+ghost use Rattle.mem80.specs.declared.memory.TheConstants.{MEMORY_SIZE};
 ghost use Rattle.mem80.specs.Pieces.{AreWritable, EndsInMemory, IsLoaded, are_runs, byte_in};
-ghost use Rattle.locate.specs.Locating.{symbol_view};
+ghost use Rattle.locate.specs.Locating.{loaded, symbol_view};
 
-use mem80::{Memory, Piece};
+use mem80::{Bytes, Memory, Piece};
+use std::alloc::{AllocError, Global};
 use std::marker::Model;
 use symbols::Name;
 
@@ -68,6 +70,23 @@ impl Absolute {
         }
     }
 
+    /// A placed module that sets these bytes alone, from an address on, and starts at the first of them. It has no symbols.
+    pub fn of_bytes(alloc: Global, start: u16, bytes: Vec<u8>) -> Result<Absolute, AllocError>
+        requires some { 0 < length bytes.items }
+        requires in_memory { start + length bytes.items ≤ MEMORY_SIZE }
+        ensures pieces { IfOk result
+            (λ absolute. absolute.pieces ≡ record { start = start; bytes = bytes.items } ∷ []) }
+        ensures start { IfOk result (λ absolute. absolute.start ≡ start) }
+    {
+        let mut pieces = Vec::new(alloc);
+        pieces.push(Piece {
+            start,
+            bytes: Bytes::from_vec(bytes),
+        })?;
+        let absolute = Absolute::new(pieces, start, Vec::new(alloc));
+        Ok(absolute)
+    }
+
     /// The bytes that it sets, as the longest runs, in the order of their addresses: each has bytes, and the
     /// next one begins after the address where it ends.
     #[tactic(auto, using(crate::proofs::Loads::runs_writable))]
@@ -95,7 +114,8 @@ impl Absolute {
 
     /// Puts its bytes into a memory, which is as before elsewhere.
     pub fn load(&self, memory: &mut Memory)
-        ensures { IsLoaded (byte_in self.now.pieces) memory.old memory.new }
+        ensures bytes { IsLoaded (byte_in self.now.pieces) memory.old memory.new }
+        ensures pieces { loaded self.now.pieces memory.old ≡ memory.new }
     {
         put_pieces(self.pieces.as_slice(), memory);
     }
@@ -106,7 +126,8 @@ impl Absolute {
 fn put_pieces(pieces: &[Piece], memory: &mut Memory)
     requires runs { IsTrue (are_runs pieces.now) }
     requires in_memory { All EndsInMemory pieces.now }
-    ensures { IsLoaded (byte_in pieces.now) memory.old memory.new }
+    ensures bytes { IsLoaded (byte_in pieces.now) memory.old memory.new }
+    ensures pieces { loaded pieces.now memory.old ≡ memory.new }
 {
     for piece in pieces {
         memory.load(piece.start, piece.bytes.as_slice());

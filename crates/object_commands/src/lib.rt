@@ -9,3 +9,4 @@ mod writing_files;
 
 pub use linking::link_files;
 pub use placing::{print_hex, print_places};
+pub use writing_files::write_file;

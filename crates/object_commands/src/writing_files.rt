@@ -9,7 +9,7 @@ use files::{FileFault, Files};
 
 /// Writes a file from its beginning. After a failure all files are as before, or it has a beginning of the bytes and the
 /// others are as before.
-pub(crate) fn write_file<F: Files>(
+pub fn write_file<F: Files>(
     name: &str,
     bytes: &[u8],
     files: &mut F,

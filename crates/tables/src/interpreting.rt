@@ -4,7 +4,6 @@ use crate::events::print_events;
 use crate::faulty::FaultyPorts;
 use crate::page::Page;
 use failure::Failure;
-use interpretation::read_program;
 use interpreter::{RunFault, SourceEnd, interpret};
 use mem80::Memory;
 use ports::{Ports, Script};
@@ -21,14 +20,14 @@ fn interpreted<P: Ports>(
         name: "a.plm",
         text,
     }];
-    let readied = read_program(alloc, sources.as_slice(), &Plan::usual())?;
+    let built = build(alloc, sources.as_slice(), &Plan::usual())?;
     let Ok(memory) = Memory::new(alloc) else {
         return Err(Failure::Memory);
     };
     Ok(interpret(
         alloc,
-        &readied.program,
-        &readied.placement,
+        built.program(),
+        built.placement(),
         1024,
         memory,
         ports,

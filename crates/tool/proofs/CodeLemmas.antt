@@ -1,15 +1,10 @@
--- The code of modules and of programs.
-use Rattle.std.proofs.Common.{◌≡◌, ℕ, ◌+◌, ◌*◌, ◌<◌, Bool, true, false, List, [], ◌∷◌, ◌++◌, length, Option, Some, None, arith, refl, sym, ap, ◌∙◌, append-nil}
+-- The code of modules.
+use Rattle.std.proofs.Common.{◌≡◌, ◌<◌, List, [], ◌∷◌, length, Option, Some, None, arith, refl}
 use Rattle.typed_trees.specs.TypedTrees.{TypedModule}
 use Rattle.source_meaning.specs.declared.outputs.Output.{Output}
-use Rattle.source_meaning.specs.Outputs.{outputs_from, outputs_of}
+use Rattle.source_meaning.specs.Outputs.{outputs_of}
 use Rattle.plans.specs.declared.Plan.{Plan}
-use Rattle.tool.specs.Code.{outputs_code, code_bytes, code_of, segment_of, module_code}
-
--- four bytes an output, and the halt
-pub length-outputs_code : (outputs : List Output) → length (code_bytes (outputs_code outputs)) ≡ 4 * length outputs + 1
-length-outputs_code [] = omega arith
-length-outputs_code (first ∷ others) = omega (arith, length-outputs_code others)
+use Rattle.tool.specs.Code.{code_of, segment_of, module_code}
 
 pub segment_is : (plan : Plan) (outputs : List Output) → 0 < length outputs → segment_of plan outputs ≡ code_of plan outputs
 segment_is plan [] some = absurd (omega (arith, some))

@@ -7,7 +7,10 @@ use Rattle.std.proofs.lemmas.List.{get_or-map, length-map}
 use Rattle.std.proofs.lemmas.List.Elements.{All-cons, All-from_recursion, recursion_from_All}
 use Rattle.typed_trees.specs.TypedTrees.{TypedModule}
 use Rattle.typed_trees.specs.Storable.{IsStorable}
-use Rattle.layout.specs.Storage.{storage_with}
+use Rattle.typed_trees.specs.Jumps.{JumpsAreSound}
+use Rattle.object_modules.specs.Module.{length_of}
+use Rattle.object_modules.specs.declared.segment.Segment.TheVariants as segments
+use Rattle.layout.specs.Storage.{Storage, storage_with}
 use Rattle.layout.specs.Views.{layout_view}
 use Rattle.plans.specs.declared.Plan.{Plan}
 use Rattle.source_meaning.specs.Outputs.{outputs_of}
@@ -20,15 +23,26 @@ use Rattle.failure.specs.declared.Failure.{Failure}
 use Rattle.failure.specs.declared.Failure.TheVariants.{Fault, Memory}
 use Rattle.tool.specs.declared.compiled.Compiled.{Compiled}
 use Rattle.tool.specs.declared.fault.ToolFault.{ToolFault}
-use Rattle.tool.specs.declared.fault.ToolFault.TheVariants.{TooManySources, Source, CodeTooLong, NotServed, Join, Placement}
-use Rattle.tool.specs.declared.sources.Source as declared_source
+use Rattle.tool.specs.declared.fault.ToolFault.TheVariants.{TooManySources, Source, CodeTooLong, Code, ConstantsMissing, Program, Link, Locate}
+use Rattle.program_sources.specs.declared.sources.Source as declared_source
+use Rattle.program_sources.specs.Programs.{text_of, texts_of}
 use Rattle.tool.specs.Code.{module_code}
-use Rattle.tool.specs.Sources.{AreWithoutFault, HasCause, HasLongCode, IsInOrder, IsWithoutFault, text_of, texts_of}
-use Rattle.tool.specs.internal.Compiling.{AreCompiled, HasCompileCause, IsCompiled, module_in}
+use Rattle.tool.specs.Sources.{AreWithoutFault, HasCause, HasLongCode, IsInOrder, IsReadable, IsRefusedAlone, IsWithoutFault}
+use Rattle.tool.specs.internal.Compiling.{AreCompiled, HasCompileCause, HasGenerationCause, HasSourceCause, IsCompiled, module_in}
 
-pub is_compiled : (plan : Plan) (text : List ℕ) (one : Compiled) → IsSourceOf text (module_in one) → layout_view one.source.storage ≡ storage_with (module_in one) → IsStorable (module_in one) → one.is_served ≡ is_some (outputs_of (module_in one))
+pub is_compiled : (plan : Plan) (text : List ℕ) (one : Compiled) → IsSourceOf text (module_in one) → layout_view one.source.storage ≡ storage_with (module_in one) → IsStorable (module_in one) → JumpsAreSound (module_in one)
+    → (layout_view one.source.storage).constant_size ≤ length_of one.object segments.Code → one.is_served ≡ is_some (outputs_of (module_in one))
     → one.code.items ≡ module_code plan (module_in one) → length one.code.items ≤ MOST_CODE → IsCompiled plan text one
-is_compiled plan text one source storage storable served code fits = record { source = source; storage = storage; storable = storable; served = served; code = code; fits = fits }
+is_compiled plan text one source storage storable jumps holds served code fits = record {
+  source = source;
+  storage = storage;
+  storable = storable;
+  jumps = jumps;
+  constants = subst (λ (s : Storage). s.constant_size ≤ length_of one.object segments.Code) storage holds;
+  served = served;
+  code = code;
+  fits = fits;
+}
 
 pub has_long_code : (text : List ℕ) (plan : Plan) (typed : TypedModule) → IsSourceOf text typed → MOST_CODE < length (module_code plan typed) → HasLongCode text plan
 has_long_code text plan typed source long = record { typed = typed; source = source; long = long }
@@ -77,6 +91,51 @@ all_compiled plan texts file made before past =
     subst (AreCompiled plan texts) (append-nil made)
     (before [] (subst (λ ts. AreCompiled plan ts []) (sym (drop_of_length-le texts past)) tt))
 
+-- the causes of one source
+pub source_cause : (fault : ToolFault) (place : ℕ) (text : List ℕ) (plan : Plan) → HasSourceCause place text fault → HasCompileCause fault place text plan
+source_cause (Source file fault) place text plan cause = cause
+source_cause TooManySources place text plan cause = absurd cause
+source_cause (CodeTooLong file) place text plan cause = absurd cause
+source_cause (Code file fault) place text plan cause = absurd cause
+source_cause (ConstantsMissing file) place text plan cause = absurd cause
+source_cause (Program fault) place text plan cause = absurd cause
+source_cause (Link fault) place text plan cause = absurd cause
+source_cause (Locate fault) place text plan cause = absurd cause
+
+pub readable : (text : List ℕ) (typed : TypedModule) → IsSourceOf text typed → IsReadable text
+readable text typed source = record { typed = typed; source = source }
+
+pub generation_cause : (fault : ToolFault) (place : ℕ) (text : List ℕ) (plan : Plan) → IsReadable text → HasGenerationCause place fault → HasCompileCause fault place text plan
+generation_cause (Code file fault) place text plan is cause = (cause, is)
+generation_cause (ConstantsMissing file) place text plan is cause = (cause, is)
+generation_cause (Source file fault) place text plan is cause = absurd cause
+generation_cause TooManySources place text plan is cause = absurd cause
+generation_cause (CodeTooLong file) place text plan is cause = absurd cause
+generation_cause (Program fault) place text plan is cause = absurd cause
+generation_cause (Link fault) place text plan is cause = absurd cause
+generation_cause (Locate fault) place text plan is cause = absurd cause
+
+-- the causes of a source that stands alone
+pub source_alone : (fault : ToolFault) (place : ℕ) (text : List ℕ) → HasSourceCause place text fault → IsRefusedAlone text fault
+source_alone (Source file fault) place text cause = cause.1
+source_alone TooManySources place text cause = absurd cause
+source_alone (CodeTooLong file) place text cause = absurd cause
+source_alone (Code file fault) place text cause = absurd cause
+source_alone (ConstantsMissing file) place text cause = absurd cause
+source_alone (Program fault) place text cause = absurd cause
+source_alone (Link fault) place text cause = absurd cause
+source_alone (Locate fault) place text cause = absurd cause
+
+pub generation_alone : (fault : ToolFault) (place : ℕ) (text : List ℕ) → IsReadable text → HasGenerationCause place fault → IsRefusedAlone text fault
+generation_alone (Code file fault) place text is cause = is
+generation_alone (ConstantsMissing file) place text is cause = is
+generation_alone (Source file fault) place text is cause = absurd cause
+generation_alone TooManySources place text is cause = absurd cause
+generation_alone (CodeTooLong file) place text is cause = absurd cause
+generation_alone (Program fault) place text is cause = absurd cause
+generation_alone (Link fault) place text is cause = absurd cause
+generation_alone (Locate fault) place text is cause = absurd cause
+
 -- the fault of a source alone is one of the sources
 pub cause_of_one : (fault : ToolFault) (file : ℕ) (texts : List (List ℕ)) (plan : Plan) → file < length texts → HasCompileCause fault file (text_of texts file) plan → HasCause fault texts plan
 cause_of_one TooManySources file texts plan below cause = absurd cause
@@ -84,18 +143,24 @@ cause_of_one (Source place fault) file texts plan below cause =
     subst (λ k. (k < length texts) × HasReadCause fault (text_of texts k)) (sym cause.0) (below, cause.1)
 cause_of_one (CodeTooLong place) file texts plan below cause =
     subst (λ k. (k < length texts) × HasLongCode (text_of texts k) plan) (sym cause.0) (below, cause.1)
-cause_of_one (NotServed place line) file texts plan below cause = absurd cause
-cause_of_one (Join fault) file texts plan below cause = absurd cause
-cause_of_one (Placement fault) file texts plan below cause = absurd cause
+cause_of_one (Code place fault) file texts plan below cause =
+    subst (λ k. (k < length texts) × IsReadable (text_of texts k)) (sym cause.0) (below, cause.1)
+cause_of_one (ConstantsMissing place) file texts plan below cause =
+    subst (λ k. (k < length texts) × IsReadable (text_of texts k)) (sym cause.0) (below, cause.1)
+cause_of_one (Program fault) file texts plan below cause = absurd cause
+cause_of_one (Link fault) file texts plan below cause = absurd cause
+cause_of_one (Locate fault) file texts plan below cause = absurd cause
 
 -- and those before it have none
 pub order_of_one : (fault : ToolFault) (file : ℕ) (text : List ℕ) (texts : List (List ℕ)) (plan : Plan) → HasCompileCause fault file text plan → AreWithoutFault file texts plan → IsInOrder fault texts plan
 order_of_one TooManySources file text texts plan cause before = absurd cause
 order_of_one (Source place fault) file text texts plan cause before = subst (λ k. AreWithoutFault k texts plan) (sym cause.0) before
 order_of_one (CodeTooLong place) file text texts plan cause before = subst (λ k. AreWithoutFault k texts plan) (sym cause.0) before
-order_of_one (NotServed place line) file text texts plan cause before = absurd cause
-order_of_one (Join fault) file text texts plan cause before = absurd cause
-order_of_one (Placement fault) file text texts plan cause before = absurd cause
+order_of_one (Code place fault) file text texts plan cause before = subst (λ k. AreWithoutFault k texts plan) (sym cause.0) before
+order_of_one (ConstantsMissing place) file text texts plan cause before = subst (λ k. AreWithoutFault k texts plan) (sym cause.0) before
+order_of_one (Program fault) file text texts plan cause before = absurd cause
+order_of_one (Link fault) file text texts plan cause before = absurd cause
+order_of_one (Locate fault) file text texts plan cause before = absurd cause
 
 -- a failure that is handed on
 pub passed : {A F : Type 0} (result : Result A F) (failure : F) → IsErrAnd result (λ given. given ≡ failure) → result ≡ Err failure

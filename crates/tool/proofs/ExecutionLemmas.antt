@@ -13,7 +13,7 @@ use Rattle.cpu8080.specs.Machine.{Machine}
 use Rattle.cpu8080.specs.Runs.{IsRun}
 use Rattle.meaning.specs.Outcomes.{Ended}
 use Rattle.meaning.specs.Run.{Run}
-use Rattle.tool.specs.declared.built.Image.{Image}
+use Rattle.locate.specs.Locating.{Absolute}
 use Rattle.tool.specs.Execution.{started, IsFaithful}
 use Rattle.tool.specs.Headline.{Agrees}
 use Rattle.tool.specs.Image.{machine_run}
@@ -33,7 +33,7 @@ one_halt script s j k halted_j halted_k =
     (λ (le : _). stays_until script s k j (omega arith) halted_k)
     (cases_lt j k)
 
-module _ (image : Image) (memory : List ℕ) (script : List (List ℕ)) (events : List Event) (failures : ℕ) (source : ℕ → Run) (agrees : Agrees source (machine_run image memory script events)) where
+module _ (image : Absolute) (memory : List ℕ) (script : List (List ℕ)) (events : List Event) (failures : ℕ) (source : ℕ → Run) (agrees : Agrees source (machine_run image memory script events)) where
   begins_at : (k : ℕ) (new : Machine) → new.state ≡ state_after script k (started image memory script events failures).state → (n : ℕ) × IsBeginning new.state.events (source n).events
   unfolding machine_run
   begins_at k new e =

@@ -1,9 +1,9 @@
 pub mod CodeLemmas
 pub mod Standing
+pub mod ServedLemmas
+pub mod RunLemmas
+pub mod PlacedLemmas
 pub mod BuiltLemmas
 pub mod ExecutionLemmas
 pub mod CompiledLemmas
 pub mod SourcesLemmas
-pub mod ServedLemmas
-pub mod RunLemmas
-pub mod PlacedLemmas

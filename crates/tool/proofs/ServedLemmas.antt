@@ -1,4 +1,4 @@
--- Modules that are served: they declare nothing, and the code of a program of such is that of its main module.
+-- Modules that are served: the code of a program of such is that of its main module.
 use Rattle.std.proofs.Common.{◌≡◌, ℕ, zero, suc, ◌+◌, ◌≤◌, ◌==◌, ◌&&◌, Bool, true, false, List, [], ◌∷◌, ◌++◌, length, flat_map, map, filter_map, zip, sum_by, count_by, Option, Some, None, All, unwrap_or, cond, arith, refl, sym, ap, ◌∙◌, subst, append-nil}
 use Rattle.std.specs.List.{enumerate_from, AllByRecursion}
 use Rattle.std.proofs.lemmas.List.Elements.{All-from_recursion, recursion_from_All}
@@ -16,49 +16,9 @@ use Rattle.source_meaning.specs.Outputs.{declares_nothing, output_before, output
 use Rattle.tool.specs.Code.{code_of, module_code, program_code, segment_of}
 use Rattle.tool.specs.Sources.{IsServed}
 
-none_of : {X : Type 0} (xs : List X) → (length xs == 0) ≡ true → xs ≡ []
-none_of [] is = refl
-none_of (x ∷ xs) is = let bad : ⊥ = grind (arith, common_steps, is) in absurd bad
-
--- the last of four tests that hold
-last_of : (one two three last : Bool) → (one && two && three && last) ≡ true → last ≡ true
-last_of one two three true is = refl
-last_of true true true false is = is
-last_of false two three false is = absurd (cc)
-last_of true false three false is = absurd (cc)
-last_of true true false false is = absurd (cc)
-
-chosen : {A : Type 0} (test : Bool) (x : Option A) (y : A) → cond test x None ≡ Some y → test ≡ true
-chosen true x y is = refl
-chosen false x y is = absurd (cc)
-
 then_is : {A : Type 0} (test : Bool) (x : Option A) (y : A) → cond test x None ≡ Some y → x ≡ Some y
 then_is true x y is = is
 then_is false x y is = absurd (cc)
-
--- a module that is served has no constants
-no_items : (typed : TypedModule) → IsServed typed → typed.constants.items ≡ []
-no_items typed served =
-    let all : declares_nothing typed ≡ true = chosen (declares_nothing typed) (outputs_of_list typed.main.body) served.0 served.1 in
-    none_of typed.constants.items (last_of (length typed.objects == 0) (length typed.procedures == 0) (length typed.constants.lists == 0) (length typed.constants.items == 0) all)
-
-no_constants : (typed : TypedModule) (bytes : ℕ) → IsServed typed → constant_bytes typed ≤ bytes
-no_constants typed bytes served =
-    let none : constant_bytes typed ≡ 0 = ap (sum_by (size_of_constant typed)) (no_items typed served) in
-    omega (arith, none)
-
-constants_each : (modules : List TypedModule) (lengths : List ℕ) → AllByRecursion IsServed modules → AllByRecursion HoldsConstants (zip modules lengths)
-constants_each [] lengths all = tt
-constants_each (typed ∷ others) [] all = tt
-constants_each (typed ∷ others) (bytes ∷ lengths) all = (no_constants typed bytes all.0, constants_each others lengths all.1)
-
-pub have_storage : (modules : List TypedModule) (lengths : List ℕ) → All IsServed modules → All IsStorable modules → HaveStorage modules lengths
-have_storage modules lengths served storable =
-    let each = recursion_from_All IsServed modules served in
-    record {
-      storable = storable;
-      constants = All-from_recursion HoldsConstants (zip modules lengths) (constants_each modules lengths each);
-    }
 
 -- a module has statements where it has outputs
 no_output : (first : Option Output) (others : Option (List Output)) → output_before first others ≡ Some [] → ⊥

@@ -8,16 +8,16 @@ use Rattle.cpu8080.specs.declared.machine.End.TheVariants.{Halted}
 use Rattle.cpu8080.specs.Machine.{Machine}
 use Rattle.meaning.specs.Outcomes.{Ended}
 use Rattle.meaning.specs.Run.{Run, source_run}
-use Rattle.tool.specs.Construction.{Construction, program_modules}
-use Rattle.tool.specs.declared.built.Image.{Image}
-use Rattle.tool.specs.Image.{loaded}
+use Rattle.locate.specs.Locating.{Absolute, loaded}
+use Rattle.program_sources.specs.Programs.{program_modules}
+use Rattle.tool.specs.Construction.{Construction}
 
 -- the machine at its start: an image loaded into a memory, and ports with a script, events and a count of
 -- failures
-abbrev pub started : Image → List ℕ → List (List ℕ) → List Event → ℕ → Machine
+abbrev pub started : Absolute → List ℕ → List (List ℕ) → List Event → ℕ → Machine
 started image memory script events failures =
     record {
-      state = initial_state (loaded image memory) events image.start;
+      state = initial_state (loaded image.pieces memory) events image.start;
       script = script;
       failures = failures;
     }

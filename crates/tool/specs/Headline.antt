@@ -10,7 +10,7 @@ use Rattle.typed_trees.specs.TypedTrees.{TypedModule}
 use Rattle.layout.specs.Placement.{Placement}
 use Rattle.meaning.specs.Outcomes.{Ended}
 use Rattle.meaning.specs.Run.{Run, source_run, NeverOutside}
-use Rattle.tool.specs.declared.built.Image.{Image}
+use Rattle.locate.specs.Locating.{Absolute}
 use Rattle.tool.specs.Image.{machine_run}
 
 -- the machine performs exactly the source's reads and writes, and halts exactly if the source ends: the source
@@ -28,7 +28,7 @@ pub record Agrees (source : ℕ → Run) (machine : ℕ → State) : Type 0 wher
 
 -- the image does what the program says, from every memory and with every script and all events before it, where
 -- the program with this room on the stack never goes outside
-abbrev pub DoesWhatItSays : List TypedModule → Placement → ℕ → Image → Type 0
+abbrev pub DoesWhatItSays : List TypedModule → Placement → ℕ → Absolute → Type 0
 DoesWhatItSays modules placement room image =
     (memory : List ℕ) (script : List (List ℕ)) (events : List Event)
     → IsMemory memory

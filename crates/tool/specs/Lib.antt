@@ -4,6 +4,7 @@ pub use Rattle.ports.specs.Input
 pub use Rattle.failure.specs.Failure
 pub use Rattle.frontend.specs.Reading
 pub use Rattle.frontend.specs.Causes
+pub use Rattle.program_sources.specs.Programs
 pub mod Code
 pub mod Image
 pub mod Headline

@@ -1,38 +1,26 @@
 //! Programs that lie at their places.
 
-ghost use Rattle.std.specs.Prelude.{◌≡◌, All, None};
-ghost use Rattle.layout.specs.Joined.{IsJoined};
-ghost use Rattle.layout.specs.Lawful.{IsLawful};
-ghost use Rattle.layout.specs.Placement.{pieces_of};
-ghost use Rattle.layout.specs.Placing.{placement_by, placing_refusal};
-ghost use Rattle.placing.specs.Tables.{IsTableOf};
-ghost use Rattle.placing.specs.Views.{placement_view, plan_view};
-ghost use Rattle.tool.specs.Code.{code_lengths, program_code};
-ghost use Rattle.tool.specs.Construction.{IsConstruction, program_modules};
-ghost use Rattle.tool.specs.Sources.{IsServed};
+ghost use Rattle.std.specs.Prelude.{◌≡◌};
+ghost use Rattle.placing.specs.Views.{placement_view};
+ghost use Rattle.tool.specs.Construction.{IsConstruction};
+ghost use Rattle.tool.specs.internal.Inside.{construction_with};
 
 use join::Joined;
-use mem80::{Bytes, Piece};
+use locate::Absolute;
+use object_modules::ObjectModule;
 use placing::Placement;
 use plans::Plan;
+use program_sources::Placed;
 use std::marker::Model;
 
-/// The bytes of a program at their places.
-#[derive(Drop)]
-pub struct Image {
-    /// The code.
-    pub code: Piece,
-    /// The address of the first instruction.
-    pub start: u16,
-}
-
-/// A program, where it lies, and its image, which does what the program says.
+/// A program, where it lies, the object module of each of its modules, and its image.
 #[derive(Drop)]
 pub struct Built {
     program: Joined,
     plan: Plan,
     placement: Placement,
-    image: Image,
+    objects: Vec<ObjectModule>,
+    image: Absolute,
 }
 
 impl Model for Built {
@@ -53,9 +41,30 @@ impl Model for Built {
 }
 
 impl Built {
+    // A program that was placed by a plan, with its object modules and its image.
+    pub(crate) fn new(
+        placed: Placed,
+        plan: Plan,
+        objects: Vec<ObjectModule>,
+        image: Absolute,
+    ) -> Built
+        requires { IsConstruction (construction_with placed plan objects image) }
+        ensures { result ≡ construction_with placed plan objects image }
+    {
+        let Placed { program, placement } = placed;
+        Built {
+            program,
+            plan,
+            placement,
+            objects,
+            image,
+        }
+    }
+
     /// The joined program.
     pub fn program(&self) -> &Joined
         ensures shown { result.now ≡ self.now.program }
+        ensures construction { IsConstruction self.now }
     {
         &self.program
     }
@@ -77,41 +86,19 @@ impl Built {
         &self.placement
     }
 
-    /// Its image, which does what the program says.
-    pub fn image(&self) -> &Image
+    /// The object modules of its modules, in their order.
+    pub fn objects(&self) -> &[ObjectModule]
+        ensures shown { result.now ≡ self.now.objects }
+        ensures construction { IsConstruction self.now }
+    {
+        self.objects.as_slice()
+    }
+
+    /// Its image.
+    pub fn image(&self) -> &Absolute
         ensures shown { result.now ≡ self.now.image }
         ensures construction { IsConstruction self.now }
     {
         &self.image
-    }
-}
-
-/// Puts the code of a program, all of whose modules are served, at its place. Takes no memory.
-pub fn assemble(program: Joined, plan: Plan, placement: Placement, code: Vec<u8>) -> Built
-    requires served { All IsServed (program_modules program) }
-    requires joined { IsJoined (program_modules program) }
-    requires possible { placing_refusal (plan_view plan) (program_modules program)
-        (code_lengths plan (program_modules program)) ≡ None }
-    requires placed { placement_view placement ≡ placement_by (plan_view plan) (program_modules program)
-        (code_lengths plan (program_modules program)) }
-    requires lawful { IsLawful (program_modules program) (placement_view placement) }
-    requires table { IsTableOf (pieces_of (program_modules program) (placement_view placement))
-        placement.kinds.value }
-    requires code { code.items ≡ program_code plan (program_modules program) }
-    ensures program { result.program ≡ program }
-    ensures plan { result.plan ≡ plan }
-{
-    let start = plan.code;
-    Built {
-        program,
-        plan,
-        placement,
-        image: Image {
-            code: Piece {
-                start,
-                bytes: Bytes::from_vec(code),
-            },
-            start,
-        },
     }
 }

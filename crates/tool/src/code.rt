@@ -1,14 +1,14 @@
-//! The code of modules.
+//! The code of modules that are served: those whose statements are outputs of numbers.
 
 ghost use Rattle.std.specs.Prelude.{◌≡◌, ◌<◌, ◌≤◌, ◌++◌, [], codes, length, is_some, IfOk, OnOk};
 ghost use Rattle.failure.specs.Failure.{IfFault};
 ghost use Rattle.typed_trees.specs.Views.{module_view};
 ghost use Rattle.source_meaning.specs.Outputs.{outputs_of};
 ghost use Rattle.isa8080.specs.Code.{bytes_of};
-ghost use Rattle.tool.specs.Code.{code_bytes, code_of, module_code, output_code, segment_of};
+ghost use Rattle.tool.specs.Code.{code_bytes, code_of, load_code, module_code, output_code, segment_of};
 
 use failure::Failure;
-use isa8080::{Instr, Operand, Pair, Register, encode};
+use isa8080::{Instr, Operand, Operation, Pair, Register, encode};
 use plans::Plan;
 use source_meaning::{Output, outputs_of};
 use std::alloc::{AllocError, Global};
@@ -17,9 +17,6 @@ use typed_trees::Typed;
 
 /// The greatest number of bytes of code.
 pub const MOST_CODE: usize = 65535;
-
-// With one output more the code is longer than that.
-const MOST_OUTPUTS: usize = 16382;
 
 /// Why there is no code.
 #[derive(Clone, Copy, Debug, PartialEq, Eq, Error)]
@@ -86,10 +83,11 @@ fn generate(alloc: Global, outputs: &[Output], plan: &Plan) -> Result<Vec<u8>, F
     if outputs.len() == 0 {
         return Ok(Vec::new(alloc));
     }
-    if outputs.len() > MOST_OUTPUTS {
+    let code = emit_main(alloc, outputs, plan)?;
+    if code.len() > MOST_CODE {
+        drop(code);
         return Err(Failure::Fault(CodeFault::TooLong));
     }
-    let code = emit_main(alloc, outputs, plan)?;
     Ok(code)
 }
 
@@ -106,14 +104,22 @@ fn emit_main(alloc: Global, outputs: &[Output], plan: &Plan) -> Result<Vec<u8>, 
     Ok(code)
 }
 
+// The instruction that puts a byte into A: XRA A is shorter than MVI A by a byte.
+fn load_of(byte: u8) -> Instr
+    ensures { result ≡ load_code byte }
+{
+    if byte == 0 {
+        Instr::Accumulate(Operation::ExclusiveOr, Operand::Of(Register::A))
+    } else {
+        Instr::Mvi(Operand::Of(Register::A), byte)
+    }
+}
+
 // The code of one output.
 fn emit_output(code: &mut Vec<u8>, output: Output) -> Result<(), AllocError>
     ensures { OnOk result (code.new.items ≡ code.old.items ++ code_bytes (output_code output [])) }
 {
-    emit(
-        code,
-        Instr::Mvi(Operand::Of(Register::A), (output.value % 256) as u8),
-    )?;
+    emit(code, load_of((output.value % 256) as u8))?;
     emit(code, Instr::Out(output.port))
 }
 

@@ -1,8 +1,10 @@
 //! Why sources are refused.
 
 use crate::code::MOST_CODE;
-use crate::sources::MOST_SOURCES;
 use frontend::ReadFault;
+use link_laws::LinkFault;
+use locate::LocateFault;
+use program_sources::{MOST_SOURCES, ProgramFault};
 use thiserror::Error;
 use trees::Name;
 
@@ -14,19 +16,36 @@ pub enum ToolFault {
     TooManySources,
     /// A source can't be read.
     #[error("source {file}: {fault}")]
-    Source { file: usize, fault: ReadFault },
-    /// The code of a source is too long.
+    Source {
+        file: usize,
+        fault: ReadFault,
+    },
+    /// The code of a source whose statements are outputs of numbers is too long.
     #[error("source {file}: code of more than {most} bytes", most = MOST_CODE)]
-    CodeTooLong { file: usize },
-    /// A source holds a construct that is not served yet. The line is that of the first one in the first such source.
-    #[error("source {file}, line {line}: a construct that is not served yet")]
-    NotServed { file: usize, line: u32 },
-    /// The modules make no program.
+    CodeTooLong {
+        file: usize,
+    },
+    /// There is no object module of a source.
+    #[error("source {file}: {fault}")]
+    Code {
+        file: usize,
+        fault: codegen8080::Fault,
+    },
+    /// The code segment of an object module is shorter than the constants of its source. No source is known for which that
+    /// comes.
+    #[error("source {file}: a code segment that is shorter than its constants")]
+    ConstantsMissing {
+        file: usize,
+    },
+    /// The modules make no program, or it can't lie as planned.
     #[error("{0}")]
-    Join(join::Fault),
-    /// The program can't lie as planned.
+    Program(ProgramFault),
+    /// The object modules of a program that can lie as planned can't be merged. No source is known for which that comes.
     #[error("{0}")]
-    Placement(placing::Fault),
+    Link(LinkFault),
+    /// Their merge can't be placed. No source is known for which that comes.
+    #[error("{0}")]
+    Locate(LocateFault),
 }
 
 impl ToolFault {
@@ -40,10 +59,11 @@ impl ToolFault {
         match self {
             ToolFault::TooManySources => "U1",
             ToolFault::Source { fault, .. } => fault.number(),
-            ToolFault::CodeTooLong { .. } => "G1",
-            ToolFault::NotServed { .. } => "N1",
-            ToolFault::Join(fault) => fault.number(),
-            ToolFault::Placement(fault) => fault.number(),
+            ToolFault::CodeTooLong { .. } | ToolFault::ConstantsMissing { .. } => "G1",
+            ToolFault::Code { fault, .. } => fault.number(),
+            ToolFault::Program(fault) => fault.number(),
+            ToolFault::Link(fault) => fault.number(),
+            ToolFault::Locate(fault) => fault.number(),
         }
     }
 
@@ -54,7 +74,8 @@ impl ToolFault {
         match self {
             ToolFault::Source { file, .. }
             | ToolFault::CodeTooLong { file }
-            | ToolFault::NotServed { file, .. } => Some(*file),
+            | ToolFault::Code { file, .. }
+            | ToolFault::ConstantsMissing { file } => Some(*file),
             _ => None,
         }
     }
@@ -64,12 +85,10 @@ impl ToolFault {
         ensures { result ≡ name_of self.now }
     {
         match self {
-            ToolFault::Join(
-                join::Fault::NoPublic { name }
-                | join::Fault::PublicTwice { name }
-                | join::Fault::DeclarationsDiffer { name },
-            )
-            | ToolFault::Placement(placing::Fault::ObjectMisplaced { name }) => Some(*name),
+            ToolFault::Program(fault) => fault.name(),
+            ToolFault::Link(
+                LinkFault::DuplicatePublic { name } | LinkFault::UnresolvedExternal { name },
+            ) => Some(*name),
             _ => None,
         }
     }
@@ -80,7 +99,6 @@ impl ToolFault {
     {
         match self {
             ToolFault::Source { fault, .. } => fault.line(),
-            ToolFault::NotServed { line, .. } => *line,
             _ => 0,
         }
     }

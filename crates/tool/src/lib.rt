@@ -6,11 +6,13 @@ mod code;
 mod compiled;
 mod execution;
 mod fault;
+mod image;
 mod sources;
 
-pub use built::{Built, Image};
+pub use built::Built;
+pub use compiled::compile;
 pub use execution::execute;
 pub use fault::ToolFault;
 pub use frontend::ReadFault;
-pub use plans::Plan;
-pub use sources::{MOST_SOURCES, Source, build};
+pub use program_sources::{MOST_SOURCES, Plan, Source};
+pub use sources::build;

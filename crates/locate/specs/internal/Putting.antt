@@ -2,7 +2,6 @@
 use Rattle.std.specs.Prelude.{ℕ, ◌+◌, ◌<◌, ◌≤◌, ◌==◌, if◌then◌else◌, List, [], ◌∷◌, ◌++◌, length}
 use Rattle.std.specs.List.{AllByRecursion}
 use Rattle.mem80.specs.declared.memory.TheConstants.{MEMORY_SIZE}
-use Rattle.mem80.specs.Memory.{with_bytes}
 use Rattle.mem80.specs.declared.range.Piece.{Piece}
 use Rattle.object_modules.specs.declared.segment.Fix.{Fix}
 use Rattle.object_modules.specs.declared.segment.Target.{Target}
@@ -51,8 +50,3 @@ LieInMemory base runs =
     AllByRecursion
     (λ (run : Run ℕ). (base + run.offset < MEMORY_SIZE) × (run.offset + length run.items ≤ MEMORY_SIZE))
     runs
-
--- a memory with pieces put into it
-abbrev pub loaded : List Piece → (memory : List ℕ) → List ℕ
-loaded [] memory = memory
-loaded (piece ∷ others) memory = loaded others (with_bytes piece.bytes piece.start memory)

@@ -1,6 +1,11 @@
 -- The parts of a built program as what a contract sees of it.
-use Rattle.tool.specs.declared.built.Built.TheInside.{Inside}
+use Rattle.std.specs.Prelude.{List}
+use Rattle.object_modules.specs.Module.{ObjectModule}
+use Rattle.locate.specs.Locating.{Absolute}
+use Rattle.plans.specs.declared.Plan.{Plan}
 use Rattle.placing.specs.Views.{placement_view}
+use Rattle.program_sources.specs.declared.placed.Placed.{Placed}
+use Rattle.tool.specs.declared.built.Built.TheInside.{Inside}
 use Rattle.tool.specs.Construction.{Construction, IsConstruction}
 
 abbrev pub construction_of : Inside → Construction
@@ -9,8 +14,20 @@ construction_of b = record {
   plan = b.plan;
   placement = placement_view b.placement;
   kinds = b.placement.kinds.value;
+  objects = b.objects.items;
   image = b.image;
 }
 
 abbrev pub IsConstructionInside : Inside → Type 0
 IsConstructionInside b = IsConstruction (construction_of b)
+
+-- a program that was placed, with its object modules and its image
+abbrev pub construction_with : Placed → Plan → List ObjectModule → Absolute → Construction
+construction_with placed plan objects image = record {
+  program = placed.program;
+  plan = plan;
+  placement = placement_view placed.placement;
+  kinds = placed.placement.kinds.value;
+  objects = objects;
+  image = image;
+}

@@ -7,7 +7,7 @@ use Rattle.clap.specs.Words.{App, fault_of, is_simple, subcommand_of, subcommand
 use Rattle.command_line.specs.Command.{IsFaultOf, Orders, files_in, plm_app, wanted_by, wanted_in, wanted_of_match}
 use Rattle.command_line.specs.declared.orders.Order.{Order}
 use Rattle.command_line.proofs.CommandLemmas.{fault_among, gives_none, out_of_memory, tells_none, wants_any}
-use Rattle.command_line.proofs.Given.{files_failed, files_ordered, link_failed, link_ordered, map_failed, map_ordered, place_failed, place_ordered, place_text_failed, place_text_ordered, text_failed, text_ordered}
+use Rattle.command_line.proofs.Given.{compile_failed, compile_ordered, files_failed, files_ordered, link_failed, link_ordered, map_failed, map_ordered, place_failed, place_ordered, place_text_failed, place_text_ordered, text_failed, text_ordered}
 use Rattle.command_line.proofs.PlmWords.{order_is_there, some_files, plm_is_free, plm_is_simple}
 use Rattle.command_line.proofs.reading.command.Goals as goal
 use Rattle.command_line.proofs.reading.command.Goals.{In-Ok}
@@ -35,6 +35,7 @@ returns c =
       files = files_ordered (texts c.args.words.now) c.in-Some.order order;
       option = text_ordered (texts c.args.words.now) c.in-Some.order order;
       map = map_ordered (texts c.args.words.now) c.in-Some.order order;
+      compile = compile_ordered (texts c.args.words.now) c.in-Some.order order;
       link = link_ordered (texts c.args.words.now) c.in-Some.order order;
       place = place_ordered (texts c.args.words.now) c.in-Some.order order;
       place_option = place_text_ordered (texts c.args.words.now) c.in-Some.order order;
@@ -54,6 +55,7 @@ returns-in-Err c = record {
   files = files_failed (texts c.args.words.now) c.in-Err.error c.failure_of.result (has_kind c) c.failure_of.ensures;
   option = text_failed (texts c.args.words.now) c.in-Err.error c.failure_of.result (has_kind c) c.failure_of.ensures;
   map = map_failed (texts c.args.words.now) c.in-Err.error c.failure_of.result (has_kind c) c.failure_of.ensures;
+  compile = compile_failed (texts c.args.words.now) c.in-Err.error c.failure_of.result (has_kind c) c.failure_of.ensures;
   link = link_failed (texts c.args.words.now) c.in-Err.error c.failure_of.result (has_kind c) c.failure_of.ensures;
   place = place_failed (texts c.args.words.now) c.in-Err.error c.failure_of.result (has_kind c) c.failure_of.ensures;
   place_option = place_text_failed (texts c.args.words.now) c.in-Err.error c.failure_of.result (has_kind c) c.failure_of.ensures;
@@ -72,6 +74,7 @@ returns-in_err-plm c =
       files = λ name action files given. wants_any _ answer is;
       option = λ name action files option text bare given. wants_any _ answer is;
       map = λ name action files given. wants_any _ answer is;
+      compile = λ name source object bare given. wants_any _ answer is;
       link = λ name out files bare given. wants_any _ answer is;
       place = λ name action files given. wants_any _ answer is;
       place_option = λ name action files option text bare given. wants_any _ answer is;
@@ -90,6 +93,7 @@ returns-in_err-order c =
       files = λ name action files given. wants_any _ answer is;
       option = λ name action files option text bare given. wants_any _ answer is;
       map = λ name action files given. wants_any _ answer is;
+      compile = λ name source object bare given. wants_any _ answer is;
       link = λ name out files bare given. wants_any _ answer is;
       place = λ name action files given. wants_any _ answer is;
       place_option = λ name action files option text bare given. wants_any _ answer is;

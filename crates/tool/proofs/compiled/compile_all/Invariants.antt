@@ -1,5 +1,6 @@
 use Rattle.std.proofs.Common.{length}
-use Rattle.tool.specs.Sources.{AreWithoutFault, texts_of}
+use Rattle.program_sources.specs.Programs.{texts_of}
+use Rattle.tool.specs.Sources.{AreWithoutFault}
 use Rattle.tool.proofs.CompiledLemmas.{GoesOn}
 use Rattle.tool.proofs.compiled.compile_all.Given as goal
 

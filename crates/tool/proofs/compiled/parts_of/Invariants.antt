@@ -1,4 +1,6 @@
-use Rattle.std.proofs.Common.{◌≡◌, flat_map, length, map}
+use Rattle.std.proofs.Common.{◌≡◌, flat_map, map}
+use Rattle.object_modules.specs.Module.{length_of}
+use Rattle.object_modules.specs.declared.segment.Segment.TheVariants as segments
 use Rattle.tool.specs.declared.compiled.Compiled.{Compiled}
 use Rattle.tool.proofs.compiled.parts_of.Given as goal
 
@@ -7,6 +9,7 @@ abbrev pub invariant-loop-one : goal.invariant-loop-one
 invariant-loop-one l = record {
   modules : l.parts.modules.items ≡ map (λ (one : Compiled). one.source.typed) l.yielded;
   storages : l.parts.storages.items ≡ map (λ (one : Compiled). one.source.storage) l.yielded;
-  lengths : l.parts.lengths.items ≡ map (λ (one : Compiled). length one.code.items) l.yielded;
+  objects : l.parts.objects.items ≡ map (λ (one : Compiled). one.object) l.yielded;
+  lengths : l.parts.lengths.items ≡ map (λ (one : Compiled). length_of one.object segments.Code) l.yielded;
   code : l.parts.code.items ≡ flat_map (λ (one : Compiled). one.code.items) l.yielded;
 }

@@ -1,5 +1,4 @@
-use Rattle.tool.specs.Construction.{program_modules}
-use Rattle.tool.specs.Sources.{texts_of}
+use Rattle.program_sources.specs.Programs.{program_modules, texts_of}
 use Rattle.tool.proofs.CompiledLemmas.{within_texts}
 use Rattle.tool.proofs.SourcesLemmas.{no_program}
 use Rattle.tool.proofs.sources.build.Goals as goal

@@ -1,0 +1,309 @@
+//! Assignments.
+
+use crate::body::Body;
+use crate::plan::Plan;
+use crate::same::are_same;
+use exprgen8080::{Site, Task};
+use isa8080::{Instr, Operand, Pair, Register};
+use std::alloc::AllocError;
+use treecode::{ExpressionForm, ExpressionNumber, Range, Reference, Subscript, Target};
+use trees::{BinaryOperator, ScalarType};
+
+// How the types of several targets go together.
+#[derive(Clone, Copy)]
+enum TargetTypes {
+    // Each takes a byte.
+    Bytes,
+    // Each takes a word.
+    Words,
+    Mixed,
+}
+
+// Whether a target takes a word.
+fn takes_word(target: Target) -> bool {
+    match target {
+        Target::Stored { to, .. } => matches!(to, ScalarType::Address),
+        Target::Sent { .. } => false,
+    }
+}
+
+// The target of a value that is there in this type.
+fn from_type(target: Target, from: ScalarType) -> Target {
+    match target {
+        Target::Stored {
+            from: _,
+            to,
+            reference,
+        } => Target::Stored {
+            from,
+            to,
+            reference,
+        },
+        Target::Sent { from: _, port } => Target::Sent { from, port },
+    }
+}
+
+// Whether a subscript is evaluated without changing anything.
+fn is_quiet_subscript(site: &Site<'_>, subscript: Option<Subscript>) -> bool {
+    match subscript {
+        Some(subscript) => site.is_quiet(subscript.index),
+        None => true,
+    }
+}
+
+// Whether the address of a BYTE target is to come before its value: its code does not keep A, the code of the value uses A
+// alone, and nobody can tell the order.
+fn is_address_first(site: &Site<'_>, reference: &Reference, value: ExpressionNumber) -> bool {
+    !site.keeps_of_address(reference).a
+        && site.is_free(value)
+        && is_quiet_subscript(site, reference.subscript)
+        && is_quiet_subscript(site, reference.member_subscript)
+}
+
+// INR M or DCR M, where a BYTE is to become itself and 1 or itself less 1.
+fn count_of(site: &Site<'_>, reference: &Reference, value: ExpressionNumber) -> Option<Instr> {
+    let Some(expression) = site.expression(value) else {
+        return None;
+    };
+    let ExpressionForm::Binary {
+        operands: ScalarType::Byte,
+        operator,
+        left,
+        right,
+    } = expression.form
+    else {
+        return None;
+    };
+    if !is_value_of(site, left, reference) || !is_one(site, right) {
+        return None;
+    }
+    match operator {
+        BinaryOperator::Add => Some(Instr::Inr(Operand::M)),
+        BinaryOperator::Subtract => Some(Instr::Dcr(Operand::M)),
+        _ => None,
+    }
+}
+
+// Whether an expression is the number 1.
+fn is_one(site: &Site<'_>, number: ExpressionNumber) -> bool {
+    matches!(site.number(number), Some(1))
+}
+
+// Whether an expression is the value of a reference.
+fn is_value_of(site: &Site<'_>, number: ExpressionNumber, reference: &Reference) -> bool {
+    match site.expression(number) {
+        Some(expression) => match expression.form {
+            ExpressionForm::Value(other) => are_same(site, &other, reference),
+            _ => false,
+        },
+        None => false,
+    }
+}
+
+// A BYTE gets the low byte of a value.
+fn plan_byte(
+    site: &Site<'_>,
+    plan: &mut Plan,
+    reference: Reference,
+    value: ExpressionNumber,
+) -> Result<(), AllocError> {
+    if let Some(number) = site.number(value) {
+        plan.part(Task::Address(reference), 0)?;
+        return plan.plain(Instr::Mvi(Operand::M, (number % 256) as u8));
+    }
+    if let Some(instruction) = count_of(site, &reference, value) {
+        plan.part(Task::Address(reference), 0)?;
+        return plan.plain(instruction);
+    }
+    if is_address_first(site, &reference, value) {
+        plan.part(Task::Address(reference), 0)?;
+        plan.part(Task::Byte(value), 0)?;
+        return plan.plain(Instr::MovToMemory(Register::A));
+    }
+    let target = Target::Stored {
+        from: ScalarType::Byte,
+        to: ScalarType::Byte,
+        reference,
+    };
+    plan_from_byte(plan, target, value)
+}
+
+// The low byte of a value goes to a target.
+fn plan_from_byte(
+    plan: &mut Plan,
+    target: Target,
+    value: ExpressionNumber,
+) -> Result<(), AllocError> {
+    plan.part(Task::Byte(value), 0)?;
+    plan.part(
+        Task::Store {
+            target: from_type(target, ScalarType::Byte),
+            is_wanted: false,
+        },
+        0,
+    )
+}
+
+// A value goes to a target as a word.
+fn plan_from_word(
+    plan: &mut Plan,
+    target: Target,
+    value: ExpressionNumber,
+) -> Result<(), AllocError> {
+    plan.part(Task::Word(value), 0)?;
+    plan.part(
+        Task::Store {
+            target: from_type(target, ScalarType::Address),
+            is_wanted: false,
+        },
+        0,
+    )
+}
+
+// A number goes to an ADDRESS, byte by byte.
+fn plan_number(plan: &mut Plan, reference: Reference, number: u16) -> Result<(), AllocError> {
+    plan.part(Task::Address(reference), 0)?;
+    plan.plain(Instr::Mvi(Operand::M, (number % 256) as u8))?;
+    plan.plain(Instr::Inx(Pair::Hl))?;
+    plan.plain(Instr::Mvi(Operand::M, (number / 256) as u8))
+}
+
+// An ADDRESS gets a value of a type.
+fn plan_word(
+    body: &Body<'_>,
+    site: &Site<'_>,
+    plan: &mut Plan,
+    target: Target,
+    reference: Reference,
+    value: ExpressionNumber,
+) -> Result<(), AllocError> {
+    if body.is_near(site.location_of(&reference)) {
+        return plan_from_word(plan, target, value);
+    }
+    if let Some(number) = site.number(value) {
+        return plan_number(plan, reference, number);
+    }
+    match target.source() {
+        ScalarType::Byte => plan_from_byte(plan, target, value),
+        ScalarType::Address => plan_from_word(plan, target, value),
+    }
+}
+
+/// One target gets a value.
+pub(crate) fn plan_single(
+    body: &Body<'_>,
+    site: &Site<'_>,
+    plan: &mut Plan,
+    target: Target,
+    value: ExpressionNumber,
+) -> Result<(), AllocError> {
+    match target {
+        Target::Stored { to, reference, .. } => match to {
+            ScalarType::Byte => plan_byte(site, plan, reference, value),
+            ScalarType::Address => plan_word(body, site, plan, target, reference, value),
+        },
+        Target::Sent { .. } => plan_from_byte(plan, target, value),
+    }
+}
+
+// How the types of targets go together.
+fn types_of(body: &Body<'_>, targets: Range) -> TargetTypes {
+    let mut takes_bytes = false;
+    let mut takes_words = false;
+    for index in 0..targets.count {
+        if let Some(target) = body.tree.target(targets, index) {
+            let is_word = takes_word(target);
+            takes_words = takes_words || is_word;
+            takes_bytes = takes_bytes || !is_word;
+        }
+    }
+    match (takes_bytes, takes_words) {
+        (_, false) => TargetTypes::Bytes,
+        (false, true) => TargetTypes::Words,
+        (true, true) => TargetTypes::Mixed,
+    }
+}
+
+// Each target gets a value, as if it were the only one.
+fn plan_each(
+    body: &Body<'_>,
+    site: &Site<'_>,
+    plan: &mut Plan,
+    targets: Range,
+    value: ExpressionNumber,
+) -> Result<(), AllocError> {
+    for index in 0..targets.count {
+        if let Some(target) = body.tree.target(targets, index) {
+            plan_single(body, site, plan, target, value)?;
+        }
+    }
+    Ok(())
+}
+
+// A value that is in A or HL in this type goes to all targets.
+fn plan_stores(
+    body: &Body<'_>,
+    plan: &mut Plan,
+    targets: Range,
+    from: ScalarType,
+) -> Result<(), AllocError> {
+    for index in 0..targets.count {
+        if let Some(target) = body.tree.target(targets, index) {
+            let is_wanted = index.saturating_add(1) < targets.count;
+            let target = from_type(target, from);
+            plan.part(Task::Store { target, is_wanted }, 0)?;
+        }
+    }
+    Ok(())
+}
+
+// Several targets get a value, which is evaluated once.
+fn plan_together(
+    body: &Body<'_>,
+    plan: &mut Plan,
+    targets: Range,
+    value: ExpressionNumber,
+    from: ScalarType,
+) -> Result<(), AllocError> {
+    match from {
+        ScalarType::Byte => plan.part(Task::Byte(value), 0)?,
+        ScalarType::Address => plan.part(Task::Word(value), 0)?,
+    }
+    plan_stores(body, plan, targets, from)
+}
+
+// Several targets get a value.
+fn plan_several(
+    body: &Body<'_>,
+    site: &Site<'_>,
+    plan: &mut Plan,
+    targets: Range,
+    value: ExpressionNumber,
+) -> Result<(), AllocError> {
+    match types_of(body, targets) {
+        TargetTypes::Bytes => plan_together(body, plan, targets, value, ScalarType::Byte),
+        TargetTypes::Words => plan_together(body, plan, targets, value, ScalarType::Address),
+        TargetTypes::Mixed => {
+            if site.number(value).is_some() {
+                plan_each(body, site, plan, targets, value)
+            } else {
+                plan_together(body, plan, targets, value, site.scalar(value))
+            }
+        }
+    }
+}
+
+/// The steps of an assignment.
+pub(crate) fn plan_assignment(
+    body: &Body<'_>,
+    site: &Site<'_>,
+    plan: &mut Plan,
+    targets: Range,
+    value: ExpressionNumber,
+) -> Result<(), AllocError> {
+    if targets.count == 1 {
+        plan_each(body, site, plan, targets, value)
+    } else {
+        plan_several(body, site, plan, targets, value)
+    }
+}

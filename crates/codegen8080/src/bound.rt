@@ -1,0 +1,195 @@
+//! The test of an iterative DO: whether its variable is not above its bound.
+
+use crate::iteration::{Counter, plan_less};
+use crate::plan::{Plan, Planned};
+use asm8080::WordForm;
+use exprgen8080::{Facts, LabelNumber, Site, Task};
+use isa8080::{Condition, Instr, Operand, Operation, Pair, Register};
+use std::alloc::AllocError;
+use treecode::{ExpressionForm, ExpressionNumber, Place};
+use trees::ScalarType;
+
+/// How it is tested whether the variable is not above the bound.
+#[derive(Clone, Copy)]
+pub(crate) enum Test {
+    /// It never is.
+    Always,
+    /// A BYTE is less than this number.
+    ByteBelow(u16),
+    /// An ADDRESS is less than this number.
+    WordBelow(u16),
+    /// A BYTE, with a BYTE.
+    Byte(ExpressionNumber),
+    /// A BYTE, with an ADDRESS.
+    ByteWithWord(ExpressionNumber),
+    /// An ADDRESS in memory, with an ADDRESS at a place.
+    WordWithPlace(Place),
+    /// An ADDRESS in memory.
+    Word(ExpressionNumber),
+    /// An ADDRESS in the frame.
+    FrameWord(ExpressionNumber),
+}
+
+// The test with a bound that is known.
+fn known_test(counter: &Counter, last: u16) -> Test {
+    let Some(bound) = last.checked_add(1) else {
+        return Test::Always;
+    };
+    match counter.scalar {
+        ScalarType::Byte => {
+            if last >= 255 {
+                Test::Always
+            } else {
+                Test::ByteBelow(bound)
+            }
+        }
+        ScalarType::Address => Test::WordBelow(bound),
+    }
+}
+
+// The place in memory of an ADDRESS that an expression is the value of, if it is one.
+fn word_at(site: &Site<'_>, number: ExpressionNumber) -> Option<Place> {
+    match site.expression(number) {
+        Some(expression) => match (expression.form, expression.traits.scalar) {
+            (ExpressionForm::Value(reference), ScalarType::Address) => site.direct(&reference),
+            _ => None,
+        },
+        None => None,
+    }
+}
+
+// The test of an ADDRESS with a bound that is not known.
+fn word_test(site: &Site<'_>, counter: &Counter, last: ExpressionNumber) -> Test {
+    match (counter.place(), word_at(site, last)) {
+        (Some(_), Some(place)) => Test::WordWithPlace(place),
+        (Some(_), None) => Test::Word(last),
+        (None, _) => Test::FrameWord(last),
+    }
+}
+
+/// How it is tested whether the variable is not above the bound.
+pub(crate) fn test_of(site: &Site<'_>, counter: &Counter, last: ExpressionNumber) -> Test {
+    if let Some(last) = site.number(last) {
+        return known_test(counter, last);
+    }
+    match (counter.scalar, site.scalar(last)) {
+        (ScalarType::Byte, ScalarType::Byte) => Test::Byte(last),
+        (ScalarType::Byte, ScalarType::Address) => Test::ByteWithWord(last),
+        (ScalarType::Address, _) => word_test(site, counter, last),
+    }
+}
+
+/// What holds where the test jumps.
+pub(crate) fn facts_of_test(counter: &Counter, test: Test) -> Facts {
+    match test {
+        Test::Always | Test::FrameWord(_) => Facts::none(),
+        Test::ByteBelow(_) => Facts {
+            byte_in_a: counter.location,
+            ..Facts::none()
+        },
+        Test::Byte(_) | Test::ByteWithWord(_) => counter.address_fact(),
+        Test::WordBelow(_) | Test::WordWithPlace(_) | Test::Word(_) => counter.word_fact(),
+    }
+}
+
+// The carry shows whether the word at a place is less than HL.
+fn plan_place_below(plan: &mut Plan, place: Place) -> Result<(), AllocError> {
+    plan.word(WordForm::LoadA, place)?;
+    plan.plain(Instr::Accumulate(Operation::Subtract, Operand::Of(Register::L)))?;
+    plan.word(WordForm::LoadA, place.after(1))?;
+    plan.plain(Instr::Accumulate(Operation::SubtractWithBorrow, Operand::Of(Register::H)))
+}
+
+// The carry shows whether the bound is less than the ADDRESS in memory.
+fn plan_word_below(
+    plan: &mut Plan,
+    counter: &Counter,
+    last: ExpressionNumber,
+) -> Result<(), AllocError> {
+    plan.part(Task::Word(last), 0)?;
+    plan.plain(Instr::Xchg)?;
+    plan.push(Planned::LoadWord(counter.reference))?;
+    plan.all(&[
+        Instr::Mov(Register::A, Operand::Of(Register::E)),
+        Instr::Accumulate(Operation::Subtract, Operand::Of(Register::L)),
+        Instr::Mov(Register::A, Operand::Of(Register::D)),
+        Instr::Accumulate(Operation::SubtractWithBorrow, Operand::Of(Register::H)),
+    ])
+}
+
+// The carry shows whether the bound is less than the ADDRESS in the frame.
+fn plan_frame_word_below(
+    plan: &mut Plan,
+    counter: &Counter,
+    last: ExpressionNumber,
+) -> Result<(), AllocError> {
+    plan.part(Task::Word(last), 0)?;
+    plan.plain(Instr::Xchg)?;
+    plan.part(Task::Address(counter.reference), 0)?;
+    plan.all(&[
+        Instr::Mov(Register::A, Operand::Of(Register::E)),
+        Instr::Accumulate(Operation::Subtract, Operand::M),
+        Instr::Inx(Pair::Hl),
+        Instr::Mov(Register::A, Operand::Of(Register::D)),
+        Instr::Accumulate(Operation::SubtractWithBorrow, Operand::M),
+    ])
+}
+
+// The carry shows whether the bound, an ADDRESS, is less than the BYTE.
+fn plan_byte_below_word(
+    plan: &mut Plan,
+    counter: &Counter,
+    last: ExpressionNumber,
+) -> Result<(), AllocError> {
+    plan.part(Task::Word(last), 0)?;
+    plan.plain(Instr::Xchg)?;
+    plan.part(Task::Address(counter.reference), 0)?;
+    plan.all(&[
+        Instr::Mov(Register::A, Operand::Of(Register::E)),
+        Instr::Accumulate(Operation::Subtract, Operand::M),
+        Instr::Mov(Register::A, Operand::Of(Register::D)),
+        Instr::AccumulateImmediate(Operation::SubtractWithBorrow, 0),
+    ])
+}
+
+// The carry shows whether the bound, a BYTE, is less than the BYTE.
+fn plan_byte_below(
+    plan: &mut Plan,
+    counter: &Counter,
+    last: ExpressionNumber,
+) -> Result<(), AllocError> {
+    plan.part(Task::Byte(last), 0)?;
+    plan.part(Task::Address(counter.reference), 0)?;
+    plan.plain(Instr::Accumulate(Operation::Compare, Operand::M))
+}
+
+/// A jump to a label where the variable is not above the bound.
+pub(crate) fn plan_test(
+    plan: &mut Plan,
+    counter: &Counter,
+    test: Test,
+    turn: LabelNumber,
+) -> Result<(), AllocError> {
+    match test {
+        Test::Always => return plan.jump(WordForm::Jump, turn),
+        Test::ByteBelow(bound) => {
+            plan.push(Planned::LoadByte(counter.reference))?;
+            plan.plain(Instr::AccumulateImmediate(Operation::Compare, (bound % 256) as u8))?;
+            return plan.jump(WordForm::JumpWhere(Condition::Carry), turn);
+        }
+        Test::WordBelow(bound) => {
+            plan.push(Planned::LoadWord(counter.reference))?;
+            plan_less(plan, bound)?;
+            return plan.jump(WordForm::JumpWhere(Condition::Carry), turn);
+        }
+        Test::Byte(last) => plan_byte_below(plan, counter, last)?,
+        Test::ByteWithWord(last) => plan_byte_below_word(plan, counter, last)?,
+        Test::WordWithPlace(place) => {
+            plan.push(Planned::LoadWord(counter.reference))?;
+            plan_place_below(plan, place)?;
+        }
+        Test::Word(last) => plan_word_below(plan, counter, last)?,
+        Test::FrameWord(last) => plan_frame_word_below(plan, counter, last)?,
+    }
+    plan.jump(WordForm::JumpWhere(Condition::NoCarry), turn)
+}

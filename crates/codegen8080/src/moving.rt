@@ -1,0 +1,62 @@
+//! CALL MOVE.
+
+use crate::plan::{Plan, Planned};
+use asm8080::WordForm;
+use exprgen8080::{Site, Step, Task};
+use isa8080::{Instr, Pair, StackPair};
+use runtime8080::Routine;
+use std::alloc::AllocError;
+use treecode::{ExpressionNumber, Place};
+
+// The source comes into DE and the destination into HL, where so many bytes are pushed.
+fn plan_ends(
+    site: &Site<'_>,
+    plan: &mut Plan,
+    source: ExpressionNumber,
+    destination: ExpressionNumber,
+    pushed: u16,
+) -> Result<(), AllocError> {
+    if let Some(place) = site.known(source) {
+        plan.part(Task::Word(destination), pushed)?;
+        return plan.word(WordForm::LoadPair(Pair::De), place);
+    }
+    plan.part(Task::Word(source), pushed)?;
+    if site.keeps(destination).de {
+        plan.plain(Instr::Xchg)?;
+        return plan.part(Task::Word(destination), pushed);
+    }
+    plan.plain(Instr::Push(StackPair::StackHl))?;
+    plan.part(Task::Word(destination), pushed.saturating_add(2))?;
+    plan.plain(Instr::Pop(StackPair::StackDe))
+}
+
+// A known number of bytes is copied.
+fn plan_known(
+    site: &Site<'_>,
+    plan: &mut Plan,
+    count: Place,
+    source: ExpressionNumber,
+    destination: ExpressionNumber,
+) -> Result<(), AllocError> {
+    plan_ends(site, plan, source, destination, 0)?;
+    plan.word(WordForm::LoadPair(Pair::Bc), count)?;
+    plan.push(Planned::Code(Step::CallRoutine(Routine::Move)))
+}
+
+/// The steps of CALL MOVE: the count comes into BC, the source into DE and the destination into HL.
+pub(crate) fn plan_move(
+    site: &Site<'_>,
+    plan: &mut Plan,
+    count: ExpressionNumber,
+    source: ExpressionNumber,
+    destination: ExpressionNumber,
+) -> Result<(), AllocError> {
+    if let Some(place) = site.known(count) {
+        return plan_known(site, plan, place, source, destination);
+    }
+    plan.part(Task::Word(count), 0)?;
+    plan.plain(Instr::Push(StackPair::StackHl))?;
+    plan_ends(site, plan, source, destination, 2)?;
+    plan.plain(Instr::Pop(StackPair::StackBc))?;
+    plan.push(Planned::Code(Step::CallRoutine(Routine::Move)))
+}

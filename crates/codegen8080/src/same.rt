@@ -1,0 +1,84 @@
+//! References that mean the same place, as far as that is seen at once.
+
+use exprgen8080::Site;
+use treecode::{ExpressionForm, ExpressionNumber, Location, Reference, Subscript};
+use trees::ScalarType;
+
+// Where the scalar lies that an expression is the value of, if it is one without a base and computed subscripts; with its
+// type.
+fn scalar_at(site: &Site<'_>, number: ExpressionNumber) -> Option<(Location, ScalarType)> {
+    match site.expression(number) {
+        Some(expression) => match expression.form {
+            ExpressionForm::Value(reference) => match site.location_of(&reference) {
+                Some(location) => Some((location, expression.traits.scalar)),
+                None => None,
+            },
+            _ => None,
+        },
+        None => None,
+    }
+}
+
+// Whether two expressions are the same scalar.
+fn are_same_scalar(site: &Site<'_>, left: ExpressionNumber, right: ExpressionNumber) -> bool {
+    let (Some((left, left_type)), Some((right, right_type))) = (
+        scalar_at(site, left),
+        scalar_at(site, right),
+    ) else {
+        return false;
+    };
+    match (left_type, right_type) {
+        (ScalarType::Byte, ScalarType::Byte) | (ScalarType::Address, ScalarType::Address) => {
+            left == right
+        }
+        _ => false,
+    }
+}
+
+// Whether two expressions are the same number or the same scalar.
+fn are_same_leaf(site: &Site<'_>, left: ExpressionNumber, right: ExpressionNumber) -> bool {
+    match (site.number(left), site.number(right)) {
+        (Some(left), Some(right)) => left == right,
+        _ => are_same_scalar(site, left, right),
+    }
+}
+
+// An expression without the conversion around it, if there is one.
+fn unconverted(site: &Site<'_>, number: ExpressionNumber) -> ExpressionNumber {
+    match site.expression(number) {
+        Some(expression) => match expression.form {
+            ExpressionForm::Conversion(inner) => inner,
+            _ => number,
+        },
+        None => number,
+    }
+}
+
+// Whether two subscripts are seen to be the same: numbers or scalars, which a subscript is converted from.
+fn are_same_subscript(site: &Site<'_>, left: Subscript, right: Subscript) -> bool {
+    left.stride == right.stride
+        && (are_same_leaf(site, left.index, right.index)
+            || are_same_scalar(
+                site,
+                unconverted(site, left.index),
+                unconverted(site, right.index),
+            ))
+}
+
+// Whether two subscripts that may be there are the same.
+fn are_same_subscripts(site: &Site<'_>, left: Option<Subscript>, right: Option<Subscript>) -> bool {
+    match (left, right) {
+        (None, None) => true,
+        (Some(left), Some(right)) => are_same_subscript(site, left, right),
+        _ => false,
+    }
+}
+
+/// Whether two references are seen to mean the same place, and to locate it changes nothing: both have the same numbers or
+/// scalars as subscripts.
+pub(crate) fn are_same(site: &Site<'_>, left: &Reference, right: &Reference) -> bool {
+    left.object == right.object
+        && left.offset == right.offset
+        && are_same_subscripts(site, left.subscript, right.subscript)
+        && are_same_subscripts(site, left.member_subscript, right.member_subscript)
+}

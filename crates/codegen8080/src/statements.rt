@@ -1,0 +1,94 @@
+//! Which steps the code of a statement has.
+
+use crate::assignment::plan_assignment;
+use crate::body::Body;
+use crate::branching::{plan_if, plan_while};
+use crate::case::plan_case;
+use crate::iteration::plan_iteration;
+use crate::moving::plan_move;
+use crate::plan::{Plan, Planned};
+use crate::procedures::plan_return;
+use asm8080::WordForm;
+use exprgen8080::{LabelNumber, Site, Task};
+use isa8080::Instr;
+use std::alloc::AllocError;
+use treecode::{ExpressionNumber, Range, Statement};
+use trees::ScalarType;
+
+// The code ends with this instruction.
+fn plan_halt(plan: &mut Plan) -> Result<(), AllocError> {
+    plan.plain(Instr::Hlt)?;
+    plan.push(Planned::Reaches(false))
+}
+
+// The code goes on at a label.
+fn plan_goto(plan: &mut Plan, label: LabelNumber) -> Result<(), AllocError> {
+    plan.jump(WordForm::Jump, label)?;
+    plan.push(Planned::Reaches(false))
+}
+
+// The code returns, with a value where there is one.
+fn plan_return_of(
+    body: &Body<'_>,
+    plan: &mut Plan,
+    value: Option<ExpressionNumber>,
+) -> Result<(), AllocError> {
+    match (value, body.procedure.result) {
+        (Some(value), Some(ScalarType::Byte)) => plan.part(Task::Byte(value), 0)?,
+        (Some(value), Some(ScalarType::Address)) => plan.part(Task::Word(value), 0)?,
+        _ => {}
+    }
+    plan_return(body, plan)?;
+    plan.push(Planned::Reaches(false))
+}
+
+// A call of a procedure without a result.
+fn plan_call(plan: &mut Plan, procedure: u32, arguments: Range) -> Result<(), AllocError> {
+    plan.part(
+        Task::Call {
+            procedure,
+            arguments,
+        },
+        0,
+    )
+}
+
+/// The steps of a statement.
+pub(crate) fn plan_statement(
+    body: &Body<'_>,
+    site: &Site<'_>,
+    plan: &mut Plan,
+    statement: Statement,
+) -> Result<(), AllocError> {
+    match statement {
+        Statement::Label(label) => plan.mark(body.label(label)),
+        Statement::Null => Ok(()),
+        Statement::Assignment { targets, value } => {
+            plan_assignment(body, site, plan, targets, value)
+        }
+        Statement::Call {
+            procedure,
+            arguments,
+        } => plan_call(plan, procedure, arguments),
+        Statement::Move {
+            count,
+            source,
+            destination,
+        } => plan_move(site, plan, count, source, destination),
+        Statement::Return(value) => plan_return_of(body, plan, value),
+        Statement::Halt => plan_halt(plan),
+        Statement::Goto(label) => plan_goto(plan, body.label(label)),
+        Statement::If {
+            condition,
+            body: then,
+            otherwise,
+        } => plan_if(body, site, plan, condition, then, otherwise),
+        Statement::Do(list) => plan.push(Planned::List(list)),
+        Statement::While {
+            condition,
+            body: list,
+        } => plan_while(site, plan, condition, list),
+        Statement::Iterate { head, body: list } => { plan_iteration(body, site, plan, &head, list) }
+        Statement::Case { choice, body: list } => plan_case(body, site, plan, choice, list),
+    }
+}

@@ -1,2 +1,0 @@
-pub mod ReadSources
-pub mod Programs

@@ -1,2 +1,0 @@
-pub mod Programs
-pub mod internal
