@@ -2,7 +2,7 @@
 
 ghost use Rattle.std.specs.Prelude.{IfOk};
 ghost use Rattle.asm8080.specs.Assembled.{Assembles};
-ghost use Rattle.exprgen8080.specs.internal.Labels.{Follows};
+ghost use Rattle.steps8080.specs.internal.Labels.{Follows};
 
 use crate::externals::Externals;
 use crate::step::LabelNumber;
@@ -29,19 +29,13 @@ pub struct Writer {
 impl Model for Writer {
     ghost use Rattle.asm8080.specs.Assembled.{Assembles};
     ghost use Rattle.asm8080.specs.Items.{Assembly};
-    ghost use Rattle.exprgen8080.specs.internal.Labels.{Follows};
+    ghost use Rattle.steps8080.specs.internal.Labels.{Follows};
 
     ghost Value = { Assembly };
 
     ghost view = { λ writer. writer.code };
 
     ghost invariant = { λ writer. Follows writer.is_bound.items writer.code };
-}
-
-// A word that counts from a target, or is a number.
-enum Value {
-    Number(u16),
-    From(Target, u16),
 }
 
 impl Writer {
@@ -61,18 +55,6 @@ impl Writer {
         }
     }
 
-    // What a place counts from.
-    fn value(&mut self, place: Place) -> Value {
-        match place {
-            Place::Number(number) => Value::Number(number),
-            Place::Code(offset) => Value::From(Target::InSegment(Segment::Code), offset),
-            Place::Data(offset) => Value::From(Target::InSegment(Segment::Data), offset),
-            Place::External { name, offset } => {
-                Value::From(Target::External(self.externals.number(name)), offset)
-            }
-        }
-    }
-
     /// Adds an instruction.
     pub fn plain(&mut self, instruction: Instr) -> Result<(), AllocError> {
         self.code.emit(instruction)
@@ -80,9 +62,20 @@ impl Writer {
 
     /// Adds an instruction with the word of a place.
     pub fn word(&mut self, form: WordForm, place: Place) -> Result<(), AllocError> {
-        match self.value(place) {
-            Value::Number(number) => self.code.emit(instruction_with(form, number)),
-            Value::From(target, offset) => self.code.emit_fixed(form, target, offset),
+        match place {
+            Place::Number(number) => self.code.emit(instruction_with(form, number)),
+            Place::Code(offset) => {
+                self.code
+                    .emit_fixed(form, Target::InSegment(Segment::Code), offset)
+            }
+            Place::Data(offset) => {
+                self.code
+                    .emit_fixed(form, Target::InSegment(Segment::Data), offset)
+            }
+            Place::External { name, offset } => {
+                let number = self.externals.number(name);
+                self.code.emit_fixed(form, Target::External(number), offset)
+            }
         }
     }
 
@@ -104,14 +97,28 @@ impl Writer {
         self.code.emit_byte(value)
     }
 
+    // Adds a number as a word of data.
+    fn number(&mut self, number: u16) -> Result<(), AllocError> {
+        self.code.emit_byte((number % 256) as u8)?;
+        self.code.emit_byte((number / 256) as u8)
+    }
+
     /// Adds a word of data.
     pub fn address(&mut self, place: Place) -> Result<(), AllocError> {
-        match self.value(place) {
-            Value::Number(number) => {
-                self.code.emit_byte((number % 256) as u8)?;
-                self.code.emit_byte((number / 256) as u8)
+        match place {
+            Place::Number(number) => self.number(number),
+            Place::Code(offset) => {
+                self.code
+                    .emit_address(Target::InSegment(Segment::Code), offset)
             }
-            Value::From(target, offset) => self.code.emit_address(target, offset),
+            Place::Data(offset) => {
+                self.code
+                    .emit_address(Target::InSegment(Segment::Data), offset)
+            }
+            Place::External { name, offset } => {
+                let number = self.externals.number(name);
+                self.code.emit_address(Target::External(number), offset)
+            }
         }
     }
 
@@ -138,7 +145,9 @@ impl Writer {
             return Ok(index);
         }
         let index = self.new_label()?;
-        self.labels[entry] = Some(index);
+        if let Some(label) = self.labels.get_mut(entry) {
+            *label = Some(index);
+        }
         Ok(index)
     }
 
@@ -152,24 +161,21 @@ impl Writer {
     }
 
     // Gives a label of the code its place here, if it has none.
-    fn bind(&mut self, index: usize, label: Label) -> Result<(), AllocError> {
-        match self.is_bound.get(index) {
-            Some(false) => {
-                self.code.bind(label)?;
-                self.is_bound[index] = true;
-                Ok(())
-            }
-            _ => Ok(()),
+    fn bind(&mut self, index: usize) -> Result<(), AllocError> {
+        let Some(label) = self.code.known(index) else {
+            return Ok(());
+        };
+        if let Some(false) = self.is_bound.get(index) {
+            self.code.bind(label)?;
+            self.is_bound[index] = true;
         }
+        Ok(())
     }
 
     /// Gives a label its place here. A label that has a place keeps it.
     pub fn mark(&mut self, number: LabelNumber) -> Result<(), AllocError> {
         let index = self.label_of(number)?;
-        match self.code.known(index) {
-            Some(label) => self.bind(index, label),
-            None => Ok(()),
-        }
+        self.bind(index)
     }
 
     /// The code with a routine at its end, which begins at a label. Where there is no memory for it, the code is dropped.
