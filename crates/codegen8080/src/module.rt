@@ -99,6 +99,7 @@ fn variables_of(
 }
 
 // Code as bytes, with the names that it refers to.
+#[tactic(auto, using(crate::proofs::KeptSegments::assembled_keeps))]
 fn finish(writer: Writer) -> Result<(Finished, Externals), Failure<Fault>>
     ensures { IfOk result (λ both. KeepsFixes both.0.bytes) }
 {
