@@ -27,7 +27,6 @@ pub struct Writer {
 }
 
 impl Model for Writer {
-    ghost use Rattle.asm8080.specs.Assembled.{Assembles};
     ghost use Rattle.asm8080.specs.Items.{Assembly};
     ghost use Rattle.steps8080.specs.internal.Labels.{Follows};
 
