@@ -10,7 +10,7 @@ use Rattle.mem80.specs.Memory.{byte_at, with_bytes}
 use Rattle.isa8080.specs.declared.registers.Status.TheVariants.{Running, Illegal}
 use Rattle.isa8080.specs.State.{State, Registers, low_byte}
 use Rattle.isa8080.specs.Code.{bytes_of, form_of}
-use Rattle.isa8080.specs.Arithmetic.{flags_of}
+use Rattle.isa8080.specs.declared.registers.Flags.{Flags}
 use Rattle.isa8080.specs.declared.instr.Register.TheVariants.{A}
 use Rattle.isa8080.specs.declared.instr.Operand.TheVariants.{Of}
 use Rattle.isa8080.specs.declared.instr.Operation.TheVariants.{ExclusiveOr}
@@ -76,16 +76,18 @@ module _ (script : List (List ℕ)) (m : List ℕ) where
     stands : StandsAt m after.pc rest
     fits : after.pc + length rest ≤ 65536
 
-  xra_step : (r : Registers) (events : List Event) → byte_at m r.pc ≡ 0xAF → step_of script (running r m events) ≡ running (record r { a = bit_xor r.a r.a; flags = flags_of (bit_xor r.a r.a) false false; pc = (r.pc + 1) % 65536 }) m events
-  xra_step r events here = at_code r events 0xAF here
+  -- the registers after XRA A, whatever the flags
+  xra_step : (r : Registers) (events : List Event) → byte_at m r.pc ≡ 0xAF → (flags : Flags) × (step_of script (running r m events) ≡ running (record r { a = bit_xor r.a r.a; flags = flags; pc = (r.pc + 1) % 65536 }) m events)
+  xra_step r events here = (_, at_code r events 0xAF here)
 
   load_by : (test : Bool) (r : Registers) (events : List Event) (v : ℕ) (rest : List ℕ) → (v == 0) ≡ test → StandsAt m r.pc (bytes_of (if test then Accumulate ExclusiveOr (Of A) else Mvi (Of A) v) ++ rest) → r.pc + length (bytes_of (if test then Accumulate ExclusiveOr (Of A) else Mvi (Of A) v) ++ rest) ≤ 65536 → 1 ≤ length rest → AfterLoad r events v rest
   load_by true r events v rest is stands fits some =
       let p1 : (r.pc + 1) % 65536 ≡ r.pc + 1 = omega arith in
       let zero_is : v ≡ 0 = grind (arith, common_steps, is) in
+      let first = xra_step r events stands.0 in
       record {
-        after = record r { a = bit_xor r.a r.a; flags = flags_of (bit_xor r.a r.a) false false; pc = (r.pc + 1) % 65536 };
-        step = xra_step r events stands.0;
+        after = record r { a = bit_xor r.a r.a; flags = first.0; pc = (r.pc + 1) % 65536 };
+        step = first.1;
         value = xor_self r.a ∙ sym zero_is;
         stands = stands_moved m _ _ _ p1 stands.1;
         fits = omega arith;

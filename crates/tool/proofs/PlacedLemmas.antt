@@ -12,7 +12,6 @@ use Rattle.layout.specs.Placement.{Placement, range_of}
 use Rattle.layout.specs.Placing.{PlacingRefusal, SegmentTooLarge, code_range, data_range, stack_range, first_misplaced, overlapping, past_memory, placement_by, placing_refusal, segment_too_large}
 use Rattle.plans.specs.declared.Plan.{Plan}
 use Rattle.placing.specs.Views.{plan_view}
-use Rattle.tool.specs.Code.{code_lengths, module_code, program_code}
 
 second_none : {A : Type 0} (one other : Option A) → option_or one other ≡ None → other ≡ None
 second_none None other none = none

@@ -1,7 +1,6 @@
 -- Programs of sources that are compiled.
-use Rattle.std.proofs.Common.{◌≡◌, ℕ, zero, suc, ◌+◌, ◌<◌, ◌≤◌, ◌⊎◌, inl, inr, Bool, true, false, List, [], ◌∷◌, ◌++◌, length, flat_map, map, zip, Option, Some, None, is_some, All, cond, arith, refl, sym, ap, ◌∙◌, subst, ⊎_elim}
+use Rattle.std.proofs.Common.{◌≡◌, ℕ, zero, suc, ◌+◌, ◌<◌, ◌≤◌, ◌⊎◌, inl, inr, ◌&&◌, Bool, true, false, List, [], ◌∷◌, ◌++◌, length, flat_map, map, zip, Option, Some, None, is_some, All, cond, arith, refl, sym, ap, ◌∙◌, subst, ⊎_elim}
 use Rattle.std.proofs.lemmas.Bool.{cases_lt}
-use Rattle.std.proofs.lemmas.List.{length-map}
 use Rattle.std.proofs.lemmas.List.Elements.{All-from_recursion, recursion_from_All}
 use Rattle.std.specs.List.{AllByRecursion, list_all}
 use Rattle.words.specs.declared.limits.TheConstants.{LONGEST_SOURCE}
@@ -38,6 +37,10 @@ use Rattle.tool.specs.Sources.{AreWithoutFault, HasCause, IsInOrder, IsServed, I
 use Rattle.tool.specs.internal.Compiling.{AreCompiled, HasBuildCause, IsBuiltFrom, IsCompiled, IsOfImage, module_in}
 use Rattle.tool.specs.internal.Inside.{construction_with}
 use Rattle.tool.proofs.BuiltLemmas.{program_agrees}
+
+length_mapped : {A B : Type 0} (f : A → B) (items : List A) → length (map f items) ≡ length items
+length_mapped f [] = refl
+length_mapped f (item ∷ items) = omega (arith, length_mapped f items)
 
 abbrev typed_in : Compiled → Typed
 typed_in one = one.source.typed
@@ -91,7 +94,7 @@ module _ (plan : Plan) where
 
   pub count_fits : (compiled : List Compiled) (modules : List Typed) (lengths : List ℕ) → modules ≡ map typed_in compiled → lengths ≡ map code_length_in compiled → length lengths ≡ length modules
   count_fits compiled modules lengths is its =
-      ap length its ∙ length-map code_length_in compiled ∙ sym (length-map typed_in compiled) ∙ ap length (sym is)
+      ap length its ∙ length_mapped code_length_in compiled ∙ sym (length_mapped typed_in compiled) ∙ ap length (sym is)
 
   -- they hold the constants
   holds_each : (texts : List (List ℕ)) (compiled : List Compiled) → AreCompiled plan texts compiled → AllByRecursion HoldsConstants (zip (modules_in compiled) (map code_length_in compiled))
@@ -131,7 +134,7 @@ module _ (plan : Plan) where
   served_one (Some found) is = refl
   served_one None is = let bad : ◌≡◌ {A = Option (List Output)} None (Some is.0) = is.1 in absurd (cc)
 
-  both_hold : (first others : Bool) → first ≡ true → others ≡ true → cond first others false ≡ true
+  both_hold : (first others : Bool) → first ≡ true → others ≡ true → (first && others) ≡ true
   both_hold true others is rest = rest
   both_hold false others is rest = absurd (cc)
 

@@ -48,8 +48,8 @@ impl Built {
         objects: Vec<ObjectModule>,
         image: Absolute,
     ) -> Built
-        requires { IsConstruction (construction_with placed plan objects image) }
-        ensures { result ≡ construction_with placed plan objects image }
+        requires { IsConstruction (construction_with placed plan objects.items image) }
+        ensures { result ≡ construction_with placed plan objects.items image }
     {
         let Placed { program, placement } = placed;
         Built {

@@ -39,8 +39,8 @@ build_program-requires-clause-code c =
 
 pub build_program-requires-clause-served : goal.build_program-requires-clause-served
 build_program-requires-clause-served c all =
-    served_all c.args.plan.now (texts_of c.args.sources.now) c.in_ok-compiled.compiled.items c.in_ok-parts.parts.modules.items c.are_served.result c.in_ok-compiled.ensures.compiled c.in_ok-parts.ensures.modules
-    (c.are_served.ensures ∙ ap (list_all (λ (one : Compiled). one.is_served)) c.as_slice.ensures.value)
+    served_all c.args.plan.now (texts_of c.args.sources.now) c.in_ok-compiled.compiled.items c.in_ok-parts.parts.modules.items c.are_served-is_served.result c.in_ok-compiled.ensures.compiled c.in_ok-parts.ensures.modules
+    (c.are_served-is_served.ensures ∙ ap (list_all (λ (one : Compiled). one.is_served)) c.as_slice.ensures.value)
     all
 
 pub returns-in_err-built-clause-refused : goal.returns-in_err-built-clause-refused
