@@ -17,6 +17,7 @@ mod procedures;
 mod same;
 mod segments;
 mod statements;
+mod targets;
 
 pub use fault::Fault;
 pub use module::generate;

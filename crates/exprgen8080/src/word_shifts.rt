@@ -2,13 +2,12 @@
 
 use crate::byte_shifts::{Shifted, plan_byte_shifted_right, plan_right_shift};
 use crate::bytes::plan_high_byte;
-use crate::instructions::{copy, plan_extension, repeat, set, with_register};
-use crate::site::Site;
-use crate::step::{Step, Steps, Task};
 use asm8080::WordForm;
 use isa8080::{Instr, Operation, Pair, Register, StackPair};
 use runtime8080::Routine;
+use sites8080::Site;
 use std::alloc::AllocError;
+use steps8080::{Step, Steps, Task, copy, plan_extension, repeat, set, with_register};
 use treecode::{ExpressionNumber, Place};
 use typed_trees::ShiftFunction;
 

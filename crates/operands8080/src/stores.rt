@@ -1,12 +1,10 @@
 //! Stores of a value that is in A or HL.
 
-use crate::facts::Facts;
-use crate::instructions::{copy, plan_extension};
-use crate::site::Site;
-use crate::step::{Step, Steps, Task};
 use asm8080::WordForm;
 use isa8080::{Instr, Operand, Pair, Register, StackPair};
+use sites8080::Site;
 use std::alloc::AllocError;
+use steps8080::{Facts, Step, Steps, Task, copy, plan_extension};
 use treecode::{Keeps, Location, Reference, Target};
 use trees::ScalarType;
 
@@ -228,7 +226,7 @@ fn send(from: ScalarType, port: u8, steps: &mut Steps) -> Result<(), AllocError>
 
 /// The steps that store A (from a BYTE) or HL (from an ADDRESS) in a target. Where the value `is_wanted` after it, it is
 /// in the same register then.
-pub(crate) fn plan_store(
+pub fn plan_store(
     site: &Site<'_>,
     target: Target,
     is_wanted: bool,

@@ -1,8 +1,7 @@
 //! Where code stands.
 
-use crate::facts::Facts;
-use crate::step::Task;
 use frames::FramePlan;
+use steps8080::{Facts, Task};
 use treecode::{Expression, ExpressionNumber, Reference, Target, TreeModule};
 use trees::ScalarType;
 
@@ -15,11 +14,11 @@ pub struct Site<'a> {
 }
 
 // How many ranks there are for each number.
-const RANKS: u64 = 16;
+const RANKS: u8 = 16;
 
 // A rank for a number of an expression, above all those for lower numbers.
-fn rank_at(bound: u32, level: u64) -> u64 {
-    bound as u64 * RANKS + level
+fn rank_at(bound: u32, level: u8) -> u64 {
+    bound as u64 * RANKS as u64 + level as u64
 }
 
 impl<'a> Site<'a> {
@@ -34,6 +33,15 @@ impl<'a> Site<'a> {
             Some(expression) => expression.traits.scalar,
             None => ScalarType::Byte,
         }
+    }
+
+    /// How far above the stack pointer a byte of a variable or parameter in the frame lies, where so many bytes are
+    /// pushed.
+    pub fn distance(&self, variable: u16, offset: u16, pushed: u16) -> u16 {
+        self.frame
+            .distance(variable)
+            .wrapping_add(offset)
+            .wrapping_add(pushed)
     }
 
     /// A number for a task that is above that of each part of its code.

@@ -1,45 +1,15 @@
 //! Values in memory.
 
-use crate::addresses::{hold_word, plan_location_address, plan_location_word, plan_word_behind_hl};
-use crate::instructions::{copy, load, set};
-use crate::site::Site;
-use crate::step::{Steps, Task};
-use crate::widths::{before, is_at};
+use crate::addresses::{hold_word, plan_location_address, plan_location_word, plan_word_at_hl};
 use asm8080::WordForm;
 use isa8080::{Instr, Register, StackPair};
+use sites8080::Site;
 use std::alloc::AllocError;
+use steps8080::{Steps, Task, before, is_at, copy, load, set};
 use treecode::{Location, Reference};
 
-impl<'a> Site<'a> {
-    // The instruction that puts the byte at a location into A, where the facts give one.
-    fn byte_at_hand(&self, location: Location) -> Option<Instr> {
-        if is_at(self.facts.word_in_hl, location) {
-            Some(copy(Register::A, Register::L))
-        } else if is_at(self.facts.word_in_hl, before(location)) {
-            Some(copy(Register::A, Register::H))
-        } else if is_at(self.facts.address_in_hl, location) {
-            Some(load(Register::A))
-        } else {
-            None
-        }
-    }
-
-    // The instruction that puts the byte at a location into L, where the facts give one, or one that does nothing.
-    fn byte_for_l(&self, location: Location) -> Option<Instr> {
-        if is_at(self.facts.byte_in_a, location) {
-            Some(copy(Register::L, Register::A))
-        } else if is_at(self.facts.word_in_hl, before(location)) {
-            Some(copy(Register::L, Register::H))
-        } else if is_at(self.facts.address_in_hl, location) {
-            Some(load(Register::L))
-        } else {
-            None
-        }
-    }
-}
-
-// The word in the frame that the stack pointer points to into HL.
-fn plan_near_word(steps: &mut Steps) -> Result<(), AllocError> {
+// The word at the stack pointer into HL.
+fn plan_top_word(steps: &mut Steps) -> Result<(), AllocError> {
     steps.all(&[
         Instr::Pop(StackPair::StackHl),
         Instr::Push(StackPair::StackHl),
@@ -57,7 +27,7 @@ fn plan_frame_byte(
     if distance <= 1 {
         let is_high = distance == 1;
         let word = if is_high { before(location) } else { location };
-        plan_near_word(steps)?;
+        plan_top_word(steps)?;
         hold_word(word, steps)?;
         let from = if is_high { Register::H } else { Register::L };
         return steps.plain(copy(Register::A, from));
@@ -76,7 +46,7 @@ fn plan_location_byte(
     if is_at(site.facts.byte_in_a, location) {
         return Ok(());
     }
-    if let Some(instruction) = site.byte_at_hand(location) {
+    if let Some(instruction) = site.facts.byte_from_hl(location) {
         return steps.plain(instruction);
     }
     match location {
@@ -89,7 +59,7 @@ fn plan_location_byte(
 }
 
 /// The byte of a part of memory into A, where this comes first.
-pub(crate) fn plan_byte_in_memory(
+pub fn plan_byte_in_memory(
     site: &Site<'_>,
     reference: &Reference,
     pushed: u16,
@@ -113,9 +83,9 @@ fn plan_frame_byte_to_l(
     steps: &mut Steps,
 ) -> Result<(), AllocError> {
     match distance {
-        0 => plan_near_word(steps),
+        0 => plan_top_word(steps),
         1 => {
-            plan_near_word(steps)?;
+            plan_top_word(steps)?;
             steps.plain(copy(Register::L, Register::H))
         }
         _ => {
@@ -135,7 +105,7 @@ fn plan_byte_to_l(
     if is_at(site.facts.word_in_hl, location) {
         return Ok(());
     }
-    if let Some(instruction) = site.byte_for_l(location) {
+    if let Some(instruction) = site.facts.byte_for_l(location) {
         return steps.plain(instruction);
     }
     match location {
@@ -149,7 +119,7 @@ fn plan_byte_to_l(
 
 /// The byte of a part of memory into HL, with zeros added, where this comes first. A and DE are kept where the address
 /// keeps them.
-pub(crate) fn plan_extended_byte_in_memory(
+pub fn plan_extended_byte_in_memory(
     site: &Site<'_>,
     reference: &Reference,
     pushed: u16,
@@ -168,7 +138,7 @@ pub(crate) fn plan_extended_byte_in_memory(
 }
 
 /// The word of a part of memory into HL, where this comes first. DE is kept where the address keeps it.
-pub(crate) fn plan_word_in_memory(
+pub fn plan_word_in_memory(
     site: &Site<'_>,
     reference: &Reference,
     pushed: u16,
@@ -178,7 +148,7 @@ pub(crate) fn plan_word_in_memory(
         Some(location) => plan_location_word(site, location, pushed, steps),
         None => {
             steps.part(Task::Address(*reference), pushed)?;
-            plan_word_behind_hl(steps)
+            plan_word_at_hl(steps)
         }
     }
 }

@@ -1,12 +1,11 @@
 //! Jumps where a condition holds, or where it does not.
 
-use crate::questions::relation_of;
 use crate::relations::{Outcome, Purpose, Setting, plan_relation};
-use crate::site::Site;
-use crate::step::{LabelNumber, Steps, Task};
 use asm8080::WordForm;
 use isa8080::{Condition, Instr};
+use sites8080::{Site, relation_of};
 use std::alloc::AllocError;
+use steps8080::{LabelNumber, Steps, Task};
 use treecode::{ExpressionForm, ExpressionNumber};
 use trees::{BinaryOperator, UnaryOperator};
 use typed_trees::UnaryFunction;
@@ -251,7 +250,7 @@ fn plan_other(
 }
 
 /// The steps that jump to a label where the lowest bit of a value is 1 (`sense`) or 0 (not `sense`).
-pub(crate) fn plan_branch(
+pub fn plan_branch(
     site: &Site<'_>,
     condition: ExpressionNumber,
     label: LabelNumber,

@@ -1,5 +1,6 @@
 //! What is known of the registers at a place of the code.
 
+use crate::instructions::{copy, load};
 use asm8080::WordForm;
 use isa8080::{Instr, Operand, Operation, Pair, Register, StackPair};
 use treecode::{Location, Place};
@@ -24,6 +25,19 @@ fn either(first: Option<Location>, second: Option<Location>) -> Option<Location>
         Some(location) => Some(location),
         None => second,
     }
+}
+
+/// Whether a register that may hold what lies somewhere holds what lies here.
+pub fn is_at(held: Option<Location>, location: Location) -> bool {
+    match held {
+        Some(held) => held == location,
+        None => false,
+    }
+}
+
+/// The location one byte before another one.
+pub fn before(location: Location) -> Location {
+    location.after(65535)
 }
 
 impl Facts {
@@ -273,6 +287,39 @@ impl Facts {
             WordForm::JumpWhere(_) => self,
             WordForm::LoadPair(pair) => self.without_pair(pair),
             _ => Facts::none(),
+        }
+    }
+
+    /// Whether A, H or L holds the byte here.
+    pub fn holds_byte(&self, location: Location) -> bool {
+        is_at(self.byte_in_a, location)
+            || is_at(self.word_in_hl, location)
+            || is_at(self.word_in_hl, before(location))
+    }
+
+    /// The instruction that puts the byte at a location into A, where the facts give one.
+    pub fn byte_from_hl(&self, location: Location) -> Option<Instr> {
+        if is_at(self.word_in_hl, location) {
+            Some(copy(Register::A, Register::L))
+        } else if is_at(self.word_in_hl, before(location)) {
+            Some(copy(Register::A, Register::H))
+        } else if is_at(self.address_in_hl, location) {
+            Some(load(Register::A))
+        } else {
+            None
+        }
+    }
+
+    /// The instruction that puts the byte at a location into L, where the facts give one.
+    pub fn byte_for_l(&self, location: Location) -> Option<Instr> {
+        if is_at(self.byte_in_a, location) {
+            Some(copy(Register::L, Register::A))
+        } else if is_at(self.word_in_hl, before(location)) {
+            Some(copy(Register::L, Register::H))
+        } else if is_at(self.address_in_hl, location) {
+            Some(load(Register::L))
+        } else {
+            None
         }
     }
 }

@@ -1,11 +1,10 @@
 //! Products with a number.
 
-use crate::instructions::{clear_a, copy, repeat, set, with_register};
-use crate::step::{Steps, Task};
-use crate::widths::power_of_two;
 use asm8080::WordForm;
 use isa8080::{Instr, Operation, Pair, Register};
+use sites8080::power_of_two;
 use std::alloc::AllocError;
+use steps8080::{Steps, Task, clear_a, copy, repeat, set, with_register};
 use treecode::{ExpressionNumber, Place};
 
 // Whether a bit of a number is 1.
@@ -63,7 +62,7 @@ fn plan_multiple(number: u16, steps: &mut Steps) -> Result<(), AllocError> {
 }
 
 /// The value of an expression times a number into HL. A and DE are kept where the code of the value keeps them.
-pub(crate) fn plan_product(
+pub fn plan_product(
     value: ExpressionNumber,
     number: u16,
     pushed: u16,
@@ -78,7 +77,7 @@ pub(crate) fn plan_product(
 }
 
 /// The low byte of the value of an expression times a number into A.
-pub(crate) fn plan_byte_product(
+pub fn plan_byte_product(
     value: ExpressionNumber,
     number: u8,
     pushed: u16,

@@ -6,7 +6,7 @@ use trees::{BinaryOperator, ScalarType};
 
 /// What is asked of two operands.
 #[derive(Clone, Copy)]
-pub(crate) enum Question {
+pub enum Question {
     /// Whether the left one is below the right one.
     LeftBelow,
     /// Whether the right one is below the left one.
@@ -17,7 +17,7 @@ pub(crate) enum Question {
 
 /// What is asked of an operand and a number.
 #[derive(Clone, Copy)]
-pub(crate) enum NumberQuestion {
+pub enum NumberQuestion {
     /// Nothing: the answer is no.
     Never,
     /// Whether it is below the number, which is not 0.
@@ -28,7 +28,7 @@ pub(crate) enum NumberQuestion {
 
 /// Two operands of one type and what is asked of them.
 #[derive(Clone, Copy)]
-pub(crate) struct Comparison {
+pub struct Comparison {
     pub operands: ScalarType,
     pub left: ExpressionNumber,
     pub right: ExpressionNumber,
@@ -37,7 +37,7 @@ pub(crate) struct Comparison {
 
 /// What a relation asks.
 #[derive(Clone, Copy)]
-pub(crate) enum Inquiry {
+pub enum Inquiry {
     /// Something of two operands, neither of which is a number.
     Between(Comparison),
     /// Something of an operand and a number.
@@ -50,7 +50,7 @@ pub(crate) enum Inquiry {
 
 /// What a relation asks, and whether it holds where the answer is yes.
 #[derive(Clone, Copy)]
-pub(crate) struct Relation {
+pub struct Relation {
     pub inquiry: Inquiry,
     pub holds_if: bool,
 }
@@ -134,7 +134,7 @@ fn relation_between(site: &Site<'_>, comparison: &Comparison, holds_if: bool) ->
 }
 
 /// The relation that an expression is, if it is one.
-pub(crate) fn relation_of(site: &Site<'_>, number: ExpressionNumber) -> Option<Relation> {
+pub fn relation_of(site: &Site<'_>, number: ExpressionNumber) -> Option<Relation> {
     let Some(expression) = site.expression(number) else {
         return None;
     };

@@ -1,15 +1,11 @@
 //! Addresses of objects and their parts in HL.
 
-use crate::facts::Facts;
-use crate::instructions::{copy, load, repeat};
 use crate::products::plan_product;
-use crate::queries::Base;
-use crate::site::Site;
-use crate::step::{Step, Steps};
-use crate::widths::{before, is_at};
 use asm8080::WordForm;
 use isa8080::{Instr, Pair, Register, StackPair};
+use sites8080::{Base, Site};
 use std::alloc::AllocError;
+use steps8080::{Facts, Step, Steps, before, copy, is_at, load, repeat};
 use treecode::{Location, Place, Reference, Subscript};
 
 // Adds a number to HL. A and DE are kept.
@@ -25,24 +21,13 @@ fn plan_number_added(number: u16, steps: &mut Steps) -> Result<(), AllocError> {
 }
 
 /// Adds a known word to HL. A and DE are kept.
-pub(crate) fn plan_addition(place: Place, steps: &mut Steps) -> Result<(), AllocError> {
+pub fn plan_addition(place: Place, steps: &mut Steps) -> Result<(), AllocError> {
     match place.number() {
         Some(number) => plan_number_added(number, steps),
         None => {
             steps.word(WordForm::LoadPair(Pair::Bc), place)?;
             steps.plain(Instr::Dad(Pair::Bc))
         }
-    }
-}
-
-impl<'a> Site<'a> {
-    /// How far above the stack pointer a byte of a variable or parameter in the frame lies, where so many bytes are
-    /// pushed.
-    pub(crate) fn distance(&self, variable: u16, offset: u16, pushed: u16) -> u16 {
-        self.frame
-            .distance(variable)
-            .wrapping_add(offset)
-            .wrapping_add(pushed)
     }
 }
 
@@ -55,7 +40,7 @@ fn hold_address(location: Location, steps: &mut Steps) -> Result<(), AllocError>
 }
 
 /// HL holds the word at a location.
-pub(crate) fn hold_word(location: Location, steps: &mut Steps) -> Result<(), AllocError> {
+pub fn hold_word(location: Location, steps: &mut Steps) -> Result<(), AllocError> {
     steps.push(Step::Holds(Facts {
         word_in_hl: Some(location),
         ..Facts::none()
@@ -63,7 +48,7 @@ pub(crate) fn hold_word(location: Location, steps: &mut Steps) -> Result<(), All
 }
 
 // The address of a location into HL, whatever is there.
-fn plan_far_address(
+fn plan_new_address(
     site: &Site<'_>,
     location: Location,
     pushed: u16,
@@ -79,7 +64,7 @@ fn plan_far_address(
 }
 
 /// The address of a location into HL, where this comes first. A and DE are kept.
-pub(crate) fn plan_location_address(
+pub fn plan_location_address(
     site: &Site<'_>,
     location: Location,
     pushed: u16,
@@ -94,13 +79,13 @@ pub(crate) fn plan_location_address(
     } else if is_at(held, location.after(1)) {
         steps.plain(Instr::Dcx(Pair::Hl))?;
     } else {
-        plan_far_address(site, location, pushed, steps)?;
+        plan_new_address(site, location, pushed, steps)?;
     }
     hold_address(location, steps)
 }
 
 /// Loads HL with the word at the address that it holds. DE is kept.
-pub(crate) fn plan_word_behind_hl(steps: &mut Steps) -> Result<(), AllocError> {
+pub fn plan_word_at_hl(steps: &mut Steps) -> Result<(), AllocError> {
     steps.all(&[
         load(Register::A),
         Instr::Inx(Pair::Hl),
@@ -130,12 +115,12 @@ fn plan_frame_word(
         return hold_word(location, steps);
     }
     plan_location_address(site, location, pushed, steps)?;
-    plan_word_behind_hl(steps)?;
+    plan_word_at_hl(steps)?;
     hold_word(location, steps)
 }
 
 /// The word at a location into HL, where this comes first. DE is kept, and A where the location is static.
-pub(crate) fn plan_location_word(
+pub fn plan_location_word(
     site: &Site<'_>,
     location: Location,
     pushed: u16,
@@ -216,7 +201,7 @@ fn plan_second(
 }
 
 /// The address of an object or a part of it into HL.
-pub(crate) fn plan_address(
+pub fn plan_address(
     site: &Site<'_>,
     reference: &Reference,
     pushed: u16,

@@ -1,43 +1,20 @@
 //! Which values need one byte, and which are in a register already.
 
-use crate::facts::Facts;
-use crate::instructions::low;
 use crate::queries::reference_after;
 use crate::site::Site;
+use steps8080::{Facts, before, is_at, low};
 use treecode::{Expression, ExpressionForm, ExpressionNumber, Location, Place, Reference};
 use trees::{BinaryOperator, ScalarType};
 use typed_trees::{ShiftFunction, UnaryFunction};
 
-/// Whether a register that may hold what lies somewhere holds what lies here.
-pub(crate) fn is_at(held: Option<Location>, location: Location) -> bool {
-    match held {
-        Some(held) => held == location,
-        None => false,
-    }
-}
-
-/// The location one byte before another one.
-pub(crate) fn before(location: Location) -> Location {
-    location.after(65535)
-}
-
 /// How often 2 is to be multiplied with itself to give a number, if that gives it.
-pub(crate) fn power_of_two(number: u16) -> Option<u16> {
+pub fn power_of_two(number: u16) -> Option<u16> {
     for power in 0_u16..16 {
         if number == 1_u16 << power {
             return Some(power);
         }
     }
     None
-}
-
-impl Facts {
-    // Whether A, H or L holds the byte here.
-    fn holds_byte(&self, location: Location) -> bool {
-        is_at(self.byte_in_a, location)
-            || is_at(self.word_in_hl, location)
-            || is_at(self.word_in_hl, before(location))
-    }
 }
 
 impl<'a> Site<'a> {
@@ -97,7 +74,7 @@ impl<'a> Site<'a> {
     }
 
     /// Whether the value of an expression is below 256, as far as its form shows: its low byte is all of it.
-    pub(crate) fn fits_byte(&self, number: ExpressionNumber) -> bool {
+    pub fn fits_byte(&self, number: ExpressionNumber) -> bool {
         match self.expression(number) {
             Some(expression) => match expression.traits.scalar {
                 ScalarType::Byte => true,
@@ -110,7 +87,7 @@ impl<'a> Site<'a> {
     }
 
     /// The part of memory that holds the value of an ADDRESS expression, if it is a reference.
-    pub(crate) fn word_in_memory(&self, number: ExpressionNumber) -> Option<Reference> {
+    pub fn word_in_memory(&self, number: ExpressionNumber) -> Option<Reference> {
         match self.expression(number) {
             Some(
                 Expression {
@@ -123,7 +100,7 @@ impl<'a> Site<'a> {
     }
 
     /// The part of memory that holds the high byte of an ADDRESS expression, if it is a reference.
-    pub(crate) fn high_byte_in_memory(&self, number: ExpressionNumber) -> Option<Reference> {
+    pub fn high_byte_in_memory(&self, number: ExpressionNumber) -> Option<Reference> {
         match self.word_in_memory(number) {
             Some(reference) => Some(reference_after(reference, 1)),
             None => None,
@@ -131,7 +108,7 @@ impl<'a> Site<'a> {
     }
 
     /// The place in memory of the word that an expression is, where it is known but for where things lie.
-    pub(crate) fn direct_word(&self, number: ExpressionNumber) -> Option<Place> {
+    pub fn direct_word(&self, number: ExpressionNumber) -> Option<Place> {
         match self.word_in_memory(number) {
             Some(reference) => self.direct(&reference),
             None => None,
@@ -139,7 +116,7 @@ impl<'a> Site<'a> {
     }
 
     /// The part of memory that holds the low byte of an expression, where its address comes into HL with A kept.
-    pub(crate) fn operand_in_memory(&self, number: ExpressionNumber) -> Option<Reference> {
+    pub fn operand_in_memory(&self, number: ExpressionNumber) -> Option<Reference> {
         match self.memory(number) {
             Some(reference) => {
                 if self.keeps_of_address(&reference).a {
@@ -153,7 +130,7 @@ impl<'a> Site<'a> {
     }
 
     /// Whether HL holds the word that an expression is.
-    pub(crate) fn is_word_at_hand(&self, number: ExpressionNumber) -> bool {
+    pub fn is_word_in_hl(&self, number: ExpressionNumber) -> bool {
         match self.word_in_memory(number) {
             Some(reference) => match self.location_of(&reference) {
                 Some(location) => is_at(self.facts.word_in_hl, location),
@@ -164,7 +141,7 @@ impl<'a> Site<'a> {
     }
 
     /// Whether A, H or L holds the low byte of an expression.
-    pub(crate) fn is_byte_at_hand(&self, number: ExpressionNumber) -> bool {
+    pub fn is_byte_in_register(&self, number: ExpressionNumber) -> bool {
         match self.memory(number) {
             Some(reference) => match self.location_of(&reference) {
                 Some(location) => self.facts.holds_byte(location),
@@ -175,7 +152,7 @@ impl<'a> Site<'a> {
     }
 
     /// The low byte of a number, where an expression is one.
-    pub(crate) fn low_number(&self, number: ExpressionNumber) -> Option<u8> {
+    pub fn low_number(&self, number: ExpressionNumber) -> Option<u8> {
         match self.number(number) {
             Some(number) => Some(low(number)),
             None => None,
@@ -183,7 +160,7 @@ impl<'a> Site<'a> {
     }
 
     /// How often 2 is to be multiplied with itself to give the number that an expression is, if that gives it.
-    pub(crate) fn power(&self, number: ExpressionNumber) -> Option<u16> {
+    pub fn power(&self, number: ExpressionNumber) -> Option<u16> {
         match self.number(number) {
             Some(number) => power_of_two(number),
             None => None,
@@ -191,7 +168,7 @@ impl<'a> Site<'a> {
     }
 
     /// The same place, of whose registers nothing is known.
-    pub(crate) fn unknown(&self) -> Site<'a> {
+    pub fn unknown(&self) -> Site<'a> {
         Site {
             tree: self.tree,
             frame: self.frame,

@@ -1,7 +1,8 @@
 //! Code with numbered labels and the names of other modules.
 
 ghost use Rattle.std.specs.Prelude.{IfOk};
-ghost use Rattle.exprgen8080.specs.internal.Labels.{Follows};
+ghost use Rattle.asm8080.specs.Assembled.{Assembles};
+ghost use Rattle.steps8080.specs.internal.Labels.{Follows};
 
 use crate::externals::Externals;
 use crate::step::LabelNumber;
@@ -26,20 +27,15 @@ pub struct Writer {
 }
 
 impl Model for Writer {
+    ghost use Rattle.asm8080.specs.Assembled.{Assembles};
     ghost use Rattle.asm8080.specs.Items.{Assembly};
-    ghost use Rattle.exprgen8080.specs.internal.Labels.{Follows};
+    ghost use Rattle.steps8080.specs.internal.Labels.{Follows};
 
     ghost Value = { Assembly };
 
     ghost view = { λ writer. writer.code };
 
     ghost invariant = { λ writer. Follows writer.is_bound.items writer.code };
-}
-
-// A word that counts from a target, or is a number.
-enum Value {
-    Number(u16),
-    From(Target, u16),
 }
 
 impl Writer {
@@ -59,18 +55,6 @@ impl Writer {
         }
     }
 
-    // What a place counts from.
-    fn value(&mut self, place: Place) -> Value {
-        match place {
-            Place::Number(number) => Value::Number(number),
-            Place::Code(offset) => Value::From(Target::InSegment(Segment::Code), offset),
-            Place::Data(offset) => Value::From(Target::InSegment(Segment::Data), offset),
-            Place::External { name, offset } => {
-                Value::From(Target::External(self.externals.number(name)), offset)
-            }
-        }
-    }
-
     /// Adds an instruction.
     pub fn plain(&mut self, instruction: Instr) -> Result<(), AllocError> {
         self.code.emit(instruction)
@@ -78,9 +62,20 @@ impl Writer {
 
     /// Adds an instruction with the word of a place.
     pub fn word(&mut self, form: WordForm, place: Place) -> Result<(), AllocError> {
-        match self.value(place) {
-            Value::Number(number) => self.code.emit(instruction_with(form, number)),
-            Value::From(target, offset) => self.code.emit_fixed(form, target, offset),
+        match place {
+            Place::Number(number) => self.code.emit(instruction_with(form, number)),
+            Place::Code(offset) => {
+                self.code
+                    .emit_fixed(form, Target::InSegment(Segment::Code), offset)
+            }
+            Place::Data(offset) => {
+                self.code
+                    .emit_fixed(form, Target::InSegment(Segment::Data), offset)
+            }
+            Place::External { name, offset } => {
+                let number = self.externals.number(name);
+                self.code.emit_fixed(form, Target::External(number), offset)
+            }
         }
     }
 
@@ -102,14 +97,28 @@ impl Writer {
         self.code.emit_byte(value)
     }
 
+    // Adds a number as a word of data.
+    fn number(&mut self, number: u16) -> Result<(), AllocError> {
+        self.code.emit_byte((number % 256) as u8)?;
+        self.code.emit_byte((number / 256) as u8)
+    }
+
     /// Adds a word of data.
     pub fn address(&mut self, place: Place) -> Result<(), AllocError> {
-        match self.value(place) {
-            Value::Number(number) => {
-                self.code.emit_byte((number % 256) as u8)?;
-                self.code.emit_byte((number / 256) as u8)
+        match place {
+            Place::Number(number) => self.number(number),
+            Place::Code(offset) => {
+                self.code
+                    .emit_address(Target::InSegment(Segment::Code), offset)
             }
-            Value::From(target, offset) => self.code.emit_address(target, offset),
+            Place::Data(offset) => {
+                self.code
+                    .emit_address(Target::InSegment(Segment::Data), offset)
+            }
+            Place::External { name, offset } => {
+                let number = self.externals.number(name);
+                self.code.emit_address(Target::External(number), offset)
+            }
         }
     }
 
@@ -136,7 +145,9 @@ impl Writer {
             return Ok(index);
         }
         let index = self.new_label()?;
-        self.labels[entry] = Some(index);
+        if let Some(label) = self.labels.get_mut(entry) {
+            *label = Some(index);
+        }
         Ok(index)
     }
 
@@ -150,24 +161,21 @@ impl Writer {
     }
 
     // Gives a label of the code its place here, if it has none.
-    fn bind(&mut self, index: usize, label: Label) -> Result<(), AllocError> {
-        match self.is_bound.get(index) {
-            Some(false) => {
-                self.code.bind(label)?;
-                self.is_bound[index] = true;
-                Ok(())
-            }
-            _ => Ok(()),
+    fn bind(&mut self, index: usize) -> Result<(), AllocError> {
+        let Some(label) = self.code.known(index) else {
+            return Ok(());
+        };
+        if let Some(false) = self.is_bound.get(index) {
+            self.code.bind(label)?;
+            self.is_bound[index] = true;
         }
+        Ok(())
     }
 
     /// Gives a label its place here. A label that has a place keeps it.
     pub fn mark(&mut self, number: LabelNumber) -> Result<(), AllocError> {
         let index = self.label_of(number)?;
-        match self.code.known(index) {
-            Some(label) => self.bind(index, label),
-            None => Ok(()),
-        }
+        self.bind(index)
     }
 
     /// The code with a routine at its end, which begins at a label. Where there is no memory for it, the code is dropped.
@@ -192,8 +200,10 @@ impl Writer {
         })
     }
 
-    /// The code as bytes and fixes, with its labels and the names that it refers to.
-    pub fn finish(self) -> Result<Finished, Failure<Fault>> {
+    /// The code as bytes and fixes with its labels, and the names that it refers to.
+    pub fn finish(self) -> Result<(Finished, Externals), Failure<Fault>>
+        ensures { IfOk result (λ both. Assembles self both.0.bytes) }
+    {
         let Writer {
             code,
             is_bound: _,
@@ -202,11 +212,7 @@ impl Writer {
         } = self;
         let labels = known_labels(&code, numbers)?;
         let bytes = code.finish()?;
-        Ok(Finished {
-            bytes,
-            labels,
-            externals,
-        })
+        Ok((Finished { bytes, labels }, externals))
     }
 }
 
@@ -243,11 +249,10 @@ fn add_routine(
     Ok((code, is_bound))
 }
 
-/// The bytes of code, with its labels and the names that it refers to.
+/// The bytes of code, with its labels.
 pub struct Finished {
     pub bytes: CodeBytes,
     pub labels: Vec<Option<Label>>,
-    pub externals: Externals,
 }
 
 impl Finished {
@@ -259,14 +264,12 @@ impl Finished {
         }
     }
 
-    /// The bytes, and the names that the code refers to.
-    pub fn into_bytes(self) -> (CodeBytes, Externals) {
-        let Finished {
-            bytes,
-            labels: _,
-            externals,
-        } = self;
-        (bytes, externals)
+    /// The bytes.
+    pub fn into_bytes(self) -> CodeBytes
+        ensures { result ≡ self.bytes }
+    {
+        let Finished { bytes, labels: _ } = self;
+        bytes
     }
 }
 
@@ -287,7 +290,6 @@ impl Drop for Finished {
         let Finished {
             bytes: _,
             labels: _,
-            externals: _,
         } = self;
     }
 }

@@ -1,16 +1,15 @@
 //! Two words, one in HL and the other in DE.
 
-use crate::instructions::{copy, set};
-use crate::site::Site;
-use crate::step::{Steps, Task};
 use asm8080::WordForm;
 use isa8080::{Instr, Pair, Register, StackPair};
+use sites8080::Site;
 use std::alloc::AllocError;
+use steps8080::{Steps, Task, copy, set};
 use treecode::{ExpressionNumber, Place};
 
 /// Which of two operands is in HL. The other one is in DE.
 #[derive(Clone, Copy, PartialEq, Eq)]
-pub(crate) enum PairOrder {
+pub enum PairOrder {
     LeftInHl,
     RightInHl,
 }
@@ -46,8 +45,8 @@ struct Choices {
     // The left one is a byte whose code changes A alone, and may come second.
     left_is_free: bool,
     // HL holds it.
-    left_is_at_hand: bool,
-    right_is_at_hand: bool,
+    left_is_in_hl: bool,
+    right_is_in_hl: bool,
 }
 
 // Whether an operand is a byte that can be put into A by code that changes A alone.
@@ -63,15 +62,15 @@ fn choices_of(site: &Site<'_>, left: ExpressionNumber, right: ExpressionNumber) 
         left_keeps: may_exchange && site.keeps(left).de,
         right_is_free: is_free_byte(site, right),
         left_is_free: may_exchange && is_free_byte(site, left),
-        left_is_at_hand: site.is_word_at_hand(left),
-        right_is_at_hand: site.is_word_at_hand(right),
+        left_is_in_hl: site.is_word_in_hl(left),
+        right_is_in_hl: site.is_word_in_hl(right),
     }
 }
 
 impl Choices {
     // The form where either order will do.
     fn any_order(&self) -> PairForm {
-        if self.left_keeps && self.right_is_at_hand {
+        if self.left_keeps && self.right_is_in_hl {
             PairForm::LeftKeeps
         } else if self.right_keeps {
             PairForm::RightKeeps
@@ -88,9 +87,9 @@ impl Choices {
 
     // The form where the left one is wanted in HL.
     fn left_in_hl(&self) -> PairForm {
-        if self.left_is_at_hand && self.right_is_free {
+        if self.left_is_in_hl && self.right_is_free {
             PairForm::RightFree
-        } else if self.left_is_at_hand && self.right_keeps {
+        } else if self.left_is_in_hl && self.right_keeps {
             PairForm::RightKeeps
         } else if self.left_keeps {
             PairForm::LeftKeeps
@@ -103,9 +102,9 @@ impl Choices {
 
     // The form where the right one is wanted in HL.
     fn right_in_hl(&self) -> PairForm {
-        if self.right_is_at_hand && self.left_is_free {
+        if self.right_is_in_hl && self.left_is_free {
             PairForm::LeftFree
-        } else if self.right_is_at_hand && self.left_keeps {
+        } else if self.right_is_in_hl && self.left_keeps {
             PairForm::LeftKeeps
         } else if self.right_keeps {
             PairForm::RightKeeps
@@ -220,7 +219,7 @@ impl PairForm {
 }
 
 /// Two operands into HL and DE, in the order that is wished for, if one is.
-pub(crate) fn plan_pair_in_order(
+pub fn plan_pair_in_order(
     site: &Site<'_>,
     left: ExpressionNumber,
     right: ExpressionNumber,
@@ -242,7 +241,7 @@ pub(crate) fn plan_pair_in_order(
 }
 
 /// Two operands into HL and DE; the left one into HL where that is wanted.
-pub(crate) fn plan_pair(
+pub fn plan_pair(
     site: &Site<'_>,
     left: ExpressionNumber,
     right: ExpressionNumber,

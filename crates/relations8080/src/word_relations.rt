@@ -1,15 +1,13 @@
 //! Relations of ADDRESSes.
 
 use crate::byte_relations::{plan_byte_number, plan_byte_relation, plan_number_in_a};
-use crate::instructions::{copy, high, load, low, repeat, with_register};
-use crate::pairs::{PairOrder, plan_pair};
-use crate::questions::{Comparison, NumberQuestion, Question};
 use crate::relations::{Answer, Setting, plan_known};
-use crate::site::Site;
-use crate::step::{Steps, Task};
 use asm8080::WordForm;
 use isa8080::{Instr, Operation, Pair, Register};
+use operands8080::{PairOrder, plan_pair};
+use sites8080::{Comparison, NumberQuestion, Question, Site};
 use std::alloc::AllocError;
+use steps8080::{Steps, Task, copy, high, load, low, repeat, with_register};
 use treecode::{ExpressionForm, ExpressionNumber, Place};
 use trees::{BinaryOperator, ScalarType};
 
@@ -71,7 +69,7 @@ fn plan_high_byte(
     steps: &mut Steps,
 ) -> Result<(), AllocError> {
     match site.high_byte_in_memory(number) {
-        Some(reference) if !site.is_word_at_hand(number) => match site.direct(&reference) {
+        Some(reference) if !site.is_word_in_hl(number) => match site.direct(&reference) {
             Some(place) => load_a(place, steps),
             None => {
                 steps.part(Task::Address(reference), pushed)?;
@@ -169,7 +167,7 @@ fn plan_word_below(
 }
 
 /// The steps that answer what is asked of an ADDRESS and a number.
-pub(crate) fn plan_word_number(
+pub fn plan_word_number(
     site: &Site<'_>,
     operand: ExpressionNumber,
     question: NumberQuestion,
@@ -194,7 +192,7 @@ pub(crate) fn plan_word_number(
 
 // The place of an ADDRESS that lies in memory at a place without a computed part, if it is one that is not in HL already.
 fn place_apart(site: &Site<'_>, number: ExpressionNumber) -> Option<Place> {
-    if site.is_word_at_hand(number) {
+    if site.is_word_in_hl(number) {
         return None;
     }
     site.direct_word(number)
@@ -316,7 +314,7 @@ fn plan_with_pair(
 }
 
 /// The steps that answer what is asked of two ADDRESSes.
-pub(crate) fn plan_word_relation(
+pub fn plan_word_relation(
     site: &Site<'_>,
     comparison: &Comparison,
     setting: Setting,

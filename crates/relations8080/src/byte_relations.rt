@@ -1,12 +1,10 @@
 //! Relations of BYTEs.
 
-use crate::instructions::{copy, with_memory, with_register};
-use crate::questions::{Comparison, NumberQuestion, Question};
 use crate::relations::{Answer, Purpose, Setting, plan_known};
-use crate::site::Site;
-use crate::step::{Step, Steps, Task};
 use isa8080::{Instr, Operand, Operation, Register, StackPair};
+use sites8080::{Comparison, NumberQuestion, Question, Site};
 use std::alloc::AllocError;
+use steps8080::{Step, Steps, Task, copy, with_memory, with_register};
 use treecode::{ExpressionNumber, Reference};
 
 // Two operands, of which the second is to be compared with the first one, which is in A.
@@ -70,7 +68,7 @@ fn plan_is_zero(setting: Setting, steps: &mut Steps) -> Result<(), AllocError> {
 }
 
 /// The steps that answer what is asked of A and a number.
-pub(crate) fn plan_number_in_a(
+pub fn plan_number_in_a(
     question: NumberQuestion,
     setting: Setting,
     steps: &mut Steps,
@@ -109,7 +107,7 @@ fn known_answer(question: NumberQuestion) -> Option<bool> {
 }
 
 /// The steps that answer what is asked of a BYTE and a number.
-pub(crate) fn plan_byte_number(
+pub fn plan_byte_number(
     operand: ExpressionNumber,
     question: NumberQuestion,
     setting: Setting,
@@ -167,7 +165,7 @@ fn register_form(site: &Site<'_>, comparison: &Comparison, sides: Sides) -> Opti
 // The better one of the two comparisons without a push, where one can be made.
 fn without_push(site: &Site<'_>, comparison: &Comparison, sides: Sides) -> Option<Form> {
     let by_register = register_form(site, comparison, sides);
-    if by_register.is_some() && site.is_byte_at_hand(sides.second) {
+    if by_register.is_some() && site.is_byte_in_register(sides.second) {
         return by_register;
     }
     match memory_form(site, comparison, sides) {
@@ -179,10 +177,10 @@ fn without_push(site: &Site<'_>, comparison: &Comparison, sides: Sides) -> Optio
 // Whether the operands are better compared with the right one in A: it is at hand, or the address of the left one is in HL
 // and stays there.
 fn is_better_exchanged(site: &Site<'_>, comparison: &Comparison) -> bool {
-    if site.is_byte_at_hand(comparison.left) {
+    if site.is_byte_in_register(comparison.left) {
         return false;
     }
-    site.is_byte_at_hand(comparison.right)
+    site.is_byte_in_register(comparison.right)
         || site.is_at_hl(comparison.left) && site.is_free(comparison.right)
 }
 
@@ -260,7 +258,7 @@ fn plan_pushed(
 }
 
 /// The steps that answer what is asked of two BYTEs.
-pub(crate) fn plan_byte_relation(
+pub fn plan_byte_relation(
     site: &Site<'_>,
     comparison: &Comparison,
     setting: Setting,

@@ -1,19 +1,17 @@
 //! Relations, as flags and as values.
 
 use crate::byte_relations::{plan_byte_number, plan_byte_relation};
-use crate::instructions::{clear_a, set, with_register};
-use crate::questions::{Comparison, Inquiry, NumberQuestion, Relation, relation_of};
-use crate::site::Site;
-use crate::step::{Steps, Task};
 use crate::word_relations::{plan_word_number, plan_word_relation};
 use isa8080::{Condition, Instr, Operation, Register};
+use sites8080::{Comparison, Inquiry, NumberQuestion, Relation, Site, relation_of};
 use std::alloc::AllocError;
+use steps8080::{Steps, Task, clear_a, set, with_register};
 use treecode::ExpressionNumber;
 use trees::ScalarType;
 
 /// What the answer of a question is wanted for.
 #[derive(Clone, Copy, PartialEq, Eq)]
-pub(crate) enum Purpose {
+pub enum Purpose {
     /// A jump: the flags show it.
     Branch,
     /// A value: whether A is 0 may show it.
@@ -22,14 +20,14 @@ pub(crate) enum Purpose {
 
 /// Where the code of a question stands, and what the answer is wanted for.
 #[derive(Clone, Copy)]
-pub(crate) struct Setting {
+pub struct Setting {
     pub purpose: Purpose,
     pub pushed: u16,
 }
 
 /// How the code of a question leaves the answer.
 #[derive(Clone, Copy)]
-pub(crate) enum Answer {
+pub enum Answer {
     Known(bool),
     /// It is yes where the carry is set.
     Carry,
@@ -39,7 +37,7 @@ pub(crate) enum Answer {
 
 /// Where a relation holds.
 #[derive(Clone, Copy)]
-pub(crate) enum Outcome {
+pub enum Outcome {
     /// Everywhere, or nowhere.
     Known(bool),
     /// Where a condition of the flags does; for a value, `Zero` is that A is 0, and `NotZero` that it is not.
@@ -58,7 +56,7 @@ fn outcome_of(answer: Answer, holds_if: bool) -> Outcome {
 }
 
 /// The steps that evaluate an operand for what that does, where the answer is known.
-pub(crate) fn plan_known(
+pub fn plan_known(
     operand: ExpressionNumber,
     answer: bool,
     setting: Setting,
@@ -97,7 +95,7 @@ fn plan_comparison(
 }
 
 /// The steps after which a relation holds where the outcome says.
-pub(crate) fn plan_relation(
+pub fn plan_relation(
     site: &Site<'_>,
     relation: &Relation,
     setting: Setting,
@@ -137,7 +135,7 @@ fn plan_outcome_value(outcome: Outcome, steps: &mut Steps) -> Result<(), AllocEr
 }
 
 /// The steps that put 0FFH into A where a relation holds, else 0. None where the expression is no relation.
-pub(crate) fn plan_relation_value(
+pub fn plan_relation_value(
     site: &Site<'_>,
     number: ExpressionNumber,
     pushed: u16,

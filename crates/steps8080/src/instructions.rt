@@ -5,47 +5,47 @@ use isa8080::{Instr, Operand, Operation, Register};
 use std::alloc::AllocError;
 
 /// Copies a register into another one.
-pub(crate) fn copy(to: Register, from: Register) -> Instr {
+pub fn copy(to: Register, from: Register) -> Instr {
     Instr::Mov(to, Operand::Of(from))
 }
 
 /// Loads a register from the byte at the address in HL.
-pub(crate) fn load(to: Register) -> Instr {
+pub fn load(to: Register) -> Instr {
     Instr::Mov(to, Operand::M)
 }
 
 /// Sets a register to a number.
-pub(crate) fn set(register: Register, number: u8) -> Instr {
+pub fn set(register: Register, number: u8) -> Instr {
     Instr::Mvi(Operand::Of(register), number)
 }
 
 /// Carries out an operation with A and a register.
-pub(crate) fn with_register(operation: Operation, register: Register) -> Instr {
+pub fn with_register(operation: Operation, register: Register) -> Instr {
     Instr::Accumulate(operation, Operand::Of(register))
 }
 
 /// Carries out an operation with A and the byte at the address in HL.
-pub(crate) fn with_memory(operation: Operation) -> Instr {
+pub fn with_memory(operation: Operation) -> Instr {
     Instr::Accumulate(operation, Operand::M)
 }
 
 /// Sets A to 0.
-pub(crate) fn clear_a() -> Instr {
+pub fn clear_a() -> Instr {
     with_register(Operation::ExclusiveOr, Register::A)
 }
 
 /// The low byte of a word.
-pub(crate) fn low(word: u16) -> u8 {
+pub fn low(word: u16) -> u8 {
     (word % 256) as u8
 }
 
 /// The high byte of a word.
-pub(crate) fn high(word: u16) -> u8 {
+pub fn high(word: u16) -> u8 {
     (word / 256) as u8
 }
 
 /// Adds an instruction so many times.
-pub(crate) fn repeat(instruction: Instr, count: u16, steps: &mut Steps) -> Result<(), AllocError> {
+pub fn repeat(instruction: Instr, count: u16, steps: &mut Steps) -> Result<(), AllocError> {
     for _ in 0..count {
         steps.plain(instruction)?;
     }
@@ -53,7 +53,7 @@ pub(crate) fn repeat(instruction: Instr, count: u16, steps: &mut Steps) -> Resul
 }
 
 /// Puts the byte in A into HL, with zeros added.
-pub(crate) fn plan_extension(steps: &mut Steps) -> Result<(), AllocError> {
+pub fn plan_extension(steps: &mut Steps) -> Result<(), AllocError> {
     steps.plain(copy(Register::L, Register::A))?;
     steps.plain(set(Register::H, 0))
 }
