@@ -1,6 +1,6 @@
 //! Code with numbered labels and the names of other modules.
 
-ghost use Rattle.std.specs.Prelude.{IfOk};
+ghost use Rattle.std.specs.Prelude.{◌≡◌, IfOk};
 ghost use Rattle.asm8080.specs.Assembled.{Assembles};
 ghost use Rattle.steps8080.specs.internal.Labels.{Follows};
 
