@@ -1,5 +1,5 @@
 -- Sources: why they are refused, and in which order their faults are looked for.
-use Rattle.std.specs.Prelude.{◌≡◌, ℕ, ◌<◌, ◌≤◌, List, length, Some, None}
+use Rattle.std.specs.Prelude.{◌≡◌, ℕ, ◌<◌, ◌≤◌, List, length, Some}
 use Rattle.typed_trees.specs.TypedTrees.{TypedModule}
 use Rattle.layout.specs.Joined.{join_refusal}
 use Rattle.layout.specs.Placing.{placing_refusal}

@@ -18,7 +18,7 @@ use Rattle.program_sources.specs.Programs.{HasProgramCause, program_modules}
 use Rattle.tool.specs.declared.code.TheConstants.{MOST_CODE}
 use Rattle.tool.specs.declared.compiled.Compiled.{Compiled}
 use Rattle.tool.specs.declared.fault.ToolFault.{ToolFault}
-use Rattle.tool.specs.declared.fault.ToolFault.TheVariants.{TooManySources, Source, CodeTooLong, Code, ConstantsMissing, Program, Link, Locate}
+use Rattle.tool.specs.declared.fault.ToolFault.TheVariants.{Source, CodeTooLong, Code, ConstantsMissing, Program, Link, Locate}
 use Rattle.tool.specs.Code.{module_code}
 use Rattle.tool.specs.Construction.{Construction}
 use Rattle.tool.specs.Sources.{HasLongCode, IsReadable}
