@@ -26,14 +26,16 @@ fn inner(site: &Site<'_>, number: ExpressionNumber) -> Option<ExpressionNumber> 
     }
 }
 
-// Whether an expression is AND or OR, whose code may jump at each side, or may be one.
+// Whether the code of a condition may be that of AND or OR, which may jump at each side.
 fn may_jump_twice(site: &Site<'_>, number: ExpressionNumber) -> bool {
     match site.expression(number) {
         Some(expression) => match expression.form {
             ExpressionForm::Binary { operator, .. } => {
                 matches!(operator, BinaryOperator::And | BinaryOperator::Or)
             }
-            ExpressionForm::Unary { .. } | ExpressionForm::Conversion(_) => true,
+            ExpressionForm::Unary { .. }
+            | ExpressionForm::Conversion(_)
+            | ExpressionForm::Function { .. } => true,
             _ => false,
         },
         None => true,

@@ -9,14 +9,17 @@ mod case;
 mod fault;
 mod generator;
 mod iteration;
+mod linkage;
 mod module;
 mod moving;
 mod names;
+mod object;
 mod plan;
 mod procedures;
 mod same;
 mod segments;
 mod statements;
+mod targets;
 
 pub use fault::Fault;
 pub use module::generate;

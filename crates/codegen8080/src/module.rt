@@ -1,13 +1,16 @@
 //! Modules of tree code as object modules.
 
+ghost use Rattle.std.specs.Prelude.{IfOk};
+ghost use Rattle.codegen8080.specs.internal.Segments.{KeepsFixes};
+
 use crate::fault::Fault;
 use crate::generator::Generator;
-use crate::names::{listed_names, publics_of};
+use crate::names::{listed_names, with_publics};
+use crate::object::object_of;
 use crate::procedures::{put_main, put_procedure};
-use crate::segments::segment_of;
 use exprgen8080::{Externals, Finished, LabelNumber, ROUTINES, Writer, routine_label};
 use failure::Failure;
-use object_modules::{ModuleParts, ObjectModule};
+use object_modules::ObjectModule;
 use std::alloc::{AllocError, Global};
 use treecode::{Content, TreeModule};
 
@@ -95,10 +98,13 @@ fn variables_of(
     Ok(writer)
 }
 
-// Code as bytes.
-fn finish(writer: Writer) -> Result<Finished, Failure<Fault>> {
+// Code as bytes, with the names that it refers to.
+#[tactic(auto, using(crate::proofs::KeptSegments::assembled_keeps))]
+fn finish(writer: Writer) -> Result<(Finished, Externals), Failure<Fault>>
+    ensures { IfOk result (λ both. KeepsFixes both.0.bytes) }
+{
     match writer.finish() {
-        Ok(finished) => Ok(finished),
+        Ok(both) => Ok(both),
         Err(Failure::Fault(asm8080::Fault::TooLong)) => Err(Failure::Fault(Fault::TooLong)),
         Err(Failure::Fault(asm8080::Fault::UnboundLabel)) => {
             Err(Failure::Fault(Fault::UnboundLabel))
@@ -107,29 +113,33 @@ fn finish(writer: Writer) -> Result<Finished, Failure<Fault>> {
     }
 }
 
+// Where the code of a main program begins.
+fn start_of(tree: &TreeModule, code: &Finished, start: LabelNumber) -> Option<u16> {
+    if is_main(tree) {
+        Some(code.place(start))
+    } else {
+        None
+    }
+}
+
 /// The object module of a module: its constants and its code in the code segment, its variables in the data segment, its
 /// PUBLIC names, and the EXTERNAL names that it refers to. Refuses a module whose code segment has more than 65535 bytes.
 pub fn generate(alloc: Global, tree: &TreeModule) -> Result<ObjectModule, Failure<Fault>> {
     let ModuleCode { writer, start } = code_of(alloc, tree)?;
-    let code = finish(writer)?;
-    let publics = publics_of(alloc, tree, &code)?;
-    let start = if is_main(tree) {
-        Some(code.place(start))
-    } else {
-        None
-    };
-    let (code_bytes, externals) = code.into_bytes();
-    let variables = finish(variables_of(alloc, tree, externals)?)?;
-    let (variable_bytes, externals) = variables.into_bytes();
+    let (code, externals) = finish(writer)?;
+    let (variables, externals) = finish(variables_of(alloc, tree, externals)?)?;
     let listed = listed_names(alloc, tree.externals.as_slice(), externals.numbers())?;
-    let parts = ModuleParts {
-        name: tree.name,
-        code: segment_of(alloc, code_bytes, listed.numbers.as_slice())?,
-        data_bytes: segment_of(alloc, variable_bytes, listed.numbers.as_slice())?,
-        stack_length: 0,
-        publics,
-        externals: listed.into_names(),
+    let listed = with_publics(listed, tree, &code)?;
+    let start = start_of(tree, &code, start);
+    let (names, numbers) = listed.into_parts();
+    let object = object_of(
+        alloc,
+        tree.name,
+        code.into_bytes(),
+        variables.into_bytes(),
+        names,
+        numbers.as_slice(),
         start,
-    };
-    Ok(ObjectModule::from_parts(parts))
+    )?;
+    Ok(object)
 }

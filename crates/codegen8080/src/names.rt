@@ -1,32 +1,34 @@
-//! The names by which modules know each other.
+//! The names of a module that other modules know, and those that it knows of them.
 
+ghost use Rattle.std.specs.Prelude.{◌≡◌, [], IfOk, IfSome, IsTrue};
+ghost use Rattle.object_modules.specs.Module.{may_have_publics};
+
+use crate::linkage::LinkageNames;
 use exprgen8080::{Finished, LabelNumber};
-use object_modules::{Fix, Name, OwnedPublic, Segment, Target};
+use object_modules::{Name, OwnedPublic, Segment};
 use std::alloc::{AllocError, Global};
 use treecode::{ExternalName, Place, PublicPlace, TreeModule};
 
-/// The EXTERNAL names that code refers to, in the order of the text, and the number of each among them by the number by
-/// which the code knows it.
+/// The EXTERNAL names that code refers to, and the number of each among them by the number by which the code knows it.
 pub(crate) struct ListedNames {
-    pub names: Vec<Name>,
+    pub names: LinkageNames,
     pub numbers: Vec<u16>,
 }
 
 impl ListedNames {
-    /// The names.
-    pub(crate) fn into_names(self) -> Vec<Name> {
-        let ListedNames { names, numbers: _ } = self;
-        names
+    /// The names, and the numbers.
+    pub(crate) fn into_parts(self) -> (LinkageNames, Vec<u16>)
+        ensures names { result.0 ≡ self.names }
+    {
+        let ListedNames { names, numbers } = self;
+        (names, numbers)
     }
+}
 
-    // Adds a name that the code knows by a number.
-    fn add(&mut self, name: Name, known_by: u16) -> Result<(), AllocError> {
-        let number = u16::try_from(self.names.len()).unwrap_or(u16::MAX);
-        if let Some(entry) = self.numbers.get_mut(known_by as usize) {
-            *entry = number;
-        }
-        self.names.push(name)?;
-        Ok(())
+// Sets the number that a name has among others, by the number by which the code knows it.
+fn set_number(numbers: &mut Vec<u16>, known_by: u16, number: usize) {
+    if let Some(entry) = numbers.get_mut(known_by as usize) {
+        *entry = u16::try_from(number).unwrap_or(u16::MAX);
     }
 }
 
@@ -35,49 +37,24 @@ pub(crate) fn listed_names(
     alloc: Global,
     externals: &[ExternalName],
     known_by: &[Option<u16>],
-) -> Result<ListedNames, AllocError> {
-    let mut listed = ListedNames {
-        names: Vec::new(alloc),
-        numbers: vec![in alloc; 0; known_by.len()]?,
-    };
+) -> Result<ListedNames, AllocError>
+    ensures { IfOk result (λ listed. listed.names.publics ≡ []) }
+{
+    let mut names = LinkageNames::new(alloc);
+    let mut numbers = vec![in alloc; 0; known_by.len()]?;
     for (index, external) in externals.iter().enumerate() {
         if let Some(Some(number)) = known_by.get(index) {
-            listed.add(external.name, *number)?;
+            set_number(&mut numbers, *number, names.external_count());
+            names = names.with_external(external.name)?;
         }
     }
-    Ok(listed)
-}
-
-// A target, where external names have these numbers.
-fn renumbered_target(target: Target, numbers: &[u16]) -> Target {
-    match target {
-        Target::External(number) => match numbers.get(number as usize) {
-            Some(number) => Target::External(*number),
-            None => target,
-        },
-        Target::InSegment(_) => target,
-    }
-}
-
-/// Fixes, where external names have these numbers.
-pub(crate) fn renumbered(
-    alloc: Global,
-    fixes: &[Fix],
-    numbers: &[u16],
-) -> Result<Vec<Fix>, AllocError> {
-    let mut renumbered = Vec::new(alloc);
-    for fix in fixes {
-        renumbered.push(Fix {
-            kind: fix.kind,
-            target: renumbered_target(fix.target, numbers),
-            offset: fix.offset,
-        })?;
-    }
-    Ok(renumbered)
+    Ok(ListedNames { names, numbers })
 }
 
 // A public name of an object, unless it lies in another module.
-fn public_object(name: Name, place: Place) -> Option<OwnedPublic> {
+fn public_object(name: Name, place: Place) -> Option<OwnedPublic>
+    ensures { IfSome result (λ public. IsTrue (may_have_publics public.segment)) }
+{
     match place {
         Place::Number(offset) => Some(OwnedPublic {
             segment: Segment::Absolute,
@@ -99,7 +76,9 @@ fn public_object(name: Name, place: Place) -> Option<OwnedPublic> {
 }
 
 // A public name, with its place in code.
-fn public_of(name: Name, place: PublicPlace, code: &Finished) -> Option<OwnedPublic> {
+fn public_of(name: Name, place: PublicPlace, code: &Finished) -> Option<OwnedPublic>
+    ensures { IfSome result (λ public. IsTrue (may_have_publics public.segment)) }
+{
     match place {
         PublicPlace::Object(place) => public_object(name, place),
         PublicPlace::Procedure(number) => Some(OwnedPublic {
@@ -110,19 +89,19 @@ fn public_of(name: Name, place: PublicPlace, code: &Finished) -> Option<OwnedPub
     }
 }
 
-/// The PUBLIC names of a module, in the order of the text.
-pub(crate) fn publics_of(
-    alloc: Global,
+/// The names of a module with its PUBLIC ones.
+pub(crate) fn with_publics(
+    listed: ListedNames,
     tree: &TreeModule,
     code: &Finished,
-) -> Result<Vec<OwnedPublic>, AllocError> {
-    let mut publics = Vec::new(alloc);
+) -> Result<ListedNames, AllocError> {
+    let (mut names, numbers) = listed.into_parts();
     for public in tree.publics.iter() {
         if let Some(public) = public_of(public.name, public.place, code) {
-            publics.push(public)?;
+            names = names.with_public(public)?;
         }
     }
-    Ok(publics)
+    Ok(ListedNames { names, numbers })
 }
 
 // Written out, so that what it holds is let go here.

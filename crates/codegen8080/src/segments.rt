@@ -1,65 +1,100 @@
 //! Segments of object modules from assembled code.
 
-use crate::names::renumbered;
+ghost use Rattle.std.specs.Prelude.{◌≡◌, ◌∷◌, ◌++◌, ◌≤◌, ◌<◌, [], All, false, length, slice_index_or, IfOk, OnOk};
+ghost use Rattle.object_modules.specs.declared.segment.TheConstants.{SEGMENT_LIMIT};
+ghost use Rattle.object_modules.specs.Text.{runs_from};
+ghost use Rattle.object_modules.specs.internal.Joining.{run_at, with_run};
+ghost use Rattle.asm8080.specs.Assembled.{set_bytes};
+ghost use Rattle.codegen8080.specs.internal.Segments.{IsKept, KeepsFixes};
+
+use crate::targets::retargeted;
 use asm8080::CodeBytes;
 use object_modules::{Alignment, Run, SegmentBytes};
 use std::alloc::{AllocError, Global};
 
 // Whether the byte of an index is set.
-fn is_set_at(is_set: &[bool], index: usize) -> bool {
+fn is_set_at(is_set: &[bool], index: usize) -> bool
+    ensures { result ≡ slice_index_or is_set.now index false }
+{
     match is_set.get(index) {
         Some(is_set) => *is_set,
         None => false,
     }
 }
 
-// Whether the byte before an index is set.
-fn is_set_before(is_set: &[bool], index: usize) -> bool {
-    match index.checked_sub(1) {
-        Some(before) => is_set_at(is_set, before),
-        None => false,
+// Adds two runs, as one where the second begins at the end of the first.
+fn add_after(runs: &mut Vec<Run>, last: Run, run: Run) -> Result<(), AllocError>
+    ensures { OnOk result (runs.new.items ≡ runs.old.items ++ with_run (last ∷ []) run) }
+{
+    let mut last = last;
+    if run.offset() as usize == last.offset() as usize + last.bytes().len() {
+        last.append(run.bytes())?;
+        runs.push(last)?;
+    } else {
+        runs.push(last)?;
+        runs.push(run)?;
+    }
+    Ok(())
+}
+
+// Adds a run after others, to the last of them where it begins at its end.
+#[tactic(auto, using(object_merges::proofs::RunsJoined::with_run_last))]
+fn add_run(runs: &mut Vec<Run>, run: Run) -> Result<(), AllocError>
+    ensures { OnOk result (runs.new.items ≡ with_run runs.old.items run) }
+{
+    match runs.pop() {
+        Some(last) => add_after(runs, last, run),
+        None => {
+            runs.push(run)?;
+            Ok(())
+        }
     }
 }
 
-// Adds a byte that is set at an index to runs: to the last one, or where the byte before is not set to a new one.
-fn add_byte(
-    alloc: Global,
-    runs: &mut Vec<Run>,
-    index: usize,
-    byte: u8,
-    begins: bool,
-) -> Result<(), AllocError> {
-    if begins {
-        let offset = u16::try_from(index).unwrap_or(u16::MAX);
-        runs.push(Run::new(offset, Vec::new(alloc)))?;
-    }
-    match runs.last_mut() {
-        Some(run) => run.append(&[byte]),
-        None => Ok(()),
-    }
+// Adds a byte that is set at an offset after runs.
+fn add_byte(alloc: Global, runs: &mut Vec<Run>, offset: u16, byte: u8) -> Result<(), AllocError>
+    ensures { OnOk result (runs.new.items ≡ with_run runs.old.items (run_at offset (byte ∷ []))) }
+{
+    let bytes = Vec::from_slice(alloc, &[byte])?;
+    add_run(runs, Run::new(offset, bytes))
+}
+
+// How many bytes there are.
+fn count_of(bytes: &[u8]) -> usize
+    ensures count { result ≡ length bytes.now }
+    ensures bytes { All (λ byte. byte < 256) bytes.now }
+{
+    bytes.len()
 }
 
 // The longest runs of bytes that are set.
-fn runs_of(alloc: Global, bytes: &[u8], is_set: &[bool]) -> Result<Vec<Run>, AllocError> {
+#[tactic(auto, using(crate::proofs::KeptSegments::runs_set, crate::proofs::KeptSegments::runs_unset, crate::proofs::KeptSegments::runs_ended))]
+fn runs_of(alloc: Global, bytes: &[u8], is_set: &[bool]) -> Result<Vec<Run>, AllocError>
+    requires { length bytes.now ≤ SEGMENT_LIMIT }
+    ensures { IfOk result (λ runs. runs.items ≡ runs_from 0 (set_bytes bytes.now is_set.now)) }
+{
     let mut runs = Vec::new(alloc);
     for (index, byte) in bytes.iter().enumerate() {
         if is_set_at(is_set, index) {
-            let begins = !is_set_before(is_set, index);
-            add_byte(alloc, &mut runs, index, *byte, begins)?;
+            add_byte(alloc, &mut runs, index as u16, *byte)?;
         }
     }
     Ok(runs)
 }
 
-/// The segment that code is, where external names have these numbers in place of those by which its fixes know them.
+/// The segment that code is, where external names, so many, have these numbers in place of those by which its fixes know
+/// them.
 pub(crate) fn segment_of(
     alloc: Global,
     code: CodeBytes,
     numbers: &[u16],
-) -> Result<SegmentBytes, AllocError> {
-    let (bytes, is_set, fixes) = code.into_parts();
-    let size = u16::try_from(bytes.len()).unwrap_or(u16::MAX);
-    let runs = runs_of(alloc, bytes.as_slice(), is_set.as_slice())?;
-    let fixes = renumbered(alloc, fixes.as_slice(), numbers)?;
-    Ok(SegmentBytes::new(size, Alignment::Byte, runs, fixes))
+    count: usize,
+) -> Result<SegmentBytes, AllocError>
+    requires { KeepsFixes code }
+    ensures { IfOk result (λ made. IsKept count made) }
+{
+    let size = count_of(code.bytes());
+    let runs = runs_of(alloc, code.bytes(), code.is_set())?;
+    let fixes = retargeted(alloc, code.fixes(), numbers, count)?;
+    Ok(SegmentBytes::new(size as u16, Alignment::Byte, runs, fixes))
 }

@@ -2,15 +2,13 @@
 
 use crate::byte_shifts::plan_low_byte_shifted_right;
 use crate::bytes::{plan_byte_number, plan_low_of_word};
-use crate::instructions::{clear_a, copy, low, with_memory, with_register};
-use crate::pairs::plan_pair;
-use crate::products::plan_byte_product;
-use crate::relations::plan_relation_value;
-use crate::site::Site;
-use crate::step::{Step, Steps, Task};
 use isa8080::{Instr, Operand, Operation, Register, StackPair};
+use operands8080::{plan_byte_product, plan_pair};
+use relations8080::plan_relation_value;
 use runtime8080::Routine;
+use sites8080::Site;
 use std::alloc::AllocError;
+use steps8080::{Step, Steps, Task, clear_a, copy, low, with_memory, with_register};
 use treecode::{ExpressionNumber, Reference};
 use trees::BinaryOperator;
 
@@ -109,8 +107,14 @@ fn plan_from_number(
 }
 
 // The form where the right operand is in a register already, if that makes one shorter.
-fn form_at_hand(site: &Site<'_>, operation: Operation, operands: Operands) -> Option<ByteForm> {
-    if !site.is_byte_at_hand(operands.right) || !site.may_exchange(operands.left, operands.right) {
+fn form_from_register(
+    site: &Site<'_>,
+    operation: Operation,
+    operands: Operands,
+) -> Option<ByteForm> {
+    if !site.is_byte_in_register(operands.right)
+        || !site.may_exchange(operands.left, operands.right)
+    {
         return None;
     }
     if commutes(operation) {
@@ -128,7 +132,7 @@ fn form_at_hand(site: &Site<'_>, operation: Operation, operands: Operands) -> Op
 
 // The form in which two operands, neither of which is a number, come to an operation.
 fn form_of(site: &Site<'_>, operation: Operation, operands: Operands) -> ByteForm {
-    if let Some(form) = form_at_hand(site, operation, operands) {
+    if let Some(form) = form_from_register(site, operation, operands) {
         return form;
     }
     if let Some(reference) = site.operand_in_memory(operands.right) {

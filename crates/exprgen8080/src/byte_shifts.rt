@@ -1,12 +1,11 @@
 //! Shifts and rotations of bytes in A.
 
 use crate::bytes::{plan_high_byte, plan_low_of_word};
-use crate::instructions::{clear_a, copy, load, repeat, with_register};
-use crate::site::Site;
-use crate::step::{Step, Steps, Task};
 use isa8080::{Instr, Operation, Pair, Register, StackPair};
 use runtime8080::Routine;
+use sites8080::Site;
 use std::alloc::AllocError;
+use steps8080::{Step, Steps, Task, clear_a, copy, load, repeat, with_register};
 use treecode::{ExpressionNumber, Reference};
 use trees::ScalarType;
 use typed_trees::ShiftFunction;

@@ -3,14 +3,13 @@
 use crate::byte_operators::{Operands, plan_byte_binary};
 use crate::byte_shifts::{Shifted, plan_byte_shift};
 use crate::calls::plan_call;
-use crate::instructions::{clear_a, copy, high, low, set};
-use crate::loads::plan_byte_in_memory;
-use crate::site::Site;
-use crate::step::{Steps, Task};
 use asm8080::WordForm;
 use isa8080::{Instr, Operand, Pair, Register};
+use operands8080::plan_byte_in_memory;
+use sites8080::Site;
 use std::alloc::AllocError;
-use treecode::{Expression, ExpressionForm, ExpressionNumber, Place, Range, Target};
+use steps8080::{Steps, Task, clear_a, copy, high, low, set};
+use treecode::{ExpressionForm, ExpressionNumber, Place, Range, Target};
 use trees::{ScalarType, UnaryOperator};
 use typed_trees::UnaryFunction;
 
@@ -80,7 +79,7 @@ fn plan_byte_unary(
     }
 }
 
-// The value of an assignment into A or HL, by its type, and to its target.
+/// The value of an assignment into A or HL, by its type, and to its target.
 pub(crate) fn plan_embedded(
     target: Target,
     value: ExpressionNumber,
@@ -131,22 +130,15 @@ fn plan_byte_function(
     }
 }
 
-// The low byte of the value of an expression that is neither known nor in memory into A.
-fn plan_byte_form(
+// The low byte of the value of an operator with two operands, a shift or a rotation into A. No other form comes here.
+fn plan_byte_of_two(
     site: &Site<'_>,
     number: ExpressionNumber,
-    expression: &Expression,
+    form: ExpressionForm,
     pushed: u16,
     steps: &mut Steps,
 ) -> Result<(), AllocError> {
-    match expression.form {
-        ExpressionForm::Conversion(inner) => steps.part(Task::Byte(inner), pushed),
-        ExpressionForm::Function { function, operand } => {
-            plan_byte_function(site, function, operand, pushed, steps)
-        }
-        ExpressionForm::Unary { operator, operand } => {
-            plan_byte_unary(operator, operand, pushed, steps)
-        }
+    match form {
         ExpressionForm::Binary {
             operands: _,
             operator,
@@ -167,6 +159,29 @@ fn plan_byte_form(
                 count,
             };
             plan_byte_shift(site, number, shifted, pushed, steps)
+        }
+        _ => Ok(()),
+    }
+}
+
+// The low byte of the value of an expression that is neither known nor in memory into A.
+fn plan_byte_form(
+    site: &Site<'_>,
+    number: ExpressionNumber,
+    form: ExpressionForm,
+    pushed: u16,
+    steps: &mut Steps,
+) -> Result<(), AllocError> {
+    match form {
+        ExpressionForm::Conversion(inner) => steps.part(Task::Byte(inner), pushed),
+        ExpressionForm::Function { function, operand } => {
+            plan_byte_function(site, function, operand, pushed, steps)
+        }
+        ExpressionForm::Unary { operator, operand } => {
+            plan_byte_unary(operator, operand, pushed, steps)
+        }
+        ExpressionForm::Binary { .. } | ExpressionForm::Shift { .. } => {
+            plan_byte_of_two(site, number, form, pushed, steps)
         }
         ExpressionForm::Assignment { target, value } => {
             plan_embedded(target, value, true, pushed, steps)?;
@@ -198,7 +213,7 @@ pub(crate) fn plan_byte(
         return plan_byte_in_memory(site, &reference, pushed, steps);
     }
     match site.expression(number) {
-        Some(expression) => plan_byte_form(site, number, &expression, pushed, steps),
+        Some(expression) => plan_byte_form(site, number, expression.form, pushed, steps),
         None => Ok(()),
     }
 }

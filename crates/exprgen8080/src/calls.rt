@@ -1,9 +1,9 @@
 //! Calls of procedures.
 
-use crate::site::Site;
-use crate::step::{Step, Steps, Task};
 use isa8080::{Instr, StackPair};
+use sites8080::Site;
 use std::alloc::AllocError;
+use steps8080::{Step, Steps, Task};
 use treecode::{ExpressionNumber, Range};
 use trees::ScalarType;
 

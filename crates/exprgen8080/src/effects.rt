@@ -2,10 +2,10 @@
 
 use crate::bytes::plan_embedded;
 use crate::calls::plan_call;
-use crate::site::Site;
-use crate::step::{Steps, Task};
 use isa8080::Instr;
+use sites8080::Site;
 use std::alloc::AllocError;
+use steps8080::{Steps, Task};
 use treecode::{ExpressionForm, ExpressionNumber, Reference, Subscript};
 
 // What a subscript, if there is one, does.

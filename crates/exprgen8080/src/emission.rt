@@ -1,15 +1,13 @@
 //! Planned code as it is written.
 
-use crate::facts::Facts;
 use crate::forms::plan_task;
-use crate::site::Site;
-use crate::step::{LabelNumber, Part, Step, Steps};
-use crate::writer::Writer;
 use asm8080::WordForm;
 use frames::FramePlan;
 use isa8080::{Instr, Operand, Operation, Register};
 use runtime8080::Routine;
+use sites8080::Site;
 use std::alloc::{AllocError, Global};
+use steps8080::{Facts, LabelNumber, Part, Step, Steps, Writer};
 use treecode::{Place, ProcedureKind, TreeModule};
 
 /// The routines, in the order of their labels.

@@ -1,15 +1,14 @@
 //! Which steps carry out a task.
 
-use crate::addresses::plan_address;
-use crate::branches::plan_branch;
 use crate::bytes::plan_byte;
 use crate::calls::plan_call;
 use crate::effects::plan_effects;
-use crate::site::Site;
-use crate::step::{Part, Steps, Task};
-use crate::stores::plan_store;
 use crate::words::plan_word;
+use operands8080::{plan_address, plan_store};
+use relations8080::plan_branch;
+use sites8080::Site;
 use std::alloc::AllocError;
+use steps8080::{Part, Steps, Task};
 
 /// The steps that carry out a task. What is known of the registers at the site is used for the first step alone.
 pub fn plan_task(site: &Site<'_>, part: Part, steps: &mut Steps) -> Result<(), AllocError> {

@@ -1,18 +1,15 @@
 //! Operators whose value comes into HL.
 
-use crate::addresses::plan_addition;
 use crate::byte_operators::{Operands, plan_byte_operation, plan_with_number};
 use crate::bytes::plan_high_byte;
-use crate::instructions::{clear_a, copy, high, low, plan_extension, set, with_register};
-use crate::pairs::{PairOrder, plan_pair, plan_pair_in_order};
-use crate::products::plan_product;
-use crate::site::Site;
-use crate::step::{Step, Steps, Task};
 use crate::word_shifts::plan_word_shifted_right;
 use asm8080::WordForm;
 use isa8080::{Instr, Operation, Pair, Register};
+use operands8080::{PairOrder, plan_addition, plan_pair, plan_pair_in_order, plan_product};
 use runtime8080::Routine;
+use sites8080::Site;
 use std::alloc::AllocError;
+use steps8080::{Step, Steps, Task, clear_a, copy, high, low, plan_extension, set, with_register};
 use treecode::{ExpressionNumber, Place};
 use trees::BinaryOperator;
 
@@ -246,7 +243,7 @@ fn with_simple(site: &Site<'_>, operands: Operands) -> Option<(ExpressionNumber,
         None
     };
     match (simple_operand(site, right), exchanged) {
-        (Some(_), Some(exchanged)) if site.is_word_at_hand(right) => Some((right, exchanged)),
+        (Some(_), Some(exchanged)) if site.is_word_in_hl(right) => Some((right, exchanged)),
         (Some(operand), _) => Some((left, operand)),
         (None, Some(exchanged)) => Some((right, exchanged)),
         (None, None) => None,

@@ -2,13 +2,12 @@
 
 use crate::byte_shifts::{Shifted, plan_byte_shifted_right, plan_right_shift};
 use crate::bytes::plan_high_byte;
-use crate::instructions::{copy, plan_extension, repeat, set, with_register};
-use crate::site::Site;
-use crate::step::{Step, Steps, Task};
 use asm8080::WordForm;
 use isa8080::{Instr, Operation, Pair, Register, StackPair};
 use runtime8080::Routine;
+use sites8080::Site;
 use std::alloc::AllocError;
+use steps8080::{Step, Steps, Task, copy, plan_extension, repeat, set, with_register};
 use treecode::{ExpressionNumber, Place};
 use typed_trees::ShiftFunction;
 
@@ -51,6 +50,25 @@ fn plan_half(steps: &mut Steps) -> Result<(), AllocError> {
     ])
 }
 
+// Shifts HL to the right by 2, through A: the two low bits of H come beside the six high ones of L, and turn to the top.
+fn plan_quarter(steps: &mut Steps) -> Result<(), AllocError> {
+    let mask = Instr::AccumulateImmediate(Operation::And, 0xfc);
+    steps.all(&[
+        copy(Register::A, Register::L),
+        with_register(Operation::ExclusiveOr, Register::H),
+        mask,
+        with_register(Operation::ExclusiveOr, Register::H),
+        Instr::Rrc,
+        Instr::Rrc,
+        copy(Register::L, Register::A),
+        copy(Register::A, Register::H),
+        mask,
+        Instr::Rrc,
+        Instr::Rrc,
+        copy(Register::H, Register::A),
+    ])
+}
+
 // A word shifted to the right by a count below 8 into HL.
 fn plan_shifted_right_little(
     value: ExpressionNumber,
@@ -62,10 +80,7 @@ fn plan_shifted_right_little(
     match count {
         0 => Ok(()),
         1 => plan_half(steps),
-        2 => {
-            plan_half(steps)?;
-            plan_half(steps)
-        }
+        2 => plan_quarter(steps),
         _ => {
             steps.plain(set(Register::A, (count % 256) as u8))?;
             steps.push(Step::CallRoutine(Routine::ShiftRightAddress))

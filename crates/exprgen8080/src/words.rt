@@ -1,18 +1,16 @@
 //! Values in HL.
 
-use crate::addresses::plan_location_address;
 use crate::byte_operators::Operands;
 use crate::byte_shifts::Shifted;
 use crate::bytes::plan_embedded;
 use crate::calls::plan_call;
-use crate::instructions::{clear_a, copy, plan_extension, set, with_register};
-use crate::loads::{plan_extended_byte_in_memory, plan_word_in_memory};
-use crate::site::Site;
-use crate::step::{Steps, Task};
 use crate::word_operators::plan_word_binary;
 use crate::word_shifts::plan_word_shift;
 use isa8080::{Instr, Operation, Register};
+use operands8080::{plan_extended_byte_in_memory, plan_location_address, plan_word_in_memory};
+use sites8080::Site;
 use std::alloc::AllocError;
+use steps8080::{Steps, Task, clear_a, copy, plan_extension, set, with_register};
 use treecode::{ExpressionForm, ExpressionNumber, Location};
 use trees::{ScalarType, UnaryOperator};
 use typed_trees::UnaryFunction;
@@ -67,6 +65,36 @@ fn plan_word_function(
     }
 }
 
+// The value of an operator with two ADDRESS operands or a shift of an ADDRESS into HL. No other form comes here.
+fn plan_word_of_two(
+    site: &Site<'_>,
+    form: ExpressionForm,
+    pushed: u16,
+    steps: &mut Steps,
+) -> Result<(), AllocError> {
+    match form {
+        ExpressionForm::Binary {
+            operands: _,
+            operator,
+            left,
+            right,
+        } => plan_word_binary(site, operator, Operands { left, right }, pushed, steps),
+        ExpressionForm::Shift {
+            function,
+            value,
+            count,
+        } => {
+            let shifted = Shifted {
+                function,
+                value,
+                count,
+            };
+            plan_word_shift(site, shifted, pushed, steps)
+        }
+        _ => Ok(()),
+    }
+}
+
 // The value of an ADDRESS expression that is not known into HL.
 fn plan_word_form(
     site: &Site<'_>,
@@ -85,23 +113,8 @@ fn plan_word_form(
             steps.part(Task::Word(operand), pushed)?;
             plan_word_unary(operator, steps)
         }
-        ExpressionForm::Binary {
-            operands: _,
-            operator,
-            left,
-            right,
-        } => plan_word_binary(site, operator, Operands { left, right }, pushed, steps),
-        ExpressionForm::Shift {
-            function,
-            value,
-            count,
-        } => {
-            let shifted = Shifted {
-                function,
-                value,
-                count,
-            };
-            plan_word_shift(site, shifted, pushed, steps)
+        ExpressionForm::Binary { .. } | ExpressionForm::Shift { .. } => {
+            plan_word_of_two(site, form, pushed, steps)
         }
         ExpressionForm::Assignment { target, value } => {
             plan_embedded(target, value, true, pushed, steps)

@@ -1,10 +1,10 @@
 //! The frames of REENTRANT procedures, and what a call of a procedure takes of the stack.
 #![tactic(auto)]
 
-mod charges;
-mod plans;
+mod charging;
+mod frame_plan;
 #[cfg(test)]
 mod tests;
 
-pub use charges::charge;
-pub use plans::{FramePlan, plan};
+pub use charging::charge;
+pub use frame_plan::{FramePlan, plan};

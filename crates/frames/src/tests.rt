@@ -1,7 +1,7 @@
 //! Frames that are worked out by hand.
 
-use crate::charges::charge;
-use crate::plans::plan;
+use crate::charging::charge;
+use crate::frame_plan::plan;
 use std::alloc::Global;
 use std::test::Fail;
 use treecode::{FrameVariable, Location, Parameter, ProcedureKind, TreeProcedure};

@@ -49,6 +49,11 @@ impl<'a> Block<'a> {
                 .all(|(file, said)| file.is_same(said))
     }
 
+    /// Its files, before it is carried out.
+    pub fn files(&self) -> &[File] {
+        self.files.as_slice()
+    }
+
     /// The line of standard input on which its command line stands.
     pub fn place(&self) -> u64 {
         self.place

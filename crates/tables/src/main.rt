@@ -11,6 +11,8 @@
 //! A line `damage` between blocks has the bytes of an object file in hexadecimal digits. Each of them is changed to each other
 //! value, and a line is printed at once: how many changes there were, how many were answered otherwise than by the first fault of
 //! a record's length or sum, as a plain walk over the records finds it, and how many have which of these faults.
+//! Each program that a command line runs is also compiled to object files, which are merged and printed as Intel HEX: it is
+//! counted how often these are other bytes than those of the image that is built of the sources.
 //! Then it prints what the machine, its parts and the interpreter do, as the manuals say it; whether programs of outputs of
 //! numbers have the images of their object modules; what merges of object files
 //! are, made of modules and of files; objects that are read, placed and loaded, texts of Intel HEX that are read, and how
@@ -34,6 +36,7 @@ mod events;
 mod faulty;
 mod images;
 mod interpreting;
+mod linked;
 mod memory_files;
 mod merging;
 mod objects;
@@ -55,6 +58,7 @@ use damage::print_damage;
 use files::HostFiles;
 use images::print_images;
 use interpreting::print_programs;
+use linked::{Linked, linked_image};
 use merging::print_merges;
 use objects::print_objects;
 use operations::print_operations;
@@ -69,12 +73,15 @@ use std::io::read_to_string;
 // The line after a block.
 const END_OF_BLOCK: &str = "====";
 
-// How many lines were read, how many blocks there were, and how many of them had another answer.
+// How many lines were read, how many blocks there were, and how many of them had another answer; how many images were
+// compared with those by way of object files, and how many of them are others.
 #[derive(Clone, Copy)]
 struct Counts {
     lines: u64,
     blocks: u64,
     differ: u64,
+    images: u64,
+    other_images: u64,
 }
 
 impl Counts {
@@ -86,11 +93,22 @@ impl Counts {
         }
     }
 
-    // Prints how many blocks there were, and how many had another answer.
+    // Counts an image that was compared.
+    fn add_image(&mut self, is_same: bool) {
+        self.images = self.images.saturating_add(1);
+        if !is_same {
+            self.other_images = self.other_images.saturating_add(1);
+        }
+    }
+
+    // Prints how many blocks there were, and how many had another answer, and the same of images.
     fn print(&self, page: &mut Page) {
         page.number("", self.blocks);
         page.number(" command lines, ", self.differ);
         page.text(" differ\n");
+        page.number("", self.images);
+        page.number(" images, ", self.other_images);
+        page.text(" differ by way of object files\n");
     }
 }
 
@@ -107,10 +125,27 @@ fn is_as_said(page: &mut Page, block: &Block, words: &[&str]) -> bool {
     is_as_said
 }
 
+// Compares the image of a command line with that by way of object files; where it is another, prints the line.
+fn compare_images(page: &mut Page, counts: &mut Counts, block: &Block, words: &[&str]) {
+    let linked = linked_image(page.alloc(), block, words);
+    match linked {
+        Linked::Missing => {}
+        Linked::Same => counts.add_image(true),
+        Linked::Other => {
+            counts.add_image(false);
+            page.number("line ", block.place());
+            page.text(": another image by way of object files\n");
+        }
+    }
+}
+
 // Carries out a block.
 fn run_block(page: &mut Page, counts: &mut Counts, block: &Block) {
     match block.words(page.alloc()) {
-        Ok(words) => counts.add(is_as_said(page, block, words.as_slice())),
+        Ok(words) => {
+            counts.add(is_as_said(page, block, words.as_slice()));
+            compare_images(page, counts, block, words.as_slice());
+        }
         Err(_) => page.note(false),
     }
 }
@@ -135,6 +170,8 @@ fn print_blocks(page: &mut Page, rows: &str) {
         lines: 0,
         blocks: 0,
         differ: 0,
+        images: 0,
+        other_images: 0,
     };
     let mut block = Block::new(page.alloc());
     for line in rows.lines() {

@@ -127,7 +127,7 @@ const HEAD: &str = "\
 What the 8080 cannot do in one instruction, as code that a program calls. This document is made by the program
 `tables` (`bench/runtime --document`); the merge gate compares it with its copy in `crates/tables/data`.
 
-`emit_routine` of `runtime8080` adds a routine to code; nothing that `plm run` makes calls one yet. Numbers are unsigned.
+The code of a module has those that it calls at its end, each once (`docs/code.md`). Numbers are unsigned.
 Each routine is called at its first byte. It pushes nothing: its stack is the return address alone, two bytes, and SP is
 after the call what it was before. These two bytes lie outside the routine and, for Move, outside both blocks, and Move's
 destination does not overlap the routine. Registers that are not named as changed stay as they were.

@@ -33,7 +33,11 @@ impl Lowering {
             TypedExpression::Conversion { inner, .. } => {
                 Ok(ExpressionForm::Conversion(self.expression(inner)?))
             }
-            TypedExpression::Assignment { target, value } => self.assignment(target, value),
+            TypedExpression::Assignment { target, value } => {
+                let value = self.expression(value)?;
+                let target = self.target(target)?;
+                Ok(ExpressionForm::Assignment { target, value })
+            }
             TypedExpression::Unary {
                 operator,
                 operand,
@@ -77,18 +81,6 @@ impl Lowering {
             }),
             TypedExpression::Input(port) => Ok(ExpressionForm::Input(*port)),
         }
-    }
-
-    // Adds the parts of an assignment within an expression, the value first, and gives its form.
-    #[cycle(expression)]
-    fn assignment(
-        &mut self,
-        target: &TypedTarget,
-        value: &TypedExpression,
-    ) -> Result<ExpressionForm, AllocError> {
-        let value = self.expression(value)?;
-        let target = self.target(target)?;
-        Ok(ExpressionForm::Assignment { target, value })
     }
 
     /// Adds the arguments of a call, from left to right.

@@ -34,11 +34,3 @@ pub use procedure::{FrameVariable, Parameter, ProcedureKind, TreeProcedure};
 pub use reference::{Reference, Subscript, Target};
 pub use statement::{Iteration, Statement, StatementNumber};
 pub use traits::{Keeps, Traits};
-
-#[cfg(test)]
-mod tests {
-    #[test]
-    fn nothing(rt: HostRuntime) -> Result<(), std::io::Error> {
-        Ok(())
-    }
-}

@@ -78,14 +78,19 @@ impl TreeProcedure {
 }
 
 impl Lowering {
-    // Adds what stands in a procedure.
-    fn body(&mut self, typed: &TypedProcedure) -> Result<Body, AllocError> {
-        let parameters = parameters_of(
+    // The parameters of a procedure.
+    fn parameters(&self, typed: &TypedProcedure) -> Result<Vec<Parameter>, AllocError> {
+        parameters_of(
             self.alloc,
             &self.tree,
             typed.parameter_types.as_slice(),
             typed.parameters.as_slice(),
-        )?;
+        )
+    }
+
+    // Adds what stands in a procedure.
+    fn body(&mut self, typed: &TypedProcedure) -> Result<Body, AllocError> {
+        let parameters = self.parameters(typed)?;
         self.begin_body();
         let list = self.list(&typed.body)?;
         Ok(Body {

@@ -4,6 +4,7 @@ use crate::expression::ExpressionNumber;
 use crate::heights::{height_of_call, height_of_target};
 use crate::lists::Range;
 use crate::lowering::Lowering;
+use crate::reference::Target;
 use crate::statement::{Iteration, Statement, StatementNumber};
 use operators::holds;
 use std::alloc::AllocError;
@@ -59,12 +60,23 @@ impl Lowering {
         })
     }
 
+    // The height of a target that is added.
+    fn target_height(&self, target: &Target) -> u16 {
+        height_of_target(&self.tree, target)
+    }
+
+    // The height of a call with arguments that are added.
+    fn call_height(&self, arguments: Range) -> u16 {
+        height_of_call(&self.tree, arguments)
+    }
+
     // Adds targets in a row.
     fn targets(&mut self, targets: &[TypedTarget]) -> Result<Range, AllocError> {
         let mut added = Vec::with_capacity(self.alloc, targets.len())?;
         for target in targets {
             let target = self.target(target)?;
-            self.note_height(height_of_target(&self.tree, &target));
+            let height = self.target_height(&target);
+            self.note_height(height);
             added.push(target)?;
         }
         self.tree.add_targets(added.as_slice())
@@ -84,7 +96,8 @@ impl Lowering {
         arguments: &[TypedExpression],
     ) -> Result<AddedStatement, AllocError> {
         let arguments = self.arguments(arguments)?;
-        self.note_height(height_of_call(&self.tree, arguments));
+        let height = self.call_height(arguments);
+        self.note_height(height);
         let statement = Statement::Call {
             procedure,
             arguments,

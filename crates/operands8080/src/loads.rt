@@ -1,0 +1,154 @@
+//! Values in memory.
+
+use crate::addresses::{hold_word, plan_location_address, plan_location_word, plan_word_at_hl};
+use asm8080::WordForm;
+use isa8080::{Instr, Register, StackPair};
+use sites8080::Site;
+use std::alloc::AllocError;
+use steps8080::{Steps, Task, before, is_at, copy, load, set};
+use treecode::{Location, Reference};
+
+// The word at the stack pointer into HL.
+fn plan_top_word(steps: &mut Steps) -> Result<(), AllocError> {
+    steps.all(&[
+        Instr::Pop(StackPair::StackHl),
+        Instr::Push(StackPair::StackHl),
+    ])
+}
+
+// The byte at a location of the frame into A, where this comes first.
+fn plan_frame_byte(
+    site: &Site<'_>,
+    location: Location,
+    distance: u16,
+    pushed: u16,
+    steps: &mut Steps,
+) -> Result<(), AllocError> {
+    if distance <= 1 {
+        let is_high = distance == 1;
+        let word = if is_high { before(location) } else { location };
+        plan_top_word(steps)?;
+        hold_word(word, steps)?;
+        let from = if is_high { Register::H } else { Register::L };
+        return steps.plain(copy(Register::A, from));
+    }
+    plan_location_address(site, location, pushed, steps)?;
+    steps.plain(load(Register::A))
+}
+
+// The byte at a location into A, where this comes first. Where the location is static, A alone changes.
+fn plan_location_byte(
+    site: &Site<'_>,
+    location: Location,
+    pushed: u16,
+    steps: &mut Steps,
+) -> Result<(), AllocError> {
+    if is_at(site.facts.byte_in_a, location) {
+        return Ok(());
+    }
+    if let Some(instruction) = site.facts.byte_from_hl(location) {
+        return steps.plain(instruction);
+    }
+    match location {
+        Location::Static(place) => { steps.word(WordForm::LoadA, place) }
+        Location::Frame { variable, offset } => {
+            let distance = site.distance(variable, offset, pushed);
+            plan_frame_byte(site, location, distance, pushed, steps)
+        }
+    }
+}
+
+/// The byte of a part of memory into A, where this comes first.
+pub fn plan_byte_in_memory(
+    site: &Site<'_>,
+    reference: &Reference,
+    pushed: u16,
+    steps: &mut Steps,
+) -> Result<(), AllocError> {
+    match site.location_of(reference) {
+        Some(location) => plan_location_byte(site, location, pushed, steps),
+        None => {
+            steps.part(Task::Address(*reference), pushed)?;
+            steps.plain(load(Register::A))
+        }
+    }
+}
+
+// The byte at a location of the frame into L, where this comes first. A and DE are kept.
+fn plan_frame_byte_to_l(
+    site: &Site<'_>,
+    location: Location,
+    distance: u16,
+    pushed: u16,
+    steps: &mut Steps,
+) -> Result<(), AllocError> {
+    match distance {
+        0 => plan_top_word(steps),
+        1 => {
+            plan_top_word(steps)?;
+            steps.plain(copy(Register::L, Register::H))
+        }
+        _ => {
+            plan_location_address(site, location, pushed, steps)?;
+            steps.plain(load(Register::L))
+        }
+    }
+}
+
+// The byte at a location into L, where this comes first. A and DE are kept.
+fn plan_byte_to_l(
+    site: &Site<'_>,
+    location: Location,
+    pushed: u16,
+    steps: &mut Steps,
+) -> Result<(), AllocError> {
+    if is_at(site.facts.word_in_hl, location) {
+        return Ok(());
+    }
+    if let Some(instruction) = site.facts.byte_for_l(location) {
+        return steps.plain(instruction);
+    }
+    match location {
+        Location::Static(place) => steps.word(WordForm::LoadHl, place),
+        Location::Frame { variable, offset } => {
+            let distance = site.distance(variable, offset, pushed);
+            plan_frame_byte_to_l(site, location, distance, pushed, steps)
+        }
+    }
+}
+
+/// The byte of a part of memory into HL, with zeros added, where this comes first. A and DE are kept where the address
+/// keeps them.
+pub fn plan_extended_byte_in_memory(
+    site: &Site<'_>,
+    reference: &Reference,
+    pushed: u16,
+    steps: &mut Steps,
+) -> Result<(), AllocError> {
+    match site.location_of(reference) {
+        Some(location) => {
+            plan_byte_to_l(site, location, pushed, steps)?;
+            steps.plain(set(Register::H, 0))
+        }
+        None => {
+            steps.part(Task::Address(*reference), pushed)?;
+            steps.all(&[load(Register::L), set(Register::H, 0)])
+        }
+    }
+}
+
+/// The word of a part of memory into HL, where this comes first. DE is kept where the address keeps it.
+pub fn plan_word_in_memory(
+    site: &Site<'_>,
+    reference: &Reference,
+    pushed: u16,
+    steps: &mut Steps,
+) -> Result<(), AllocError> {
+    match site.location_of(reference) {
+        Some(location) => plan_location_word(site, location, pushed, steps),
+        None => {
+            steps.part(Task::Address(*reference), pushed)?;
+            plan_word_at_hl(steps)
+        }
+    }
+}

@@ -1,0 +1,100 @@
+//! Products with a number.
+
+use asm8080::WordForm;
+use isa8080::{Instr, Operation, Pair, Register};
+use sites8080::power_of_two;
+use std::alloc::AllocError;
+use steps8080::{Steps, Task, clear_a, copy, repeat, set, with_register};
+use treecode::{ExpressionNumber, Place};
+
+// Whether a bit of a number is 1.
+fn has_bit(number: u16, bit: u16) -> bool {
+    if bit < 16 {
+        number / (1_u16 << bit) % 2 == 1
+    } else {
+        false
+    }
+}
+
+// Repeats for each bit of a number below its highest one, from there on down: twice, and once more where the bit is 1.
+fn plan_chain(
+    number: u16,
+    twice: Instr,
+    once_more: Instr,
+    steps: &mut Steps,
+) -> Result<(), AllocError> {
+    let mut is_below = false;
+    for index in 0_u16..16 {
+        let is_set = has_bit(number, 15_u16.saturating_sub(index));
+        if is_below {
+            steps.plain(twice)?;
+            if is_set {
+                steps.plain(once_more)?;
+            }
+        }
+        is_below = is_below || is_set;
+    }
+    Ok(())
+}
+
+// Multiplies HL by a number that is not 0. A and DE are kept.
+fn plan_small_multiple(number: u16, steps: &mut Steps) -> Result<(), AllocError> {
+    let twice = Instr::Dad(Pair::Hl);
+    match power_of_two(number) {
+        Some(power) => repeat(twice, power, steps),
+        None => {
+            steps.all(&[
+                copy(Register::B, Register::H),
+                copy(Register::C, Register::L),
+            ])?;
+            plan_chain(number, twice, Instr::Dad(Pair::Bc), steps)
+        }
+    }
+}
+
+// Multiplies HL by a number that is not 0, whose low byte may be. A and DE are kept.
+fn plan_multiple(number: u16, steps: &mut Steps) -> Result<(), AllocError> {
+    if number % 256 != 0 {
+        return plan_small_multiple(number, steps);
+    }
+    steps.all(&[copy(Register::H, Register::L), set(Register::L, 0)])?;
+    plan_small_multiple(number / 256, steps)
+}
+
+/// The value of an expression times a number into HL. A and DE are kept where the code of the value keeps them.
+pub fn plan_product(
+    value: ExpressionNumber,
+    number: u16,
+    pushed: u16,
+    steps: &mut Steps,
+) -> Result<(), AllocError> {
+    if number == 0 {
+        steps.part(Task::Effects(value), pushed)?;
+        return steps.word(WordForm::LoadPair(Pair::Hl), Place::Number(0));
+    }
+    steps.part(Task::Word(value), pushed)?;
+    plan_multiple(number, steps)
+}
+
+/// The low byte of the value of an expression times a number into A.
+pub fn plan_byte_product(
+    value: ExpressionNumber,
+    number: u8,
+    pushed: u16,
+    steps: &mut Steps,
+) -> Result<(), AllocError> {
+    if number == 0 {
+        steps.part(Task::Effects(value), pushed)?;
+        return steps.plain(clear_a());
+    }
+    steps.part(Task::Byte(value), pushed)?;
+    let twice = with_register(Operation::Add, Register::A);
+    match power_of_two(number as u16) {
+        Some(power) => repeat(twice, power, steps),
+        None => {
+            steps.plain(copy(Register::B, Register::A))?;
+            let once_more = with_register(Operation::Add, Register::B);
+            plan_chain(number as u16, twice, once_more, steps)
+        }
+    }
+}

@@ -1,0 +1,12 @@
+//! Where code stands, and what it asks of the tree.
+#![tactic(auto)]
+
+mod queries;
+mod questions;
+mod site;
+mod widths;
+
+pub use queries::{Base, Located, reference_after};
+pub use questions::{Comparison, Inquiry, NumberQuestion, Question, Relation, relation_of};
+pub use site::Site;
+pub use widths::power_of_two;

@@ -1,0 +1,325 @@
+//! What is known of the registers at a place of the code.
+
+use crate::instructions::{copy, load};
+use asm8080::WordForm;
+use isa8080::{Instr, Operand, Operation, Pair, Register, StackPair};
+use treecode::{Location, Place};
+
+/// What is known of the registers, of the machine alone: each fact is one of the bytes in memory or in the frame as they
+/// are at this place.
+#[derive(Clone, Copy, PartialEq, Eq)]
+pub struct Facts {
+    /// A holds the byte here.
+    pub byte_in_a: Option<Location>,
+    /// HL holds the word here.
+    pub word_in_hl: Option<Location>,
+    /// HL holds the address of this.
+    pub address_in_hl: Option<Location>,
+    /// The zero flag shows whether A is 0.
+    pub zero_shows_a: bool,
+}
+
+// The first location if there is one, else the second.
+fn either(first: Option<Location>, second: Option<Location>) -> Option<Location> {
+    match first {
+        Some(location) => Some(location),
+        None => second,
+    }
+}
+
+/// Whether a register that may hold what lies somewhere holds what lies here.
+pub fn is_at(held: Option<Location>, location: Location) -> bool {
+    match held {
+        Some(held) => held == location,
+        None => false,
+    }
+}
+
+/// The location one byte before another one.
+pub fn before(location: Location) -> Location {
+    location.after(65535)
+}
+
+impl Facts {
+    /// Nothing is known.
+    pub fn none() -> Facts {
+        Facts {
+            byte_in_a: None,
+            word_in_hl: None,
+            address_in_hl: None,
+            zero_shows_a: false,
+        }
+    }
+
+    /// What is known where other facts hold too.
+    pub fn with(self, others: Facts) -> Facts {
+        Facts {
+            byte_in_a: either(others.byte_in_a, self.byte_in_a),
+            word_in_hl: either(others.word_in_hl, self.word_in_hl),
+            address_in_hl: either(others.address_in_hl, self.address_in_hl),
+            zero_shows_a: others.zero_shows_a || self.zero_shows_a,
+        }
+    }
+
+    /// What is known after bytes in memory or in the frame may have changed.
+    pub fn without_memory(self) -> Facts {
+        Facts {
+            byte_in_a: None,
+            word_in_hl: None,
+            ..self
+        }
+    }
+
+    // What is known after A has changed.
+    fn without_a(self) -> Facts {
+        Facts {
+            byte_in_a: None,
+            zero_shows_a: false,
+            ..self
+        }
+    }
+
+    // What is known after HL has changed.
+    fn without_hl(self) -> Facts {
+        Facts {
+            word_in_hl: None,
+            address_in_hl: None,
+            ..self
+        }
+    }
+
+    // What is known after the zero flag has changed.
+    fn without_zero(self) -> Facts {
+        Facts {
+            zero_shows_a: false,
+            ..self
+        }
+    }
+
+    // What is known after a register has changed.
+    fn without_register(self, register: Register) -> Facts {
+        match register {
+            Register::A => self.without_a(),
+            Register::H | Register::L => self.without_hl(),
+            Register::B | Register::C | Register::D | Register::E => self,
+        }
+    }
+
+    // What is known after a register, or the byte at the address in HL, has changed.
+    fn without_operand(self, operand: Operand) -> Facts {
+        match operand {
+            Operand::Of(register) => self.without_register(register),
+            Operand::M => self.without_memory(),
+        }
+    }
+
+    // What is known after a pair has changed. Where the stack is moved, nothing is.
+    fn without_pair(self, pair: Pair) -> Facts {
+        match pair {
+            Pair::Bc | Pair::De => self,
+            Pair::Hl => self.without_hl(),
+            Pair::Sp => Facts::none(),
+        }
+    }
+
+    // What is known after POP.
+    fn after_pop(self, pair: StackPair) -> Facts {
+        match pair {
+            StackPair::StackBc | StackPair::StackDe => self,
+            StackPair::StackHl => self.without_hl(),
+            StackPair::Psw => self.without_a(),
+        }
+    }
+
+    // What is known after INR or DCR.
+    fn after_count(self, operand: Operand) -> Facts {
+        let changed = self.without_operand(operand);
+        match operand {
+            Operand::Of(Register::A) => Facts {
+                zero_shows_a: true,
+                ..changed
+            },
+            Operand::Of(_) | Operand::M => changed.without_zero(),
+        }
+    }
+
+    // Where the byte comes from that MOV A puts into A, if that is known.
+    fn origin(self, operand: Operand) -> Option<Location> {
+        match operand {
+            Operand::M => self.address_in_hl,
+            Operand::Of(Register::L) => self.word_in_hl,
+            Operand::Of(Register::H) => match self.word_in_hl {
+                Some(location) => Some(location.after(1)),
+                None => None,
+            },
+            Operand::Of(_) => None,
+        }
+    }
+
+    // What is known after MOV to a register.
+    fn after_move(self, register: Register, operand: Operand) -> Facts {
+        match register {
+            Register::A => Facts {
+                byte_in_a: self.origin(operand),
+                ..self.without_a()
+            },
+            _ => self.without_register(register),
+        }
+    }
+
+    // What is known after MOV to memory.
+    fn after_move_to_memory(self, register: Register) -> Facts {
+        let changed = self.without_memory();
+        match register {
+            Register::A => Facts {
+                byte_in_a: self.address_in_hl,
+                ..changed
+            },
+            _ => changed,
+        }
+    }
+
+    // What is known after an operation with A.
+    fn after_operation(self, operation: Operation) -> Facts {
+        match operation {
+            Operation::Compare => self.without_zero(),
+            _ => Facts {
+                byte_in_a: None,
+                zero_shows_a: true,
+                ..self
+            },
+        }
+    }
+
+    // What is known after an operation of A with an operand: A AND A, and A OR A, are A.
+    fn after_operation_with(self, operation: Operation, operand: Operand) -> Facts {
+        match operation {
+            Operation::And | Operation::Or if matches!(operand, Operand::Of(Register::A)) => {
+                Facts {
+                    zero_shows_a: true,
+                    ..self
+                }
+            }
+            _ => self.after_operation(operation),
+        }
+    }
+
+    /// What is known after an instruction at whose start this is known.
+    pub fn after(self, instruction: Instr) -> Facts {
+        match instruction {
+            Instr::Lxi(pair, number) => self.after_word(
+                WordForm::LoadPair(pair),
+                Place::Number(number),
+            ),
+            Instr::Shld(number) => self.after_word(WordForm::StoreHl, Place::Number(number)),
+            Instr::Lhld(number) => self.after_word(WordForm::LoadHl, Place::Number(number)),
+            Instr::Sta(number) => self.after_word(WordForm::StoreA, Place::Number(number)),
+            Instr::Lda(number) => self.after_word(WordForm::LoadA, Place::Number(number)),
+            Instr::Stax(_) => self.without_memory(),
+            Instr::Inx(pair) | Instr::Dcx(pair) => self.without_pair(pair),
+            Instr::Dad(_) | Instr::Xchg => self.without_hl(),
+            Instr::Xthl => self.without_hl().without_memory(),
+            Instr::Inr(operand) | Instr::Dcr(operand) => self.after_count(operand),
+            Instr::Mvi(operand, _) => self.without_operand(operand),
+            Instr::Mov(register, operand) => self.after_move(register, operand),
+            Instr::MovToMemory(register) => self.after_move_to_memory(register),
+            Instr::Accumulate(operation, operand) => self.after_operation_with(operation, operand),
+            Instr::AccumulateImmediate(operation, _) => self.after_operation(operation),
+            Instr::Pop(pair) => self.after_pop(pair),
+            _ => self.after_other(instruction),
+        }
+    }
+
+    // What is known after an instruction that changes A alone, the carry alone or nothing, or after which the code goes on
+    // elsewhere.
+    fn after_other(self, instruction: Instr) -> Facts {
+        match instruction {
+            Instr::Ldax(_)
+            | Instr::Rlc
+            | Instr::Rrc
+            | Instr::Ral
+            | Instr::Rar
+            | Instr::Daa
+            | Instr::Cma
+            | Instr::In(_) => self.without_a(),
+            Instr::Nop
+            | Instr::Stc
+            | Instr::Cmc
+            | Instr::Push(_)
+            | Instr::Out(_)
+            | Instr::ReturnIf(_)
+            | Instr::JumpIf(_, _) => self,
+            _ => Facts::none(),
+        }
+    }
+
+    /// What is known after an instruction with a word at whose start this is known.
+    pub fn after_word(self, form: WordForm, place: Place) -> Facts {
+        let here = Some(Location::Static(place));
+        match form {
+            WordForm::LoadPair(Pair::Hl) => Facts {
+                address_in_hl: here,
+                ..self.without_hl()
+            },
+            WordForm::LoadHl => Facts {
+                word_in_hl: here,
+                ..self.without_hl()
+            },
+            WordForm::LoadA => Facts {
+                byte_in_a: here,
+                ..self.without_a()
+            },
+            WordForm::StoreHl => Facts {
+                word_in_hl: here,
+                ..self.without_memory()
+            },
+            WordForm::StoreA => Facts {
+                byte_in_a: here,
+                ..self.without_memory()
+            },
+            _ => self.after_form(form),
+        }
+    }
+
+    /// What is known where the code goes on after a jump, or after another instruction with the place of a label.
+    pub fn after_form(self, form: WordForm) -> Facts {
+        match form {
+            WordForm::JumpWhere(_) => self,
+            WordForm::LoadPair(pair) => self.without_pair(pair),
+            _ => Facts::none(),
+        }
+    }
+
+    /// Whether A, H or L holds the byte here.
+    pub fn holds_byte(&self, location: Location) -> bool {
+        is_at(self.byte_in_a, location)
+            || is_at(self.word_in_hl, location)
+            || is_at(self.word_in_hl, before(location))
+    }
+
+    /// The instruction that puts the byte at a location into A, where the facts give one.
+    pub fn byte_from_hl(&self, location: Location) -> Option<Instr> {
+        if is_at(self.word_in_hl, location) {
+            Some(copy(Register::A, Register::L))
+        } else if is_at(self.word_in_hl, before(location)) {
+            Some(copy(Register::A, Register::H))
+        } else if is_at(self.address_in_hl, location) {
+            Some(load(Register::A))
+        } else {
+            None
+        }
+    }
+
+    /// The instruction that puts the byte at a location into L, where the facts give one.
+    pub fn byte_for_l(&self, location: Location) -> Option<Instr> {
+        if is_at(self.byte_in_a, location) {
+            Some(copy(Register::L, Register::A))
+        } else if is_at(self.word_in_hl, before(location)) {
+            Some(copy(Register::L, Register::H))
+        } else if is_at(self.address_in_hl, location) {
+            Some(load(Register::L))
+        } else {
+            None
+        }
+    }
+}

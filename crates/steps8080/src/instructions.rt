@@ -1,0 +1,59 @@
+//! Instructions by what they do, and the halves of a word.
+
+use crate::step::Steps;
+use isa8080::{Instr, Operand, Operation, Register};
+use std::alloc::AllocError;
+
+/// Copies a register into another one.
+pub fn copy(to: Register, from: Register) -> Instr {
+    Instr::Mov(to, Operand::Of(from))
+}
+
+/// Loads a register from the byte at the address in HL.
+pub fn load(to: Register) -> Instr {
+    Instr::Mov(to, Operand::M)
+}
+
+/// Sets a register to a number.
+pub fn set(register: Register, number: u8) -> Instr {
+    Instr::Mvi(Operand::Of(register), number)
+}
+
+/// Carries out an operation with A and a register.
+pub fn with_register(operation: Operation, register: Register) -> Instr {
+    Instr::Accumulate(operation, Operand::Of(register))
+}
+
+/// Carries out an operation with A and the byte at the address in HL.
+pub fn with_memory(operation: Operation) -> Instr {
+    Instr::Accumulate(operation, Operand::M)
+}
+
+/// Sets A to 0.
+pub fn clear_a() -> Instr {
+    with_register(Operation::ExclusiveOr, Register::A)
+}
+
+/// The low byte of a word.
+pub fn low(word: u16) -> u8 {
+    (word % 256) as u8
+}
+
+/// The high byte of a word.
+pub fn high(word: u16) -> u8 {
+    (word / 256) as u8
+}
+
+/// Adds an instruction so many times.
+pub fn repeat(instruction: Instr, count: u16, steps: &mut Steps) -> Result<(), AllocError> {
+    for _ in 0..count {
+        steps.plain(instruction)?;
+    }
+    Ok(())
+}
+
+/// Puts the byte in A into HL, with zeros added.
+pub fn plan_extension(steps: &mut Steps) -> Result<(), AllocError> {
+    steps.plain(copy(Register::L, Register::A))?;
+    steps.plain(set(Register::H, 0))
+}

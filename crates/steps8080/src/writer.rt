@@ -1,0 +1,294 @@
+//! Code with numbered labels and the names of other modules.
+
+ghost use Rattle.std.specs.Prelude.{IfOk};
+ghost use Rattle.asm8080.specs.Assembled.{Assembles};
+ghost use Rattle.steps8080.specs.internal.Labels.{Follows};
+
+use crate::externals::Externals;
+use crate::step::LabelNumber;
+use asm8080::{Code, CodeBytes, Fault, Label, WordForm, instruction_with};
+use failure::Failure;
+use isa8080::Instr;
+use object_modules::{Segment, Target};
+use runtime8080::{Routine, emit_routine};
+use std::alloc::{AllocError, Global};
+use std::marker::Model;
+use treecode::Place;
+
+/// Code to which more is added at its end, with the labels of a module by their numbers and the names of other modules
+/// that the code refers to.
+pub struct Writer {
+    code: Code,
+    /// Of each label of the code, whether it has its place.
+    is_bound: Vec<bool>,
+    /// Which label of the code each number is, where it is used.
+    labels: Vec<Option<usize>>,
+    externals: Externals,
+}
+
+impl Model for Writer {
+    ghost use Rattle.asm8080.specs.Items.{Assembly};
+    ghost use Rattle.steps8080.specs.internal.Labels.{Follows};
+
+    ghost Value = { Assembly };
+
+    ghost view = { λ writer. writer.code };
+
+    ghost invariant = { λ writer. Follows writer.is_bound.items writer.code };
+}
+
+impl Writer {
+    /// No code, in a module that may refer to so many names of other modules.
+    pub fn new(alloc: Global, external_count: usize) -> Result<Writer, AllocError> {
+        let externals = Externals::new(alloc, external_count)?;
+        Ok(Writer::sharing(alloc, externals))
+    }
+
+    /// No code, in a module of which other code refers to these names already.
+    pub fn sharing(alloc: Global, externals: Externals) -> Writer {
+        Writer {
+            code: Code::new(alloc),
+            is_bound: Vec::new(alloc),
+            labels: Vec::new(alloc),
+            externals,
+        }
+    }
+
+    /// Adds an instruction.
+    pub fn plain(&mut self, instruction: Instr) -> Result<(), AllocError> {
+        self.code.emit(instruction)
+    }
+
+    /// Adds an instruction with the word of a place.
+    pub fn word(&mut self, form: WordForm, place: Place) -> Result<(), AllocError> {
+        match place {
+            Place::Number(number) => self.code.emit(instruction_with(form, number)),
+            Place::Code(offset) => {
+                self.code
+                    .emit_fixed(form, Target::InSegment(Segment::Code), offset)
+            }
+            Place::Data(offset) => {
+                self.code
+                    .emit_fixed(form, Target::InSegment(Segment::Data), offset)
+            }
+            Place::External { name, offset } => {
+                let number = self.externals.number(name);
+                self.code.emit_fixed(form, Target::External(number), offset)
+            }
+        }
+    }
+
+    /// Adds an instruction whose word is the address just past the stack.
+    pub fn stack_end(&mut self, form: WordForm) -> Result<(), AllocError> {
+        self.code
+            .emit_fixed(form, Target::InSegment(Segment::Stack), 0)
+    }
+
+    /// Adds a call of a procedure of another module, by the index of its name among the external names.
+    pub fn call_external(&mut self, name: u32) -> Result<(), AllocError> {
+        let number = self.externals.number(name);
+        self.code
+            .emit_fixed(WordForm::CallTo, Target::External(number), 0)
+    }
+
+    /// Adds a byte of data.
+    pub fn byte(&mut self, value: u8) -> Result<(), AllocError> {
+        self.code.emit_byte(value)
+    }
+
+    // Adds a number as a word of data.
+    fn number(&mut self, number: u16) -> Result<(), AllocError> {
+        self.code.emit_byte((number % 256) as u8)?;
+        self.code.emit_byte((number / 256) as u8)
+    }
+
+    /// Adds a word of data.
+    pub fn address(&mut self, place: Place) -> Result<(), AllocError> {
+        match place {
+            Place::Number(number) => self.number(number),
+            Place::Code(offset) => {
+                self.code
+                    .emit_address(Target::InSegment(Segment::Code), offset)
+            }
+            Place::Data(offset) => {
+                self.code
+                    .emit_address(Target::InSegment(Segment::Data), offset)
+            }
+            Place::External { name, offset } => {
+                let number = self.externals.number(name);
+                self.code.emit_address(Target::External(number), offset)
+            }
+        }
+    }
+
+    /// Adds so many bytes that stay unset.
+    pub fn gap(&mut self, count: u16) -> Result<(), AllocError> {
+        self.code.leave(count)
+    }
+
+    // A new label of the code.
+    fn new_label(&mut self) -> Result<usize, AllocError> {
+        let index = self.code.label_count();
+        self.is_bound.push(false)?;
+        let _ = self.code.label()?;
+        Ok(index)
+    }
+
+    // Which label of the code a number is, a new one where it is not used before.
+    fn label_of(&mut self, number: LabelNumber) -> Result<usize, AllocError> {
+        let entry = number.index as usize;
+        if entry >= self.labels.len() {
+            self.labels.resize(entry + 1, None)?;
+        }
+        if let Some(index) = self.labels[entry] {
+            return Ok(index);
+        }
+        let index = self.new_label()?;
+        if let Some(label) = self.labels.get_mut(entry) {
+            *label = Some(index);
+        }
+        Ok(index)
+    }
+
+    /// Adds a jump to a label, or another instruction with its place.
+    pub fn jump(&mut self, form: WordForm, number: LabelNumber) -> Result<(), AllocError> {
+        let index = self.label_of(number)?;
+        match self.code.known(index) {
+            Some(label) => self.code.jump(form, label),
+            None => Ok(()),
+        }
+    }
+
+    // Gives a label of the code its place here, if it has none.
+    fn bind(&mut self, index: usize) -> Result<(), AllocError> {
+        let Some(label) = self.code.known(index) else {
+            return Ok(());
+        };
+        if let Some(false) = self.is_bound.get(index) {
+            self.code.bind(label)?;
+            self.is_bound[index] = true;
+        }
+        Ok(())
+    }
+
+    /// Gives a label its place here. A label that has a place keeps it.
+    pub fn mark(&mut self, number: LabelNumber) -> Result<(), AllocError> {
+        let index = self.label_of(number)?;
+        self.bind(index)
+    }
+
+    /// The code with a routine at its end, which begins at a label. Where there is no memory for it, the code is dropped.
+    pub fn with_routine(
+        mut self,
+        routine: Routine,
+        number: LabelNumber,
+    ) -> Result<Writer, AllocError> {
+        self.mark(number)?;
+        let Writer {
+            code,
+            is_bound,
+            labels,
+            externals,
+        } = self;
+        let (code, is_bound) = add_routine(code, is_bound, routine)?;
+        Ok(Writer {
+            code,
+            is_bound,
+            labels,
+            externals,
+        })
+    }
+
+    /// The code as bytes and fixes with its labels, and the names that it refers to.
+    pub fn finish(self) -> Result<(Finished, Externals), Failure<Fault>>
+        ensures { IfOk result (λ both. Assembles self both.0.bytes) }
+    {
+        let Writer {
+            code,
+            is_bound: _,
+            labels: numbers,
+            externals,
+        } = self;
+        let labels = known_labels(&code, numbers)?;
+        let bytes = code.finish()?;
+        Ok((Finished { bytes, labels }, externals))
+    }
+}
+
+// The labels of code by their numbers, where they are used.
+fn known_labels(
+    code: &Code,
+    numbers: Vec<Option<usize>>,
+) -> Result<Vec<Option<Label>>, AllocError> {
+    let alloc = *numbers.allocator();
+    let mut labels = Vec::new(alloc);
+    for number in numbers.iter() {
+        let label = match *number {
+            Some(index) => code.known(index),
+            None => None,
+        };
+        labels.push(label)?;
+    }
+    Ok(labels)
+}
+
+// Adds a routine to code, and to the flags that tell which labels have their places those of the routine's own labels.
+fn add_routine(
+    code: Code,
+    is_bound: Vec<bool>,
+    routine: Routine,
+) -> Result<(Code, Vec<bool>), AllocError>
+    requires { Follows is_bound.items code }
+    ensures { IfOk result (λ both. Follows both.1.items both.0) }
+{
+    let mut is_bound = is_bound;
+    is_bound.resize(code.label_count(), false)?;
+    let code = emit_routine(code, routine)?;
+    is_bound.resize(code.label_count(), true)?;
+    Ok((code, is_bound))
+}
+
+/// The bytes of code, with its labels.
+pub struct Finished {
+    pub bytes: CodeBytes,
+    pub labels: Vec<Option<Label>>,
+}
+
+impl Finished {
+    /// How far a label is from the start of the code; 0 where the code does not use it.
+    pub fn place(&self, number: LabelNumber) -> u16 {
+        match self.labels.get(number.index as usize) {
+            Some(Some(label)) => self.bytes.place(*label),
+            _ => 0,
+        }
+    }
+
+    /// The bytes.
+    pub fn into_bytes(self) -> CodeBytes
+        ensures { result ≡ self.bytes }
+    {
+        let Finished { bytes, labels: _ } = self;
+        bytes
+    }
+}
+
+// Written out, so that what these hold is let go here, and each crate that lets one go calls this.
+impl Drop for Writer {
+    fn drop(self) {
+        let Writer {
+            code: _,
+            is_bound: _,
+            labels: _,
+            externals: _,
+        } = self;
+    }
+}
+
+impl Drop for Finished {
+    fn drop(self) {
+        let Finished {
+            bytes: _,
+            labels: _,
+        } = self;
+    }
+}
