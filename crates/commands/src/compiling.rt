@@ -16,8 +16,8 @@ use std::alloc::Global;
 use std::io::Write;
 use tool::{ToolFault, compile};
 
-/// Compiles a source, and writes the object module to a file. That file is begun once the source was compiled; after a write
-/// that failed it may have a beginning of the text, which is no object file.
+/// Compiles a source, and writes the object module to a file. That file is begun once the source was compiled; after a
+/// write that failed it may have a beginning of the text, which is no object file.
 pub(crate) fn compile_file<F: Files, E: Write>(
     alloc: Global,
     order: &CompileOrder,

@@ -1,5 +1,5 @@
 -- Programs that lie as planned.
-use Rattle.std.proofs.Common.{◌≡◌, ℕ, List, map, None, refl, sym, ap, ◌∙◌, subst}
+use Rattle.std.proofs.Common.{◌≡◌, ℕ, List, None, sym, ap, ◌∙◌, subst}
 use Rattle.typed_trees.specs.TypedTrees.{TypedModule}
 use Rattle.layout.specs.Joined.{IsJoined}
 use Rattle.layout.specs.Lawful.{IsLawful}

@@ -1,5 +1,5 @@
 -- The code of modules.
-use Rattle.std.proofs.Common.{◌≡◌, ◌<◌, List, [], ◌∷◌, length, Option, Some, None, arith, refl}
+use Rattle.std.proofs.Common.{◌≡◌, ◌<◌, List, [], ◌∷◌, length, Some, None, arith, refl}
 use Rattle.typed_trees.specs.TypedTrees.{TypedModule}
 use Rattle.source_meaning.specs.declared.outputs.Output.{Output}
 use Rattle.source_meaning.specs.Outputs.{outputs_of}

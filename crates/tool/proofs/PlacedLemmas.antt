@@ -1,17 +1,9 @@
 -- The code of a program where a plan puts it.
-use Rattle.std.proofs.Common.{◌≡◌, ℕ, ◌+◌, ◌≤◌, ◌==◌, ◌||◌, Bool, true, false, List, [], ◌∷◌, length, map, flat_map, sum_by, count_by, nat_lt, nat_eq, Option, Some, None, cond, arith, refl, sym, ap, ◌∙◌}
-use Rattle.std.specs.Prelude.{sum}
+use Rattle.std.proofs.Common.{◌≡◌, ◌==◌, Bool, true, false, List, count_by, Option, Some, None, cond, arith, refl}
 use Rattle.std.specs.Option.{option_or}
-use Rattle.std.proofs.lemmas.List.Sums.{sum_by-cons}
-use Rattle.std.proofs.lemmas.List.{length-append}
 use Rattle.std.proofs.lemmas.Grind.{common_steps}
 use Rattle.typed_trees.specs.TypedTrees.{TypedModule}
-use Rattle.layout.specs.declared.slot.TheConstants.{SEGMENT_LIMIT}
-use Rattle.layout.specs.Joined.{IsJoined, NotOneMain, JoinRefusal, is_main, join_refusal, not_one_main, declared_otherwise, public_twice, without_public}
-use Rattle.layout.specs.Placement.{Placement, range_of}
-use Rattle.layout.specs.Placing.{PlacingRefusal, SegmentTooLarge, code_range, data_range, stack_range, first_misplaced, overlapping, past_memory, placement_by, placing_refusal, segment_too_large}
-use Rattle.plans.specs.declared.Plan.{Plan}
-use Rattle.placing.specs.Views.{plan_view}
+use Rattle.layout.specs.Joined.{IsJoined, NotOneMain, is_main, join_refusal, not_one_main, declared_otherwise, public_twice, without_public}
 
 second_none : {A : Type 0} (one other : Option A) → option_or one other ≡ None → other ≡ None
 second_none None other none = none

@@ -11,7 +11,7 @@ use Rattle.layout.specs.Placement.{Placement}
 use Rattle.layout.specs.StartingMemory.{starting_memory}
 use Rattle.meaning.specs.declared.reason.Reason.TheVariants.{Stack}
 use Rattle.meaning.specs.Access.{Surroundings}
-use Rattle.meaning.specs.Outcomes.{State, Outcome, Gave, Outside, Flow, Onward}
+use Rattle.meaning.specs.Outcomes.{State, Gave, Outside, Onward}
 use Rattle.meaning.specs.Run.{NeverOutside, Run, main_done, number_of_main, run_of, source_run}
 use Rattle.source_meaning.specs.declared.outputs.Output.{Output}
 use Rattle.source_meaning.specs.Outputs.{outputs_from, outputs_of_list, program_outputs}

@@ -1,18 +1,13 @@
 -- Modules that are served: the code of a program of such is that of its main module.
-use Rattle.std.proofs.Common.{◌≡◌, ℕ, zero, suc, ◌+◌, ◌≤◌, ◌==◌, ◌&&◌, Bool, true, false, List, [], ◌∷◌, ◌++◌, length, flat_map, map, filter_map, zip, sum_by, count_by, Option, Some, None, All, unwrap_or, cond, arith, refl, sym, ap, ◌∙◌, subst, append-nil}
-use Rattle.std.specs.List.{enumerate_from, AllByRecursion}
-use Rattle.std.proofs.lemmas.List.Elements.{All-from_recursion, recursion_from_All}
-use Rattle.std.proofs.lemmas.Grind.{common_steps}
+use Rattle.std.proofs.Common.{◌≡◌, ◌+◌, Bool, true, false, List, [], ◌∷◌, ◌++◌, count_by, Option, Some, None, All, unwrap_or, cond, arith, refl, sym, ap, ◌∙◌, append-nil}
+use Rattle.std.specs.List.{AllByRecursion}
+use Rattle.std.proofs.lemmas.List.Elements.{recursion_from_All}
 use Rattle.std.proofs.lemmas.List.Sums.{sum_by-cons}
-use Rattle.trees.specs.declared.declaration.ScalarType.{ScalarType}
-use Rattle.typed_trees.specs.TypedTrees.{TypedObject, TypedStatement, TypedStatements, NoStatements, MoreStatements, TypedList, ListOf, TypedModule}
-use Rattle.typed_trees.specs.Storable.{IsStorable, LooksBack, list_in, numbered_constant, numbers_from, object_in}
-use Rattle.typed_trees.specs.Weight.{constant_bytes, size_of_constant}
+use Rattle.typed_trees.specs.TypedTrees.{TypedStatement, TypedStatements, NoStatements, MoreStatements, TypedList, ListOf, TypedModule}
 use Rattle.layout.specs.Joined.{has_statement, is_main}
 use Rattle.plans.specs.declared.Plan.{Plan}
-use Rattle.placing.specs.Segments.{HoldsConstants, HaveStorage}
 use Rattle.source_meaning.specs.declared.outputs.Output.{Output}
-use Rattle.source_meaning.specs.Outputs.{declares_nothing, output_before, output_of, outputs_from, outputs_in, outputs_of, outputs_of_list, program_outputs}
+use Rattle.source_meaning.specs.Outputs.{declares_nothing, output_before, output_of, outputs_from, outputs_in, outputs_of_list, program_outputs}
 use Rattle.tool.specs.Code.{code_of, module_code, program_code, segment_of}
 use Rattle.tool.specs.Sources.{IsServed}
 

@@ -1,5 +1,5 @@
 -- Programs of sources that are compiled.
-use Rattle.std.proofs.Common.{◌≡◌, ℕ, zero, suc, ◌+◌, ◌<◌, ◌≤◌, ◌⊎◌, inl, inr, ◌&&◌, Bool, true, false, List, [], ◌∷◌, ◌++◌, length, flat_map, map, zip, Option, Some, None, is_some, All, cond, arith, refl, sym, ap, ◌∙◌, subst, ⊎_elim}
+use Rattle.std.proofs.Common.{◌≡◌, ℕ, zero, suc, ◌<◌, ◌≤◌, ◌⊎◌, inl, inr, ◌&&◌, Bool, true, false, List, [], ◌∷◌, ◌++◌, length, flat_map, map, zip, Option, Some, None, is_some, All, arith, refl, sym, ap, ◌∙◌, subst, ⊎_elim}
 use Rattle.std.proofs.lemmas.Bool.{cases_lt}
 use Rattle.std.proofs.lemmas.List.Elements.{All-from_recursion, recursion_from_All}
 use Rattle.std.specs.List.{AllByRecursion, list_all}
@@ -25,7 +25,7 @@ use Rattle.frontend.specs.Causes.{HasReadCause}
 use Rattle.locate.specs.Locating.{Absolute}
 use Rattle.program_sources.specs.declared.fault.ProgramFault.TheVariants as program_faults
 use Rattle.program_sources.specs.declared.placed.Placed.{Placed}
-use Rattle.program_sources.specs.Programs.{AreSourcesOf, IsPlacedBy, IsProgramOf, program_modules, text_of, texts_of}
+use Rattle.program_sources.specs.Programs.{AreSourcesOf, IsPlacedBy, IsProgramOf, program_modules, text_of}
 use Rattle.tool.specs.declared.compiled.Compiled.{Compiled}
 use Rattle.tool.specs.declared.fault.ToolFault.{ToolFault}
 use Rattle.tool.specs.declared.fault.ToolFault.TheVariants.{TooManySources, Source, CodeTooLong, Code, ConstantsMissing, Program, Link, Locate}
@@ -34,7 +34,7 @@ use Rattle.tool.specs.Construction.{Construction, IsConstruction, code_lengths}
 use Rattle.tool.specs.Image.{IsImageOfCode}
 use Rattle.tool.specs.Refusals.{IsRefusal}
 use Rattle.tool.specs.Sources.{AreWithoutFault, HasCause, IsInOrder, IsServed, IsWithoutFault, sources_before}
-use Rattle.tool.specs.internal.Compiling.{AreCompiled, HasBuildCause, IsBuiltFrom, IsCompiled, IsOfImage, module_in}
+use Rattle.tool.specs.internal.Compiling.{AreCompiled, HasBuildCause, IsBuiltFrom, IsOfImage, module_in}
 use Rattle.tool.specs.internal.Inside.{construction_with}
 use Rattle.tool.proofs.BuiltLemmas.{program_agrees}
 

@@ -1,5 +1,5 @@
 -- Sources: why they are refused, and in which order their faults are looked for.
-use Rattle.std.specs.Prelude.{◌≡◌, ℕ, ◌<◌, ◌≤◌, List, length, Some, None}
+use Rattle.std.specs.Prelude.{◌≡◌, ℕ, ◌<◌, ◌≤◌, List, length, Some}
 use Rattle.typed_trees.specs.TypedTrees.{TypedModule}
 use Rattle.layout.specs.Joined.{join_refusal}
 use Rattle.layout.specs.Placing.{placing_refusal}
@@ -62,7 +62,8 @@ abbrev pub HasProgramRefusal : ProgramFault → List (List ℕ) → Plan → Typ
 HasProgramRefusal (Join fault) texts plan = HasNoProgram fault texts
 HasProgramRefusal (Placement fault) texts plan = HasNoPlace fault texts plan
 
--- The cause of a refusal is in the sources or in the plan. Why a module has no object module is not said, but that it is one.
+-- The cause of a refusal is in the sources or in the plan. Why a module has no object module is not said, but that it is
+-- one.
 abbrev pub HasCause : ToolFault → List (List ℕ) → Plan → Type 0
 HasCause TooManySources texts plan = MOST_SOURCES < length texts
 HasCause (Source file fault) texts plan = (file < length texts) × HasReadCause fault (text_of texts file)

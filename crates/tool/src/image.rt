@@ -13,8 +13,8 @@ use object_modules::ObjectModule;
 use plans::Plan;
 use std::alloc::Global;
 
-/// The image of a program: where all of its modules are served that of their code, and else that of the merge of their object
-/// modules.
+/// The image of a program: where all of its modules are served that of their code, and else that of the merge of their
+/// object modules.
 pub fn image_of(
     alloc: Global,
     is_served: bool,

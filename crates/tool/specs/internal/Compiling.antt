@@ -18,7 +18,7 @@ use Rattle.program_sources.specs.Programs.{HasProgramCause, program_modules}
 use Rattle.tool.specs.declared.code.TheConstants.{MOST_CODE}
 use Rattle.tool.specs.declared.compiled.Compiled.{Compiled}
 use Rattle.tool.specs.declared.fault.ToolFault.{ToolFault}
-use Rattle.tool.specs.declared.fault.ToolFault.TheVariants.{TooManySources, Source, CodeTooLong, Code, ConstantsMissing, Program, Link, Locate}
+use Rattle.tool.specs.declared.fault.ToolFault.TheVariants.{Source, CodeTooLong, Code, ConstantsMissing, Program, Link, Locate}
 use Rattle.tool.specs.Code.{module_code}
 use Rattle.tool.specs.Construction.{Construction}
 use Rattle.tool.specs.Sources.{HasLongCode, IsReadable}
@@ -27,8 +27,8 @@ use Rattle.tool.specs.Sources.{HasLongCode, IsReadable}
 abbrev pub module_in : Compiled → TypedModule
 module_in compiled = module_view compiled.source.typed
 
--- what a source is compiled to: its module, the storage of that, an object module that holds its constants, whether it is
--- served, and its code
+-- what a source is compiled to: its module, the storage of that, an object module that holds its constants, whether it
+-- is served, and its code
 pub record IsCompiled (plan : Plan) (text : List ℕ) (compiled : Compiled) : Type 0 where
   pub source : IsSourceOf text (module_in compiled)
   pub storage : layout_view compiled.source.storage ≡ storage_with (module_in compiled)

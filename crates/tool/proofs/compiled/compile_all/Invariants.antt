@@ -1,4 +1,3 @@
-use Rattle.std.proofs.Common.{length}
 use Rattle.program_sources.specs.Programs.{texts_of}
 use Rattle.tool.specs.Sources.{AreWithoutFault}
 use Rattle.tool.proofs.CompiledLemmas.{GoesOn}
