@@ -5,7 +5,7 @@ use asm8080::WordForm;
 use isa8080::{Instr, Register, StackPair};
 use sites8080::Site;
 use std::alloc::AllocError;
-use steps8080::{Steps, Task, before, is_at, copy, load, set};
+use steps8080::{Steps, Task, before, copy, is_at, load, set};
 use treecode::{Location, Reference};
 
 // The word at the stack pointer into HL.
