@@ -1,11 +1,10 @@
 //! Planned code of statements as it is written.
 
-use crate::body::Body;
-use crate::plan::{Plan, Planned};
 use crate::statements::plan_statement;
 use asm8080::WordForm;
 use exprgen8080::{Emission, Facts, LabelNumber, Part, Step, Task};
 use isa8080::{Instr, Operand, Pair, Register};
+use statements8080::{Body, Plan, Planned};
 use std::alloc::{AllocError, Global};
 use treecode::{Location, Range, Reference, StatementNumber, TreeModule};
 

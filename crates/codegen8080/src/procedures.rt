@@ -1,12 +1,11 @@
 //! Procedures: how they take their arguments and how they return.
 
-use crate::body::Body;
 use crate::generator::Generator;
-use crate::plan::Plan;
 use asm8080::WordForm;
 use exprgen8080::{Facts, LabelNumber, Step};
 use frames::{FramePlan, plan as frame_plan};
 use isa8080::{Condition, Instr, Operand, Operation, Pair, Register, StackPair};
+use statements8080::{Body, Plan};
 use std::alloc::{AllocError, Global};
 use treecode::{Location, Parameter, Place, ProcedureKind, TreeModule, TreeProcedure};
 use trees::ScalarType;

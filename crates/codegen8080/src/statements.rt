@@ -1,16 +1,12 @@
 //! Which steps the code of a statement has.
 
-use crate::assignment::plan_assignment;
-use crate::body::Body;
-use crate::branching::{plan_if, plan_while};
-use crate::case::plan_case;
-use crate::iteration::plan_iteration;
-use crate::moving::plan_move;
-use crate::plan::{Plan, Planned};
 use crate::procedures::plan_return;
 use asm8080::WordForm;
 use exprgen8080::{LabelNumber, Site, Task};
 use isa8080::Instr;
+use statements8080::{
+    Body, Plan, Planned, plan_assignment, plan_case, plan_if, plan_iteration, plan_move, plan_while,
+};
 use std::alloc::AllocError;
 use treecode::{ExpressionNumber, Range, Statement};
 use trees::ScalarType;

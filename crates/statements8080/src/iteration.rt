@@ -13,7 +13,7 @@ use trees::ScalarType;
 
 /// The variable of an iterative DO: a whole scalar, its type and where it lies.
 #[derive(Clone, Copy)]
-pub(crate) struct Counter {
+pub struct Counter {
     pub reference: Reference,
     pub scalar: ScalarType,
     pub location: Option<Location>,
@@ -21,7 +21,7 @@ pub(crate) struct Counter {
 
 impl Counter {
     /// Its place in memory, where it is not in the frame.
-    pub(crate) fn place(&self) -> Option<Place> {
+    pub fn place(&self) -> Option<Place> {
         match self.location {
             Some(Location::Static(place)) => Some(place),
             _ => None,
@@ -29,7 +29,7 @@ impl Counter {
     }
 
     /// That HL holds its address.
-    pub(crate) fn address_fact(&self) -> Facts {
+    pub fn address_fact(&self) -> Facts {
         Facts {
             address_in_hl: self.location,
             ..Facts::none()
@@ -37,7 +37,7 @@ impl Counter {
     }
 
     /// That HL holds its value.
-    pub(crate) fn word_fact(&self) -> Facts {
+    pub fn word_fact(&self) -> Facts {
         Facts {
             word_in_hl: self.location,
             ..Facts::none()
@@ -137,7 +137,7 @@ fn plan_first_test(
 }
 
 /// The carry shows whether HL is less than a number.
-pub(crate) fn plan_less(plan: &mut Plan, number: u16) -> Result<(), AllocError> {
+pub fn plan_less(plan: &mut Plan, number: u16) -> Result<(), AllocError> {
     if number % 256 == 0 {
         return plan.all(&[
             Instr::Mov(Register::A, Operand::Of(Register::H)),
@@ -419,7 +419,7 @@ fn plan_turns(
 }
 
 /// The steps of an iterative DO. The variable gets its first value even where there is no turn.
-pub(crate) fn plan_iteration(
+pub fn plan_iteration(
     body: &Body<'_>,
     site: &Site<'_>,
     plan: &mut Plan,

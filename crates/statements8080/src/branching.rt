@@ -144,7 +144,7 @@ fn plan_statement_if_any(
 
 /// The steps of IF. Where the condition is known, one of both statements is left out: no code outside it goes to its
 /// labels.
-pub(crate) fn plan_if(
+pub fn plan_if(
     body: &Body<'_>,
     site: &Site<'_>,
     plan: &mut Plan,
@@ -192,7 +192,7 @@ fn plan_while_tested(
 }
 
 /// The steps of DO WHILE.
-pub(crate) fn plan_while(
+pub fn plan_while(
     site: &Site<'_>,
     plan: &mut Plan,
     condition: ExpressionNumber,

@@ -44,7 +44,7 @@ fn plan_known(
 }
 
 /// The steps of CALL MOVE: the count comes into BC, the source into DE and the destination into HL.
-pub(crate) fn plan_move(
+pub fn plan_move(
     site: &Site<'_>,
     plan: &mut Plan,
     count: ExpressionNumber,

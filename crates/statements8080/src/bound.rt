@@ -11,7 +11,7 @@ use trees::ScalarType;
 
 /// How it is tested whether the variable is not above the bound.
 #[derive(Clone, Copy)]
-pub(crate) enum Test {
+pub enum Test {
     /// It never is.
     Always,
     /// A BYTE is less than this number.
@@ -68,7 +68,7 @@ fn word_test(site: &Site<'_>, counter: &Counter, last: ExpressionNumber) -> Test
 }
 
 /// How it is tested whether the variable is not above the bound.
-pub(crate) fn test_of(site: &Site<'_>, counter: &Counter, last: ExpressionNumber) -> Test {
+pub fn test_of(site: &Site<'_>, counter: &Counter, last: ExpressionNumber) -> Test {
     if let Some(last) = site.number(last) {
         return known_test(counter, last);
     }
@@ -80,7 +80,7 @@ pub(crate) fn test_of(site: &Site<'_>, counter: &Counter, last: ExpressionNumber
 }
 
 /// What holds where the test jumps.
-pub(crate) fn facts_of_test(counter: &Counter, test: Test) -> Facts {
+pub fn facts_of_test(counter: &Counter, test: Test) -> Facts {
     match test {
         Test::Always | Test::FrameWord(_) => Facts::none(),
         Test::ByteBelow(_) => Facts {
@@ -164,7 +164,7 @@ fn plan_byte_below(
 }
 
 /// A jump to a label where the variable is not above the bound.
-pub(crate) fn plan_test(
+pub fn plan_test(
     plan: &mut Plan,
     counter: &Counter,
     test: Test,

@@ -190,7 +190,7 @@ fn plan_word(
 }
 
 /// One target gets a value.
-pub(crate) fn plan_single(
+pub fn plan_single(
     body: &Body<'_>,
     site: &Site<'_>,
     plan: &mut Plan,
@@ -294,7 +294,7 @@ fn plan_several(
 }
 
 /// The steps of an assignment.
-pub(crate) fn plan_assignment(
+pub fn plan_assignment(
     body: &Body<'_>,
     site: &Site<'_>,
     plan: &mut Plan,

@@ -8,7 +8,7 @@ use treecode::{Location, Place, Range, Reference, StatementNumber};
 
 /// A step of the code of a statement.
 #[derive(Clone, Copy)]
-pub(crate) enum Planned {
+pub enum Planned {
     /// A step of the code of expressions.
     Code(Step),
     /// The code of a statement.
@@ -46,7 +46,7 @@ pub(crate) enum Planned {
 }
 
 /// Steps in a row, and how many labels they take.
-pub(crate) struct Plan {
+pub struct Plan {
     list: Vec<Planned>,
     first_label: u32,
     taken: u32,
@@ -54,7 +54,7 @@ pub(crate) struct Plan {
 
 impl Plan {
     /// No steps.
-    pub(crate) fn new(alloc: Global) -> Plan {
+    pub fn new(alloc: Global) -> Plan {
         Plan {
             list: Vec::new(alloc),
             first_label: 0,
@@ -63,23 +63,23 @@ impl Plan {
     }
 
     /// From now on labels are taken from this one on.
-    pub(crate) fn take_labels_from(&mut self, first: LabelNumber) {
+    pub fn take_labels_from(&mut self, first: LabelNumber) {
         self.first_label = first.index;
         self.taken = 0;
     }
 
     /// How many labels are taken.
-    pub(crate) fn taken(&self) -> u32 {
+    pub fn taken(&self) -> u32 {
         self.taken
     }
 
     /// A label that is not taken yet.
-    pub(crate) fn label(&mut self) -> LabelNumber {
+    pub fn label(&mut self) -> LabelNumber {
         self.labels(1)
     }
 
     /// The first of so many labels that are not taken yet.
-    pub(crate) fn labels(&mut self, count: u32) -> LabelNumber {
+    pub fn labels(&mut self, count: u32) -> LabelNumber {
         let label = LabelNumber {
             index: self.first_label.saturating_add(self.taken),
         };
@@ -88,18 +88,18 @@ impl Plan {
     }
 
     /// Adds a step.
-    pub(crate) fn push(&mut self, step: Planned) -> Result<(), AllocError> {
+    pub fn push(&mut self, step: Planned) -> Result<(), AllocError> {
         self.list.push(step)?;
         Ok(())
     }
 
     /// Adds an instruction.
-    pub(crate) fn plain(&mut self, instruction: Instr) -> Result<(), AllocError> {
+    pub fn plain(&mut self, instruction: Instr) -> Result<(), AllocError> {
         self.push(Planned::Code(Step::Plain(instruction)))
     }
 
     /// Adds instructions.
-    pub(crate) fn all(&mut self, instructions: &[Instr]) -> Result<(), AllocError> {
+    pub fn all(&mut self, instructions: &[Instr]) -> Result<(), AllocError> {
         for instruction in instructions {
             self.plain(*instruction)?;
         }
@@ -107,7 +107,7 @@ impl Plan {
     }
 
     /// Adds an instruction, so many times.
-    pub(crate) fn repeated(&mut self, instruction: Instr, count: u16) -> Result<(), AllocError> {
+    pub fn repeated(&mut self, instruction: Instr, count: u16) -> Result<(), AllocError> {
         for _ in 0..count {
             self.plain(instruction)?;
         }
@@ -115,42 +115,42 @@ impl Plan {
     }
 
     /// Adds an instruction with a word.
-    pub(crate) fn word(&mut self, form: WordForm, place: Place) -> Result<(), AllocError> {
+    pub fn word(&mut self, form: WordForm, place: Place) -> Result<(), AllocError> {
         self.push(Planned::Code(Step::Word(form, place)))
     }
 
     /// Adds a jump, or another instruction with the place of a label.
-    pub(crate) fn jump(&mut self, form: WordForm, label: LabelNumber) -> Result<(), AllocError> {
+    pub fn jump(&mut self, form: WordForm, label: LabelNumber) -> Result<(), AllocError> {
         self.push(Planned::Code(Step::Jump(form, label)))
     }
 
     /// Adds the place of a label.
-    pub(crate) fn mark(&mut self, label: LabelNumber) -> Result<(), AllocError> {
+    pub fn mark(&mut self, label: LabelNumber) -> Result<(), AllocError> {
         self.push(Planned::Code(Step::Mark(label)))
     }
 
     /// Adds the code of a task where so many bytes are pushed.
-    pub(crate) fn part(&mut self, task: Task, pushed: u16) -> Result<(), AllocError> {
+    pub fn part(&mut self, task: Task, pushed: u16) -> Result<(), AllocError> {
         self.push(Planned::Code(Step::Part(Part { task, pushed })))
     }
 
     /// What holds here, beside what is known by the instructions alone.
-    pub(crate) fn holds(&mut self, facts: Facts) -> Result<(), AllocError> {
+    pub fn holds(&mut self, facts: Facts) -> Result<(), AllocError> {
         self.push(Planned::Code(Step::Holds(facts)))
     }
 
     /// How many steps there are.
-    pub(crate) fn count(&self) -> usize {
+    pub fn count(&self) -> usize {
         self.list.len()
     }
 
     /// The step of an index.
-    pub(crate) fn get(&self, index: usize) -> Option<Planned> {
+    pub fn get(&self, index: usize) -> Option<Planned> {
         self.list.get(index).copied()
     }
 
     /// Takes away all steps but the first so many.
-    pub(crate) fn truncate(&mut self, count: usize) {
+    pub fn truncate(&mut self, count: usize) {
         self.list.truncate(count);
     }
 }

@@ -76,7 +76,7 @@ fn are_same_subscripts(site: &Site<'_>, left: Option<Subscript>, right: Option<S
 
 /// Whether two references are seen to mean the same place, and to locate it changes nothing: both have the same numbers or
 /// scalars as subscripts.
-pub(crate) fn are_same(site: &Site<'_>, left: &Reference, right: &Reference) -> bool {
+pub fn are_same(site: &Site<'_>, left: &Reference, right: &Reference) -> bool {
     left.object == right.object
         && left.offset == right.offset
         && are_same_subscripts(site, left.subscript, right.subscript)

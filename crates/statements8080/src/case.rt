@@ -138,7 +138,7 @@ fn plan_choice(
 }
 
 /// The steps of DO CASE. Where the choice is known, its statement stands alone.
-pub(crate) fn plan_case(
+pub fn plan_case(
     body: &Body<'_>,
     site: &Site<'_>,
     plan: &mut Plan,

@@ -7,7 +7,7 @@ use treecode::{Location, Reference, TreeModule, TreeProcedure};
 /// The body of a procedure, or the main program: in which module, with which frame, and the label of the code that its
 /// first label is.
 #[derive(Clone, Copy)]
-pub(crate) struct Body<'a> {
+pub struct Body<'a> {
     pub tree: &'a TreeModule,
     pub procedure: &'a TreeProcedure,
     pub frame: &'a FramePlan,
@@ -16,7 +16,7 @@ pub(crate) struct Body<'a> {
 
 impl<'a> Body<'a> {
     /// The label of the code that a label of the body is, by its number there.
-    pub(crate) fn label(&self, number: u32) -> LabelNumber {
+    pub fn label(&self, number: u32) -> LabelNumber {
         LabelNumber {
             index: self.first_label.index.saturating_add(number),
         }
@@ -24,7 +24,7 @@ impl<'a> Body<'a> {
 
     /// Whether the code loads and stores a word here without its address in HL: in memory, or as one of the two words next
     /// to the stack pointer, where nothing is pushed.
-    pub(crate) fn is_near(&self, location: Option<Location>) -> bool {
+    pub fn is_near(&self, location: Option<Location>) -> bool {
         match location {
             Some(Location::Static(_)) => true,
             Some(Location::Frame { variable, offset }) => {
@@ -37,7 +37,7 @@ impl<'a> Body<'a> {
 }
 
 /// A whole object.
-pub(crate) fn whole(object: u32) -> Reference {
+pub fn whole(object: u32) -> Reference {
     Reference {
         object,
         subscript: None,
