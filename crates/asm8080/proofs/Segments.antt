@@ -22,15 +22,15 @@ use Rattle.object_modules.proofs.StoredRuns.{byte_in_run, content_with, found, f
 use Rattle.asm8080.specs.Assembled.{Assembled, Assembles, fixed_bytes, places_of, resolved, segment_of, set_bytes}
 use Rattle.asm8080.specs.Items.{Assembly}
 
-and_true : (a b : Bool) → a ≡ true → b ≡ true → (a && b) ≡ true
+pub and_true : (a b : Bool) → a ≡ true → b ≡ true → (a && b) ≡ true
 and_true true b h k = k
 and_true false b h k = h
 
-left_true : (a b : Bool) → (a && b) ≡ true → a ≡ true
+pub left_true : (a b : Bool) → (a && b) ≡ true → a ≡ true
 left_true true b h = refl
 left_true false b h = h
 
-right_true : (a b : Bool) → (a && b) ≡ true → b ≡ true
+pub right_true : (a b : Bool) → (a && b) ≡ true → b ≡ true
 right_true true b h = h
 right_true false b h = let bad : false ≡ true = h in cc
 
@@ -154,7 +154,7 @@ runs_begin offset (None ∷ others) =
 runs_begin offset (Some value ∷ others) =
     before_from offset value (runs_from (offset + 1) others) (runs_begin (offset + 1) others)
 
-run_places :
+pub run_places :
     (fixes : List Fix) (offset : ℕ) (bytes : List (Option ℕ))
     → map (found fixes (runs_from offset bytes)) (range_with_len offset (length bytes))
     ≡ fixed_bytes fixes offset bytes
@@ -175,7 +175,7 @@ run_places fixes offset (Some value ∷ others) =
     (λ x le. found_later fixes offset value runs x le)
     ∙ run_places fixes (offset + 1) others)
 
-set_length : (bytes : List ℕ) (flags : List Bool) → length (set_bytes bytes flags) ≡ length bytes
+pub set_length : (bytes : List ℕ) (flags : List Bool) → length (set_bytes bytes flags) ≡ length bytes
 set_length [] flags = refl
 set_length (byte ∷ others) [] = ap (λ n. suc n) (set_length others [])
 set_length (byte ∷ others) (here ∷ later) = ap (λ n. suc n) (set_length others later)
@@ -236,7 +236,7 @@ longest_more size offset value (next ∷ others) room from h = go (next.offset =
         and_true (nat_lt (offset + 1) next.offset) (are_longest size (next ∷ others))
         (lt-ltb (offset + 1) next.offset before) h
 
-runs_longest :
+pub runs_longest :
     (size offset : ℕ) (bytes : List (Option ℕ))
     → offset + length bytes ≤ size
     → are_longest size (runs_from offset bytes) ≡ true
@@ -283,10 +283,10 @@ target_at count (fix ∷ others) x h =
     go true here later = here
     go false here later = later
 
-abbrev set_well : (count : ℕ) → List (Option SetByte) → Bool
+abbrev pub set_well : (count : ℕ) → List (Option SetByte) → Bool
 set_well count places = list_all (λ place. option_map_or (is_valid_byte count) place true) places
 
-valid_bytes :
+pub valid_bytes :
     (count : ℕ) (fixes : List Fix) (offset : ℕ) (bytes : List ℕ) (flags : List Bool)
     → All (λ byte. byte < 256) bytes
     → list_all (λ (fix : Fix). is_target count fix.target) fixes ≡ true
@@ -306,7 +306,7 @@ valid_bytes count fixes offset (value ∷ others) (true ∷ later) small targets
     (target_at count fixes offset targets))
     (valid_bytes count fixes (offset + 1) others later (All-tail (λ (byte : ℕ). byte < 256) value others small) targets)
 
-places_length : (fixes : List Fix) (offset : ℕ) (bytes : List (Option ℕ))
+pub places_length : (fixes : List Fix) (offset : ℕ) (bytes : List (Option ℕ))
     → length (fixed_bytes fixes offset bytes) ≡ length bytes
 places_length fixes offset [] = refl
 places_length fixes offset (byte ∷ others) = ap (λ n. suc n) (places_length fixes (offset + 1) others)

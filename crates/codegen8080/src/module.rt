@@ -5,13 +5,12 @@ ghost use Rattle.codegen8080.specs.internal.Segments.{KeepsFixes};
 
 use crate::fault::Fault;
 use crate::generator::Generator;
-use crate::names::{ListedNames, listed_names, valid, with_publics};
+use crate::names::{listed_names, with_publics};
+use crate::object::object_of;
 use crate::procedures::{put_main, put_procedure};
-use crate::segments::segment_of;
-use asm8080::CodeBytes;
 use exprgen8080::{Externals, Finished, LabelNumber, ROUTINES, Writer, routine_label};
 use failure::Failure;
-use object_modules::{ModuleParts, Name, ObjectModule};
+use object_modules::ObjectModule;
 use std::alloc::{AllocError, Global};
 use treecode::{Content, TreeModule};
 
@@ -100,6 +99,7 @@ fn variables_of(
 }
 
 // Code as bytes, with the names that it refers to.
+#[tactic(auto, using(crate::proofs::KeptSegments::assembled_keeps))]
 fn finish(writer: Writer) -> Result<(Finished, Externals), Failure<Fault>>
     ensures { IfOk result (λ both. KeepsFixes both.0.bytes) }
 {
@@ -111,35 +111,6 @@ fn finish(writer: Writer) -> Result<(Finished, Externals), Failure<Fault>>
         }
         Err(Failure::Memory) => Err(Failure::Memory),
     }
-}
-
-// The object module of a name with these segments, whose fixes know EXTERNAL names by the numbers of a table.
-fn object_of(
-    alloc: Global,
-    name: Name,
-    code: CodeBytes,
-    variables: CodeBytes,
-    listed: ListedNames,
-    start: Option<u16>,
-) -> Result<ObjectModule, AllocError>
-    requires code { KeepsFixes code }
-    requires variables { KeepsFixes variables }
-{
-    let name = valid(name);
-    let (names, numbers) = listed.into_parts();
-    let count = names.external_count();
-    let code = segment_of(alloc, code, numbers.as_slice(), count)?;
-    let variables = segment_of(alloc, variables, numbers.as_slice(), count)?;
-    let (externals, publics) = names.into_parts();
-    Ok(ObjectModule::from_parts(ModuleParts {
-        name,
-        code,
-        data_bytes: variables,
-        stack_length: 0,
-        publics,
-        externals,
-        start,
-    }))
 }
 
 // Where the code of a main program begins.
@@ -160,12 +131,14 @@ pub fn generate(alloc: Global, tree: &TreeModule) -> Result<ObjectModule, Failur
     let listed = listed_names(alloc, tree.externals.as_slice(), externals.numbers())?;
     let listed = with_publics(listed, tree, &code)?;
     let start = start_of(tree, &code, start);
+    let (names, numbers) = listed.into_parts();
     let object = object_of(
         alloc,
         tree.name,
         code.into_bytes(),
         variables.into_bytes(),
-        listed,
+        names,
+        numbers.as_slice(),
         start,
     )?;
     Ok(object)

@@ -1,11 +1,11 @@
 //! Segments of object modules from assembled code.
 
-ghost use Rattle.std.specs.Prelude.{◌≡◌, ◌∷◌, ◌++◌, ◌≤◌, [], false, length, slice_index_or, IfOk, OnOk};
+ghost use Rattle.std.specs.Prelude.{◌≡◌, ◌∷◌, ◌++◌, ◌≤◌, ◌<◌, [], All, false, length, slice_index_or, IfOk, OnOk};
 ghost use Rattle.object_modules.specs.declared.segment.TheConstants.{SEGMENT_LIMIT};
 ghost use Rattle.object_modules.specs.Text.{runs_from};
 ghost use Rattle.object_modules.specs.internal.Joining.{run_at, with_run};
-ghost use Rattle.asm8080.specs.Assembled.{segment_of, set_bytes};
-ghost use Rattle.codegen8080.specs.internal.Segments.{retarget, with_targets};
+ghost use Rattle.asm8080.specs.Assembled.{set_bytes};
+ghost use Rattle.codegen8080.specs.internal.Segments.{IsKept, KeepsFixes};
 
 use crate::targets::retargeted;
 use asm8080::CodeBytes;
@@ -59,7 +59,16 @@ fn add_byte(alloc: Global, runs: &mut Vec<Run>, offset: u16, byte: u8) -> Result
     add_run(runs, Run::new(offset, bytes))
 }
 
+// How many bytes there are.
+fn count_of(bytes: &[u8]) -> usize
+    ensures count { result ≡ length bytes.now }
+    ensures bytes { All (λ byte. byte < 256) bytes.now }
+{
+    bytes.len()
+}
+
 // The longest runs of bytes that are set.
+#[tactic(auto, using(crate::proofs::KeptSegments::runs_set, crate::proofs::KeptSegments::runs_unset, crate::proofs::KeptSegments::runs_ended))]
 fn runs_of(alloc: Global, bytes: &[u8], is_set: &[bool]) -> Result<Vec<Run>, AllocError>
     requires { length bytes.now ≤ SEGMENT_LIMIT }
     ensures { IfOk result (λ runs. runs.items ≡ runs_from 0 (set_bytes bytes.now is_set.now)) }
@@ -81,10 +90,10 @@ pub(crate) fn segment_of(
     numbers: &[u16],
     count: usize,
 ) -> Result<SegmentBytes, AllocError>
-    ensures { IfOk result (λ made.
-        made ≡ segment_of (with_targets (retarget numbers.now count) code)) }
+    requires { KeepsFixes code }
+    ensures { IfOk result (λ made. IsKept count made) }
 {
-    let size = code.bytes().len();
+    let size = count_of(code.bytes());
     let runs = runs_of(alloc, code.bytes(), code.is_set())?;
     let fixes = retargeted(alloc, code.fixes(), numbers, count)?;
     Ok(SegmentBytes::new(size as u16, Alignment::Byte, runs, fixes))

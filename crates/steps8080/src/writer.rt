@@ -1,6 +1,6 @@
 //! Code with numbered labels and the names of other modules.
 
-ghost use Rattle.std.specs.Prelude.{IfOk};
+ghost use Rattle.std.specs.Prelude.{◌≡◌, IfOk};
 ghost use Rattle.asm8080.specs.Assembled.{Assembles};
 ghost use Rattle.steps8080.specs.internal.Labels.{Follows};
 
@@ -27,7 +27,6 @@ pub struct Writer {
 }
 
 impl Model for Writer {
-    ghost use Rattle.asm8080.specs.Assembled.{Assembles};
     ghost use Rattle.asm8080.specs.Items.{Assembly};
     ghost use Rattle.steps8080.specs.internal.Labels.{Follows};
 

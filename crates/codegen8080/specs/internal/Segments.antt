@@ -2,11 +2,11 @@
 use Rattle.std.specs.Prelude.{ℕ, ◌&&◌, if◌then◌else◌, IsTrue, nat_lt, List, map, slice_get, Option, Some, None}
 use Rattle.std.specs.List.{list_all}
 use Rattle.object_modules.specs.declared.segment.Fix.{Fix}
-use Rattle.object_modules.specs.declared.segment.Segment.TheVariants.{Absolute, Code}
+use Rattle.object_modules.specs.declared.segment.Segment.TheVariants.{Absolute, Code, Data}
 use Rattle.object_modules.specs.declared.segment.Target.{Target}
 use Rattle.object_modules.specs.declared.segment.Target.TheVariants.{InSegment, External}
-use Rattle.object_modules.specs.Module.{words_are_whole}
-use Rattle.object_modules.specs.Stored.{is_in_a_run}
+use Rattle.object_modules.specs.Module.{is_valid_segment, words_are_whole}
+use Rattle.object_modules.specs.Stored.{IsStored, StoredSegment, is_in_a_run, places_stored}
 use Rattle.asm8080.specs.Assembled.{Assembled, places_of, segment_of}
 
 -- each fix of code is one of bytes that are set, and none begins at the second byte of a word
@@ -33,3 +33,10 @@ retargeted to fix = record { kind = fix.kind; target = to fix.target; offset = f
 -- code whose fixes have other targets
 abbrev pub with_targets : (Target → Target) → Assembled → Assembled
 with_targets to code = record code { fixes = map (retargeted to) code.fixes }
+
+-- a segment that a module with so many external names may have, as its code and as its data
+pub record IsKept (count : ℕ) (segment : StoredSegment) : Type 0 where
+  pub as_code : IsStored Code segment
+  pub as_data : IsStored Data segment
+  pub valid_code : IsTrue (is_valid_segment count (places_stored Code segment))
+  pub valid_data : IsTrue (is_valid_segment count (places_stored Data segment))

@@ -1,5 +1,5 @@
 use Rattle.symbols.proofs.Keys.{same_keys}
-use Rattle.codegen8080.proofs.names.NameSet.contains.Goals as goal
+use Rattle.codegen8080.proofs.linkage.NameSet.contains.Goals as goal
 
 pub returns : goal.returns
 returns c = rw (← c.self.view_is, ← same_keys) c.contains.ensures

@@ -1,0 +1,267 @@
+-- Code as a segment of an object module, with other targets of its fixes.
+use Rattle.std.proofs.Common.{◌≡◌, ℕ, suc, ◌+◌, ◌<◌, ◌≤◌, Bool, true, false, cond, not, ◌==◌, ◌&&◌, ◌||◌, nat_lt, nat_le, List, [], ◌∷◌, ◌++◌, length, map, find, take, Option, Some, None, option_map, slice_get, slice_index, slice_index_or, zero, if◌then◌else◌, refl, sym, ap, ◌∙◌, arith}
+use Rattle.std.specs.Prelude.{All, IsTrue}
+use Rattle.std.specs.List.{list_all, range_with_len}
+use Rattle.std.specs.Option.{option_map_or, option_flatten}
+use Rattle.std.proofs.lemmas.Bool.{le-leb}
+use Rattle.object_modules.specs.declared.segment.Fix.{Fix}
+use Rattle.object_modules.specs.declared.segment.FixKind.{FixKind}
+use Rattle.object_modules.specs.declared.segment.Segment.{Segment}
+use Rattle.object_modules.specs.declared.segment.Segment.TheVariants.{Absolute, Code, Data, Stack}
+use Rattle.object_modules.specs.declared.segment.Target.{Target}
+use Rattle.object_modules.specs.declared.segment.Target.TheVariants.{InSegment, External}
+use Rattle.object_modules.specs.declared.segment.TheConstants.{SEGMENT_LIMIT}
+use Rattle.object_modules.specs.Before.{same_segment}
+use Rattle.object_modules.specs.Module.{Fixup, SetByte, begins_word, is_both, is_plain, is_target, is_valid_segment, words_are_whole}
+use Rattle.object_modules.specs.Runs.{fixup_at}
+use Rattle.object_modules.specs.Rules.{fix_end}
+use Rattle.object_modules.specs.Spelling.{set_in}
+use Rattle.object_modules.specs.Stored.{IsStored, are_longest, fixes_ascend, is_in_a_run, places_stored}
+use Rattle.object_modules.specs.Text.{Run, runs_from}
+use Rattle.object_modules.specs.internal.Joining.{run_at, with_run, with_runs}
+use Rattle.object_modules.proofs.StoredRuns.{content_with, found, found_is, same_over}
+use Rattle.object_merges.proofs.RunsJoined.{runs_append}
+use Rattle.asm8080.specs.Assembled.{Assembled, Assembles, FitsSegment, fixed_bytes, places_of, segment_of, set_bytes}
+use Rattle.asm8080.specs.Items.{Assembly}
+use Rattle.asm8080.proofs.Segments.{and_true, places_length, run_places, runs_longest, set_length, set_well, valid_bytes}
+use Rattle.codegen8080.specs.internal.Segments.{IsKept, KeepsFixes, listed_target, retarget, retargeted, with_targets}
+
+-- what was assembled keeps its fixes
+pub assembled_keeps : (assembly : Assembly) (code : Assembled) → Assembles assembly code → KeepsFixes code
+assembled_keeps assembly code is = record { filled = is.filled; whole = is.whole }
+
+-- Other targets change neither the order of fixes nor the runs that they are in.
+module _ (to : Target → Target) where
+  ascend_still : (fixes : List Fix) → fixes_ascend (map (retargeted to) fixes) ≡ fixes_ascend fixes
+  ascend_still [] = refl
+  ascend_still (fix ∷ []) = refl
+  ascend_still (fix ∷ next ∷ others) = ap (λ b. nat_le (fix_end fix) next.offset && b) (ascend_still (next ∷ others))
+
+  filled_still :
+      (segment : Segment) (runs : List (Run ℕ)) (fixes : List Fix)
+      → list_all (is_in_a_run segment runs) (map (retargeted to) fixes) ≡ list_all (is_in_a_run segment runs) fixes
+  filled_still segment runs [] = refl
+  filled_still segment runs (fix ∷ others) =
+      ap (λ b. is_in_a_run segment runs fix && b) (filled_still segment runs others)
+
+  -- the kind of the fix at a place stays
+  kind_still :
+      (test : FixKind → Bool) (or : Bool) (fixes : List Fix) (x : ℕ)
+      → option_map_or (λ (fixup : Fixup). test fixup.kind) (fixup_at (map (retargeted to) fixes) x) or
+      ≡ option_map_or (λ (fixup : Fixup). test fixup.kind) (fixup_at fixes x) or
+  kind_still test or [] x = refl
+  kind_still test or (fix ∷ others) x = go (fix.offset == x) (kind_still test or others x)
+    where
+      shown : Option Fix → Bool
+      shown found =
+          option_map_or (λ (fixup : Fixup). test fixup.kind)
+          (option_map (λ (fix : Fix). record { kind = fix.kind; target = fix.target }) found) or
+
+      go :
+          (here : Bool)
+          → shown (find (λ (other : Fix). other.offset == x) (map (retargeted to) others))
+          ≡ shown (find (λ (other : Fix). other.offset == x) others)
+          → shown (cond here (Some (retargeted to fix)) (find (λ (other : Fix). other.offset == x) (map (retargeted to) others)))
+          ≡ shown (cond here (Some fix) (find (λ (other : Fix). other.offset == x) others))
+      go true later = refl
+      go false later = later
+
+  plain_still :
+      (fixes : List Fix) (offset : ℕ) (bytes : List (Option ℕ))
+      → is_plain (option_flatten (slice_get (fixed_bytes (map (retargeted to) fixes) offset bytes) 0))
+      ≡ is_plain (option_flatten (slice_get (fixed_bytes fixes offset bytes) 0))
+  plain_still fixes offset [] = refl
+  plain_still fixes offset (None ∷ others) = refl
+  plain_still fixes offset (Some value ∷ others) = kind_still (λ kind. false) true fixes offset
+
+  whole_still :
+      (fixes : List Fix) (offset : ℕ) (bytes : List (Option ℕ))
+      → words_are_whole (fixed_bytes (map (retargeted to) fixes) offset bytes)
+      ≡ words_are_whole (fixed_bytes fixes offset bytes)
+  whole_still fixes offset [] = refl
+  whole_still fixes offset (None ∷ others) = whole_still fixes (offset + 1) others
+  whole_still fixes offset (Some value ∷ others) =
+      ap (λ b. (not b || is_plain (option_flatten (slice_get (fixed_bytes (map (retargeted to) fixes) (offset + 1) others) 0)))
+      && words_are_whole (fixed_bytes (map (retargeted to) fixes) (offset + 1) others))
+      (kind_still is_both false fixes offset)
+      ∙ ap (λ b. (not (begins_word (Some (record { value = value; fixup = fixup_at fixes offset }))) || b)
+      && words_are_whole (fixed_bytes (map (retargeted to) fixes) (offset + 1) others))
+      (plain_still fixes (offset + 1) others)
+      ∙ ap (λ b. (not (begins_word (Some (record { value = value; fixup = fixup_at fixes offset })))
+      || is_plain (option_flatten (slice_get (fixed_bytes fixes (offset + 1) others) 0))) && b)
+      (whole_still fixes (offset + 1) others)
+
+-- Each target is one that a module with so many external names may have.
+listed_valid : (count : ℕ) (number : Option ℕ) → is_target count (listed_target count number) ≡ true
+listed_valid count None = refl
+listed_valid count (Some number) = go (nat_lt number count && nat_lt number 65536) refl
+  where
+    go :
+        (b : Bool) → (nat_lt number count && nat_lt number 65536) ≡ b
+        → is_target count (cond b (External number) (InSegment Code)) ≡ true
+    go true e = e
+    go false e = refl
+
+target_valid :
+    (numbers : List ℕ) (count : ℕ) (target : Target) → is_target count (retarget numbers count target) ≡ true
+target_valid numbers count (External number) = listed_valid count (slice_get numbers number)
+target_valid numbers count (InSegment Absolute) = refl
+target_valid numbers count (InSegment Code) = refl
+target_valid numbers count (InSegment Data) = refl
+target_valid numbers count (InSegment Stack) = refl
+
+targets_valid :
+    (numbers : List ℕ) (count : ℕ) (fixes : List Fix)
+    → list_all (λ (fix : Fix). is_target count fix.target) (map (retargeted (retarget numbers count)) fixes) ≡ true
+targets_valid numbers count [] = refl
+targets_valid numbers count (fix ∷ others) =
+    and_true (is_target count (retarget numbers count fix.target))
+    (list_all (λ (fix : Fix). is_target count fix.target) (map (retargeted (retarget numbers count)) others))
+    (target_valid numbers count fix.target) (targets_valid numbers count others)
+
+-- the places of a segment that is kept are those of its code
+places_in :
+    (segment : Segment) (code : Assembled) → same_segment segment segment ≡ true
+    → (places_stored segment (segment_of code)).places ≡ places_of code
+places_in segment code same =
+    let bytes : List (Option ℕ) = set_bytes code.bytes code.is_set in
+    let runs : List (Run ℕ) = runs_from 0 bytes in
+    same_over (set_in (map (content_with segment code.fixes) runs) segment) (found code.fixes runs) 0 (length code.bytes)
+    (λ x le. found_is segment code.fixes runs x same)
+    ∙ ap (λ n. map (found code.fixes runs) (range_with_len 0 n)) (sym (set_length code.bytes code.is_set))
+    ∙ run_places code.fixes 0 bytes
+
+-- The segment that code is with other targets is kept, and a module may have it.
+module _ (numbers : List ℕ) (count : ℕ) (code : Assembled) (fits : FitsSegment code) (keeps : KeepsFixes code) where
+  abbrev moved : Assembled
+  moved = with_targets (retarget numbers count) code
+
+  longest : IsTrue (are_longest (length code.bytes) (runs_from 0 (set_bytes code.bytes code.is_set)))
+  longest =
+      runs_longest (length code.bytes) 0 (set_bytes code.bytes code.is_set)
+      (omega (arith, set_length code.bytes code.is_set))
+
+  pub stored_code : IsStored Code (segment_of (with_targets (retarget numbers count) code))
+  stored_code = record {
+    runs = longest;
+    ascending = ascend_still (retarget numbers count) code.fixes ∙ fits.ascending;
+    fixes =
+        filled_still (retarget numbers count) Code (runs_from 0 (set_bytes code.bytes code.is_set)) code.fixes
+        ∙ keeps.filled;
+  }
+
+  pub stored_data : IsStored Data (segment_of (with_targets (retarget numbers count) code))
+  stored_data = record {
+    runs = longest;
+    ascending = ascend_still (retarget numbers count) code.fixes ∙ fits.ascending;
+    fixes =
+        filled_still (retarget numbers count) Data (runs_from 0 (set_bytes code.bytes code.is_set)) code.fixes
+        ∙ keeps.filled;
+  }
+
+  module _ (small : All (λ byte. byte < 256) code.bytes) where
+    valid_places : (places : List (Option SetByte)) → places ≡ places_of (with_targets (retarget numbers count) code)
+        → (((nat_le (length places) SEGMENT_LIMIT && set_well count places) && words_are_whole places) && true) ≡ true
+    valid_places places is =
+        let size : length (places_of moved) ≡ length code.bytes
+        = places_length moved.fixes 0 (set_bytes code.bytes code.is_set) ∙ set_length code.bytes code.is_set in
+        ap (λ places. ((nat_le (length places) SEGMENT_LIMIT && set_well count places) && words_are_whole places) && true) is
+        ∙ and_true
+        ((nat_le (length (places_of moved)) SEGMENT_LIMIT && set_well count (places_of moved))
+        && words_are_whole (places_of moved))
+        true
+        (and_true (nat_le (length (places_of moved)) SEGMENT_LIMIT && set_well count (places_of moved))
+        (words_are_whole (places_of moved))
+        (and_true (nat_le (length (places_of moved)) SEGMENT_LIMIT) (set_well count (places_of moved))
+        (le-leb (length (places_of moved)) SEGMENT_LIMIT (omega (arith, fits.few, size)))
+        (valid_bytes count moved.fixes 0 code.bytes code.is_set small (targets_valid numbers count code.fixes)))
+        (whole_still (retarget numbers count) code.fixes 0 (set_bytes code.bytes code.is_set) ∙ keeps.whole))
+        refl
+
+    pub valid_code :
+        is_valid_segment count (places_stored Code (segment_of (with_targets (retarget numbers count) code))) ≡ true
+    valid_code = valid_places _ (places_in Code moved refl)
+
+    pub valid_data :
+        is_valid_segment count (places_stored Data (segment_of (with_targets (retarget numbers count) code))) ≡ true
+    valid_data = valid_places _ (places_in Data moved refl)
+
+    pub kept : IsKept count (segment_of (with_targets (retarget numbers count) code))
+    kept = record {
+      as_code = stored_code;
+      as_data = stored_data;
+      valid_code = valid_code;
+      valid_data = valid_data;
+    }
+
+-- The runs of bytes that are set, byte by byte.
+set_at : (bytes : List ℕ) (flags : List Bool) (i : ℕ) → i < length bytes
+    → slice_get (set_bytes bytes flags) i
+    ≡ Some (if slice_index_or flags i false then Some (slice_index bytes i) else None)
+set_at [] flags i h = elim h [ ]
+set_at (byte ∷ others) [] zero h = refl
+set_at (byte ∷ others) (here ∷ later) zero h = refl
+set_at (byte ∷ others) [] (suc i) h = set_at others [] i (omega (arith, h))
+set_at (byte ∷ others) (here ∷ later) (suc i) h = set_at others later i (omega (arith, h))
+
+some_same : {A : Type 0} (a b : A) → Some a ≡ Some b → a ≡ b
+some_same a b h = cc
+
+take_more : {A : Type 0} (items : List A) (i : ℕ) (item : A) → slice_get items i ≡ Some item
+    → take (suc i) items ≡ take i items ++ item ∷ []
+take_more [] i item h = cc
+take_more {A = A} (first ∷ others) zero item h = ap (λ (found : A). found ∷ []) (some_same first item h)
+take_more {A = A} (first ∷ others) (suc i) item h = ap (λ (rest : List A). first ∷ rest) (take_more others i item h)
+
+take_length : {A : Type 0} (items : List A) (i : ℕ) → i ≤ length items → length (take i items) ≡ i
+take_length [] zero h = refl
+take_length [] (suc i) h = elim h [ ]
+take_length (first ∷ others) zero h = refl
+take_length (first ∷ others) (suc i) h = ap (λ n. suc n) (take_length others i (omega (arith, h)))
+
+pub runs_begun : (bytes : List ℕ) (flags : List Bool) → [] ≡ runs_from 0 (take 0 (set_bytes bytes flags))
+runs_begun [] flags = refl
+runs_begun (byte ∷ others) [] = refl
+runs_begun (byte ∷ others) (here ∷ later) = refl
+
+runs_next :
+    (places : List (Option ℕ)) (i : ℕ) (place : Option ℕ) → i < length places → slice_get places i ≡ Some place
+    → runs_from 0 (take (i + 1) places) ≡ with_runs (runs_from 0 (take i places)) (runs_from i (place ∷ []))
+runs_next places i place h is =
+    let more : i + 1 ≡ suc i = omega arith in
+    let taken : length (take i places) ≡ i = take_length places i (omega (arith, h)) in
+    let size : 0 + length (take i places) ≡ i = omega (arith, taken) in
+    ap (λ n. runs_from 0 (take n places)) more
+    ∙ ap (λ items. runs_from 0 items) (take_more places i place is)
+    ∙ runs_append 0 (take i places) (place ∷ [])
+    ∙ ap (λ n. with_runs (runs_from 0 (take i places)) (runs_from n (place ∷ []))) size
+
+-- a byte that is set makes the runs longer
+pub runs_set :
+    (bytes : List ℕ) (flags : List Bool) (i : ℕ) → i < length bytes → slice_index_or flags i false ≡ true
+    → with_run (runs_from 0 (take i (set_bytes bytes flags))) (run_at i (slice_index bytes i ∷ []))
+    ≡ runs_from 0 (take (i + 1) (set_bytes bytes flags))
+runs_set bytes flags i h set =
+    sym (runs_next (set_bytes bytes flags) i (Some (slice_index bytes i)) (omega (arith, h, set_length bytes flags))
+    (set_at bytes flags i h ∙ ap (λ b. Some (if b then Some (slice_index bytes i) else None)) set))
+
+-- and one that is not set does not
+pub runs_unset :
+    (bytes : List ℕ) (flags : List Bool) (i : ℕ) → i < length bytes → slice_index_or flags i false ≡ false
+    → runs_from 0 (take i (set_bytes bytes flags)) ≡ runs_from 0 (take (i + 1) (set_bytes bytes flags))
+runs_unset bytes flags i h unset =
+    sym (runs_next (set_bytes bytes flags) i None (omega (arith, h, set_length bytes flags))
+    (set_at bytes flags i h ∙ ap (λ b. Some (if b then Some (slice_index bytes i) else None)) unset))
+
+take_all : {A : Type 0} (items : List A) (i : ℕ) → length items ≤ i → take i items ≡ items
+take_all [] zero h = refl
+take_all [] (suc i) h = refl
+take_all (first ∷ others) zero h = elim h [ ]
+take_all (first ∷ others) (suc i) h = ap (λ rest. first ∷ rest) (take_all others i (omega (arith, h)))
+
+pub runs_ended :
+    (bytes : List ℕ) (flags : List Bool) (i : ℕ) → length bytes ≤ i
+    → runs_from 0 (take i (set_bytes bytes flags)) ≡ runs_from 0 (set_bytes bytes flags)
+runs_ended bytes flags i h =
+    ap (λ items. runs_from 0 items)
+    (take_all (set_bytes bytes flags) i (omega (arith, h, set_length bytes flags)))

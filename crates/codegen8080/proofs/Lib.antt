@@ -1,0 +1,3 @@
+pub mod KeptParts
+pub mod KeptSegments
+pub mod NewNames

@@ -1,0 +1,186 @@
+//! The names by which modules know each other, none of them twice.
+
+ghost use Rattle.std.specs.Prelude.{◌≡◌, [], length, map, IfOk, IsTrue, OnOk};
+ghost use Rattle.std.specs.Str.{bytes_eq};
+ghost use Rattle.indexmap.specs.IndexSet.{insert_key};
+ghost use Rattle.symbols.specs.Names.{is_name};
+ghost use Rattle.object_modules.specs.Module.{is_among, may_have_publics};
+ghost use Rattle.object_modules.specs.Views.{owned_public_view};
+
+use indexmap::IndexSet;
+use object_modules::{Name, OwnedPublic};
+use std::alloc::{AllocError, Global};
+use std::marker::Model;
+
+// Names, each of them once, in the order in which they came.
+struct NameSet {
+    names: IndexSet<Name>,
+}
+
+impl Model for NameSet {
+    ghost use Rattle.std.specs.Prelude.{ℕ, List};
+
+    ghost Value = { List (List ℕ) };
+
+    ghost view = { λ set. set.names.keys };
+}
+
+impl NameSet {
+    // No names.
+    fn new(alloc: Global) -> NameSet
+        ensures { result ≡ [] }
+    {
+        NameSet {
+            names: IndexSet::new(alloc),
+        }
+    }
+
+    // Whether a name is among them.
+    fn contains(&self, name: Name) -> bool
+        ensures { result ≡ is_among name self.now }
+    {
+        self.names.contains(&name)
+    }
+
+    // One more name.
+    fn insert(&mut self, name: Name) -> Result<(), AllocError>
+        ensures { OnOk result (self.new ≡ insert_key bytes_eq self.old name) }
+    {
+        self.names.insert(name)?;
+        Ok(())
+    }
+}
+
+/// A name, which is valid.
+pub(crate) fn valid(name: Name) -> Name
+    ensures same { result ≡ name }
+    ensures valid { IsTrue (is_name result) }
+{
+    let _ = name.as_slice();
+    name
+}
+
+/// The EXTERNAL names that a module refers to, and its PUBLIC names, both in the order of the text. A name that is there
+/// already is not taken: there is none in what `lower` gives.
+pub(crate) struct LinkageNames {
+    known: NameSet,
+    externals: Vec<Name>,
+    publics: Vec<OwnedPublic>,
+}
+
+impl Model for LinkageNames {
+    ghost use Rattle.std.specs.Prelude.{◌≡◌, map};
+    ghost use Rattle.object_modules.specs.Views.{owned_public_view};
+    ghost use Rattle.codegen8080.specs.internal.Names.{IsLinkage, Linkage, names_of};
+
+    ghost Value = { Linkage };
+
+    ghost view = { λ names. record {
+      externals = names.externals.items;
+      publics = map owned_public_view names.publics.items;
+    } };
+
+    ghost invariant = { λ names. let linkage : Linkage = record {
+      externals = names.externals.items;
+      publics = map owned_public_view names.publics.items;
+    } in record {
+      known : names.known ≡ names_of linkage;
+      is : IsLinkage linkage;
+    } };
+}
+
+impl LinkageNames {
+    /// No names.
+    pub(crate) fn new(alloc: Global) -> LinkageNames
+        ensures { result ≡ record { externals = []; publics = [] } }
+    {
+        LinkageNames {
+            known: NameSet::new(alloc),
+            externals: Vec::new(alloc),
+            publics: Vec::new(alloc),
+        }
+    }
+
+    /// How many EXTERNAL names there are.
+    pub(crate) fn external_count(&self) -> usize
+        ensures { result ≡ length self.now.externals }
+    {
+        self.externals.len()
+    }
+
+    /// One more EXTERNAL name, where there is no PUBLIC one yet.
+    pub(crate) fn with_external(self, name: Name) -> Result<LinkageNames, AllocError>
+        requires { self.publics ≡ [] }
+        ensures { IfOk result (λ names. names.publics ≡ []) }
+    {
+        let name = valid(name);
+        if self.known.contains(name) {
+            return Ok(self);
+        }
+        let LinkageNames {
+            mut known,
+            mut externals,
+            publics,
+        } = self;
+        known.insert(name)?;
+        externals.push(name)?;
+        Ok(LinkageNames {
+            known,
+            externals,
+            publics,
+        })
+    }
+
+    /// One more PUBLIC name.
+    pub(crate) fn with_public(self, public: OwnedPublic) -> Result<LinkageNames, AllocError>
+        requires { IsTrue (may_have_publics public.segment) }
+        ensures { IfOk result (λ names. names.externals ≡ self.externals) }
+    {
+        let name = valid(public.name);
+        if self.known.contains(name) {
+            return Ok(self);
+        }
+        let LinkageNames {
+            mut known,
+            externals,
+            mut publics,
+        } = self;
+        known.insert(name)?;
+        publics.push(public)?;
+        Ok(LinkageNames {
+            known,
+            externals,
+            publics,
+        })
+    }
+
+    /// The EXTERNAL names and the PUBLIC ones.
+    pub(crate) fn into_parts(self) -> (Vec<Name>, Vec<OwnedPublic>)
+        ensures externals { result.0.items ≡ self.externals }
+        ensures publics { map owned_public_view result.1.items ≡ self.publics }
+    {
+        let LinkageNames {
+            known: _,
+            externals,
+            publics,
+        } = self;
+        (externals, publics)
+    }
+}
+
+// Written out, so that what these hold is let go here.
+impl Drop for NameSet {
+    fn drop(self) {
+        let NameSet { names: _ } = self;
+    }
+}
+
+impl Drop for LinkageNames {
+    fn drop(self) {
+        let LinkageNames {
+            known: _,
+            externals: _,
+            publics: _,
+        } = self;
+    }
+}
