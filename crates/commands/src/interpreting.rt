@@ -38,6 +38,7 @@ pub(crate) fn interpret_sources<O: Write, E: Write>(
 }
 
 // Interprets a program from a memory of zeros.
+#[tactic(auto, using(crate::proofs::Interpreted::has_table, crate::proofs::Interpreted::are_sound))]
 fn interpret_program<O: Write, E: Write>(
     alloc: Global,
     order: &ProgramOrder,

@@ -1,0 +1,19 @@
+-- What the interpreter asks of a program that was built.
+use Rattle.std.proofs.Common.{◌≡◌, All}
+use Rattle.typed_trees.specs.Jumps.{JumpsAreSound}
+use Rattle.layout.specs.Placement.{pieces_of}
+use Rattle.join.specs.declared.joined.Joined.{Joined}
+use Rattle.placing.specs.declared.placement.Placement.{Placement}
+use Rattle.placing.specs.Tables.{IsTableOf}
+use Rattle.placing.specs.Views.{placement_view}
+use Rattle.program_sources.specs.Programs.{program_modules}
+use Rattle.tool.specs.Construction.{Construction, IsConstruction}
+
+-- the table of the placement is of the program
+pub has_table : (built : Construction) (joined : Joined) (placement : Placement) → IsConstruction built → joined ≡ built.program → placement_view placement ≡ built.placement → placement.kinds.value ≡ built.kinds
+    → IsTableOf (pieces_of (program_modules joined) (placement_view placement)) placement.kinds.value
+has_table built joined placement is same at kinds = rw (same, at, kinds) is.table
+
+-- its jumps go to labels that are known
+pub are_sound : (built : Construction) (joined : Joined) → IsConstruction built → joined ≡ built.program → All JumpsAreSound (program_modules joined)
+are_sound built joined is same = rw same is.jumps
