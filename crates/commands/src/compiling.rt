@@ -25,10 +25,10 @@ pub(crate) fn compile_file<F: Files, E: Write>(
     err: &mut E,
 ) -> Ending
     ensures others { KeepsOthers (F.files files.old) (F.files files.new) order.now.object.now }
-    ensures compiled { result ≡ Ending.Done → CompilesFile (F.files files.old) (F.files files.new)
-        order.now.source.now order.now.object.now }
-    ensures refused { (result ≡ Ending.Done → ⊥) → StopsCompiling (F.files files.old) (F.files files.new)
-        order.now.source.now order.now.object.now }
+    ensures compiled { result ≡ Ending.Done
+        → CompilesFile (F.files files.old) (F.files files.new) order.now.source.now order.now.object.now }
+    ensures refused { (result ≡ Ending.Done → ⊥)
+        → StopsCompiling (F.files files.old) (F.files files.new) order.now.source.now order.now.object.now }
     ensures ending { (result ≡ Ending.Done) ⊎ (result ≡ Ending.Refused) }
     ensures told { result ≡ Ending.Refused → TellsRefusal (F.files files.old)
         (order.now.source.now ∷ order.now.object.now ∷ [])

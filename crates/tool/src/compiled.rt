@@ -69,7 +69,8 @@ pub fn compile_all(
 // Reads a source.
 fn read(alloc: Global, file: usize, text: &[u8]) -> Result<SourceModule, Failure<ToolFault>>
     ensures source { IfOk result (λ read. IsSourceOf text.now (module_view read.typed)) }
-    ensures storage { IfOk result (λ read. layout_view read.storage ≡ storage_with (module_view read.typed)) }
+    ensures storage { IfOk result
+        (λ read. layout_view read.storage ≡ storage_with (module_view read.typed)) }
     ensures storable { IfOk result (λ read. IsStorable (module_view read.typed)) }
     ensures jumps { IfOk result (λ read. JumpsAreSound (module_view read.typed)) }
     ensures refused { IfFault result (HasSourceCause file text.now) }
