@@ -23,9 +23,9 @@ fn procedure(
     variables: &[FrameVariable],
 ) -> Result<TreeProcedure, Fail> {
     let mut procedure = TreeProcedure::new(alloc, ProcedureKind::Reentrant, None);
-    let mut index = scalars.len() as u16;
+    let mut index = u16::try_from(scalars.len()).unwrap_or(u16::MAX);
     for scalar in scalars.iter().rev() {
-        index -= 1;
+        index = index.saturating_sub(1);
         let size = match scalar {
             ScalarType::Byte => 1,
             ScalarType::Address => 2,
@@ -37,7 +37,7 @@ fn procedure(
     }
     for (number, scalar) in scalars.iter().enumerate() {
         let location = Location::Frame {
-            variable: number as u16,
+            variable: u16::try_from(number).unwrap_or(u16::MAX),
             offset: 0,
         };
         procedure.parameters.push(Parameter {
@@ -47,7 +47,7 @@ fn procedure(
     }
     for variable in variables {
         procedure.frame.push(*variable)?;
-        procedure.frame_bytes += variable.size as u32;
+        procedure.frame_bytes = procedure.frame_bytes.saturating_add(variable.size as u32);
     }
     Ok(procedure)
 }
