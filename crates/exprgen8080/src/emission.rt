@@ -199,6 +199,19 @@ impl Emission {
     }
 }
 
+/// Takes code over and hands it back with the code of one expression or location of the tree code added: the value comes into A or HL,
+/// or its address into HL, or it is stored, or code jumps by it, as the task of the part says. A refusal drops the code.
+pub fn emit_expression(
+    code: Emission,
+    tree: &TreeModule,
+    frame: &FramePlan,
+    part: Part,
+) -> Result<Emission, AllocError> {
+    let mut code = code;
+    code.emit(tree, frame, part)?;
+    Ok(code)
+}
+
 /// The label of a routine, by its place among `ROUTINES`.
 pub fn routine_label(tree: &TreeModule, index: u32) -> LabelNumber {
     let procedures = u32::try_from(tree.procedures.len()).unwrap_or(u32::MAX);

@@ -12,6 +12,6 @@ mod word_operators;
 mod word_shifts;
 mod words;
 
-pub use emission::{Emission, ROUTINES, routine_label};
+pub use emission::{Emission, ROUTINES, emit_expression, routine_label};
 pub use sites8080::{Base, Located, Site, reference_after};
 pub use steps8080::{Externals, Facts, Finished, LabelNumber, Part, Step, Steps, Task, Writer};
