@@ -65,6 +65,8 @@ impl Ports for Devices {
 
     ghost failures = { λ devices. devices.failed };
 
+    fn hold_bytes(&self) {}
+
     #[tactic(auto, using(crate::proofs::DevicesLemmas::counter))]
     fn input(&mut self, port: u8) -> Result<u8, PortFault> {
         let value = if port == COUNTER { self.count } else { 255 };

@@ -3,7 +3,7 @@
 ghost use Rattle.std.specs.Prelude.{◌≡◌, ℕ, List, IfOk, OnOk, OnErr};
 ghost use Rattle.ports.specs.declared.event.Event.{Event};
 ghost use Rattle.ports.specs.Events.{read_event, write_event, AddsEvent, CountsFailure};
-ghost use Rattle.ports.specs.Input.{input_value};
+ghost use Rattle.ports.specs.Input.{IsScript, input_value};
 
 use thiserror::Error;
 
@@ -32,6 +32,10 @@ pub trait Ports {
     ghost events: { Self → List Event };
 
     ghost failures: { Self → ℕ };
+
+    /// Says that each queue of the script holds bytes. Does nothing.
+    fn hold_bytes(&self)
+        ensures { IsScript (script self.now) };
 
     /// Reads a port: byte k of its queue after k reads of it, or 255 past the end of the queue. An `Ok` adds
     /// one event, and an `Err` one failure and no event.

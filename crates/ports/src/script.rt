@@ -3,7 +3,7 @@
 ghost use Rattle.std.specs.Prelude.{◌≡◌, ℕ, ◌<◌, [], length, slice_index, slice_index_or, IfOk, OnOk, OnErr};
 ghost use Rattle.ports.specs.declared.script.TheConstants.{PORTS};
 ghost use Rattle.ports.specs.Events.{AddsEvent, CountsFailure};
-ghost use Rattle.ports.specs.Input.{AddsByte, input_value};
+ghost use Rattle.ports.specs.Input.{AddsByte, IsScript, input_value};
 ghost use Rattle.ports.specs.internal.Queues.{bytes_of, AreEmpty};
 
 use crate::event::{Event, PortFault, Ports};
@@ -72,7 +72,8 @@ impl Script {
 
     /// The events so far, the first one first.
     pub fn events(&self) -> &[Event]
-        ensures { result.now ≡ self.now.events }
+        ensures events { result.now ≡ self.now.events }
+        ensures bytes { IsScript self.now.script }
     {
         self.log.as_slice()
     }
@@ -94,6 +95,10 @@ impl Ports for Script {
     ghost events = { λ s. s.events };
 
     ghost failures = { λ s. s.failures };
+
+    fn hold_bytes(&self) {
+        let _ = self.events();
+    }
 
     #[tactic(auto, using(crate::proofs::ScriptLemmas::counts_read))]
     fn input(&mut self, port: u8) -> Result<u8, PortFault> {

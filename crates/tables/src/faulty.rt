@@ -52,6 +52,10 @@ impl Ports for FaultyPorts {
 
     ghost failures = { λ p. p.failed };
 
+    fn hold_bytes(&self) {
+        self.script.hold_bytes();
+    }
+
     fn input(&mut self, port: u8) -> Result<u8, PortFault> {
         if self.good_reads == 0 && self.failed == 0 {
             self.count_failure();

@@ -1,7 +1,6 @@
 //! Runs of built programs.
 
 ghost use Rattle.std.specs.Prelude.{◌≡◌, All};
-ghost use Rattle.ports.specs.Input.{IsScript};
 ghost use Rattle.meaning.specs.Run.{NeverOutside};
 ghost use Rattle.cpu8080.specs.Runs.{IsRun};
 ghost use Rattle.program_sources.specs.Programs.{program_modules};
@@ -23,11 +22,13 @@ pub fn execute<P: Ports>(built: &Built, memory: Memory, ports: P, limit: u64) ->
     ensures script { result.1.script ≡ P.script ports }
     ensures faithful { let source = source_of built.now memory (P.script ports) (P.events ports) in
         All IsServed (program_modules built.now.program)
-        → IsScript (P.script ports) → NeverOutside source → IsFaithful source result.0 result.1 }
+        → NeverOutside source → IsFaithful source result.0 result.1 }
 {
     let image = built.image();
-    // A look at a byte says that a memory has all of its bytes, which the headline asks for.
+    // A look at a byte says that a memory has all of its bytes, and the ports say that their script holds bytes, which
+    // the headline asks for.
     let _ = memory.get(0);
+    ports.hold_bytes();
     let mut memory = memory;
     image.load(&mut memory);
     let mut machine = Machine::new(memory, ports, image.start());
