@@ -7,34 +7,13 @@ use Rattle.std.proofs.lemmas.Bool.Decides.{nat_tests, Decides-and, Decides-ltb}
 use Rattle.mem80.specs.declared.memory.TheConstants.{MEMORY_SIZE}
 use Rattle.mem80.specs.Range.{IsIn}
 use Rattle.typed_trees.specs.TypedTrees.{TypedModule}
-use Rattle.layout.specs.Placement.{Placement, PlacedPiece, IsOneOf, is_constant_piece, pieces_of}
+use Rattle.layout.specs.Placement.{Placement, PlacedPiece, IsOneOf, holds_byte, is_constant_piece, pieces_of}
+use Rattle.layout.proofs.Declared.{Decides-one_of}
 use Rattle.placing.specs.declared.placement.ByteKind.{ByteKind}
 use Rattle.placing.specs.declared.placement.ByteKind.TheVariants.{Undeclared, Writable, Constant}
 use Rattle.placing.specs.Tables.{IsKind, IsTableOf}
-use Rattle.meaning.specs.Access.{holds_byte}
 use Rattle.declared.specs.Access.{is_declared_at, is_constant_at}
 use Rattle.declared.specs.internal.Kinds.{says_declared, says_constant}
-
-Decides-le : (a b : ℕ) → Decides (nat_le a b) (a ≤ b)
-Decides-le a b = (λ is. grind (arith, nat_tests), λ is. grind (arith, nat_tests))
-
-Decides-holds : (address : ℕ) (piece : PlacedPiece) → Decides (holds_byte address piece) (IsIn address piece.range)
-Decides-holds address piece =
-    Decides-and (nat_le piece.range.start address) (nat_lt address (piece.range.start + piece.range.len))
-    (Decides-le piece.range.start address) (Decides-ltb address (piece.range.start + piece.range.len))
-
--- the test of the meaning decides whether one of the pieces has an address
-pub Decides-one_of :
-    (pieces : List PlacedPiece) (address : ℕ)
-    → Decides (list_any (holds_byte address) pieces) (IsOneOf pieces address)
-Decides-one_of pieces address = (
-  λ is.
-      let found = Any-from_list_any (holds_byte address) pieces is in
-      (found.0, found.1, found.2, found.3, (Decides-holds address found.1).0 found.4),
-  λ found.
-      list_any-from_Any (holds_byte address) pieces
-      (found.0, found.1, found.2, found.3, (Decides-holds address found.1).1 found.4),
-)
 
 or_true : (a b : Bool) → b ≡ true → (a || b) ≡ true
 or_true true b is = refl

@@ -1,13 +1,13 @@
 -- What reads and writes of memory give, by what the modules of a program declare where they lie.
 use Rattle.std.specs.Prelude.{ℕ, ◌+◌, ◌*◌, ◌/◌, ◌%◌, Bool, List, map, slice_set, Result, Ok, Err, if◌then◌else◌}
-use Rattle.std.specs.List.{list_any}
 use Rattle.mem80.specs.declared.memory.TheConstants.{MEMORY_SIZE}
 use Rattle.mem80.specs.Memory.{byte_at}
 use Rattle.trees.specs.declared.declaration.ScalarType.{ScalarType}
 use Rattle.trees.specs.declared.declaration.ScalarType.TheVariants.{Byte, Address}
 use Rattle.typed_trees.specs.TypedTrees.{TypedModule}
 use Rattle.typed_trees.specs.Views.{module_view}
-use Rattle.layout.specs.Placement.{Placement, pieces_of, constant_pieces}
+use Rattle.layout.specs.Placement.{Placement, pieces_of}
+use Rattle.layout.specs.Placement as placements
 use Rattle.join.specs.declared.joined.Joined.{Joined}
 use Rattle.join.specs.Views.{modules_of}
 use Rattle.placing.specs.declared.placement.Placement.{Placement as CodePlacement}
@@ -15,7 +15,6 @@ use Rattle.placing.specs.Tables.{IsTableOf}
 use Rattle.placing.specs.Views.{placement_view}
 use Rattle.meaning.specs.declared.reason.Reason.{Reason}
 use Rattle.meaning.specs.declared.reason.Reason.TheVariants.{Byte as UndeclaredByte, Constant}
-use Rattle.meaning.specs.Access.{holds_byte}
 
 -- the modules of a joined program
 abbrev pub modules_in : Joined → List TypedModule
@@ -28,10 +27,10 @@ HasTable joined placement =
 
 -- whether something that modules declare has an address, and whether a constant has it
 unfoldable pub is_declared_at : List TypedModule → Placement → (address : ℕ) → Bool
-is_declared_at modules placement address = list_any (holds_byte address) (pieces_of modules placement)
+is_declared_at modules placement address = placements.is_declared modules placement address
 
 unfoldable pub is_constant_at : List TypedModule → Placement → (address : ℕ) → Bool
-is_constant_at modules placement address = list_any (holds_byte address) (constant_pieces modules placement)
+is_constant_at modules placement address = placements.is_constant modules placement address
 
 -- what a read of a byte answers: a byte that is read is declared
 abbrev pub byte_read : List TypedModule → Placement → (memory : List ℕ) → (address : ℕ) → Result ℕ Reason

@@ -1,7 +1,9 @@
 -- Where a joined program lies in memory.
-use Rattle.std.specs.Prelude.{ℕ, ◌+◌, ◌%◌, ◌≤◌, Bool, true, false, List, ◌++◌, length, map, filter_map, flat_map, zip, Any, filter, Option, Some, None, option_map, slice_index}
+use Rattle.std.specs.Prelude.{◌≡◌, ℕ, ◌+◌, ◌%◌, ◌≤◌, Bool, true, false, ◌&&◌, nat_le, nat_lt, List, ◌++◌, length, map, filter_map, flat_map, zip, Any, filter, Option, Some, None, option_map, slice_index}
+use Rattle.std.specs.List.{list_any}
 use Rattle.mem80.specs.declared.memory.TheConstants.{MEMORY_SIZE}
 use Rattle.mem80.specs.declared.range.Range.{Range}
+use Rattle.mem80.specs.Memory.{byte_at}
 use Rattle.mem80.specs.Range.{IsIn}
 use Rattle.typed_trees.specs.declared.parts.AtAddress.TheVariants.{AtNumber, AtObject}
 use Rattle.typed_trees.specs.declared.parts.AtAddress.{AtAddress}
@@ -100,7 +102,23 @@ IsDeclared modules placement address = IsOneOf (pieces_of modules placement) add
 abbrev pub IsConstant : List TypedModule → Placement → (address : ℕ) → Type 0
 IsConstant modules placement address = IsOneOf (constant_pieces modules placement) address
 
+-- the same as tests
+abbrev pub holds_byte : (address : ℕ) → PlacedPiece → Bool
+holds_byte address piece =
+    nat_le piece.range.start address && nat_lt address (piece.range.start + piece.range.len)
+
+abbrev pub is_declared : List TypedModule → Placement → (address : ℕ) → Bool
+is_declared modules placement address = list_any (holds_byte address) (pieces_of modules placement)
+
+abbrev pub is_constant : List TypedModule → Placement → (address : ℕ) → Bool
+is_constant modules placement address = list_any (holds_byte address) (constant_pieces modules placement)
+
 -- a declared byte that is no constant may be written
 pub record IsWritable (modules : List TypedModule) (placement : Placement) (address : ℕ) : Type 0 where
   pub declared : IsDeclared modules placement address
   pub variable : ¬ IsConstant modules placement address
+
+-- two memories have the same declared bytes
+abbrev pub AgreesOnDeclared : List TypedModule → Placement → (one other : List ℕ) → Type 0
+AgreesOnDeclared modules placement one other =
+    (address : ℕ) → IsDeclared modules placement address → byte_at other address ≡ byte_at one address

@@ -1,28 +1,22 @@
 -- Looking at and changing the bytes that a program declares (PL/M-80 Programming Manual, "Arrays and
 -- structures" and "Based variables"). What goes outside the language here is this profile's own.
 use Rattle.std.specs.Prelude.{ℕ, ◌+◌, ◌*◌, ◌/◌, ◌%◌, Bool, true, ◌&&◌, nat_le, nat_lt, List, [], slice_get, slice_index, slice_index_or, slice_set, if◌then◌else◌}
-use Rattle.std.specs.List.{list_any}
 use Rattle.std.specs.Option.{option_map_or}
 use Rattle.mem80.specs.declared.memory.TheConstants.{MEMORY_SIZE}
 use Rattle.mem80.specs.Memory.{byte_at}
 use Rattle.trees.specs.declared.declaration.ScalarType.{ScalarType}
 use Rattle.trees.specs.declared.declaration.ScalarType.TheVariants.{Byte, Address}
 use Rattle.typed_trees.specs.TypedTrees.{Home, InFrame, Nowhere, TypedObject, TypedModule}
-use Rattle.layout.specs.Placement.{PlacedPiece, pieces_of, constant_pieces}
+use Rattle.layout.specs.Placement as placements
 use Rattle.layout.specs.StartingMemory.{address_of_object}
 use Rattle.meaning.specs.declared.reason.Reason.TheVariants.{Byte as UndeclaredByte, Constant}
 use Rattle.meaning.specs.Outcomes.{Program, State, Outside, Outcome, Gave, Stopped, then_do}
 
--- whether one of the pieces has an address
-abbrev pub holds_byte : (address : ℕ) → PlacedPiece → Bool
-holds_byte address piece =
-    nat_le piece.range.start address && nat_lt address (piece.range.start + piece.range.len)
-
 abbrev pub is_declared : Program → (address : ℕ) → Bool
-is_declared program address = list_any (holds_byte address) (pieces_of program.modules program.placement)
+is_declared program address = placements.is_declared program.modules program.placement address
 
 abbrev pub is_constant : Program → (address : ℕ) → Bool
-is_constant program address = list_any (holds_byte address) (constant_pieces program.modules program.placement)
+is_constant program address = placements.is_constant program.modules program.placement address
 
 -- Where something lies: in memory at an address; or in the frame, so many bytes after where an object begins,
 -- and whether each of its subscripts is below its dimension.
