@@ -10,7 +10,7 @@ use Rattle.typed_trees.specs.declared.parts.GlobalItem.TheVariants.{GlobalProced
 use Rattle.typed_trees.specs.declared.parts.NumberOrigin.TheVariants.{FromDigits}
 use Rattle.typed_trees.specs.declared.parts.ShiftFunction.TheVariants.{RotateLeft}
 use Rattle.typed_trees.specs.declared.parts.Visibility.TheVariants.{Private, Public}
-use Rattle.typed_trees.specs.TypedTrees.{TypedExpression, NumberNode, ValueNode, LocationNode, ConversionNode, BinaryNode, CallNode, ShiftNode, TypedReference, PartOf, NoSubscript, At, SentTo, NoArguments, MoreArguments, ReturnStatement, AssignmentStatement, NoStatements, ListOf, Home, InData, BasedOn, InFrame, ObjectType, ScalarObject, StructureObject, TypedObject, TypedProcedure, TypedModule}
+use Rattle.typed_trees.specs.TypedTrees.{TypedExpression, NumberNode, ValueNode, LocationNode, ConversionNode, BinaryNode, CallNode, ShiftNode, TypedReference, PartOf, NoSubscript, At, NoArguments, MoreArguments, ReturnStatement, NoStatements, ListOf, Home, InData, BasedOn, InFrame, ObjectType, ScalarObject, StructureObject, TypedObject, TypedProcedure, TypedModule}
 use Rattle.typed_trees.specs.ObjectParts.{IsPartOf, IsScalarOf}
 use Rattle.typed_trees.specs.WellTyped.{Within, WithinProcedure, WithinMain, TypesHold, TypesHoldIn}
 use Rattle.typed_trees.specs.Frames.{FrameFits}
@@ -111,15 +111,12 @@ parameter_outside is = is.0.0
 located_in_a_frame : TypesHold one in_procedure (LocationNode (whole 0)) → ⊥
 located_in_a_frame is = is.0.1
 
--- RETURN 300 in a BYTE procedure, and RETURN in the main program; OUTPUT(256) = 1
+-- RETURN 300 in a BYTE procedure, and RETURN in the main program
 wide_result : TypesHoldIn one in_procedure (ReturnStatement (Some (NumberNode Address 300 FromDigits))) → ⊥
 wide_result is = let same : false ≡ true = ap is_byte is.1 in absurd cc
 
 return_in_main : TypesHoldIn one WithinMain (ReturnStatement None) → ⊥
 return_in_main is = is
-
-no_such_port : TypesHoldIn one WithinMain (AssignmentStatement (SentTo Byte 256 ∷ []) (byte 1)) → ⊥
-no_such_port is = omega (arith, is.1.0.1)
 
 -- the array by a subscript, as a whole, and with a dimension that it has not
 abbrev array : TypedObject

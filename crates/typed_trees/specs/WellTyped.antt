@@ -51,10 +51,11 @@ RefersToLocation typed within (PartOf number subscript member offset member_subs
     (λ (object : TypedObject). IsSeen typed within object.home × HasLocation object.home
     × IsPartOf object (PartOf number subscript member offset member_subscript))
 
--- a number that is a value of a type
-abbrev pub IsValueOf : ScalarType → ℕ → Type 0
-IsValueOf Byte value = value < 256
-IsValueOf Address value = value < 65536
+-- A number of a type. That no number is above 65535, and no port above 255, is so by the widths of the code's own
+-- numbers.
+abbrev pub IsNumberOf : ScalarType → ℕ → Type 0
+IsNumberOf Byte value = value < 256
+IsNumberOf Address value = Unit {0}
 
 -- `*`, `/` and MOD have ADDRESSes as operands
 abbrev pub WorksOn : BinaryOperator → ScalarType → Type 0
@@ -68,10 +69,6 @@ abbrev pub ShiftsIn : ShiftFunction → ScalarType → Type 0
 ShiftsIn RotateLeft scalar = scalar ≡ Byte
 ShiftsIn RotateRight scalar = scalar ≡ Byte
 ShiftsIn function scalar = Unit {0}
-
--- a port
-abbrev pub IsPort : ℕ → Type 0
-IsPort port = port < 256
 
 -- the types of arguments
 abbrev pub types_of : TypedArguments → List ScalarType
@@ -87,7 +84,7 @@ Takes typed procedure result values =
 abbrev mutual
   -- an expression whose parts have the types that are asked of them
   pub TypesHold : TypedModule → Within → TypedExpression → Type 0
-  TypesHold typed within (NumberNode scalar value origin) = IsValueOf scalar value
+  TypesHold typed within (NumberNode scalar value origin) = IsNumberOf scalar value
   TypesHold typed within (ValueNode scalar reference) =
       RefersToScalar typed within scalar reference × TypesHoldInReference typed within reference
   TypesHold typed within (LocationNode reference) =
@@ -107,7 +104,7 @@ abbrev mutual
   TypesHold typed within (ShiftNode scalar function value count) =
       ShiftsIn function scalar × (TypesHold typed within value × (type_of value ≡ scalar))
       × (TypesHold typed within count × (type_of count ≡ Byte))
-  TypesHold typed within (InputNode port) = IsPort port
+  TypesHold typed within (InputNode port) = Unit {0}
 
   pub TypesHoldInReference : TypedModule → Within → TypedReference → Type 0
   TypesHoldInReference typed within (PartOf object subscript member offset member_subscript) =
@@ -123,7 +120,7 @@ abbrev mutual
   pub TypesHoldInTarget : TypedModule → Within → ScalarType → TypedTarget → Type 0
   TypesHoldInTarget typed within value (StoredIn from to reference) =
       (from ≡ value) × RefersToScalar typed within to reference × TypesHoldInReference typed within reference
-  TypesHoldInTarget typed within value (SentTo from port) = (from ≡ value) × IsPort port
+  TypesHoldInTarget typed within value (SentTo from port) = from ≡ value
 
   pub TypesHoldInArguments : TypedModule → Within → TypedArguments → Type 0
   TypesHoldInArguments typed within NoArguments = Unit {0}
