@@ -2,3 +2,4 @@ pub mod Views
 pub mod Capped
 pub mod MemberTable
 pub mod Heights
+pub mod WellTypedExamples

@@ -1,9 +1,13 @@
 pub mod TypedTrees
 pub mod Sizes
+pub mod ObjectParts
 pub mod ExpressionTypes
+pub mod WellTyped
 pub mod Charge
 pub mod Weight
 pub mod Jumps
 pub mod Views
 pub mod internal
 pub mod Storable
+pub mod Frames
+pub mod Globals

@@ -20,4 +20,11 @@ pub mod StorableExpressions
 pub mod StorableObjects
 pub mod StorableStatements
 pub mod StorableExamples
+pub mod TypesKept
+pub mod TypesOfReferences
+pub mod TypesOfExpressions
+pub mod SeenNames
+pub mod TypesWalked
+pub mod TypesOfDeclarations
+pub mod TypesOfStatements
 pub mod TypedLaws

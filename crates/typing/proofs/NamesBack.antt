@@ -57,7 +57,7 @@ named_built_in None None binding e = absurd cc
 named_built_in None (Some built_in) binding e = cc
 named_built_in (Some found) built_in binding e = absurd cc
 
-bound_entity : (here : Here) (name : List ℕ) (entity : Entity)
+pub bound_entity : (here : Here) (name : List ℕ) (entity : Entity)
     → binding_of here name ≡ Some (Declared entity)
     → entity_of here name ≡ Some entity
 bound_entity here name entity e = declared_entity (entity_of here name) (built_in_of name) entity e

@@ -39,11 +39,15 @@ pub record Fits (objects procedures : List (List ℕ)) (here : Here) : Type 0 wh
   pub object_count : here.objects ≡ length objects
   pub procedure_count : here.procedures ≡ length procedures
 
+-- where one property of entities implies another
+abbrev pub Implies : (P Q : Entity → List ℕ → Type 0) → Type 0
+Implies P Q = (entity : Entity) (name : List ℕ) → P entity name → Q entity name
+
 same_name : (name key : List ℕ) → bytes_eq name key ≡ true → key ≡ name
 same_name name key same = sym ((bytes_eq-Decides name key).0 same)
 
 -- the first of two that there is
-either : {X : Type 0} {Q : Type 0} (first second : Option X) (x : X)
+pub either : {X : Type 0} {Q : Type 0} (first second : Option X) (x : X)
     → (first ≡ Some x → Q)
     → (second ≡ Some x → Q)
     → option_or first second ≡ Some x
@@ -94,6 +98,22 @@ bodies_known P (body ∷ others) name entity fit e =
     either (declared_in body name) (declared_around others name) entity (body_known P body name entity fit.0)
     (bodies_known P others name entity fit.1) e
 
+-- what holds of all entities that names are in reach of holds of what a name stands for
+pub entity_known : (P Q : Entity → List ℕ → Type 0) (here : Here)
+    → BodyFits P here.body
+    → BodiesFit Q here.outer_bodies
+    → Implies Q P
+    → (name : List ℕ) (entity : Entity)
+    → entity_of here name ≡ Some entity
+    → P entity name
+entity_known P Q here body outer weaker name entity e =
+    either (declared_in here.body name) (option_or (label_of here name) (declared_around here.outer_bodies name))
+    entity (body_known P here.body name entity body)
+    (either (label_of here name) (declared_around here.outer_bodies name) entity
+    (scopes_known P here.body.lists name entity body.2)
+    (λ around. weaker entity name (bodies_known Q here.outer_bodies name entity outer around)))
+    e
+
 -- what a name stands for has that name
 pub entity_named : (objects procedures : List (List ℕ)) (here : Here)
     → Fits objects procedures here
@@ -102,11 +122,7 @@ pub entity_named : (objects procedures : List (List ℕ)) (here : Here)
     → IsNamed objects procedures entity name
 entity_named objects procedures here fits name entity e =
     let P : Entity → List ℕ → Type 0 = IsNamed objects procedures in
-    either (declared_in here.body name) (option_or (label_of here name) (declared_around here.outer_bodies name))
-    entity (body_known P here.body name entity fits.body)
-    (either (label_of here name) (declared_around here.outer_bodies name) entity
-    (scopes_known P here.body.lists name entity fits.body.2) (bodies_known P here.outer_bodies name entity fits.outer))
-    e
+    entity_known P P here fits.body fits.outer (λ entity name is. is) name entity e
 
 -- Names that fit tables fit them as tables grow.
 abbrev pub Keeps : {X : Type 0} → List X → List X → Type 0
@@ -132,23 +148,19 @@ named_later objects procedures objects' procedures' more others (Procedure numbe
 named_later objects procedures objects' procedures' more others (Label number) name e = tt
 named_later objects procedures objects' procedures' more others Definition name e = tt
 
--- where one property of entities implies another
-abbrev Implies : (P Q : Entity → List ℕ → Type 0) → Type 0
-Implies P Q = (entity : Entity) (name : List ℕ) → P entity name → Q entity name
-
-names_weaker : (P Q : Entity → List ℕ → Type 0) → Implies P Q
+pub names_weaker : (P Q : Entity → List ℕ → Type 0) → Implies P Q
     → (names : Names) → NamesFit P names → NamesFit Q names
 names_weaker P Q weaker [] fit = tt
 names_weaker P Q weaker (entry ∷ others) fit =
     (weaker entry.1 entry.0 fit.0, names_weaker P Q weaker others fit.1)
 
-scopes_weaker : (P Q : Entity → List ℕ → Type 0) → Implies P Q
+pub scopes_weaker : (P Q : Entity → List ℕ → Type 0) → Implies P Q
     → (scopes : List Names) → ScopesFit P scopes → ScopesFit Q scopes
 scopes_weaker P Q weaker [] fit = tt
 scopes_weaker P Q weaker (names ∷ others) fit =
     (names_weaker P Q weaker names fit.0, scopes_weaker P Q weaker others fit.1)
 
-body_weaker : (P Q : Entity → List ℕ → Type 0) → Implies P Q
+pub body_weaker : (P Q : Entity → List ℕ → Type 0) → Implies P Q
     → (body : Body) → BodyFits P body → BodyFits Q body
 body_weaker P Q weaker body fit = (
   names_weaker P Q weaker body.block fit.0,
@@ -156,17 +168,17 @@ body_weaker P Q weaker body fit = (
   scopes_weaker P Q weaker body.lists fit.2,
 )
 
-bodies_weaker : (P Q : Entity → List ℕ → Type 0) → Implies P Q
+pub bodies_weaker : (P Q : Entity → List ℕ → Type 0) → Implies P Q
     → (bodies : List Body) → BodiesFit P bodies → BodiesFit Q bodies
 bodies_weaker P Q weaker [] fit = tt
 bodies_weaker P Q weaker (body ∷ others) fit =
     (body_weaker P Q weaker body fit.0, bodies_weaker P Q weaker others fit.1)
 
 -- one more name in a block
-abbrev names_with : List ℕ → Entity → Names → Names
+abbrev pub names_with : List ℕ → Entity → Names → Names
 names_with name entity names = (body_with_name name entity (record empty_body { block = names })).block
 
-names_with-fit : (P : Entity → List ℕ → Type 0) (name : List ℕ) (entity : Entity) → P entity name
+pub names_with-fit : (P : Entity → List ℕ → Type 0) (name : List ℕ) (entity : Entity) → P entity name
     → (names : Names) → NamesFit P names → NamesFit P (names_with name entity names)
 names_with-fit P name entity it [] fit = (it, tt)
 names_with-fit P name entity it (entry ∷ others) fit =
@@ -180,13 +192,14 @@ names_with-fit P name entity it (entry ∷ others) fit =
     by false other rest = (fit.0, rest)
 
 -- the labels of a list
-numbered-fit : (objects procedures : List (List ℕ)) (number : ℕ) (labels : List Identifier) (names : Names)
-    → NamesFit (IsNamed objects procedures) names
-    → NamesFit (IsNamed objects procedures) (numbered_from number labels names)
-numbered-fit objects procedures number [] names fit = fit
-numbered-fit objects procedures number (label ∷ labels) names fit =
-    numbered-fit objects procedures (number + 1) labels (names_with label.name (Label number) names)
-    (names_with-fit (IsNamed objects procedures) label.name (Label number) tt names fit)
+pub numbered-fit : (P : Entity → List ℕ → Type 0)
+    → ((number : ℕ) (name : List ℕ) → P (Label number) name)
+    → (number : ℕ) (labels : List Identifier) (names : Names)
+    → NamesFit P names → NamesFit P (numbered_from number labels names)
+numbered-fit P each number [] names fit = fit
+numbered-fit P each number (label ∷ labels) names fit =
+    numbered-fit P each (number + 1) labels (names_with label.name (Label number) names)
+    (names_with-fit P label.name (Label number) (each number label.name) names fit)
 
 -- Names fit at the start of a module, and go on to fit where a text goes into a part and out of it.
 pub at_the_start-fits : Fits [] [] at_the_start
@@ -202,7 +215,7 @@ into_block-fits fits = record {
   procedure_count = fits.procedure_count;
 }
 
-after_block-fits : (P : Entity → List ℕ → Type 0) (blocks : List Names) (body : Body)
+pub after_block-fits : (P : Entity → List ℕ → Type 0) (blocks : List Names) (body : Body)
     → ScopesFit P blocks → BodyFits P body → BodyFits P (body_after_block blocks body)
 after_block-fits P [] body outer fit = fit
 after_block-fits P (block ∷ others) body outer fit = (outer.0, outer.1, fit.2)
@@ -245,13 +258,13 @@ out_of_body-fits {objects} {procedures} {here} fits =
 pub into_list-fits : {objects procedures : List (List ℕ)} {here : Here} (labels : List Identifier)
     → Fits objects procedures here → Fits objects procedures (into_list labels here)
 into_list-fits {objects} {procedures} {here} labels fits = record {
-  body = (fits.body.0, fits.body.1, (numbered-fit objects procedures here.labels labels [] tt, fits.body.2));
+  body = (fits.body.0, fits.body.1, (numbered-fit (IsNamed objects procedures) (λ number name. tt) here.labels labels [] tt, fits.body.2));
   outer = fits.outer;
   object_count = fits.object_count;
   procedure_count = fits.procedure_count;
 }
 
-after_list-fits : (P : Entity → List ℕ → Type 0) (lists : List Names)
+pub after_list-fits : (P : Entity → List ℕ → Type 0) (lists : List Names)
     → ScopesFit P lists → ScopesFit P (drop 1 lists)
 after_list-fits P [] fit = tt
 after_list-fits P (names ∷ others) fit = fit.1
