@@ -1,0 +1,3 @@
+pub mod Landing
+pub mod Standing
+pub mod FirstItems
