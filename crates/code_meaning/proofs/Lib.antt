@@ -1,3 +1,6 @@
 pub mod Landing
 pub mod Standing
 pub mod FirstItems
+pub mod Owning
+pub mod Stores
+pub mod Pushes

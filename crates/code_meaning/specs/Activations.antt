@@ -102,6 +102,7 @@ pub record LiesWell (activation : Activation) : Type 0 where
       ≤ MEMORY_SIZE
   pub stack_in_memory :
       activation.around.program.placement.stack.start + activation.around.program.placement.stack.len ≤ MEMORY_SIZE
+  pub low : activation.around.program.placement.stack.start ≤ activation.level
   pub above : activation.level + activation.whole
       ≤ activation.around.program.placement.stack.start + activation.around.program.placement.stack.len
   pub inside : (object offset : ℕ) → offset < activation.size object
