@@ -4,3 +4,4 @@ pub mod FirstItems
 pub mod Owning
 pub mod Stores
 pub mod Pushes
+pub mod Access
