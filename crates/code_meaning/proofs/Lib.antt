@@ -5,3 +5,4 @@ pub mod Owning
 pub mod Stores
 pub mod Pushes
 pub mod Access
+pub mod ByteResults
