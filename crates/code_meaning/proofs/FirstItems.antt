@@ -1,0 +1,157 @@
+-- What a machine does that comes to an item: what the item does, and then what the machine does from there.
+use Rattle.std.proofs.Common.{◌≡◌, ℕ, suc, ◌+◌, ◌%◌, ◌<◌, ◌≤◌, Bool, true, false, if◌then◌else◌, List, [], ◌∷◌, refl, sym, ap, ◌∙◌, arith}
+use Rattle.mem80.specs.declared.memory.TheConstants.{MEMORY_SIZE}
+use Rattle.ports.specs.declared.event.Event.{Event}
+use Rattle.meaning.specs.Outcomes.{State as SourceState, Outcome}
+use Rattle.isa8080.specs.declared.instr.Condition.{Condition}
+use Rattle.isa8080.specs.declared.instr.Instr.{Instr}
+use Rattle.isa8080.specs.State.{Registers, State, wrap, holds}
+use Rattle.isa8080.specs.Act.{act}
+use Rattle.isa8080.specs.Step.{step_of}
+use Rattle.asm8080.specs.declared.item.Item.{Item}
+use Rattle.asm8080.specs.declared.item.Item.TheVariants.{Plain, WithWord}
+use Rattle.asm8080.specs.declared.item.Reference.{Reference}
+use Rattle.asm8080.specs.declared.item.Reference.TheVariants.{AtLabel}
+use Rattle.asm8080.specs.declared.item.WordForm.{WordForm}
+use Rattle.asm8080.specs.declared.item.WordForm.TheVariants.{Jump, JumpWhere}
+use Rattle.asm8080.specs.Items.{instruction_with, word_of}
+use Rattle.asm8080.specs.Standing.{AgreesIn, InstructionStands, size_of_instruction}
+use Rattle.machine_runs.proofs.Steps.{step_is}
+use Rattle.code_meaning.specs.Landing.{Does, at_place}
+use Rattle.code_meaning.specs.Activations.{Activation, IsThere, LiesWell}
+use Rattle.code_meaning.proofs.Landing.{after_step, after_paid_step}
+use Rattle.code_meaning.proofs.Standing.{bytes_alike, stands_now}
+
+small : (place : ℕ) → wrap place < MEMORY_SIZE
+small place = omega arith
+
+twice : (place : ℕ) → wrap place ≡ wrap (wrap place)
+twice place = omega arith
+
+past : (place size : ℕ) → wrap (wrap place + size) ≡ wrap (place + size)
+past place size = omega arith
+
+-- the step where an instruction stands
+pub step_at :
+    (script : List (List ℕ)) (i : Instr) (place : ℕ) (r : Registers) (memory : List ℕ) (events : List Event)
+    → InstructionStands memory place i
+    → step_of script (at_place place r memory events)
+    ≡ act script i (at_place (place + size_of_instruction i) r memory events)
+step_at script i place r memory events stands =
+    step_is script i (at_place place r memory events) refl (small place)
+    (bytes_alike memory _ place (wrap place) (twice place) stands)
+    ∙ ap (λ n. act script i (Rattle.isa8080.specs.Step.running (record r { pc = n }) memory events))
+    (past place (size_of_instruction i))
+
+-- an instruction
+pub plain_step :
+    (script : List (List ℕ)) (activation : Activation) (i : Instr) (items : List Item) (from to : ℕ)
+    (r : Registers) (memory : List ℕ) (events : List Event)
+    → LiesWell activation
+    → AgreesIn activation.around.program.placement.code activation.image memory
+    → IsThere activation (Plain i ∷ items) from to
+    → step_of script (at_place from r memory events)
+    ≡ act script i (at_place (from + size_of_instruction i) r memory events)
+plain_step script activation i items from to r memory events lies agrees there =
+    step_at script i from r memory events
+    (stands_now activation memory (Plain i ∷ items) from to lies agrees there).0
+
+size_with_word : (form : WordForm) (word : ℕ) → size_of_instruction (instruction_with form word) ≡ 3
+size_with_word (Rattle.asm8080.specs.declared.item.WordForm.TheVariants.LoadPair pair) word = refl
+size_with_word form word = refl
+
+-- an instruction with a word
+pub word_step :
+    (script : List (List ℕ)) (activation : Activation) (form : WordForm) (reference : Reference) (items : List Item)
+    (from to : ℕ) (r : Registers) (memory : List ℕ) (events : List Event)
+    → LiesWell activation
+    → AgreesIn activation.around.program.placement.code activation.image memory
+    → IsThere activation (WithWord form reference ∷ items) from to
+    → step_of script (at_place from r memory events)
+    ≡ act script (instruction_with form (word_of activation.layout reference)) (at_place (from + 3) r memory events)
+word_step script activation form reference items from to r memory events lies agrees there =
+    let i = instruction_with form (word_of activation.layout reference) in
+    step_at script i from r memory events
+    (stands_now activation memory (WithWord form reference ∷ items) from to lies agrees there).0
+    ∙ ap (λ size. act script i (at_place (from + size) r memory events))
+    (size_with_word form (word_of activation.layout reference))
+
+-- a machine that comes to an instruction
+pub plain_first :
+    {A : Type 0} {script : List (List ℕ)} {budget more : ℕ} {outcome : Outcome A}
+    {Good : A → SourceState → State → Type 0}
+    {activation : Activation} {i : Instr} {items : List Item} {from to : ℕ}
+    {memory : List ℕ} {events : List Event} (r : Registers)
+    → LiesWell activation
+    → AgreesIn activation.around.program.placement.code activation.image memory
+    → IsThere activation (Plain i ∷ items) from to
+    → Does script budget more (act script i (at_place (from + size_of_instruction i) r memory events)) outcome Good
+    → Does script budget more (at_place from r memory events) outcome Good
+plain_first {script = script} {activation = activation} {i = i} {items = items} {from = from} {to = to} {memory = memory} {events = events} r lies agrees there rest =
+    after_step (plain_step script activation i items from to r memory events lies agrees there) rest
+
+-- one with a word
+pub word_first :
+    {A : Type 0} {script : List (List ℕ)} {budget more : ℕ} {outcome : Outcome A}
+    {Good : A → SourceState → State → Type 0}
+    {activation : Activation} {form : WordForm} {reference : Reference} {items : List Item} {from to : ℕ}
+    {memory : List ℕ} {events : List Event} (r : Registers)
+    → LiesWell activation
+    → AgreesIn activation.around.program.placement.code activation.image memory
+    → IsThere activation (WithWord form reference ∷ items) from to
+    → Does script budget more
+    (act script (instruction_with form (word_of activation.layout reference)) (at_place (from + 3) r memory events))
+    outcome Good
+    → Does script budget more (at_place from r memory events) outcome Good
+word_first {script = script} {activation = activation} {form = form} {reference = reference} {items = items} {from = from} {to = to} {memory = memory} {events = events} r lies agrees there rest =
+    after_step (word_step script activation form reference items from to r memory events lies agrees there) rest
+
+-- a jump, which may pay for one of the budget
+pub jump_paid :
+    {A : Type 0} {script : List (List ℕ)} {budget more : ℕ} {outcome : Outcome A}
+    {Good : A → SourceState → State → Type 0}
+    {activation : Activation} {label : ℕ} {items : List Item} {from to : ℕ}
+    {memory : List ℕ} {events : List Event} (r : Registers)
+    → LiesWell activation
+    → AgreesIn activation.around.program.placement.code activation.image memory
+    → IsThere activation (WithWord Jump (AtLabel label) ∷ items) from to
+    → Does script budget more (at_place (activation.layout.place_of label) r memory events) outcome Good
+    → Does script (suc budget) more (at_place from r memory events) outcome Good
+jump_paid {script = script} {activation = activation} {label = label} {items = items} {from = from} {to = to} {memory = memory} {events = events} r lies agrees there rest =
+    after_paid_step (word_step script activation Jump (AtLabel label) items from to r memory events lies agrees there) rest
+
+-- a jump whose condition holds
+pub jump_taken :
+    {A : Type 0} {script : List (List ℕ)} {budget more : ℕ} {outcome : Outcome A}
+    {Good : A → SourceState → State → Type 0}
+    {activation : Activation} {c : Condition} {label : ℕ} {items : List Item} {from to : ℕ}
+    {memory : List ℕ} {events : List Event} (r : Registers)
+    → LiesWell activation
+    → AgreesIn activation.around.program.placement.code activation.image memory
+    → IsThere activation (WithWord (JumpWhere c) (AtLabel label) ∷ items) from to
+    → holds c r.flags ≡ true
+    → Does script budget more (at_place (activation.layout.place_of label) r memory events) outcome Good
+    → Does script budget more (at_place from r memory events) outcome Good
+jump_taken {script = script} {activation = activation} {c = c} {label = label} {items = items} {from = from} {to = to} {memory = memory} {events = events} r lies agrees there true_here rest =
+    after_step
+    (word_step script activation (JumpWhere c) (AtLabel label) items from to r memory events lies agrees there
+    ∙ ap (λ b. if b then at_place (activation.layout.place_of label) r memory events else at_place (from + 3) r memory events) true_here)
+    rest
+
+-- one whose condition does not
+pub jump_passed :
+    {A : Type 0} {script : List (List ℕ)} {budget more : ℕ} {outcome : Outcome A}
+    {Good : A → SourceState → State → Type 0}
+    {activation : Activation} {c : Condition} {label : ℕ} {items : List Item} {from to : ℕ}
+    {memory : List ℕ} {events : List Event} (r : Registers)
+    → LiesWell activation
+    → AgreesIn activation.around.program.placement.code activation.image memory
+    → IsThere activation (WithWord (JumpWhere c) (AtLabel label) ∷ items) from to
+    → holds c r.flags ≡ false
+    → Does script budget more (at_place (from + 3) r memory events) outcome Good
+    → Does script budget more (at_place from r memory events) outcome Good
+jump_passed {script = script} {activation = activation} {c = c} {label = label} {items = items} {from = from} {to = to} {memory = memory} {events = events} r lies agrees there false_here rest =
+    after_step
+    (word_step script activation (JumpWhere c) (AtLabel label) items from to r memory events lies agrees there
+    ∙ ap (λ b. if b then at_place (activation.layout.place_of label) r memory events else at_place (from + 3) r memory events) false_here)
+    rest

@@ -1,0 +1,134 @@
+-- How what a machine does follows what it did before.
+use Rattle.std.proofs.Common.{◌≡◌, ℕ, zero, suc, ◌+◌, ◌-◌, ◌<◌, ◌≤◌, ◌==◌, Bool, true, false, List, if◌then◌else◌, refl, sym, ap, ◌∙◌, arith}
+use Rattle.meaning.specs.Outcomes.{State as SourceState, Stop, Ended, More, Outside, Outcome, Gave, Stopped, then_do, taking_one}
+use Rattle.isa8080.specs.State.{State}
+use Rattle.isa8080.specs.Step.{step_of, state_after}
+use Rattle.isa8080.specs.declared.registers.Status.TheVariants.{Running}
+use Rattle.asm8080.specs.Runs.{Comes}
+use Rattle.asm8080.proofs.RunLaws.{comes_on}
+use Rattle.machine_runs.proofs.Steps.{step_then}
+use Rattle.machine_runs.proofs.Spending.{same_after}
+use Rattle.code_meaning.specs.Landing.{Lands, IsLeft, Told, Does}
+
+paid_on :
+    (budget second more other left j k middle : ℕ)
+    → budget + more ≤ middle + j
+    → middle ≤ second + more
+    → second + other ≤ left + k
+    → budget + other ≤ left + (k + j)
+paid_on budget second more other left j k middle h g f = omega arith
+
+spent_on : (budget middle second left : ℕ) → middle ≤ budget → second ≤ middle → left ≤ second → left ≤ budget
+spent_on budget middle second left h g f = omega arith
+
+-- A run, then another. The second one may have less of the budget than the first one left: as much less as the first one
+-- had steps to spare.
+pub lands_on :
+    {script : List (List ℕ)} {budget more : ℕ} {from : State} {middle : ℕ} {First : State → Type 0}
+    (one : Lands script budget more from middle First)
+    (second other left : ℕ) {Good : State → Type 0}
+    → second ≤ middle
+    → middle ≤ second + more
+    → Lands script second other one.end left Good
+    → Lands script budget other from left Good
+lands_on {script = script} {budget = budget} {more = more} {from = from} {middle = middle} {First = First} one second other left {Good = Good} less enough two = record {
+  count = two.count + one.count;
+  end = two.end;
+  run = comes_on script one.count two.count from one.end two.end one.run two.run;
+  paid = paid_on budget second more other left one.count two.count middle one.paid enough two.paid;
+  spent = spent_on budget middle second left one.spent less two.spent;
+  is_good = two.is_good;
+}
+
+-- what is told of an outcome after a run is told from its start on
+pub told_on :
+    {A : Type 0} {script : List (List ℕ)} {budget more : ℕ} {from : State} {middle : ℕ} {First : State → Type 0}
+    (one : Lands script budget more from middle First)
+    (second other : ℕ) (outcome : Outcome A) (Good : A → SourceState → State → Type 0)
+    → second ≤ middle
+    → middle ≤ second + more
+    → Told script second other one.end outcome Good
+    → Told script budget other from outcome Good
+told_on one second other (Gave found t) Good less enough two = lands_on one second other t.budget less enough two
+told_on one second other (Stopped Ended t) Good less enough two = lands_on one second 0 t.budget less enough two
+told_on one second other (Stopped More t) Good less enough two = lands_on one second 0 0 less enough two
+told_on one second other (Stopped (Outside reason) t) Good less enough two = tt
+
+-- no step
+pub landed :
+    (script : List (List ℕ)) (budget : ℕ) (from : State) (Good : State → Type 0)
+    → Good from
+    → Lands script budget 0 from budget Good
+landed script budget from Good good = record {
+  count = 0;
+  end = from;
+  run = same_after script from;
+  paid = omega arith;
+  spent = omega arith;
+  is_good = good;
+}
+
+-- one step, which nothing of the budget pays for
+pub one_step :
+    (script : List (List ℕ)) (budget : ℕ) (from to : State)
+    → step_of script from ≡ to
+    → Lands script budget 1 from budget (λ end. end ≡ to)
+one_step script budget from to same = record {
+  count = 1;
+  end = to;
+  run = step_then script 0 from to to same (same_after script to);
+  paid = omega arith;
+  spent = omega arith;
+  is_good = refl;
+}
+
+-- what was given, at once
+pub gives :
+    {A : Type 0} {script : List (List ℕ)} {found : A} {t : SourceState} {from : State}
+    {Good : A → SourceState → State → Type 0}
+    → Good found t from
+    → Does script t.budget 0 from (Gave found t) Good
+gives {A = A} {script = script} {found = found} {t = t} {from = from} {Good = Good} good = record { told = landed script t.budget from (Good found t) good }
+
+-- a step first
+pub after_step :
+    {A : Type 0} {script : List (List ℕ)} {budget more : ℕ} {from to : State} {outcome : Outcome A}
+    {Good : A → SourceState → State → Type 0}
+    → step_of script from ≡ to
+    → Does script budget more to outcome Good
+    → Does script budget more from outcome Good
+unfolding one_step
+after_step {A = A} {script = script} {budget = budget} {more = more} {from = from} {to = to} {outcome = outcome} {Good = Good} same rest =
+    record { told = told_on (one_step script budget from to same) budget more outcome Good (omega arith) (omega arith) rest.told }
+
+-- a step first, which pays for one of the budget
+pub after_paid_step :
+    {A : Type 0} {script : List (List ℕ)} {budget more : ℕ} {from to : State} {outcome : Outcome A}
+    {Good : A → SourceState → State → Type 0}
+    → step_of script from ≡ to
+    → Does script budget more to outcome Good
+    → Does script (suc budget) more from outcome Good
+unfolding one_step
+after_paid_step {A = A} {script = script} {budget = budget} {more = more} {from = from} {to = to} {outcome = outcome} {Good = Good} same rest =
+    let first = one_step script (suc budget) from to same in
+    record { told = told_on first budget more outcome Good (omega arith) (omega arith) rest.told }
+
+-- a part that gave something, then others
+pub then_does :
+    {A B : Type 0} {script : List (List ℕ)} {budget other : ℕ} {from : State} {outcome : Outcome A}
+    {go : A → SourceState → Outcome B}
+    {Middle : A → SourceState → State → Type 0} {Good : B → SourceState → State → Type 0}
+    → Does script budget 0 from outcome Middle
+    → ((found : A) (t : SourceState) (end : State) → Middle found t end → t.budget ≤ budget
+        → Does script t.budget other end (go found t) Good)
+    → Does script budget other from (then_do outcome go) Good
+then_does {A = A} {B = B} {script = script} {budget = budget} {other = other} {from = from} {outcome = Gave found t} {go = go} {Middle = Middle} {Good = Good} one rest =
+    let first : Lands script budget 0 from t.budget (Middle found t) = one.told in
+    let second = rest found t first.end first.is_good first.spent in
+    record { told = told_on first t.budget other (go found t) Good (omega arith) (omega arith) second.told }
+then_does {A = A} {B = B} {script = script} {budget = budget} {other = other} {from = from} {outcome = Stopped Ended t} {go = go} {Middle = Middle} {Good = Good} one rest =
+    record { told = one.told }
+then_does {A = A} {B = B} {script = script} {budget = budget} {other = other} {from = from} {outcome = Stopped More t} {go = go} {Middle = Middle} {Good = Good} one rest =
+    record { told = one.told }
+then_does {A = A} {B = B} {script = script} {budget = budget} {other = other} {from = from} {outcome = Stopped (Outside reason) t} {go = go} {Middle = Middle} {Good = Good} one rest =
+    record { told = tt }

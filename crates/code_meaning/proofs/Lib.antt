@@ -1,0 +1,8 @@
+pub mod Landing
+pub mod Standing
+pub mod FirstItems
+pub mod Owning
+pub mod Stores
+pub mod Pushes
+pub mod Access
+pub mod ByteResults

@@ -1,0 +1,171 @@
+-- Words that are pushed, and taken again after others have run.
+use Rattle.std.proofs.Common.{◌≡◌, ◌≢◌, ℕ, ◌+◌, ◌-◌, ◌*◌, ◌/◌, ◌%◌, ◌<◌, ◌≤◌, ◌⊎◌, inl, inr, Bool, true, false, List, length, slice_set, refl, sym, ap, ◌∙◌, arith}
+use Rattle.mem80.specs.declared.memory.TheConstants.{MEMORY_SIZE}
+use Rattle.mem80.specs.Memory.{IsMemory, byte_at, word_at}
+use Rattle.ports.specs.declared.event.Event.{Event}
+use Rattle.meaning.specs.Access.{is_declared}
+use Rattle.isa8080.specs.declared.instr.Instr.TheVariants.{Push}
+use Rattle.isa8080.specs.declared.instr.StackPair.{StackPair}
+use Rattle.isa8080.specs.State.{Registers, State, high_byte, low_byte, one_less, two_less, wrap, pushed_of}
+use Rattle.isa8080.specs.Act.{act}
+use Rattle.asm8080.specs.Standing.{AgreesIn, Keeps}
+use Rattle.machine_runs.proofs.Calls.{IsPushed, pushed, pushed_is_memory, pushed_is_pushed, pushed_keeps}
+use Rattle.code_meaning.specs.Landing.{at_place}
+use Rattle.code_meaning.specs.Activations.{Activation, FrameLies, HoldBytes, IsReady, LiesWell, Owns, Shares}
+use Rattle.code_meaning.proofs.Owning.{keeps_all, keeps_both, keeps_wider, owns_more, pushed_is_not_owned}
+
+one_below : (sp top : ℕ) → sp ≡ wrap top → top ≤ MEMORY_SIZE → 2 ≤ top → one_less sp ≡ top - 1
+one_below sp top h limit room = omega arith
+
+two_below : (sp top : ℕ) → sp ≡ wrap top → top ≤ MEMORY_SIZE → 2 ≤ top → two_less sp ≡ top - 2
+two_below sp top h limit room = omega arith
+
+lower : (top : ℕ) → top ≤ MEMORY_SIZE → 2 ≤ top → top - 2 ≡ wrap (top - 2)
+lower top limit room = omega arith
+
+-- PUSH at a logical stack pointer
+pub push_does :
+    (script : List (List ℕ)) (pair : StackPair) (place top : ℕ) (r : Registers) (memory : List ℕ)
+    (events : List Event)
+    → r.sp ≡ wrap top
+    → top ≤ MEMORY_SIZE
+    → 2 ≤ top
+    → act script (Push pair) (at_place place r memory events)
+    ≡ at_place place (record r { sp = wrap (top - 2) }) (pushed top (pushed_of pair (record r { pc = wrap place })) memory) events
+push_does script pair place top r memory events pointer limit room =
+    let word = pushed_of pair (record r { pc = wrap place }) in
+    ap (λ n. at_place place (record r { sp = two_less r.sp })
+    (slice_set (slice_set memory n (high_byte word)) (two_less r.sp) (low_byte word)) events)
+    (one_below r.sp top pointer limit room)
+    ∙ (ap (λ n. at_place place (record r { sp = n })
+    (slice_set (slice_set memory (top - 1) (high_byte word)) n (low_byte word)) events)
+    (two_below r.sp top pointer limit room)
+    ∙ ap (λ n. at_place place (record r { sp = n }) (pushed top word memory) events) (lower top limit room))
+
+-- bytes of the stack below a level may be written
+pushed_shares :
+    (activation : Activation) (top word : ℕ) (source memory : List ℕ)
+    → LiesWell activation
+    → activation.around.program.placement.stack.start + 2 ≤ top
+    → top ≤ activation.level
+    → word < MEMORY_SIZE
+    → Shares activation.around.program activation.image source memory
+    → Shares activation.around.program activation.image source (pushed top word memory)
+pushed_shares activation top word source memory lies room below small shares =
+    let above = lies.above in
+    let stack = lies.stack_in_memory in
+    let free = lies.stack_free in
+    let apart = lies.apart in
+    record {
+      is_memory = pushed_is_memory top word memory small shares.is_memory;
+      size = shares.size;
+      declared = λ address there.
+          pushed_keeps top word memory address
+          (λ same. free address there (omega (arith, same, room)) (omega (arith, same, room, below, above)))
+          (λ same. free address there (omega (arith, same, room)) (omega (arith, same, room, below, above)))
+          ∙ shares.declared address there;
+      code = λ address there.
+          pushed_keeps top word memory address
+          (λ same. apart address there.0 there.1 (omega (arith, same, room)) (omega (arith, same, room, below, above)))
+          (λ same. apart address there.0 there.1 (omega (arith, same, room)) (omega (arith, same, room, below, above)))
+          ∙ shares.code address there;
+    }
+
+pushed_frame :
+    (activation : Activation) (top word : ℕ) (frame : List (List ℕ)) (memory : List ℕ)
+    → 2 ≤ top
+    → top ≤ activation.level
+    → FrameLies activation frame memory
+    → FrameLies activation frame (pushed top word memory)
+pushed_frame activation top word frame memory room below lies = record {
+  sizes = lies.sizes;
+  bytes = λ object offset within.
+      pushed_keeps top word memory (activation.level + activation.distance object + offset)
+      (λ same. omega (arith, same, room, below)) (λ same. omega (arith, same, room, below))
+      ∙ lies.bytes object offset within;
+}
+
+-- after a PUSH code may go on, with the memory after it as the one before
+pub ready_after_push :
+    (activation : Activation) (top word : ℕ) (base source : List ℕ) (frame : List (List ℕ)) (r : Registers)
+    (memory : List ℕ)
+    → LiesWell activation
+    → activation.around.program.placement.stack.start + 2 ≤ top
+    → top ≤ activation.level
+    → word < MEMORY_SIZE
+    → IsReady activation top base source frame r memory
+    → IsReady activation (top - 2) (pushed top word memory) source frame (record r { sp = wrap (top - 2) })
+    (pushed top word memory)
+ready_after_push activation top word base source frame r memory lies room below small ready =
+    let bytes = ready.registers in
+    record {
+      pointer = refl;
+      registers =
+          record { a = bytes.a; b = bytes.b; c = bytes.c; d = bytes.d; e = bytes.e; h = bytes.h; l = bytes.l };
+      shares = pushed_shares activation top word source memory lies room below small ready.shares;
+      frame_lies = pushed_frame activation top word frame memory (omega (arith, room)) below ready.frame_lies;
+      kept = keeps_all (Owns activation (top - 2)) (pushed top word memory);
+    }
+
+-- what the pushed bytes become while they stay
+push_keeps :
+    (activation : Activation) (top word : ℕ) (memory : List ℕ)
+    → activation.around.program.placement.stack.start + 2 ≤ top
+    → Keeps (Owns activation top) memory (pushed top word memory)
+push_keeps activation top word memory room = record {
+  size = Rattle.std.proofs.lemmas.List.length-set (slice_set memory (top - 1) (high_byte word)) (top - 2) (low_byte word)
+      ∙ Rattle.std.proofs.lemmas.List.length-set memory (top - 1) (high_byte word);
+  bytes = λ address outside.
+      pushed_keeps top word memory address
+      (λ same. outside (inr (inl (omega (arith, same, room), omega (arith, same, room)))))
+      (λ same. outside (inr (inl (omega (arith, same, room), omega (arith, same, room)))));
+}
+
+-- where others have run with a word pushed, and the stack pointer is as before it
+pub ready_after_pop :
+    (activation : Activation) (top word : ℕ) (base source other : List ℕ) (frame others : List (List ℕ))
+    (r after last : Registers) (memory ended : List ℕ)
+    → LiesWell activation
+    → activation.around.program.placement.stack.start + 2 ≤ top
+    → IsReady activation top base source frame r memory
+    → IsReady activation (top - 2) (pushed top word memory) other others after ended
+    → last.sp ≡ wrap top
+    → HoldBytes last
+    → IsReady activation top base other others last ended
+ready_after_pop activation top word base source other frame others r after last memory ended lies room before ready pointer bytes = record {
+  pointer = pointer;
+  registers = bytes;
+  shares = ready.shares;
+  frame_lies = ready.frame_lies;
+  kept =
+      keeps_both (Owns activation top) base memory ended before.kept
+      (keeps_both (Owns activation top) memory (pushed top word memory) ended
+      (push_keeps activation top word memory room)
+      (keeps_wider (Owns activation (top - 2)) (Owns activation top) (pushed top word memory) ended
+      (owns_more activation (top - 2) top (omega arith)) ready.kept));
+}
+
+-- and the word is still there
+pub still_pushed :
+    (activation : Activation) (top word : ℕ) (other : List ℕ) (others : List (List ℕ)) (after : Registers)
+    (memory ended : List ℕ)
+    → LiesWell activation
+    → activation.around.program.placement.stack.start + 2 ≤ top
+    → top ≤ activation.level
+    → length memory ≡ MEMORY_SIZE
+    → IsReady activation (top - 2) (pushed top word memory) other others after ended
+    → IsPushed top word ended
+still_pushed activation top word other others after memory ended lies room below size ready =
+    let above = lies.above in
+    let stack = lies.stack_in_memory in
+    let is = pushed_is_pushed top word memory (omega (arith, room)) (omega (arith, below, above, stack)) size in
+    record {
+      high =
+          ready.kept.bytes (top - 1)
+          (pushed_is_not_owned activation (top - 2) (top - 1) lies (omega (arith, room)) (omega arith) (omega (arith, room, below)))
+          ∙ is.high;
+      low =
+          ready.kept.bytes (top - 2)
+          (pushed_is_not_owned activation (top - 2) (top - 2) lies (omega (arith, room)) (omega arith) (omega (arith, room, below)))
+          ∙ is.low;
+    }

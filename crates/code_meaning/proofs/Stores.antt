@@ -1,0 +1,112 @@
+-- An activation that is ready stays so when a variable, or a byte of its frame, is changed on both sides.
+use Rattle.std.proofs.Common.{◌≡◌, ◌≢◌, ℕ, ◌+◌, ◌-◌, ◌<◌, ◌≤◌, ◌==◌, ◌⊎◌, inl, inr, Bool, true, false, List, length, slice_set, refl, sym, ap, ◌∙◌, arith}
+use Rattle.std.proofs.lemmas.List.{length-set}
+use Rattle.std.proofs.lemmas.Bool.{eqb-true, eqb-false}
+use Rattle.mem80.specs.declared.memory.TheConstants.{MEMORY_SIZE}
+use Rattle.mem80.specs.Memory.{IsMemory, byte_at}
+use Rattle.meaning.specs.Outcomes.{Program}
+use Rattle.meaning.specs.Access.{is_declared, is_constant, frame_bytes}
+use Rattle.isa8080.specs.State.{Registers}
+use Rattle.asm8080.specs.Standing.{AgreesIn, Keeps}
+use Rattle.machine_runs.proofs.Kept.{byte_kept, byte_put, memory_put}
+use Rattle.code_meaning.specs.Activations.{Activation, FrameLies, IsReady, IsVariable, LiesWell, Owns, Shares}
+use Rattle.code_meaning.proofs.Owning.{keeps_both}
+
+-- a byte of one memory that is put in another at the same address
+put_both :
+    (memory source : List ℕ) (address value other : ℕ)
+    → address < length memory
+    → address < length source
+    → (test : Bool)
+    → (other == address) ≡ test
+    → byte_at memory other ≡ byte_at source other
+    → byte_at (slice_set memory address value) other ≡ byte_at (slice_set source address value) other
+put_both memory source address value other one two true here same =
+    let equal : other ≡ address = eqb-true other address here in
+    rw equal (byte_put memory address value one ∙ sym (byte_put source address value two))
+put_both memory source address value other one two false here same =
+    let differ : other ≢ address = eqb-false other address here in
+    byte_kept memory address other value differ ∙ same ∙ sym (byte_kept source address other value differ)
+
+-- a byte put where an activation owns it
+pub keeps_put :
+    (Own : ℕ → Type 0) (base memory : List ℕ) (address value : ℕ)
+    → Own address
+    → Keeps Own base memory
+    → Keeps Own base (slice_set memory address value)
+keeps_put Own base memory address value mine kept = record {
+  size = length-set memory address value ∙ kept.size;
+  bytes = λ other outside.
+      byte_kept memory address other value (λ same. outside (rw same mine)) ∙ kept.bytes other outside;
+}
+
+variable_shared :
+    (program : Program) (image source memory : List ℕ) (address value : ℕ)
+    → ((other : ℕ) → IsVariable program other → program.placement.code.start ≤ other
+        → other < program.placement.code.start + program.placement.code.len → ⊥)
+    → IsVariable program address
+    → address < MEMORY_SIZE
+    → value < 256
+    → Shares program image source memory
+    → Shares program image (slice_set source address value) (slice_set memory address value)
+variable_shared program image source memory address value free variable inside small shares =
+    let size = shares.size in
+    let is = shares.is_memory in
+    record {
+      is_memory = memory_put memory address value is small;
+      size = length-set source address value ∙ size;
+      declared = λ other there.
+          put_both memory source address value other (omega (arith, is.size, inside)) (omega (arith, size, inside))
+          (other == address) refl (shares.declared other there);
+      code = λ other there.
+          byte_kept memory address other value
+          (λ same. free address variable (rw (sym same) there.0) (rw (sym same) there.1))
+          ∙ shares.code other there;
+    }
+
+-- a frame does not change while a byte changes that is none of it
+frame_kept :
+    (activation : Activation) (frame : List (List ℕ)) (memory : List ℕ) (address value : ℕ)
+    → ((object offset : ℕ) → offset < activation.size object
+        → activation.level + activation.distance object + offset ≢ address)
+    → FrameLies activation frame memory
+    → FrameLies activation frame (slice_set memory address value)
+frame_kept activation frame memory address value elsewhere lies = record {
+  sizes = lies.sizes;
+  bytes = λ object offset within.
+      byte_kept memory address (activation.level + activation.distance object + offset) value
+      (elsewhere object offset within)
+      ∙ lies.bytes object offset within;
+}
+
+variable_elsewhere :
+    (activation : Activation) (address : ℕ) → LiesWell activation → IsVariable activation.around.program address
+    → (object offset : ℕ) → offset < activation.size object
+    → activation.level + activation.distance object + offset ≢ address
+variable_elsewhere activation address lies variable object offset within same =
+    let inside = lies.inside object offset within in
+    let low = lies.low in
+    let above = lies.above in
+    lies.stack_free address variable.0 (omega (arith, same, low)) (omega (arith, same, inside, above))
+
+-- a variable of the program
+pub ready_with_variable :
+    (activation : Activation) (top : ℕ) (base source : List ℕ) (frame : List (List ℕ)) (r : Registers)
+    (memory : List ℕ) (address value : ℕ)
+    → LiesWell activation
+    → IsVariable activation.around.program address
+    → address < MEMORY_SIZE
+    → value < 256
+    → IsReady activation top base source frame r memory
+    → IsReady activation top base (slice_set source address value) frame r (slice_set memory address value)
+ready_with_variable activation top base source frame r memory address value lies variable inside small ready = record {
+  pointer = ready.pointer;
+  registers = ready.registers;
+  shares =
+      variable_shared activation.around.program activation.image source memory address value lies.code_free variable
+      inside small ready.shares;
+  frame_lies =
+      frame_kept activation frame memory address value (variable_elsewhere activation address lies variable)
+      ready.frame_lies;
+  kept = keeps_put (Owns activation top) base memory address value (inl variable) ready.kept;
+}

@@ -1,0 +1,131 @@
+-- Where a call of a procedure, or the main program, lies on the machine, and what its memory has in common with that of
+-- the source.
+use Rattle.std.specs.Prelude.{◌≡◌, ◌≢◌, ℕ, ◌+◌, ◌<◌, ◌≤◌, ◌⊎◌, Bool, true, false, List, length}
+use Rattle.mem80.specs.declared.memory.TheConstants.{MEMORY_SIZE}
+use Rattle.mem80.specs.Memory.{IsMemory, byte_at}
+use Rattle.meaning.specs.Outcomes.{Program, State as SourceState}
+use Rattle.meaning.specs.Access.{Surroundings, is_declared, is_constant, frame_bytes}
+use Rattle.isa8080.specs.State.{Registers, State, wrap}
+use Rattle.asm8080.specs.declared.item.Item.{Item}
+use Rattle.asm8080.specs.Items.{Layout, Stands}
+use Rattle.asm8080.specs.Standing.{AgreesIn, Keeps}
+use Rattle.code_meaning.specs.Landing.{at_place}
+
+-- registers that hold bytes, as those of a machine do
+pub record HoldBytes (r : Registers) : Type 0 where
+  pub a : r.a < 256
+  pub b : r.b < 256
+  pub c : r.c < 256
+  pub d : r.d < 256
+  pub e : r.e < 256
+  pub h : r.h < 256
+  pub l : r.l < 256
+
+-- Where an activation lies: what it is carried out in; the labels and targets of its module's code; the memory as it was
+-- loaded, which all code is compared to; where the stack pointer is when nothing is pushed, counted up to 65536; how far
+-- above it each object of the frame begins, and how many bytes it has; how far above it the return address and the
+-- caller's stack are.
+pub record Activation : Type 0 where
+  pub around : Surroundings
+  pub layout : Layout
+  pub image : List ℕ
+  pub level : ℕ
+  pub distance : (object : ℕ) → ℕ
+  pub size : (object : ℕ) → ℕ
+  pub back : ℕ
+  pub whole : ℕ
+
+-- a byte that the program may change
+abbrev pub IsVariable : Program → (address : ℕ) → Type 0
+IsVariable program address = (is_declared program address ≡ true) × (is_constant program address ≡ false)
+
+-- a byte of the stack that an activation may change, where the stack pointer is at a level: one below it, or one up to
+-- the caller's stack that is not pushed and not of the return address
+abbrev pub IsMine : Activation → (top address : ℕ) → Type 0
+IsMine activation top address =
+    ((activation.around.program.placement.stack.start ≤ address) × (address < top))
+    ⊎ ((activation.level ≤ address) × (address < activation.level + activation.whole)
+    × (address ≢ activation.level + activation.back) × (address ≢ activation.level + activation.back + 1))
+
+-- a byte that an activation may change
+abbrev pub Owns : Activation → (top address : ℕ) → Type 0
+Owns activation top address =
+    IsVariable activation.around.program address ⊎ IsMine activation top address
+
+-- a memory that has the bytes of the source's memory where these are declared, and the code as it was loaded
+pub record Shares (program : Program) (image source memory : List ℕ) : Type 0 where
+  pub is_memory : IsMemory memory
+  pub size : length source ≡ MEMORY_SIZE
+  pub declared : (address : ℕ) → is_declared program address ≡ true
+      → byte_at memory address ≡ byte_at source address
+  pub code : AgreesIn program.placement.code image memory
+
+-- the bytes of a frame lie where they are to
+pub record FrameLies (activation : Activation) (frame : List (List ℕ)) (memory : List ℕ) : Type 0 where
+  pub sizes : (object : ℕ) → length (frame_bytes frame object) ≡ activation.size object
+  pub bytes : (object offset : ℕ) → offset < activation.size object
+      → byte_at memory (activation.level + activation.distance object + offset)
+      ≡ byte_at (frame_bytes frame object) offset
+
+-- Code of an activation may go on: the stack pointer is at a level, memory and frame are those of the source, and since
+-- a memory before no byte changed but its own.
+pub record IsReady
+    (activation : Activation) (top : ℕ) (base : List ℕ) (source : List ℕ) (frame : List (List ℕ))
+    (r : Registers) (memory : List ℕ) : Type 0 where
+  pub pointer : r.sp ≡ wrap top
+  pub registers : HoldBytes r
+  pub shares : Shares activation.around.program activation.image source memory
+  pub frame_lies : FrameLies activation frame memory
+  pub kept : Keeps (Owns activation top) base memory
+
+-- so many bytes are pushed, and there is room for so many more below the room that calls have
+pub record HasRoom (activation : Activation) (top pushed need : ℕ) : Type 0 where
+  pub depth : top + pushed ≡ activation.level
+  pub enough : activation.around.program.placement.stack.start + activation.around.room + need ≤ top
+
+-- what is true of where a program and a frame lie, whatever runs
+pub record LiesWell (activation : Activation) : Type 0 where
+  pub stack_free : (address : ℕ) → is_declared activation.around.program address ≡ true
+      → (activation.around.program.placement.stack.start ≤ address)
+      → (address < activation.around.program.placement.stack.start + activation.around.program.placement.stack.len)
+      → ⊥
+  pub code_free : (address : ℕ) → IsVariable activation.around.program address
+      → (activation.around.program.placement.code.start ≤ address)
+      → (address < activation.around.program.placement.code.start + activation.around.program.placement.code.len)
+      → ⊥
+  pub apart : (address : ℕ) → (activation.around.program.placement.code.start ≤ address)
+      → (address < activation.around.program.placement.code.start + activation.around.program.placement.code.len)
+      → (activation.around.program.placement.stack.start ≤ address)
+      → (address < activation.around.program.placement.stack.start + activation.around.program.placement.stack.len)
+      → ⊥
+  pub code_in_memory : activation.around.program.placement.code.start + activation.around.program.placement.code.len
+      ≤ MEMORY_SIZE
+  pub stack_in_memory :
+      activation.around.program.placement.stack.start + activation.around.program.placement.stack.len ≤ MEMORY_SIZE
+  pub low : activation.around.program.placement.stack.start ≤ activation.level
+  pub above : activation.level + activation.whole
+      ≤ activation.around.program.placement.stack.start + activation.around.program.placement.stack.len
+  pub inside : (object offset : ℕ) → offset < activation.size object
+      → activation.distance object + offset < activation.whole
+  pub not_back : (object offset : ℕ) → offset < activation.size object
+      → (activation.distance object + offset ≢ activation.back)
+      × (activation.distance object + offset ≢ activation.back + 1)
+  pub differ : (object offset other place : ℕ) → offset < activation.size object → place < activation.size other
+      → activation.distance object + offset ≡ activation.distance other + place
+      → (object ≡ other) × (offset ≡ place)
+
+-- items that stand in the code as it was loaded
+pub record IsThere (activation : Activation) (items : List Item) (from to : ℕ) : Type 0 where
+  pub stands : Stands activation.layout activation.image items from to
+  pub low : activation.around.program.placement.code.start ≤ from
+  pub high : to ≤ activation.around.program.placement.code.start + activation.around.program.placement.code.len
+
+-- a machine at a place, ready to go on, where something holds of what was given, the registers and the memory
+pub record Arrives
+    {A : Type 0} (activation : Activation) (top : ℕ) (base : List ℕ) (place : ℕ)
+    (Holds : A → Registers → List ℕ → Type 0) (found : A) (t : SourceState) (end : State) : Type 0 where
+  pub r : Registers
+  pub memory : List ℕ
+  pub is_at : end ≡ at_place place r memory t.events
+  pub ready : IsReady activation top base t.memory t.frame r memory
+  pub holds : Holds found r memory

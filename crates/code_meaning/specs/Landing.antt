@@ -1,0 +1,45 @@
+-- What a run of the machine comes to beside what a part of a program means.
+use Rattle.std.specs.Prelude.{◌≡◌, ℕ, ◌+◌, ◌≤◌, List}
+use Rattle.ports.specs.declared.event.Event.{Event}
+use Rattle.meaning.specs.Outcomes.{State as SourceState, Ended, More, Outside, Outcome, Gave, Stopped}
+use Rattle.isa8080.specs.declared.registers.Status.{Status}
+use Rattle.isa8080.specs.declared.registers.Status.TheVariants.{Halted, Running}
+use Rattle.isa8080.specs.State.{Registers, State, wrap}
+use Rattle.isa8080.specs.Step.{running}
+use Rattle.asm8080.specs.Runs.{Comes}
+
+-- a machine that runs at a place; places count on past the end of memory, where the program counter begins at 0 again
+abbrev pub at_place : (place : ℕ) → Registers → (memory : List ℕ) → List Event → State
+at_place place r memory events = running (record r { pc = wrap place }) memory events
+
+-- A run whose end is good, with at least as many steps as it spends of a budget, and so many more.
+pub record Lands
+    (script : List (List ℕ)) (budget more : ℕ) (from : State) (left : ℕ) (Good : State → Type 0) : Type 0 where
+  pub count : ℕ
+  pub end : State
+  pub run : Comes script count from end
+  pub paid : budget + more ≤ left + count
+  pub spent : left ≤ budget
+  pub is_good : Good end
+
+-- a machine of this status, after these events
+pub record IsLeft (status : Status) (events : List Event) (end : State) : Type 0 where
+  pub status_is : end.status ≡ status
+  pub events_are : end.events ≡ events
+
+-- Beside an outcome: where something is given, the run comes to a good end; where the program ends the machine halts,
+-- and where it wants more budget the machine still runs, after the same events; of what goes outside nothing is said.
+abbrev pub Told :
+    {A : Type 0} → (script : List (List ℕ)) → (budget more : ℕ) → (from : State) → Outcome A
+    → (Good : A → SourceState → State → Type 0) → Type 0
+Told script budget more from (Gave found t) Good = Lands script budget more from t.budget (Good found t)
+Told script budget more from (Stopped Ended t) Good =
+    Lands script budget 0 from t.budget (IsLeft Halted t.events)
+Told script budget more from (Stopped More t) Good = Lands script budget 0 from 0 (IsLeft Running t.events)
+Told script budget more from (Stopped (Outside reason) t) Good = Unit {0}
+
+-- the machine does from a state on what an outcome says
+pub record Does
+    {A : Type 0} (script : List (List ℕ)) (budget more : ℕ) (from : State) (outcome : Outcome A)
+    (Good : A → SourceState → State → Type 0) : Type 0 where
+  pub told : Told script budget more from outcome Good

@@ -1,0 +1,2 @@
+pub mod Landing
+pub mod Activations
