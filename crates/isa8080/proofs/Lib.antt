@@ -2,3 +2,5 @@ pub mod EncodingLemmas
 pub mod DecodingLemmas
 pub mod Endings
 pub mod Rows
+pub mod Growing
+pub mod FlagBytes

@@ -18,10 +18,10 @@ abbrev pub pushed : (level word : ℕ) → List ℕ → List ℕ
 pushed level word memory =
     slice_set (slice_set memory (level - 1) (high_byte word)) (level - 2) (low_byte word)
 
-one_below : (sp level : ℕ) → sp ≡ wrap level → level ≤ MEMORY_SIZE → 2 ≤ level → one_less sp ≡ level - 1
+pub one_below : (sp level : ℕ) → sp ≡ wrap level → level ≤ MEMORY_SIZE → 2 ≤ level → one_less sp ≡ level - 1
 one_below sp level h limit room = omega arith
 
-two_below : (sp level : ℕ) → sp ≡ wrap level → level ≤ MEMORY_SIZE → 2 ≤ level → two_less sp ≡ level - 2
+pub two_below : (sp level : ℕ) → sp ≡ wrap level → level ≤ MEMORY_SIZE → 2 ≤ level → two_less sp ≡ level - 2
 two_below sp level h limit room = omega arith
 
 -- the state in a call, by where SP is and what is written

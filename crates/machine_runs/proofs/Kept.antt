@@ -37,10 +37,10 @@ abbrev pub Alike : (from to : ℕ) → (memory other : List ℕ) → Type 0
 Alike from to memory other =
     (address : ℕ) → from ≤ address → address < to → byte_at other address ≡ byte_at memory address
 
-wrapped : (place : ℕ) → place < MEMORY_SIZE → place ≡ wrap place
+pub wrapped : (place : ℕ) → place < MEMORY_SIZE → place ≡ wrap place
 wrapped place h = omega arith
 
-bytes_stay :
+pub bytes_stay :
     (memory other bytes : List ℕ) (from to : ℕ)
     → to ≤ MEMORY_SIZE
     → from + length bytes ≤ to
@@ -54,7 +54,7 @@ bytes_stay memory other (byte ∷ others) from to limit fits alike stands = (
       (λ address low high. alike address (omega arith) high) stands.1,
 )
 
-size_with : (form : WordForm) (word : ℕ) → size_of_instruction (instruction_with form word) ≡ 3
+pub size_with : (form : WordForm) (word : ℕ) → size_of_instruction (instruction_with form word) ≡ 3
 size_with (LoadPair pair) word = refl
 size_with StoreHl word = refl
 size_with LoadHl word = refl

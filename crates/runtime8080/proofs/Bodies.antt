@@ -5,7 +5,7 @@ use Rattle.mem80.specs.declared.memory.TheConstants.{MEMORY_SIZE}
 use Rattle.mem80.specs.Memory.{byte_at}
 use Rattle.mem80.specs.Range.{IsIn, Meets}
 use Rattle.ports.specs.declared.event.Event.{Event}
-use Rattle.isa8080.specs.State.{State, Registers, high_byte, wrap}
+use Rattle.isa8080.specs.State.{HoldBytes, Registers, State, high_byte, wrap}
 use Rattle.asm8080.specs.Runs.{Comes}
 use Rattle.asm8080.specs.Standing.{Keeps, below}
 use Rattle.machine_runs.proofs.Steps.{at, returned, step_then}
@@ -13,7 +13,7 @@ use Rattle.machine_runs.proofs.Kept.{Alike}
 use Rattle.machine_runs.proofs.Calls.{called, pushed, pushed_is_memory, pushed_is_pushed, pushed_keeps, returned_is}
 use Rattle.runtime8080.specs.declared.routine.Routine.{Routine}
 use Rattle.runtime8080.specs.declared.routine.Routine.TheVariants as routines
-use Rattle.runtime8080.specs.Routines.{CALL_BYTES, Computes, HasReturned, HoldBytes, Leaves, MayCall, Returns, memory_after, most_steps}
+use Rattle.runtime8080.specs.Routines.{CALL_BYTES, Computes, HasReturned, Leaves, MayCall, Returns, memory_after, most_steps}
 
 -- What a routine does that writes no memory, from its first byte to where it has returned.
 pub record Body

@@ -11,7 +11,7 @@ use Rattle.isa8080.specs.declared.instr.Condition.TheVariants.{Carry}
 use Rattle.isa8080.specs.declared.instr.Operation.TheVariants.{Add, Compare, Or}
 use Rattle.isa8080.specs.declared.instr.Instr.{Instr}
 use Rattle.isa8080.specs.declared.instr.Instr.TheVariants.{Accumulate, AccumulateImmediate, Mov, Mvi, Rar, Ret}
-use Rattle.isa8080.specs.State.{State, Registers, wrap}
+use Rattle.isa8080.specs.State.{HoldBytes, Registers, State, wrap}
 use Rattle.asm8080.specs.declared.item.WordForm.TheVariants.{JumpWhere}
 use Rattle.asm8080.specs.declared.item.Reference.TheVariants.{AtLabel}
 use Rattle.asm8080.specs.declared.item.Item.{Item}
@@ -23,7 +23,7 @@ use Rattle.machine_runs.proofs.Loops.{loop_before, steps_below, tested_before, t
 use Rattle.machine_runs.proofs.Kept.{stands_size, stands_still}
 use Rattle.runtime8080.specs.declared.routine.Routine.{Routine}
 use Rattle.runtime8080.specs.declared.routine.Routine.TheVariants as routines
-use Rattle.runtime8080.specs.Routines.{Computes, HoldBytes, IsRoutine, Leaves, LeavesBcAndHl, memory_after, most_steps}
+use Rattle.runtime8080.specs.Routines.{Computes, IsRoutine, Leaves, LeavesBcAndHl, memory_after, most_steps}
 use Rattle.runtime8080.specs.internal.Listings.{shift_left_byte, shift_right_byte}
 use Rattle.runtime8080.proofs.Bits.{none_left, none_right, shift_left, shift_right, shifted_left, shifted_right, times}
 use Rattle.runtime8080.proofs.Bodies.{Body, held, returns_quietly}

@@ -6,6 +6,7 @@ use Rattle.std.proofs.lemmas.List.Elements.{All-get_or}
 use Rattle.mem80.specs.declared.memory.TheConstants.{MEMORY_SIZE}
 use Rattle.mem80.specs.declared.range.Range.{Range}
 use Rattle.mem80.specs.Memory.{IsMemory, byte_at}
+use Rattle.mem80.proofs.MemoryLemmas.{byte_small}
 use Rattle.mem80.specs.Range.{IsIn}
 use Rattle.isa8080.specs.State.{wrap}
 use Rattle.machine_runs.proofs.Kept.{byte_kept, byte_put, memory_put}
@@ -13,10 +14,6 @@ use Rattle.runtime8080.specs.Routines.{BlockMisses, copied}
 
 wrapped_small : (n : ℕ) → wrap n < MEMORY_SIZE
 wrapped_small n = omega arith
-
-pub byte_small : (memory : List ℕ) (address : ℕ) → IsMemory memory → address < MEMORY_SIZE → byte_at memory address < 256
-byte_small memory address is small =
-    All-get_or (λ (byte : ℕ). byte < 256) memory address 0 (omega (arith, is.size)) is.bytes
 
 first_wrapped : (start : ℕ) → wrap start ≡ wrap (start + 0)
 first_wrapped start = omega arith
@@ -45,7 +42,7 @@ copied_is_memory (suc count) source destination memory is =
     copied_is_memory count (source + 1) (destination + 1)
     (slice_set memory (wrap destination) (byte_at memory (wrap source)))
     (memory_put memory (wrap destination) (byte_at memory (wrap source)) is
-    (byte_small memory (wrap source) is (wrapped_small source)))
+    (byte_small memory (wrap source) is))
 
 -- what a copied block keeps
 pub copied_keeps :

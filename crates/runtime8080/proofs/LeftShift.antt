@@ -12,7 +12,7 @@ use Rattle.isa8080.specs.declared.instr.Condition.TheVariants.{Carry}
 use Rattle.isa8080.specs.declared.instr.Operation.TheVariants.{Compare}
 use Rattle.isa8080.specs.declared.instr.Instr.{Instr}
 use Rattle.isa8080.specs.declared.instr.Instr.TheVariants.{AccumulateImmediate, Dad, Lxi, Mov, Ret}
-use Rattle.isa8080.specs.State.{Registers, pair_of, word, wrap}
+use Rattle.isa8080.specs.State.{HoldBytes, Registers, pair_of, word, wrap}
 use Rattle.asm8080.specs.declared.item.WordForm.TheVariants.{JumpWhere}
 use Rattle.asm8080.specs.declared.item.Reference.TheVariants.{AtLabel}
 use Rattle.asm8080.specs.declared.item.Item.{Item}
@@ -23,7 +23,7 @@ use Rattle.machine_runs.proofs.Straight.{effect, past, steps_of, straight}
 use Rattle.machine_runs.proofs.Loops.{counted, loop_before, steps_below, tested_before, turns_below, word_is}
 use Rattle.machine_runs.proofs.Kept.{stands_size, stands_still}
 use Rattle.runtime8080.specs.declared.routine.Routine.TheVariants as routines
-use Rattle.runtime8080.specs.Routines.{HoldBytes, IsRoutine}
+use Rattle.runtime8080.specs.Routines.{IsRoutine}
 use Rattle.runtime8080.specs.internal.Listings.{shift_left_address}
 use Rattle.runtime8080.proofs.AddressBits.{doubled_product, high_small, low_small, of_bytes}
 use Rattle.runtime8080.proofs.Bodies.{Body, held, returns_quietly}

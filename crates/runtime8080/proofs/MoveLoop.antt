@@ -3,6 +3,7 @@ use Rattle.std.proofs.Common.{◌≡◌, ℕ, zero, suc, ◌+◌, ◌-◌, ◌*�
 use Rattle.std.proofs.lemmas.Bool.{eq-eqb}
 use Rattle.mem80.specs.declared.memory.TheConstants.{MEMORY_SIZE}
 use Rattle.mem80.specs.Memory.{IsMemory, byte_at}
+use Rattle.mem80.proofs.MemoryLemmas.{byte_small}
 use Rattle.mem80.specs.Range.{IsIn}
 use Rattle.ports.specs.declared.event.Event.{Event}
 use Rattle.isa8080.specs.declared.instr.Register.TheVariants.{A, B, C}
@@ -12,7 +13,7 @@ use Rattle.isa8080.specs.declared.instr.IndexPair.TheVariants.{IndexDe}
 use Rattle.isa8080.specs.declared.instr.Condition.TheVariants.{NotZero}
 use Rattle.isa8080.specs.declared.instr.Instr.{Instr}
 use Rattle.isa8080.specs.declared.instr.Instr.TheVariants.{Dcr, Inr, Inx, Ldax, MovToMemory, Ret}
-use Rattle.isa8080.specs.State.{State, Registers, word, wrap}
+use Rattle.isa8080.specs.State.{HoldBytes, Registers, State, word, wrap}
 use Rattle.asm8080.specs.declared.item.WordForm.TheVariants.{JumpWhere}
 use Rattle.asm8080.specs.declared.item.Reference.TheVariants.{AtLabel}
 use Rattle.asm8080.specs.declared.item.Item.{Item}
@@ -23,8 +24,8 @@ use Rattle.machine_runs.proofs.Steps.{at, does, goes_past, jumps_where, returned
 use Rattle.machine_runs.proofs.Straight.{effect, straight}
 use Rattle.machine_runs.proofs.Loops.{not_zero, word_is}
 use Rattle.machine_runs.proofs.Kept.{byte_kept, memory_put, stands_size, stands_still}
-use Rattle.runtime8080.specs.Routines.{BlockMisses, HoldBytes, copied}
-use Rattle.runtime8080.proofs.Copies.{byte_small, first_missed, others_missed}
+use Rattle.runtime8080.specs.Routines.{BlockMisses, copied}
+use Rattle.runtime8080.proofs.Copies.{first_missed, others_missed}
 
 abbrev pub whole : (first : ℕ) → List Item
 whole first =
@@ -75,7 +76,7 @@ word_small high low h l = omega arith
 
 next_bytes : (r : Registers) (memory : List ℕ) → IsMemory memory → HoldBytes r → HoldBytes (next r memory)
 next_bytes r memory is are = record {
-  a = byte_small memory (word r.d r.e) is (word_small r.d r.e are.d are.e);
+  a = byte_small memory (word r.d r.e) is;
   b = are.b;
   c = low_small (r.c + 254 + 1);
   d = high_small (word r.d r.e + 1);

@@ -10,7 +10,7 @@ use Rattle.isa8080.specs.declared.instr.Operand.TheVariants.{Of}
 use Rattle.isa8080.specs.declared.instr.Condition.TheVariants.{NotZero, Zero}
 use Rattle.isa8080.specs.declared.instr.Instr.{Instr}
 use Rattle.isa8080.specs.declared.instr.Instr.TheVariants.{Dcr, Inr, Ret}
-use Rattle.isa8080.specs.State.{Registers, word, wrap}
+use Rattle.isa8080.specs.State.{HoldBytes, Registers, word, wrap}
 use Rattle.asm8080.specs.declared.item.WordForm.TheVariants.{JumpWhere}
 use Rattle.asm8080.specs.declared.item.Reference.TheVariants.{AtLabel}
 use Rattle.asm8080.specs.declared.item.Item.{Item}
@@ -24,7 +24,7 @@ use Rattle.machine_runs.proofs.Loops.{not_zero, word_is}
 use Rattle.machine_runs.proofs.Kept.{stands_size, stands_still}
 use Rattle.machine_runs.proofs.Calls.{IsPushed, called, pushed, pushed_is_memory, pushed_is_pushed, returned_is}
 use Rattle.runtime8080.specs.declared.routine.Routine.TheVariants as routines
-use Rattle.runtime8080.specs.Routines.{BlockMisses, HoldBytes, IsRoutine, CALL_BYTES, copied}
+use Rattle.runtime8080.specs.Routines.{BlockMisses, IsRoutine, CALL_BYTES, copied}
 use Rattle.runtime8080.specs.internal.Listings.{move_bytes}
 use Rattle.runtime8080.proofs.Bodies.{bytes_where, code_stays, held, in_spare, pushed_elsewhere, two_fit, wrapped_small}
 use Rattle.runtime8080.proofs.Copies.{copied_differ, copied_is_memory, copied_keeps}

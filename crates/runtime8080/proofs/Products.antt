@@ -12,7 +12,7 @@ use Rattle.isa8080.specs.declared.instr.Condition.TheVariants.{Zero}
 use Rattle.isa8080.specs.declared.instr.Operation.TheVariants.{Or}
 use Rattle.isa8080.specs.declared.instr.Instr.{Instr}
 use Rattle.isa8080.specs.declared.instr.Instr.TheVariants.{Accumulate, Lxi, Mov, Mvi, Ret}
-use Rattle.isa8080.specs.State.{Registers, word, wrap}
+use Rattle.isa8080.specs.State.{HoldBytes, Registers, word, wrap}
 use Rattle.asm8080.specs.declared.item.WordForm.TheVariants.{JumpWhere}
 use Rattle.asm8080.specs.declared.item.Reference.TheVariants.{AtLabel}
 use Rattle.asm8080.specs.declared.item.Item.{Item}
@@ -25,7 +25,7 @@ use Rattle.machine_runs.proofs.Straight.{effect, past, steps_of, straight}
 use Rattle.machine_runs.proofs.Loops.{word_is}
 use Rattle.machine_runs.proofs.Kept.{stands_size, stands_still}
 use Rattle.runtime8080.specs.declared.routine.Routine.TheVariants as routines
-use Rattle.runtime8080.specs.Routines.{HoldBytes, IsRoutine}
+use Rattle.runtime8080.specs.Routines.{IsRoutine}
 use Rattle.runtime8080.specs.internal.Listings.{multiply}
 use Rattle.runtime8080.proofs.Bits.{equal_below}
 use Rattle.runtime8080.proofs.Bodies.{Body, held, returns_quietly}

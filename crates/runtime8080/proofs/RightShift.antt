@@ -13,7 +13,7 @@ use Rattle.isa8080.specs.declared.instr.Operation.TheVariants.{Add, And, Compare
 use Rattle.isa8080.specs.declared.instr.Instr.{Instr}
 use Rattle.isa8080.specs.declared.instr.Instr.TheVariants.{Accumulate, AccumulateImmediate, Dad, Dcr, Mov, Mvi, Ral, Rar, Ret, ReturnIf, Rrc}
 use Rattle.isa8080.specs.Flags.{bit}
-use Rattle.isa8080.specs.State.{Registers, State, word, wrap}
+use Rattle.isa8080.specs.State.{HoldBytes, Registers, State, word, wrap}
 use Rattle.asm8080.specs.declared.item.WordForm.TheVariants.{JumpWhere}
 use Rattle.asm8080.specs.declared.item.Reference.TheVariants.{AtLabel}
 use Rattle.asm8080.specs.declared.item.Item.{Item}
@@ -25,7 +25,7 @@ use Rattle.machine_runs.proofs.Straight.{effect, past, plain, steps_of, straight
 use Rattle.machine_runs.proofs.Loops.{not_equal, not_zero, one_less_is, word_is}
 use Rattle.machine_runs.proofs.Kept.{stands_size, stands_still}
 use Rattle.runtime8080.specs.declared.routine.Routine.TheVariants as routines
-use Rattle.runtime8080.specs.Routines.{HoldBytes, IsRoutine}
+use Rattle.runtime8080.specs.Routines.{IsRoutine}
 use Rattle.runtime8080.specs.internal.Listings.{shift_right_address}
 use Rattle.runtime8080.proofs.AddressBits.{by_eight, even_of, half_small, halves, high_alone, high_small, low_small, none_left, not_doubled, odd_of, of_bytes, once_more, quarter_high_small, quarter_low_small, quarters, shifted_is, turned, turned_small, word_small}
 use Rattle.runtime8080.proofs.Bodies.{Body, held, returns_quietly}

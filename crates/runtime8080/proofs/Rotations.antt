@@ -10,7 +10,7 @@ use Rattle.isa8080.specs.declared.instr.Condition.TheVariants.{Zero}
 use Rattle.isa8080.specs.declared.instr.Operation.TheVariants.{And}
 use Rattle.isa8080.specs.declared.instr.Instr.{Instr}
 use Rattle.isa8080.specs.declared.instr.Instr.TheVariants.{Rlc, Rrc, Mov, AccumulateImmediate, ReturnIf, Ret}
-use Rattle.isa8080.specs.State.{Registers}
+use Rattle.isa8080.specs.State.{HoldBytes, Registers}
 use Rattle.asm8080.specs.declared.item.Item.{Item}
 use Rattle.asm8080.specs.declared.item.Item.TheVariants.{Plain, Mark}
 use Rattle.asm8080.specs.Items.{Layout, Stands}
@@ -22,7 +22,7 @@ use Rattle.machine_runs.proofs.Kept.{stands_still}
 use Rattle.meaning.specs.Values.{turned}
 use Rattle.runtime8080.specs.declared.routine.Routine.{Routine}
 use Rattle.runtime8080.specs.declared.routine.Routine.TheVariants as routines
-use Rattle.runtime8080.specs.Routines.{Computes, HoldBytes, IsRoutine, Leaves, LeavesBcAndHl, most_steps}
+use Rattle.runtime8080.specs.Routines.{Computes, IsRoutine, Leaves, LeavesBcAndHl, most_steps}
 use Rattle.runtime8080.specs.internal.Listings.{rotate_left, rotate_right}
 use Rattle.runtime8080.proofs.Bits.{low_three, times, turn_left, turn_right, turned_left, turned_right}
 use Rattle.runtime8080.proofs.Bodies.{Body, held, returns_quietly}

@@ -11,7 +11,7 @@ use Rattle.mem80.specs.Range.{IsIn, Meets}
 use Rattle.isa8080.specs.declared.instr.Pair.TheVariants.{Bc, De, Hl}
 use Rattle.isa8080.specs.declared.instr.Instr.TheVariants.{Call}
 use Rattle.isa8080.specs.declared.registers.Status.TheVariants.{Running}
-use Rattle.isa8080.specs.State.{State, Registers, pair_of, wrap}
+use Rattle.isa8080.specs.State.{HoldBytes, State, Registers, pair_of, wrap}
 use Rattle.asm8080.specs.declared.item.Reference.{Reference}
 use Rattle.asm8080.specs.declared.item.Reference.TheVariants.{AtLabel, AtTarget}
 use Rattle.asm8080.specs.declared.item.Item.{Item}
@@ -25,16 +25,6 @@ use Rattle.runtime8080.specs.declared.routine.Routine.TheVariants as routines
 -- how many bytes below the end of the stack a CALL of a routine writes: its return address
 abbrev pub CALL_BYTES : ℕ
 CALL_BYTES = 2
-
--- registers that hold bytes, as those of a machine do
-pub record HoldBytes (registers : Registers) : Type 0 where
-  pub a : registers.a < 256
-  pub b : registers.b < 256
-  pub c : registers.c < 256
-  pub d : registers.d < 256
-  pub e : registers.e < 256
-  pub h : registers.h < 256
-  pub l : registers.l < 256
 
 -- the bytes of a block copied one after another from the first on, at addresses that go on from 65535 to 0
 abbrev pub copied : (count source destination : ℕ) → (memory : List ℕ) → List ℕ
