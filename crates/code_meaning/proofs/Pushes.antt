@@ -6,19 +6,13 @@ use Rattle.ports.specs.declared.event.Event.{Event}
 use Rattle.meaning.specs.Access.{is_declared}
 use Rattle.isa8080.specs.declared.instr.Instr.TheVariants.{Push}
 use Rattle.isa8080.specs.declared.instr.StackPair.{StackPair}
-use Rattle.isa8080.specs.State.{Registers, State, high_byte, low_byte, one_less, two_less, wrap, pushed_of}
+use Rattle.isa8080.specs.State.{HoldBytes, Registers, State, high_byte, low_byte, one_less, two_less, wrap, pushed_of}
 use Rattle.isa8080.specs.Act.{act}
 use Rattle.asm8080.specs.Standing.{AgreesIn, Keeps}
-use Rattle.machine_runs.proofs.Calls.{IsPushed, pushed, pushed_is_memory, pushed_is_pushed, pushed_keeps}
+use Rattle.machine_runs.proofs.Calls.{IsPushed, one_below, pushed, pushed_is_memory, pushed_is_pushed, pushed_keeps, two_below}
 use Rattle.code_meaning.specs.Landing.{at_place}
-use Rattle.code_meaning.specs.Activations.{Activation, FrameLies, HoldBytes, IsReady, LiesWell, Owns, Shares}
+use Rattle.code_meaning.specs.Activations.{Activation, FrameLies, IsReady, LiesWell, Owns, Shares}
 use Rattle.code_meaning.proofs.Owning.{keeps_all, keeps_both, keeps_wider, owns_more, pushed_is_not_owned}
-
-one_below : (sp top : ℕ) → sp ≡ wrap top → top ≤ MEMORY_SIZE → 2 ≤ top → one_less sp ≡ top - 1
-one_below sp top h limit room = omega arith
-
-two_below : (sp top : ℕ) → sp ≡ wrap top → top ≤ MEMORY_SIZE → 2 ≤ top → two_less sp ≡ top - 2
-two_below sp top h limit room = omega arith
 
 lower : (top : ℕ) → top ≤ MEMORY_SIZE → 2 ≤ top → top - 2 ≡ wrap (top - 2)
 lower top limit room = omega arith

@@ -5,21 +5,11 @@ use Rattle.mem80.specs.declared.memory.TheConstants.{MEMORY_SIZE}
 use Rattle.mem80.specs.Memory.{IsMemory, byte_at}
 use Rattle.meaning.specs.Outcomes.{Program, State as SourceState}
 use Rattle.meaning.specs.Access.{Surroundings, is_declared, is_constant, frame_bytes}
-use Rattle.isa8080.specs.State.{Registers, State, wrap}
+use Rattle.isa8080.specs.State.{HoldBytes, Registers, State, wrap}
 use Rattle.asm8080.specs.declared.item.Item.{Item}
 use Rattle.asm8080.specs.Items.{Layout, Stands}
 use Rattle.asm8080.specs.Standing.{AgreesIn, Keeps}
 use Rattle.code_meaning.specs.Landing.{at_place}
-
--- registers that hold bytes, as those of a machine do
-pub record HoldBytes (r : Registers) : Type 0 where
-  pub a : r.a < 256
-  pub b : r.b < 256
-  pub c : r.c < 256
-  pub d : r.d < 256
-  pub e : r.e < 256
-  pub h : r.h < 256
-  pub l : r.l < 256
 
 -- Where an activation lies: what it is carried out in; the labels and targets of its module's code; the memory as it was
 -- loaded, which all code is compared to; where the stack pointer is when nothing is pushed, counted up to 65536; how far
