@@ -1,14 +1,15 @@
 -- The memory that a source run starts with: a given one with INITIAL, DATA and the constant lists written
 -- over it.
-use Rattle.std.specs.Prelude.{ℕ, ◌+◌, ◌/◌, ◌%◌, List, [], ◌∷◌, ◌++◌, map, flat_map, fold, zip, Option, slice_get, slice_index, slice_set}
+use Rattle.std.specs.Prelude.{◌≡◌, ℕ, ◌+◌, ◌/◌, ◌%◌, ◌<◌, ◌≤◌, ◌⊎◌, true, length, All, List, [], ◌∷◌, ◌++◌, map, flat_map, fold, zip, Option, slice_get, slice_index, slice_set}
 use Rattle.std.specs.List.{enumerate_from}
 use Rattle.std.specs.Option.{option_map_or, option_and_then}
 use Rattle.mem80.specs.declared.memory.TheConstants.{MEMORY_SIZE}
+use Rattle.mem80.specs.Memory.{byte_at}
 use Rattle.typed_trees.specs.declared.parts.InitialValue.TheVariants.{ByteValue, WordValue, LocationValue}
 use Rattle.typed_trees.specs.declared.parts.InitialValue.{InitialValue}
 use Rattle.typed_trees.specs.TypedTrees.{Home, InData, InConstants, TypedObject, TypedModule}
 use Rattle.layout.specs.Joined.{InProgram, object_meant}
-use Rattle.layout.specs.Placement.{ModulePlacement, Placement}
+use Rattle.layout.specs.Placement.{ModulePlacement, Placement, is_declared}
 
 -- where an object of a program lies
 abbrev pub address_in : Placement → InProgram → ℕ
@@ -81,3 +82,24 @@ unfoldable pub starting_memory : List TypedModule → Placement → (memory : Li
 starting_memory modules placement memory =
     fold (λ (so_far : List ℕ) (contents : Contents). written so_far contents.0 contents.1) memory
     (contents_of modules placement)
+
+-- an address that contents have a byte at
+abbrev pub Covers : Contents → (address : ℕ) → Type 0
+Covers contents address = (contents.0 ≤ address) × (address < contents.0 + length contents.1)
+
+abbrev pub IsAmong : Contents → List Contents → Type 0
+IsAmong wanted [] = ⊥
+IsAmong wanted (first ∷ others) = (wanted ≡ first) ⊎ IsAmong wanted others
+
+-- A memory that has at each address the byte of the contents that cover it, and else that of a given memory; what is
+-- covered is declared.
+pub record StartsAs (modules : List TypedModule) (placement : Placement) (given memory : List ℕ) : Type 0 where
+  pub size : length memory ≡ length given
+  pub covered : (contents : Contents) → IsAmong contents (contents_of modules placement)
+      → (index : ℕ) → index < length contents.1
+      → byte_at memory (contents.0 + index) ≡ slice_index contents.1 index
+  pub others : (address : ℕ)
+      → All (λ (contents : Contents). Covers contents address → ⊥) (contents_of modules placement)
+      → byte_at memory address ≡ byte_at given address
+  pub declared : (contents : Contents) → IsAmong contents (contents_of modules placement)
+      → (address : ℕ) → Covers contents address → is_declared modules placement address ≡ true
