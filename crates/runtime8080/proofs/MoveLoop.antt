@@ -71,9 +71,6 @@ put r memory = slice_set memory (word r.h r.l) (byte_at memory (word r.d r.e))
 abbrev pub next : Registers → (memory : List ℕ) → Registers
 next r memory = effect forward (loaded r memory)
 
-word_small : (high low : ℕ) → high < 256 → low < 256 → word high low < MEMORY_SIZE
-word_small high low h l = omega arith
-
 next_bytes : (r : Registers) (memory : List ℕ) → IsMemory memory → HoldBytes r → HoldBytes (next r memory)
 next_bytes r memory is are = record {
   a = byte_small memory (word r.d r.e) is;
