@@ -1,2 +1,3 @@
 pub mod Landing
 pub mod Activations
+pub mod Computing

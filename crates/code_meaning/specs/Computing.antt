@@ -1,0 +1,21 @@
+-- What it means that items compute what a part of an expression means.
+use Rattle.std.specs.Prelude.{◌≡◌, ℕ, List}
+use Rattle.meaning.specs.Outcomes.{State as SourceState, Outcome}
+use Rattle.isa8080.specs.State.{Registers}
+use Rattle.asm8080.specs.declared.item.Item.{Item}
+use Rattle.code_meaning.specs.Landing.{Does, at_place}
+use Rattle.code_meaning.specs.Activations.{Activation, Arrives, HasRoom, IsReady, IsThere}
+
+-- Wherever the items stand, with so many bytes pushed and room for as many as they push, a machine that is ready and of
+-- which something is known does what is meant, and is ready at their end with what is given in its place.
+abbrev pub Computes :
+    {A : Type 0} → Activation → (pushed need : ℕ) → (Known : Registers → List ℕ → Type 0) → List Item
+    → (meant : SourceState → Outcome A) → (Holds : A → Registers → List ℕ → Type 0) → Type 0
+Computes activation pushed need Known items meant Holds =
+    (from to top : ℕ) (base : List ℕ) (s : SourceState) (r : Registers) (memory : List ℕ)
+    → IsThere activation items from to
+    → HasRoom activation top pushed need
+    → IsReady activation top base s.memory s.frame r memory
+    → Known r memory
+    → Does activation.around.program.script s.budget 0 (at_place from r memory s.events) (meant s)
+    (Arrives activation top base to Holds)
