@@ -32,7 +32,8 @@ next_is next size None fits = omega arith
 next_is next size (Some index) fits = omega arith
 
 -- the distance of a variable or parameter of what is left of a frame, whose variables begin so far on
-abbrev distance_left : (bytes parameters next : ℕ) → (left : List FrameVariable) → (number size : ℕ) → Option ℕ → ℕ
+abbrev distance_left : (bytes parameters next : ℕ) → (left : List FrameVariable) → (number size : ℕ)
+    → Option ℕ → ℕ
 distance_left bytes parameters next left number size None = next + variable_bytes (take number left)
 distance_left bytes parameters next left number size (Some index) =
     capped_parameter bytes (parameters - index - 1) size
@@ -48,8 +49,10 @@ first_left bytes parameters next left size None = from_nothing left
 first_left bytes parameters next left size (Some index) = refl
 
 later_left :
-    (bytes parameters next : ℕ) (first : FrameVariable) (others : List FrameVariable) (number size : ℕ) (parameter : Option ℕ)
-    → distance_left bytes parameters (next + bytes_by_parameter first.size first.parameter) others number size parameter
+    (bytes parameters next : ℕ) (first : FrameVariable) (others : List FrameVariable) (number size : ℕ)
+    (parameter : Option ℕ)
+    → distance_left bytes parameters (next + bytes_by_parameter first.size first.parameter) others number
+    size parameter
     ≡ distance_left bytes parameters next (first ∷ others) (suc number) size parameter
 later_left bytes parameters next first others number size None = omega arith
 later_left bytes parameters next first others number size (Some index) = refl
@@ -85,7 +88,8 @@ exact :
     ≡ distance_by_parameter procedure.frame.items (length procedure.parameters.items) number size parameter
 exact procedure number size None sized bytes fits = omega arith
 exact procedure number size (Some index) sized bytes fits =
-    by_type procedure index size (slice_get procedure.parameters.items index) refl (sized index refl) bytes fits
+    by_type procedure index size (slice_get procedure.parameters.items index) refl
+    (sized index refl) bytes fits
   where
     by_scalar :
         (bytes parameters index size : ℕ) (scalar : ScalarType)
@@ -106,7 +110,8 @@ exact procedure number size (Some index) sized bytes fits =
         → HasSize size found
         → procedure.frame_bytes ≡ variable_bytes procedure.frame.items
         → bytes_of_call procedure < 65536
-        → capped_parameter (variable_bytes procedure.frame.items) (length procedure.parameters.items - index - 1) size
+        → capped_parameter (variable_bytes procedure.frame.items)
+        (length procedure.parameters.items - index - 1) size
         ≡ parameter_distance (variable_bytes procedure.frame.items)
         (length procedure.parameters.items - index - 1) size
     by_type procedure index size None is sized bytes fits = absurd sized
@@ -148,5 +153,6 @@ planned procedure plan frame found = record {
     pass_is =
         ap (λ (bytes : ℕ). distances_from bytes plan.parameter_count 0 procedure.frame.items)
         (bytes_are ∙ frame.bytes)
-        ∙ ap (λ (count : ℕ). distances_from (variable_bytes procedure.frame.items) count 0 procedure.frame.items)
+        ∙ ap (λ (count : ℕ). distances_from (variable_bytes procedure.frame.items) count 0
+        procedure.frame.items)
         count_is

@@ -65,7 +65,8 @@ IsOf procedure number place =
 
 -- where a byte of a frame lies
 of_parameter :
-    (procedure : TreeProcedure) (number offset index : ℕ) (variable : FrameVariable) (found : Option Parameter)
+    (procedure : TreeProcedure) (number offset index : ℕ) (variable : FrameVariable)
+    (found : Option Parameter)
     → slice_get procedure.frame.items number ≡ Some variable
     → variable.parameter ≡ Some index
     → slice_get procedure.parameters.items index ≡ found
@@ -111,7 +112,8 @@ by_parameter procedure number offset variable None frame stands is within = inl 
       (sym is) (omega (arith, within));
 })
 by_parameter procedure number offset variable (Some index) frame stands is within =
-    inr (of_parameter procedure number offset index variable (slice_get procedure.parameters.items index) stands is
+    inr (of_parameter procedure number offset index variable (slice_get procedure.parameters.items index)
+    stands is
     refl (frame.parameters number index variable stands is) within)
 
 by_found :
@@ -174,7 +176,8 @@ is_off_return procedure number place (inl byte) =
     ))
 is_off_return procedure number place (inr byte) =
     word_off_return (variable_bytes procedure.frame.items) (length procedure.parameters.items)
-    (length procedure.parameters.items - byte.index - 1) place (omega (arith, byte.below)) byte.starts byte.ends
+    (length procedure.parameters.items - byte.index - 1) place (omega (arith, byte.below)) byte.starts
+    byte.ends
 
 -- two variables share no byte
 variables_apart :
@@ -184,10 +187,20 @@ variables_apart :
     → (number < other) ⊎ ((number ≡ other) ⊎ (other < number))
     → number ≡ other
 variables_apart frame number other place left right (inl before) =
-    absurd (omega (arith, left.ends, right.starts, ends_before frame number other left.variable before left.found))
+    absurd (omega (
+      arith,
+      left.ends,
+      right.starts,
+      ends_before frame number other left.variable before left.found,
+    ))
 variables_apart frame number other place left right (inr (inl same)) = same
 variables_apart frame number other place left right (inr (inr after)) =
-    absurd (omega (arith, right.ends, left.starts, ends_before frame other number right.variable after right.found))
+    absurd (omega (
+      arith,
+      right.ends,
+      left.starts,
+      ends_before frame other number right.variable after right.found,
+    ))
 
 in_order : (number other : ℕ) → (number < other) ⊎ ((number ≡ other) ⊎ (other < number))
 in_order zero zero = inr (inl refl)
@@ -226,9 +239,11 @@ same_byte :
 same_byte procedure number other place frame (inl left) (inl right) =
     variables_apart procedure.frame.items number other place left right (in_order number other)
 same_byte procedure number other place frame (inl left) (inr right) =
-    absurd (never_both procedure.frame.items (length procedure.parameters.items) number other place left right)
+    absurd (never_both procedure.frame.items (length procedure.parameters.items) number other place left
+    right)
 same_byte procedure number other place frame (inr left) (inl right) =
-    absurd (never_both procedure.frame.items (length procedure.parameters.items) other number place right left)
+    absurd (never_both procedure.frame.items (length procedure.parameters.items) other number place right
+    left)
 same_byte procedure number other place frame (inr left) (inr right) =
     frame.once number other left.index left.variable right.variable left.found right.found left.is
     (right.is ∙ ap (λ (index : ℕ). Some index) (sym same_index))
@@ -280,14 +295,17 @@ apart procedure plan frame planned = record {
         ≡ return_distance (variable_bytes procedure.frame.items) (length procedure.parameters.items)
     return_is =
         ap (λ (bytes : ℕ). return_distance bytes plan.parameter_count) (planned.variable_bytes ∙ frame.bytes)
-        ∙ ap (λ (count : ℕ). return_distance (variable_bytes procedure.frame.items) count) planned.parameter_count
+        ∙ ap (λ (count : ℕ). return_distance (variable_bytes procedure.frame.items) count)
+        planned.parameter_count
 
     outside :
         (place : ℕ)
         → (place < return_distance (variable_bytes procedure.frame.items) (length procedure.parameters.items))
-        ⊎ (return_distance (variable_bytes procedure.frame.items) (length procedure.parameters.items) + 2 ≤ place)
+        ⊎ (return_distance (variable_bytes procedure.frame.items)
+        (length procedure.parameters.items) + 2 ≤ place)
         → return_distance (variable_bytes procedure.frame.items) (length procedure.parameters.items) ≤ place
-        → place < return_distance (variable_bytes procedure.frame.items) (length procedure.parameters.items) + 2
+        → place < return_distance (variable_bytes procedure.frame.items)
+        (length procedure.parameters.items) + 2
         → ⊥
     outside place (inl before) starts ends = omega arith
     outside place (inr after) starts ends = omega arith
