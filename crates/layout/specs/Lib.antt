@@ -5,5 +5,6 @@ pub mod Lawful
 pub mod Following
 pub mod Placing
 pub mod StartingMemory
+pub mod Segments
 pub mod Views
 pub mod internal
