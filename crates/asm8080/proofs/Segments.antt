@@ -7,9 +7,10 @@ use Rattle.std.specs.Option.{option_map_or}
 use Rattle.std.proofs.lemmas.Bool.{eqb-true, eqb-false, lt-ltb, lt-leb, le-leb, le-ltb, leb-true, ltb-true}
 use Rattle.std.proofs.lemmas.List.Elements.{All-head, All-tail}
 use Rattle.object_modules.specs.declared.segment.Fix.{Fix}
+use Rattle.object_modules.specs.declared.segment.Segment.{Segment}
 use Rattle.object_modules.specs.declared.segment.Segment.TheVariants.{Code}
 use Rattle.object_modules.specs.declared.segment.TheConstants.{SEGMENT_LIMIT}
-use Rattle.object_modules.specs.Before.{is_empty}
+use Rattle.object_modules.specs.Before.{is_empty, same_segment}
 use Rattle.object_modules.specs.Image.{Plan, gain_at, placed_bytes}
 use Rattle.object_modules.specs.Module.{Fixup, ObjectModule, SetByte, is_target, is_valid_byte, is_valid_segment, words_are_whole}
 use Rattle.object_modules.specs.Module.{places_of as module_places}
@@ -180,15 +181,21 @@ set_length [] flags = refl
 set_length (byte ∷ others) [] = ap (λ n. suc n) (set_length others [])
 set_length (byte ∷ others) (here ∷ later) = ap (λ n. suc n) (set_length others later)
 
--- the places of the code segment that is kept are those of the code
-pub segment_places : (code : Assembled) → (places_stored Code (segment_of code)).places ≡ places_of code
-segment_places code =
+-- the places of a segment that is kept of code are those of the code
+pub segment_places_in :
+    (segment : Segment) (code : Assembled) → same_segment segment segment ≡ true
+    → (places_stored segment (segment_of code)).places ≡ places_of code
+segment_places_in segment code same =
     let bytes : List (Option ℕ) = set_bytes code.bytes code.is_set in
     let runs : List (Run ℕ) = runs_from 0 bytes in
-    same_over (set_in (map (content_with Code code.fixes) runs) Code) (found code.fixes runs) 0 (length code.bytes)
-    (λ x le. found_is Code code.fixes runs x refl)
+    same_over (set_in (map (content_with segment code.fixes) runs) segment) (found code.fixes runs) 0
+    (length code.bytes)
+    (λ x le. found_is segment code.fixes runs x same)
     ∙ ap (λ n. map (found code.fixes runs) (range_with_len 0 n)) (sym (set_length code.bytes code.is_set))
     ∙ run_places code.fixes 0 bytes
+
+pub segment_places : (code : Assembled) → (places_stored Code (segment_of code)).places ≡ places_of code
+segment_places code = segment_places_in Code code refl
 
 -- its runs are the longest
 apart_from_next :

@@ -1,5 +1,5 @@
 -- What assembling gives.
-use Rattle.std.specs.Prelude.{slice_get, ◌≡◌, ℕ, ◌+◌, ◌<◌, ◌≤◌, Bool, true, if◌then◌else◌, nat_lt, nat_le, IsTrue, List, [], ◌∷◌, All, length, map, Option, Some, None, option_map, Result, Ok, Err, unwrap_or}
+use Rattle.std.specs.Prelude.{slice_get, ◌≡◌, ℕ, ◌+◌, ◌<◌, ◌≤◌, Bool, true, if◌then◌else◌, nat_lt, nat_le, IsTrue, List, [], ◌∷◌, All, length, Option, Some, None, option_map, Result, Ok, Err, unwrap_or}
 use Rattle.std.specs.List.{list_all}
 use Rattle.mem80.specs.declared.memory.TheConstants.{MEMORY_SIZE}
 use Rattle.isa8080.specs.State.{wrap}
@@ -11,7 +11,7 @@ use Rattle.object_modules.specs.declared.segment.Segment.TheVariants.{Code}
 use Rattle.object_modules.specs.declared.segment.Target.TheVariants.{InSegment}
 use Rattle.object_modules.specs.declared.segment.TheConstants.{SEGMENT_LIMIT}
 use Rattle.object_modules.specs.Module.{SetByte, is_target, words_are_whole}
-use Rattle.object_modules.specs.Moving.{moved}
+use Rattle.object_modules.specs.Moving.{bytes_resolved}
 use Rattle.object_modules.specs.Rules.{fix_end}
 use Rattle.object_modules.specs.Runs.{fixup_at}
 use Rattle.object_modules.specs.Stored.{StoredSegment, fixes_ascend, is_in_a_run}
@@ -75,8 +75,7 @@ segment_of code = record {
 
 -- the bytes where targets have these addresses
 abbrev pub resolved : (address_of : Target → ℕ) → Assembled → List (Option ℕ)
-resolved address_of code =
-    map (option_map (λ (here : SetByte). here.value)) (moved address_of (λ target. None) (places_of code))
+resolved address_of code = bytes_resolved address_of (places_of code)
 
 -- what a reference counts from: a label from the start of the code
 abbrev pub target_of : Reference → Target

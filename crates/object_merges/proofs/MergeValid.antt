@@ -28,7 +28,7 @@ pub record IsMerge (objects : List ObjectModule) (object : ObjectModule) : Type 
   pub main : not (length (main_modules (linked_modules objects)) == 1) ≡ false
   pub high : list_any (some_high_byte_moves (all_publics (linked_modules objects))) (linked_modules objects) ≡ false
 
-unless_ok :
+pub unless_ok :
     {A R : Type 0} (value : A) (refusal : Option R) (result : A) → unless_refused value refusal ≡ Ok result
     → (value ≡ result) × (refusal ≡ None)
 unless_ok {A} {R} value None result h = (ap given h, refl)
@@ -176,7 +176,7 @@ first_start [] all = tt
 first_start (main ∷ others) all = all.0.1
 
 -- Segments.
-keeps : (publics : List Public) (linked : Linked) (count : ℕ) → Keeps count (target_kept publics linked)
+pub keeps : (publics : List Public) (linked : Linked) (count : ℕ) → Keeps count (target_kept publics linked)
 keeps publics linked count (InSegment segment) h = h
 keeps publics linked count (External number) h = go (public_meant publics linked.object number)
   where
@@ -206,7 +206,7 @@ places_are count segment h =
     let third = and_parts (nat_le (length segment.places) 65535) (are_valid count segment.places) second.0 in
     record { short = leb-true _ _ third.0; valid = third.1; whole = second.1; page = first.1 }
 
-piece_valid :
+pub piece_valid :
     (publics : List Public) (linked : Linked) (start count : ℕ) (segment : Places)
     → is_valid_segment count segment ≡ true
     → Piece (start, places_moved publics linked segment.places)
@@ -217,31 +217,31 @@ piece_valid publics linked start count segment h =
       whole = moved_whole _ _ None segment.places v.whole;
     }
 
-code_pieces :
+pub code_pieces :
     (publics : List Public) (linked : List Linked) → AllByRecursion ValidLinked linked
     → AllByRecursion Piece (map (code_piece publics) linked)
 code_pieces publics [] all = tt
 code_pieces publics (one ∷ others) all =
     (piece_valid publics one _ _ (one.object).code all.0.code, code_pieces publics others all.1)
 
-data_pieces :
+pub data_pieces :
     (publics : List Public) (linked : List Linked) → AllByRecursion ValidLinked linked
     → AllByRecursion Piece (map (data_piece publics) linked)
 data_pieces publics [] all = tt
 data_pieces publics (one ∷ others) all =
     (piece_valid publics one _ _ (one.object).data_places all.0.data_places, data_pieces publics others all.1)
 
-later_start : (end : ℕ) (alignment : Alignment) → end ≤ start_after end alignment
+pub later_start : (end : ℕ) (alignment : Alignment) → end ≤ start_after end alignment
 later_start end Byte = omega arith
 later_start end Page = omega arith
 
 -- lengths
-same_end :
+pub same_end :
     (publics : List Public) (one : Linked) (start : ℕ) (places : List (Option SetByte))
     → start + length (places_moved publics one places) ≡ start + length places
 same_end publics one start places = ap (λ n. start + n) (moved_length _ _ None places)
 
-code_follow :
+pub code_follow :
     (publics : List Public) (code data_before : ℕ) (objects : List ObjectModule)
     → PiecesFollow code (map (code_piece publics) (linked_from code data_before objects))
 code_follow publics code data_before [] = tt
@@ -253,7 +253,7 @@ code_follow publics code data_before (object ∷ others) =
           (code_follow publics (code_end one) (data_end one) others),
     )
 
-data_follow :
+pub data_follow :
     (publics : List Public) (code data_before : ℕ) (objects : List ObjectModule)
     → PiecesFollow data_before (map (data_piece publics) (linked_from code data_before objects))
 data_follow publics code data_before [] = tt
@@ -284,7 +284,7 @@ data_ends publics first (one ∷ others) =
     (same_end publics one (one.start).data_start (one.object).data_places.places)
     ∙ data_ends publics one others
 
-code_ends_all :
+pub code_ends_all :
     (publics : List Public) (linked : List Linked)
     → end_after 0 (map (code_piece publics) linked) ≡ last_end code_end linked
 code_ends_all publics [] = refl
@@ -293,7 +293,7 @@ code_ends_all publics (one ∷ others) =
     (same_end publics one (one.start).code (one.object).code.places)
     ∙ code_ends publics one others
 
-data_ends_all :
+pub data_ends_all :
     (publics : List Public) (linked : List Linked)
     → end_after 0 (map (data_piece publics) linked) ≡ last_end data_end linked
 data_ends_all publics [] = refl
@@ -386,7 +386,7 @@ joined_segment segments pieces all follow short page =
     (page_is segments (length (joined_after 0 pieces)) page)
 
 -- all of it
-short_end : (count : ℕ) → is_too_long count ≡ false → count ≤ 65535
+pub short_end : (count : ℕ) → is_too_long count ≡ false → count ≤ 65535
 short_end count h = ltb-false 65535 count h
 
 merge_of_valid :
@@ -422,7 +422,7 @@ merge_of_valid objects object all m =
       start = first_start (filter_map main_of linked) mains;
     })
 
-by_recursion : {A : Type 0} (P : A → Type 0) (xs : List A) → All P xs → AllByRecursion P xs
+pub by_recursion : {A : Type 0} (P : A → Type 0) (xs : List A) → All P xs → AllByRecursion P xs
 by_recursion P [] all = tt
 by_recursion P (x ∷ xs) all =
     (all 0 x (omega arith), by_recursion P xs (λ k d h. all (suc k) d (omega (arith, h))))

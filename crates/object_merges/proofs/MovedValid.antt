@@ -102,7 +102,7 @@ fixup_word kept (Some fixup) h = go (kept fixup.target) h
     go None k = absurd (let bad : false ≡ true = k in cc)
     go (Some target) k = k
 
-word_before :
+pub word_before :
     (gain_of : Target → ℕ) (kept : Target → Option Target) (before here : Option SetByte)
     → begins_word (option_map (byte_moved gain_of kept before) here) ≡ true → begins_word here ≡ true
 word_before gain_of kept before None h = h
@@ -157,7 +157,7 @@ nothing_valid : (count : ℕ) → are_valid 0 (replicate count None) ≡ true
 nothing_valid zero = refl
 nothing_valid (suc count) = nothing_valid count
 
-nothing_whole : (count : ℕ) → words_are_whole (replicate count None) ≡ true
+pub nothing_whole : (count : ℕ) → words_are_whole (replicate count None) ≡ true
 nothing_whole zero = refl
 nothing_whole (suc count) = nothing_whole count
 

@@ -2,3 +2,4 @@ pub mod Fronts
 pub mod ReadBack
 pub mod StoredRuns
 pub mod ObjectLaws
+pub mod Allowed

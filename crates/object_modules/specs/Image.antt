@@ -1,5 +1,5 @@
 -- A module placed in memory by a plan, or why it can't be.
-use Rattle.std.specs.Prelude.{ℕ, ◌+◌, ◌-◌, ◌%◌, ◌==◌, Bool, not, ◌&&◌, ◌||◌, nat_lt, if◌then◌else◌, List, [], ◌∷◌, codes, map, slice_get, Option, None, option_map, unwrap_or, Result}
+use Rattle.std.specs.Prelude.{ℕ, ◌+◌, ◌-◌, ◌%◌, ◌==◌, Bool, not, ◌&&◌, ◌||◌, nat_lt, if◌then◌else◌, List, [], ◌∷◌, codes, map, slice_get, Option, None, unwrap_or, Result}
 use Rattle.std.specs.List.{list_any}
 use Rattle.std.specs.Option.{option_or, option_flatten, is_none}
 use Rattle.mem80.specs.declared.memory.TheConstants.{MEMORY_SIZE}
@@ -10,8 +10,8 @@ use Rattle.object_modules.specs.declared.segment.Segment.{Segment}
 use Rattle.object_modules.specs.declared.segment.Segment.TheVariants.{Absolute, Code, Data, Stack}
 use Rattle.object_modules.specs.declared.segment.Target.{Target}
 use Rattle.object_modules.specs.declared.segment.Target.TheVariants.{InSegment, External}
-use Rattle.object_modules.specs.Module.{SetByte, Public, ObjectModule, places_of, length_of, alignment_of, is_page}
-use Rattle.object_modules.specs.Moving.{moved, high_targets}
+use Rattle.object_modules.specs.Module.{Public, ObjectModule, places_of, length_of, alignment_of, is_page}
+use Rattle.object_modules.specs.Moving.{bytes_resolved, high_targets}
 use Rattle.object_modules.specs.Before.{is_empty}
 use Rattle.object_modules.specs.Merge.{unless_refused}
 
@@ -65,9 +65,7 @@ gain_at plan (External number) = 0
 
 -- the bytes of a segment with all fixes done
 abbrev pub placed_bytes : Plan → ObjectModule → Segment → List (Option ℕ)
-placed_bytes plan object segment =
-    map (option_map (λ (here : SetByte). here.value))
-    (moved (gain_at plan) (λ target. None) (places_of object segment))
+placed_bytes plan object segment = bytes_resolved (gain_at plan) (places_of object segment)
 
 -- what bytes from a base on have at an address
 abbrev pub at_address : (base : ℕ) → List (Option ℕ) → (address : ℕ) → Option ℕ

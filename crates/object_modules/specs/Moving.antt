@@ -1,5 +1,5 @@
 -- What becomes of the bytes of a segment when the targets of its fixes move.
-use Rattle.std.specs.Prelude.{ℕ, ◌+◌, ◌*◌, ◌/◌, ◌%◌, List, [], ◌∷◌, ◌++◌, filter_map, Option, Some, None, option_map}
+use Rattle.std.specs.Prelude.{ℕ, ◌+◌, ◌*◌, ◌/◌, ◌%◌, List, [], ◌∷◌, ◌++◌, map, filter_map, Option, Some, None, option_map}
 use Rattle.std.specs.Option.{option_and_then}
 use Rattle.object_modules.specs.declared.segment.FixKind.{FixKind}
 use Rattle.object_modules.specs.declared.segment.FixKind.TheVariants.{Low, High, Both}
@@ -65,6 +65,11 @@ abbrev pub moved :
     (gain_of : Target → ℕ) → (kept : Target → Option Target)
     → List (Option SetByte) → List (Option SetByte)
 moved gain_of kept places = moved_after gain_of kept None places
+
+-- the bytes of places where targets have these addresses: all fixes are done
+abbrev pub bytes_resolved : (address_of : Target → ℕ) → List (Option SetByte) → List (Option ℕ)
+bytes_resolved address_of places =
+    map (option_map (λ (here : SetByte). here.value)) (moved address_of (λ target. None) places)
 
 -- the target of a fix of a high byte
 abbrev pub high_target : Fixup → Option Target

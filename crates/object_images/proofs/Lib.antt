@@ -1,0 +1,10 @@
+pub mod TwoSteps
+pub mod Pieces
+pub mod Loaded
+pub mod Gains
+pub mod Objects
+pub mod Starts
+pub mod Publics
+pub mod Retargeted
+pub mod CodeStanding
+pub mod NoHighs

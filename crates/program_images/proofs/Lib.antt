@@ -1,0 +1,6 @@
+pub mod Bases
+pub mod Standing
+pub mod Lengths
+pub mod Judged
+pub mod Highs
+pub mod Refusals
