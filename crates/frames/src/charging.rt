@@ -1,7 +1,8 @@
 //! What a call of a procedure is charged.
 
-ghost use Rattle.std.specs.Prelude.{◌≡◌, min};
-ghost use Rattle.typed_trees.specs.Charge.{charge_of};
+ghost use Rattle.std.specs.Prelude.{◌≡◌, ◌≤◌, min};
+ghost use Rattle.mem80.specs.declared.memory.TheConstants.{MEMORY_SIZE};
+ghost use Rattle.typed_trees.specs.Charge.{charge_of, height_of_list};
 ghost use Rattle.typed_trees.specs.TypedTrees.{TypedProcedure};
 ghost use Rattle.frames.specs.Charges.{charge_in, IsChargedAs};
 
@@ -12,8 +13,11 @@ use treecode::TreeProcedure;
 #[tactic(auto, unfolding(typed_trees::specs::Charge::charge_of))]
 pub fn charge(procedure: &TreeProcedure) -> u32
     ensures exact { result ≡ min (charge_in procedure.now) 4294967295 }
-    ensures of_typed { (typed : TypedProcedure)
-        → IsChargedAs procedure.now typed → result ≡ min (charge_of typed) 4294967295 }
+    ensures of_typed { (typed : TypedProcedure) → IsChargedAs procedure.now typed
+        → height_of_list typed.body ≤ 65535 → result ≡ min (charge_of typed) 4294967295 }
+    // Where it is higher both are more than memory has.
+    ensures in_memory { (typed : TypedProcedure) → IsChargedAs procedure.now typed
+        → min result MEMORY_SIZE ≡ min (charge_of typed) MEMORY_SIZE }
 {
     let parameters = u32::try_from(procedure.parameters.len()).unwrap_or(u32::MAX);
     parameters
