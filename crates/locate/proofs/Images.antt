@@ -1,21 +1,18 @@
 -- The pieces of an image are its longest runs, and lie in memory.
-use Rattle.std.proofs.Common.{◌≡◌, ℕ, suc, ◌+◌, ◌<◌, ◌≤◌, ◌==◌, inl, inr, Bool, true, false, cond, ◌||◌, not, min, max, nat_le, List, [], ◌∷◌, length, map, drop, Option, Some, None, option_map, refl, ap, sym, subst, ◌∙◌, arith}
+use Rattle.std.proofs.Common.{◌≡◌, ℕ, suc, ◌+◌, ◌<◌, ◌≤◌, ◌==◌, inl, inr, Bool, true, false, cond, min, max, nat_le, List, [], ◌∷◌, length, map, Option, Some, None, option_map, refl, ap, sym, subst, ◌∙◌, arith}
 use Rattle.std.specs.Option.{option_or}
-use Rattle.std.proofs.lemmas.Bool.{ltb-false, leb-true, leb-false, or_parts, cases_lt}
+use Rattle.std.proofs.lemmas.Bool.{leb-true, leb-false, cases_lt}
 use Rattle.mem80.specs.declared.range.Piece.{Piece}
 use Rattle.mem80.specs.Pieces.{AreLongestRuns, byte_in, are_runs}
-use Rattle.mem80.specs.Range.{ranges_meet}
 use Rattle.object_modules.specs.declared.segment.Segment.{Segment}
 use Rattle.object_modules.specs.declared.segment.Segment.TheVariants.{Code, Data}
 use Rattle.object_modules.specs.declared.segment.Target.{Target}
-use Rattle.object_modules.specs.Before.{is_empty}
-use Rattle.object_modules.specs.Image.{Plan, ExternalLeft, NoStart, PassesMemory, SegmentsMeet, base_of, gain_at, placed_bytes, at_address, image_at, code_range, data_range, stack_range, passes_memory, placement_refusals, placement_refusal}
-use Rattle.std.specs.Option.{is_none}
+use Rattle.object_modules.specs.Image.{Plan, base_of, gain_at, placed_bytes, at_address, image_at, placement_refusal}
 use Rattle.object_modules.specs.Module.{SetByte, ObjectModule, places_of}
 use Rattle.object_modules.specs.Moving.{moved_after}
 use Rattle.object_modules.specs.Runs.{bytes_of_run, runs_of, fixes_in}
 use Rattle.object_modules.specs.Text.{Run, before_runs, runs_from}
-use Rattle.omf80.proofs.Conditions.{none_holds}
+use Rattle.object_modules.proofs.Allowed.{allowed}
 use Rattle.locate.specs.internal.Images.{segment_pieces, in_turn, image_pieces}
 use Rattle.locate.specs.internal.Putting.{LieInMemory, piece_at, with_pieces}
 use Rattle.locate.proofs.Values.{value_of}
@@ -149,44 +146,6 @@ in_turn_is :
 in_turn_is first second address =
     with_pieces_is (with_pieces [] first) second address
     ∙ ap (λ x. option_or x (byte_in second address)) (with_pieces_is [] first address)
-
--- what a plan that is not refused keeps to
-pub record IsAllowed (plan : Plan) (object : ObjectModule) : Type 0 where
-  pub code : plan.code_base + length (places_of object Code) ≤ 65536
-  pub data_places : plan.data_base + length (places_of object Data) ≤ 65536
-  pub apart :
-      min (plan.code_base + length (places_of object Code)) (plan.data_base + length (places_of object Data))
-      ≤ max plan.code_base plan.data_base
-
-pub allowed : (plan : Plan) (object : ObjectModule) → placement_refusal plan object ≡ None → IsAllowed plan object
-unfolding placement_refusal
-allowed plan object h =
-    let a = none_holds (not (is_empty object.externals)) ExternalLeft (drop 1 (placement_refusals plan object)) h in
-    let b = none_holds (is_none object.start) NoStart (drop 2 (placement_refusals plan object)) a.1 in
-    let c = none_holds
-    (passes_memory (code_range plan object) || passes_memory (data_range plan object) || passes_memory (stack_range plan))
-    PassesMemory (drop 3 (placement_refusals plan object)) b.1 in
-    let d = none_holds
-    (ranges_meet (code_range plan object) (data_range plan object)
-    || ranges_meet (code_range plan object) (stack_range plan)
-    || ranges_meet (data_range plan object) (stack_range plan))
-    SegmentsMeet (drop 4 (placement_refusals plan object)) c.1 in
-    let room = or_parts (passes_memory (code_range plan object) || passes_memory (data_range plan object))
-    (passes_memory (stack_range plan)) c.0 in
-    let both = or_parts (passes_memory (code_range plan object)) (passes_memory (data_range plan object)) room.0 in
-    let three = or_parts
-    (ranges_meet (code_range plan object) (data_range plan object)
-    || ranges_meet (code_range plan object) (stack_range plan))
-    (ranges_meet (data_range plan object) (stack_range plan)) d.0 in
-    let two = or_parts (ranges_meet (code_range plan object) (data_range plan object))
-    (ranges_meet (code_range plan object) (stack_range plan)) three.0 in
-    record {
-      code = ltb-false 65536 (plan.code_base + length (places_of object Code)) both.0;
-      data_places = ltb-false 65536 (plan.data_base + length (places_of object Data)) both.1;
-      apart =
-          ltb-false (max plan.code_base plan.data_base)
-          (min (plan.code_base + length (places_of object Code)) (plan.data_base + length (places_of object Data))) two.0;
-    }
 
 -- what the pieces of an image keep to
 pub record IsImage (plan : Plan) (object : ObjectModule) (pieces : List Piece) : Type 0 where

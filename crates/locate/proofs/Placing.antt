@@ -12,7 +12,8 @@ use Rattle.object_modules.specs.Module.{ObjectModule, places_of}
 use Rattle.locate.specs.Locating.{Absolute, IsPlaced}
 use Rattle.locate.specs.internal.Images.{segment_pieces, in_turn, image_pieces}
 use Rattle.locate.proofs.Pieces.{Ends}
-use Rattle.locate.proofs.Images.{allowed, image_is}
+use Rattle.object_modules.proofs.Allowed.{allowed}
+use Rattle.locate.proofs.Images.{image_is}
 
 -- each segment has room
 pub code_room :

@@ -4,3 +4,4 @@ pub mod Lengths
 pub mod Judged
 pub mod Highs
 pub mod Refusals
+pub mod Made

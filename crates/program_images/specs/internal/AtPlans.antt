@@ -17,7 +17,7 @@ use Rattle.object_modules.specs.declared.segment.Segment.TheVariants.{Code, Data
 use Rattle.object_modules.specs.declared.segment.Target.TheVariants.{InSegment}
 use Rattle.object_modules.specs.Displacements.{Linked, linked_modules, public_named}
 use Rattle.object_modules.specs.Image.{Plan, Image, PlacementRefusal, PassesMemory, SegmentsMeet, placement_refusal}
-use Rattle.object_modules.specs.Merge.{SegmentTooLong, link_refusal, merge_of, public_names, repeated_after, unresolved}
+use Rattle.object_modules.specs.Merge.{SegmentTooLong, link_refusal, main_modules, merge_of, public_names, repeated_after, unresolved}
 use Rattle.object_modules.specs.Module.{Public, ObjectModule, length_of}
 use Rattle.object_modules.specs.Moving.{high_targets}
 use Rattle.object_images.specs.internal.InMemory.{ArePlaced, ModuleStands, address_of_public, address_of_target, piece_base}
@@ -127,6 +127,18 @@ LengthsAgree =
     → unresolved objects ≡ None
     → placing_refusal plan modules (code_lengths_of objects) ≡ Some SegmentTooLarge
     → link_refusal objects ≡ Some SegmentTooLong
+
+-- so modules with one main module, of which no names are wrong, have a merge if none of their segments is too
+-- large
+abbrev pub MergeMade : Type 0
+MergeMade =
+    (plan : PlacingPlan) (modules : List TypedModule) (objects : List ObjectModule)
+    → AreObjectsOf modules objects
+    → repeated_after [] (public_names objects) ≡ None
+    → unresolved objects ≡ None
+    → length (main_modules (linked_modules objects)) ≡ 1
+    → (placing_refusal plan modules (code_lengths_of objects) ≡ Some SegmentTooLarge → ⊥)
+    → (merged : ObjectModule) × (merge_of objects ≡ Ok merged)
 
 -- The refusal of the merge that a refusal of the program is: where an object lies by AT is judged of the
 -- program alone, and a merge has no segment that is too long.
