@@ -15,7 +15,8 @@ use Rattle.layout.specs.Storage.{data_bytes, is_object, constants_before, slot_o
 use Rattle.layout.specs.Placement.{ModulePlacement}
 use Rattle.layout.specs.Following.{Bases, base_of, LiesInSlot, FollowsBases}
 use Rattle.layout.specs.Lawful.{HasAddresses, LiesByHome, LiesWhereAtSays}
-use Rattle.layout.specs.Segments.{Target, SegmentStart, Location, Absolute, After, further_on, location_by_home, locations_after, location_of, address_of_location}
+use Rattle.layout.specs.Segments.{Target, SegmentStart, location_by_home, locations_after, location_of, address_of_location}
+use Rattle.layout.proofs.Resolving.{further}
 use Rattle.layout.proofs.Segments.{of_all}
 use Rattle.layout.proofs.Locations.{location_is}
 
@@ -105,19 +106,6 @@ at_followed typed bases placed number object follows found =
     (zip typed.objects placed.objects) follows.at)
     (got_both typed.objects placed.objects number object (slice_index placed.objects number) found
     (address_known typed placed number object follows.addresses found))
-
--- so much after an object is so much after its address
-further :
-    (address_of : Target → ℕ) (location : Location) (offset : ℕ)
-    → address_of_location address_of (further_on location offset)
-    ≡ (address_of_location address_of location + offset) % MEMORY_SIZE
-further address_of (Absolute address) offset = refl
-further address_of (After target before) offset = twice (address_of target) before offset
-  where
-    twice :
-        (address before offset : ℕ)
-        → (address + (before + offset) % 65536) % 65536 ≡ ((address + before) % 65536 + offset) % 65536
-    twice address before offset = omega arith
 
 -- where AT looks there is an object with a place, before
 record Looks (typed : TypedModule) (number other : ℕ) : Type 0 where

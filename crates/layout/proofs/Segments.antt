@@ -20,7 +20,8 @@ use Rattle.typed_trees.specs.Weight.{size_of_constant, constant_bytes}
 use Rattle.layout.specs.declared.slot.Slot.{Slot}
 use Rattle.layout.specs.StartingMemory.{values_in}
 use Rattle.layout.specs.Storage.{bytes_in_data, data_bytes, is_object, is_list, slot_of_object, slot_of_list}
-use Rattle.layout.specs.Segments.{Location, Absolute, After, further_on, location_of, SegmentByte, Places, places_of_bytes, places_of_location, places_of_value, places_of_object, places_of_constant, constant_places, places_by_home, data_places, places_in}
+use Rattle.layout.specs.Segments.{Target, Location, Absolute, After, further_on, location_of, SegmentByte, Places, places_of_bytes, places_of_location, places_of_value, places_of_object, places_of_constant, constant_places, places_by_home, data_places, places_in, resolved}
+use Rattle.layout.proofs.Resolving.{set, Resolves, plain_bytes, starting_bytes, addresses, object_resolves, StandsAlone, both_alone, constant_alone, home_alone, resolved_length}
 
 -- the bytes of a value
 location_length : (location : Location) → length (places_of_location location) ≡ 2
@@ -178,6 +179,30 @@ pub record Holds (places : Places) (offset : ℕ) (part : Places) : Type 0 where
   pub after : Places
   pub whole : places ≡ before ++ (part ++ after)
   pub offset_is : length before ≡ offset
+  -- no word reaches from before into them
+  pub alone : StandsAlone before
+
+-- what stands after others, and in front of others
+past :
+    {A : Type 0} (before rest : List A) (number : ℕ)
+    → slice_get (before ++ rest) (length before + number) ≡ slice_get rest number
+past [] rest number = ap (slice_get rest) (from_zero number)
+  where
+    from_zero : (n : ℕ) → 0 + n ≡ n
+    from_zero n = omega arith
+past (first ∷ before) rest number =
+    ap (slice_get (first ∷ (before ++ rest))) (one_more (length before) number) ∙ past before rest number
+  where
+    one_more : (m n : ℕ) → suc m + n ≡ suc (m + n)
+    one_more m n = omega arith
+
+front :
+    {A : Type 0} (part after : List A) (number : ℕ) (item : A)
+    → slice_get part number ≡ Some item
+    → slice_get (part ++ after) number ≡ Some item
+front [] after number item found = absurd (none-some item found)
+front (first ∷ part) after zero item found = found
+front (first ∷ part) after (suc number) item found = front part after number item found
 
 -- so each byte of them is one of the others
 pub held :
@@ -190,41 +215,41 @@ held places offset part number byte holds found =
     ∙ ap (λ (at : ℕ). slice_get (holds.before ++ (part ++ holds.after)) (at + number)) (sym holds.offset_is)
     ∙ past holds.before (part ++ holds.after) number
     ∙ front part holds.after number byte found
-  where
-    past :
-        (before rest : Places) (number : ℕ)
-        → slice_get (before ++ rest) (length before + number) ≡ slice_get rest number
-    past [] rest number = ap (slice_get rest) (from_zero number)
-      where
-        from_zero : (n : ℕ) → 0 + n ≡ n
-        from_zero n = omega arith
-    past (first ∷ before) rest number =
-        ap (slice_get (first ∷ (before ++ rest))) (one_more (length before) number) ∙ past before rest number
-      where
-        one_more : (m n : ℕ) → suc m + n ≡ suc (m + n)
-        one_more m n = omega arith
 
-    front :
-        (part after : Places) (number : ℕ) (byte : Option SegmentByte)
-        → slice_get part number ≡ Some byte
-        → slice_get (part ++ after) number ≡ Some byte
-    front [] after number byte found = absurd (none-some byte found)
-    front (first ∷ part) after zero byte found = found
-    front (first ∷ part) after (suc number) byte found = front part after number byte found
+-- and so it is where targets have their addresses
+pub held_resolved :
+    (address_of : Target → ℕ) (places : Places) (offset : ℕ) (part : Places) (bytes : List (Option ℕ))
+    (number : ℕ) (byte : Option ℕ)
+    → Holds places offset part
+    → Resolves address_of part bytes
+    → slice_get bytes number ≡ Some byte
+    → slice_get (resolved address_of places) (offset + number) ≡ Some byte
+held_resolved address_of places offset part bytes number byte holds one found =
+    ap (λ (all : Places). slice_get (resolved address_of all) (offset + number)) holds.whole
+    ∙ ap (λ (all : List (Option ℕ)). slice_get all (offset + number))
+    (holds.alone address_of (part ++ holds.after))
+    ∙ ap (λ (at : ℕ).
+    slice_get (resolved address_of holds.before ++ resolved address_of (part ++ holds.after)) (at + number))
+    (sym (resolved_length address_of None holds.before ∙ holds.offset_is))
+    ∙ past (resolved address_of holds.before) (resolved address_of (part ++ holds.after)) number
+    ∙ ap (λ (all : List (Option ℕ)). slice_get all number) (one.alone holds.after)
+    ∙ front bytes (resolved address_of holds.after) number byte found
 
 -- with other bytes in front
 held_later :
-    (front places : Places) (offset more : ℕ) (part : Places)
-    → length front ≡ more
+    (first places : Places) (offset more : ℕ) (part : Places)
+    → length first ≡ more
+    → StandsAlone first
     → Holds places offset part
-    → Holds (front ++ places) (more + offset) part
-held_later front places offset more part front_is holds = record {
-  before = front ++ holds.before;
+    → Holds (first ++ places) (more + offset) part
+held_later first places offset more part first_is first_alone holds = record {
+  before = first ++ holds.before;
   after = holds.after;
   whole =
-      ap (λ (rest : Places). front ++ rest) holds.whole
-      ∙ sym (append_assoc front holds.before (part ++ holds.after));
-  offset_is = omega (arith, length-append front holds.before, front_is, holds.offset_is);
+      ap (λ (rest : Places). first ++ rest) holds.whole
+      ∙ sym (append_assoc first holds.before (part ++ holds.after));
+  offset_is = omega (arith, length-append first holds.before, first_is, holds.offset_is);
+  alone = both_alone first holds.before first_alone holds.alone;
 }
 
 -- the first constant that is wanted stands after those before it
@@ -260,6 +285,7 @@ wanted_held typed wanted part filled is_part (item ∷ others) stands =
       after = flat_map (places_of_constant typed) others;
       whole = ap (λ (first : Places). first ++ flat_map (places_of_constant typed) others) (is_part item it);
       offset_is = refl;
+      alone = λ address_of rest. refl;
     }
     by_test false it stands later =
         subst (λ (offset : ℕ).
@@ -267,7 +293,7 @@ wanted_held typed wanted part filled is_part (item ∷ others) stands =
         (sym (sum_by-cons (size_of_constant typed) item passed))
         (held_later (places_of_constant typed item) (flat_map (places_of_constant typed) others)
         (sum_by (size_of_constant typed) passed) (size_of_constant typed item) part
-        (constant_length typed item filled) (later stands))
+        (constant_length typed item filled) (constant_alone typed item) (later stands))
 
 -- an object with DATA is one of the constants, and so is a list
 abbrev is_listed : (number : ℕ) → List ℕ → Bool
@@ -423,6 +449,7 @@ data_held locations (here ∷ others) zero object values filled found is = recor
       ap (λ (first : Places). first ++ flat_map (in_data locations) others)
       (ap (in_data locations) here_is ∙ data_part locations object object.home values is);
   offset_is = refl;
+  alone = λ address_of rest. refl;
 }
   where
     here_is : here ≡ object
@@ -434,7 +461,7 @@ data_held locations (here ∷ others) (suc number) object values filled found is
     (sym (sum_by-cons (λ (object : TypedObject). bytes_in_data object.home object) here (take number others)))
     (held_later (in_data locations here) (flat_map (in_data locations) others)
     (data_bytes (take number others)) (bytes_in_data here.home here) (places_of_object locations object)
-    (home_length locations here here.home filled.0)
+    (home_length locations here here.home filled.0) (home_alone locations here here.home)
     (data_held locations others number object values filled.1 found is))
 
 -- each object with a slot has its bytes there
@@ -485,3 +512,34 @@ list_held typed number bytes storable found =
     (recursion_from_All IsFilled typed.objects storable.filled) (list_part typed number bytes found)
     typed.constants.items
     (list_stands typed number storable (slice_get_within typed.constants.lists number bytes found))
+
+-- The bytes of an object where targets have their addresses, at its slot, are those that a run starts with.
+pub object_resolved :
+    (address_of : Target → ℕ) (typed : TypedModule) (number : ℕ) (object : TypedObject) (slot : Slot)
+    (index : ℕ) (byte : Option ℕ)
+    → IsStorable typed
+    → slice_get typed.objects number ≡ Some object
+    → slot_of_object typed number object object.home ≡ Some slot
+    → slice_get (starting_bytes (addresses address_of (location_of typed)) object) index ≡ Some byte
+    → slice_get (resolved address_of (places_in typed slot.segment)) (slot.offset + index) ≡ Some byte
+object_resolved address_of typed number object slot index byte storable found slot_is here =
+    held_resolved address_of (places_in typed slot.segment) slot.offset
+    (places_of_object (location_of typed) object)
+    (starting_bytes (addresses address_of (location_of typed)) object) index byte
+    (object_held typed number object slot storable found slot_is)
+    (object_resolves address_of (location_of typed) object) here
+
+-- and so are those of a constant list
+pub list_resolved :
+    (address_of : Target → ℕ) (typed : TypedModule) (number : ℕ) (bytes : List ℕ) (index : ℕ)
+    (byte : Option ℕ)
+    → IsStorable typed
+    → slice_get typed.constants.lists number ≡ Some bytes
+    → slice_get (set bytes) index ≡ Some byte
+    → slice_get (resolved address_of (constant_places typed))
+    ((slot_of_list typed number bytes).offset + index)
+    ≡ Some byte
+list_resolved address_of typed number bytes index byte storable found here =
+    held_resolved address_of (constant_places typed) (slot_of_list typed number bytes).offset
+    (places_of_bytes bytes) (set bytes) index byte (list_held typed number bytes storable found)
+    (plain_bytes address_of bytes) here

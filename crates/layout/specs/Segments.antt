@@ -1,7 +1,7 @@
 -- What stands in the segments of a module before it has its place in memory: where its objects lie, and the
 -- bytes of its constants and of its variables. An address that is not known yet is counted from where a
 -- segment of the module begins, or from what an EXTERNAL name stands for.
-use Rattle.std.specs.Prelude.{ℕ, ◌+◌, ◌-◌, ◌/◌, ◌%◌, List, [], ◌∷◌, ◌++◌, length, map, flat_map, replicate, Option, Some, None, slice_get}
+use Rattle.std.specs.Prelude.{ℕ, ◌+◌, ◌-◌, ◌*◌, ◌/◌, ◌%◌, List, [], ◌∷◌, ◌++◌, length, map, flat_map, replicate, Option, Some, None, option_map, slice_get}
 use Rattle.std.specs.Option.{option_map_or}
 use Rattle.mem80.specs.declared.memory.TheConstants.{MEMORY_SIZE}
 use Rattle.typed_trees.specs.declared.parts.AtAddress.TheVariants.{AtNumber, AtObject}
@@ -142,3 +142,30 @@ data_places typed =
 abbrev pub places_in : TypedModule → Segment → Places
 places_in typed Code = constant_places typed
 places_in typed Data = data_places typed
+
+-- The value of a byte where targets have their addresses: of the low one of a word that gains an address, of
+-- the high one, after the low one, and of any other as it is.
+abbrev pub low_resolved : (address_of : Target → ℕ) → (value : ℕ) → Target → ℕ
+low_resolved address_of value target = (value + address_of target) % 256
+
+abbrev pub high_resolved : (address_of : Target → ℕ) → (low value : ℕ) → Target → ℕ
+high_resolved address_of low value target = (low + 256 * value + address_of target) / 256 % 256
+
+abbrev pub value_after : (address_of : Target → ℕ) → (before : Option SegmentByte) → (value : ℕ) → ℕ
+value_after address_of None value = value
+value_after address_of (Some low) value =
+    option_map_or (high_resolved address_of low.value value) low.target value
+
+abbrev pub value_resolved : (address_of : Target → ℕ) → (before : Option SegmentByte) → SegmentByte → ℕ
+value_resolved address_of before here =
+    option_map_or (low_resolved address_of here.value) here.target (value_after address_of before here.value)
+
+-- bytes after one, where targets have their addresses; nothing where nothing is set
+abbrev pub resolved_after :
+    (address_of : Target → ℕ) → (before : Option SegmentByte) → Places → List (Option ℕ)
+resolved_after address_of before [] = []
+resolved_after address_of before (here ∷ others) =
+    option_map (value_resolved address_of before) here ∷ resolved_after address_of here others
+
+abbrev pub resolved : (address_of : Target → ℕ) → Places → List (Option ℕ)
+resolved address_of places = resolved_after address_of None places
