@@ -1,5 +1,5 @@
--- Parameters and frames: the objects of a procedure's parameters, and the bytes of a call of a REENTRANT one (PL/M-80
--- Programming Manual, "Procedures").
+-- Parameters and frames: the objects of a procedure's parameters, and the bytes of a call of a REENTRANT one
+-- (PL/M-80 Programming Manual, "Procedures").
 use Rattle.std.specs.Prelude.{◌≡◌, ◌≢◌, ℕ, ◌≤◌, ◌==◌, Bool, true, false, not, ◌&&◌, if◌then◌else◌, List, [], ◌∷◌, length, slice_get, sum_by, Some, IsSomeAnd, All, AllPairs, Any}
 use Rattle.std.specs.List.{enumerate_from}
 use Rattle.trees.specs.declared.declaration.ScalarType.{ScalarType}
@@ -39,8 +39,8 @@ abbrev pub variable_bytes : (procedure : ℕ) → TypedObject → ℕ
 variable_bytes procedure object =
     if is_in_frame procedure object.home && not object.is_parameter then size_of_object object else 0
 
--- The parameters of a procedure are different objects, and those in its frames are no others; its frame bytes are those
--- of its variables there.
+-- The parameters of a procedure are different objects, and those in its frames are no others; its frame bytes
+-- are those of its variables there.
 pub record FrameFits (typed : TypedModule) (number : ℕ) (procedure : TypedProcedure) : Type 0 where
   pub parameters : AreParameters typed
       (home_of_parameters number procedure.is_reentrant procedure.visibility) procedure.parameter_types

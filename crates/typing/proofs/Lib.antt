@@ -24,6 +24,7 @@ pub mod TypesKept
 pub mod TypesOfReferences
 pub mod TypesOfExpressions
 pub mod SeenNames
+pub mod GlobalsListed
 pub mod TypesWalked
 pub mod TypesOfDeclarations
 pub mod TypesOfStatements
