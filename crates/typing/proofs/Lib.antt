@@ -25,6 +25,7 @@ pub mod TypesOfReferences
 pub mod TypesOfExpressions
 pub mod SeenNames
 pub mod GlobalsListed
+pub mod FramesSummed
 pub mod TypesWalked
 pub mod TypesOfDeclarations
 pub mod TypesOfStatements

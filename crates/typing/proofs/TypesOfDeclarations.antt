@@ -31,6 +31,7 @@ use Rattle.typing.proofs.Tables.{Keeps, keeps_append}
 use Rattle.typing.proofs.TypesKept.{headings, Heading, heading_of, some_and, of_some}
 use Rattle.typing.proofs.SeenNames.{names_within, lies_for_all, IsSeenIn, Stands, sees_names, with_definition-stands, with_procedure-stands, into_body-stands, declare_parameters-stand, declare_names-stand}
 use Rattle.typing.proofs.GlobalsListed.{Listed, procedure_listed, typed_item_fits, with_objects-listed}
+use Rattle.typing.proofs.FramesSummed.{OwnFits, procedure_summed, typed_item_home, with_objects-summed}
 use Rattle.typing.proofs.TypesWalked.{headings-append, StandsAt, Goes, goes_nowhere, goes_then, goes_as, goes_to}
 
 -- the conditions of a base
@@ -225,6 +226,8 @@ declare_item-goes block item progress stands =
     in_turn (anything (with_objects block typed (declared_by item.subject) progress)) λ after declared.
     let is = (with_objects-make block typed (declared_by item.subject) progress).holds after declared in
     let listed = (with_objects-listed block typed (declared_by item.subject) progress fits stands.1).holds after declared in
+    let home = (typed_item_home progress.known block item).holds typed typed_as in
+    let summed = (with_objects-summed block typed (declared_by item.subject) progress home stands.2).holds after declared in
     let names : List Identifier = declared_by item.subject in
     let objects = progress.known.objects in
     let longer : length after.known.objects ≡ length objects + length names =
@@ -238,7 +241,7 @@ declare_item-goes block item progress stands =
     made_seen block typed names progress.known after.known is.objects seen number low
     (subst (λ (count : ℕ). number < count) longer high) is_here) stands.0).holds here named in
     gives_ok (record {
-      stands = (there.0, listed);
+      stands = (there.0, listed, summed);
       around = there.1;
       objects = grow;
       added = [];
@@ -285,6 +288,7 @@ pub record Opened (owner : Owner) (heading : HeadingTree) (declared : Declaratio
   pub appended : after.known.procedures ≡ before.known.procedures ++ heading_procedure heading declared ∷ []
   pub lists : after.constants ≡ before.constants
   pub is_here : is_external owner ≡ false
+  pub own : OwnFits owner before.known.objects before.known.procedures before.frame
 
 neither : (one other : Bool) → not (one || other) ≡ true → (one ≡ false) × (other ≡ false)
 neither false false e = (refl, refl)
@@ -317,12 +321,14 @@ open_procedure-opens block heading declared progress stands =
     (with_global heading.linkage (GlobalProcedure number) progress.globals))
     (sym (headings-append procedures (heading_procedure heading declared ∷ [])))
     (procedure_listed heading head number refl (sym (length-map procedures heading_of)) stands.1) in
+    let summed = procedure_summed heading (heading_procedure heading declared) free.0 refl stands.2 in
     gives_ok (record {
-      stands = (is.0, listed);
+      stands = (is.0, listed, summed);
       body = (with_procedure heading.name.name progress.known.here).body;
       around = is.1;
       objects = refl;
       appended = refl;
       lists = refl;
       is_here = free.1;
+      own = stands.2.own;
     })

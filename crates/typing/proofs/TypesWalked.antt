@@ -13,10 +13,12 @@ use Rattle.typing.proofs.Tables.{Keeps, keeps_append}
 use Rattle.typing.proofs.TypesKept.{Heading, heading_of, headings, Has, HasLists, Holding}
 use Rattle.typing.proofs.SeenNames.{Stands}
 use Rattle.typing.proofs.GlobalsListed.{ListedAt}
+use Rattle.typing.proofs.FramesSummed.{SummedAt}
 
--- a place of a text: names are seen, and globals are listed
+-- a place of a text: names are seen, globals are listed, and frames are summed
 abbrev pub StandsAt : Owner → Progress → Type 0
-StandsAt owner progress = Stands owner progress.known.objects progress.known.here × ListedAt progress
+StandsAt owner progress =
+    Stands owner progress.known.objects progress.known.here × ListedAt progress × SummedAt owner progress
 
 -- a module that holds what is typed so far
 abbrev pub Reaches : TypedModule → Progress → Type 0
@@ -158,7 +160,7 @@ pub goes_to : {owner : Owner} {before after : Progress} {Says : TypedModule → 
     → Goes owner before after Says
     → Goes owner before (with_here here after) Says
 goes_to here same stands goes = record {
-  stands = (stands, goes.stands.1);
+  stands = (stands, goes.stands.1, goes.stands.2);
   around = same ∙ goes.around;
   objects = goes.objects;
   added = goes.added;
