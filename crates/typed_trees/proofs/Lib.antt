@@ -3,3 +3,4 @@ pub mod Capped
 pub mod MemberTable
 pub mod Heights
 pub mod WellTypedExamples
+pub mod Inside

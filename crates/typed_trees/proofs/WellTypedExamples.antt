@@ -13,7 +13,7 @@ use Rattle.typed_trees.specs.declared.parts.Visibility.TheVariants.{Private, Pub
 use Rattle.typed_trees.specs.TypedTrees.{TypedExpression, NumberNode, ValueNode, LocationNode, ConversionNode, BinaryNode, CallNode, ShiftNode, TypedReference, PartOf, NoSubscript, At, NoArguments, MoreArguments, ReturnStatement, NoStatements, ListOf, Home, InData, BasedOn, InFrame, ObjectType, ScalarObject, StructureObject, TypedObject, TypedProcedure, TypedModule}
 use Rattle.typed_trees.specs.ObjectParts.{IsPartOf, IsScalarOf}
 use Rattle.typed_trees.specs.WellTyped.{Within, WithinProcedure, WithinMain, TypesHold, TypesHoldIn}
-use Rattle.typed_trees.specs.Frames.{FrameFits}
+use Rattle.typed_trees.specs.Frames.{FrameFits, HasParameters}
 use Rattle.typed_trees.specs.Globals.{ListsGlobals}
 
 abbrev object_in : Home → Option ℕ → ObjectType → (is_parameter : Bool) → TypedObject
@@ -157,12 +157,12 @@ second_member = ((tt, (refl, tt)), refl, (refl, refl))
 further_on : IsPartOf structure (PartOf 0 NoSubscript (Some 1) 7 NoSubscript) → ⊥
 further_on is = omega (arith, is.1.0)
 
--- a frame that forgets the array, or the parameter's object
-forgets_the_array : FrameFits (module_with 0 []) 0 (procedure_of 0) → ⊥
+-- a frame that forgets the array, and parameters without an object
+forgets_the_array : FrameFits one.objects 0 (procedure_of 0) → ⊥
 forgets_the_array fits = omega (arith, fits.variables)
 
-without_parameter : FrameFits one 0 (record (procedure_of 3) { parameters = [] }) → ⊥
-without_parameter fits = fits.parameters
+without_parameter : HasParameters one 0 (record (procedure_of 3) { parameters = [] }) → ⊥
+without_parameter has = has.objects
 
 -- the PUBLIC procedure is listed, once
 listed : ListsGlobals (record one { objects = [] })

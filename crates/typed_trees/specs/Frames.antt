@@ -1,5 +1,5 @@
--- Parameters and frames: the objects of a procedure's parameters, and the bytes of a call of a REENTRANT one (PL/M-80
--- Programming Manual, "Procedures").
+-- Parameters and frames: the objects of a procedure's parameters, and the bytes of a call of a REENTRANT one
+-- (PL/M-80 Programming Manual, "Procedures").
 use Rattle.std.specs.Prelude.{◌≡◌, ◌≢◌, ℕ, ◌≤◌, ◌==◌, Bool, true, false, not, ◌&&◌, if◌then◌else◌, List, [], ◌∷◌, length, slice_get, sum_by, Some, IsSomeAnd, All, AllPairs, Any}
 use Rattle.std.specs.List.{enumerate_from}
 use Rattle.trees.specs.declared.declaration.ScalarType.{ScalarType}
@@ -39,10 +39,20 @@ abbrev pub variable_bytes : (procedure : ℕ) → TypedObject → ℕ
 variable_bytes procedure object =
     if is_in_frame procedure object.home && not object.is_parameter then size_of_object object else 0
 
--- The parameters of a procedure are different objects, and those in its frames are no others; its frame bytes are those
--- of its variables there.
-pub record FrameFits (typed : TypedModule) (number : ℕ) (procedure : TypedProcedure) : Type 0 where
-  pub parameters : AreParameters typed
+-- the frame bytes of a procedure are those of its variables there
+pub record FrameFits (objects : List TypedObject) (number : ℕ) (procedure : TypedProcedure) : Type 0 where
+  pub variables : procedure.frame_bytes ≡ sum_by (variable_bytes number) objects
+  pub bytes : procedure.frame_bytes ≤ FRAME_LIMIT
+
+-- so it is of each procedure of a module; its main program has no frame
+pub record FramesFit (typed : TypedModule) : Type 0 where
+  pub procedures : All (λ (numbered : ℕ × TypedProcedure). FrameFits typed.objects numbered.0 numbered.1)
+      (enumerate_from 0 typed.procedures)
+  pub main : typed.main.frame_bytes ≡ 0
+
+-- the parameters of a procedure are different objects, and those in its frames are no others
+pub record HasParameters (typed : TypedModule) (number : ℕ) (procedure : TypedProcedure) : Type 0 where
+  pub objects : AreParameters typed
       (home_of_parameters number procedure.is_reentrant procedure.visibility) procedure.parameter_types
       procedure.parameters
   pub differ : AllPairs (λ (one other : ℕ). one ≢ other) procedure.parameters
@@ -50,12 +60,9 @@ pub record FrameFits (typed : TypedModule) (number : ℕ) (procedure : TypedProc
       → object.home ≡ InFrame number → object.is_parameter ≡ true
       → Any (λ (one : ℕ). one ≡ parameter) procedure.parameters
   pub count : length procedure.parameters ≤ PARAMETER_LIMIT
-  pub variables : procedure.frame_bytes ≡ sum_by (variable_bytes number) typed.objects
-  pub bytes : procedure.frame_bytes ≤ FRAME_LIMIT
 
--- so is each procedure of a module; its main program has no frame
-pub record FramesFit (typed : TypedModule) : Type 0 where
-  pub procedures : All (λ (numbered : ℕ × TypedProcedure). FrameFits typed numbered.0 numbered.1)
+-- so it is of each procedure of a module; its main program has no parameters
+pub record ParametersFit (typed : TypedModule) : Type 0 where
+  pub procedures : All (λ (numbered : ℕ × TypedProcedure). HasParameters typed numbered.0 numbered.1)
       (enumerate_from 0 typed.procedures)
-  pub main_parameters : typed.main.parameters ≡ []
-  pub main_bytes : typed.main.frame_bytes ≡ 0
+  pub main : (typed.main.parameter_types ≡ []) × (typed.main.parameters ≡ [])

@@ -1,5 +1,5 @@
--- The list of globals of a module has what it shares with other modules (PL/M-80 Programming Manual, "Extended scope:
--- the PUBLIC and EXTERNAL attributes").
+-- The list of globals of a module has what it shares with other modules (PL/M-80 Programming Manual,
+-- "Extended scope: the PUBLIC and EXTERNAL attributes").
 use Rattle.std.specs.Prelude.{◌≡◌, ℕ, Bool, true, false, filter_map, All, Option, Some, None, if◌then◌else◌}
 use Rattle.std.specs.List.{enumerate_from}
 use Rattle.typed_trees.specs.declared.parts.GlobalItem.{GlobalItem}

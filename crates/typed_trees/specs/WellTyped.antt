@@ -1,5 +1,5 @@
--- Well-typed trees: operands, arguments, targets and heads of loops have the types that are asked of them, and what is
--- referred to is there (PL/M-80 Programming Manual, "Expressions and assignments").
+-- Well-typed trees: operands, arguments, targets and heads of loops have the types that are asked of them,
+-- and what is referred to is there (PL/M-80 Programming Manual, "Expressions and assignments").
 use Rattle.std.specs.Prelude.{◌≡◌, ℕ, ◌<◌, List, [], ◌∷◌, length, Option, Some, None, IfSome, IsSomeAnd, slice_get, All}
 use Rattle.std.specs.List.{enumerate_from}
 use Rattle.trees.specs.declared.declaration.ScalarType.{ScalarType}
@@ -51,8 +51,8 @@ RefersToLocation typed within (PartOf number subscript member offset member_subs
     (λ (object : TypedObject). IsSeen typed within object.home × HasLocation object.home
     × IsPartOf object (PartOf number subscript member offset member_subscript))
 
--- A number of a type. That no number is above 65535, and no port above 255, is so by the widths of the code's own
--- numbers.
+-- A number of a type. That no number is above 65535, and no port above 255, is so by the widths of the code's
+-- own numbers.
 abbrev pub IsNumberOf : ScalarType → ℕ → Type 0
 IsNumberOf Byte value = value < 256
 IsNumberOf Address value = Unit {0}

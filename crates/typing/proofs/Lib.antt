@@ -24,6 +24,8 @@ pub mod TypesKept
 pub mod TypesOfReferences
 pub mod TypesOfExpressions
 pub mod SeenNames
+pub mod GlobalsListed
+pub mod FramesSummed
 pub mod TypesWalked
 pub mod TypesOfDeclarations
 pub mod TypesOfStatements

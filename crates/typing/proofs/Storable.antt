@@ -33,7 +33,7 @@ pub record AreStorable (objects : List TypedObject) (constants : Constants) : Ty
   pub at_places : AllAtPlaces objects objects
   pub have_room : All HasRoom objects
 
-enumerate_more : {X : Type 0} (first : ℕ) (before : List X) (x : X) (last : ℕ) → first + length before ≡ last
+pub enumerate_more : {X : Type 0} (first : ℕ) (before : List X) (x : X) (last : ℕ) → first + length before ≡ last
     → enumerate_from first (before ++ x ∷ []) ≡ enumerate_from first before ++ (last, x) ∷ []
 enumerate_more first [] x last is = ap (λ (number : ℕ). (number, x) ∷ []) (omega (arith, is))
 enumerate_more first (y ∷ before) x last is =

@@ -2,16 +2,17 @@
 use Rattle.std.proofs.Common.{◌≡◌, ◌≤◌, List, map, length, Option, Some, None, sym, subst, arith}
 use Rattle.std.specs.Prelude.{IsSomeAnd}
 use Rattle.trees.specs.declared.declaration.ScalarType.{ScalarType}
+use Rattle.typed_trees.specs.declared.parts.Visibility.{Visibility}
 use Rattle.typed_trees.specs.TypedTrees.{TypedProcedure, TypedModule, Constants}
 use Rattle.typing.specs.References.{Known}
 use Rattle.typing.proofs.Tables.{Keeps}
 
--- what a call asks of a procedure: its result and the types of its parameters
+-- what a heading says of a procedure: its result, the types of its parameters, and who sees it
 abbrev pub Heading : Type 0
-Heading = Option ScalarType × List ScalarType
+Heading = Option ScalarType × List ScalarType × Visibility
 
 abbrev pub heading_of : TypedProcedure → Heading
-heading_of procedure = (procedure.result, procedure.parameter_types)
+heading_of procedure = (procedure.result, procedure.parameter_types, procedure.visibility)
 
 abbrev pub headings : List TypedProcedure → List Heading
 headings procedures = map heading_of procedures

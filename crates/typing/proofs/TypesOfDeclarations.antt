@@ -21,15 +21,18 @@ use Rattle.typed_trees.specs.WellTyped.{Within, WithinProcedure, WithinMain, Lie
 use Rattle.typing.specs.declared.fault.Cause.TheVariants.{DeclaredTwice, MisplacedAttribute, TooLarge}
 use Rattle.typing.specs.Checks.{require}
 use Rattle.typing.specs.References.{Known, line_of}
-use Rattle.typing.specs.Blocks.{Owner, TheModule, OfProcedure, Block, Progress, is_external, is_external_linkage, is_reentrant}
+use Rattle.typed_trees.specs.declared.parts.GlobalItem.TheVariants.{GlobalProcedure}
+use Rattle.typing.specs.Blocks.{with_global, Owner, TheModule, OfProcedure, Block, Progress, is_external, is_external_linkage, is_reentrant}
 use Rattle.typing.specs.Items.{TypedItem, declare_names, line_of_item, base_of, is_not_based, is_address, is_base, object_bound, names_parameter, typed_base, extents_of, typed_type, check_linkage, typed_at, typed_contents, is_data, home_in, home_with_values, home_of, object_named, with_constant, with_typed_object, with_objects, typed_item, size_of_item, declare_item, declare_definition, declare_element, declare_elements}
 use Rattle.typing.specs.Procedures.{no_more_parameters, check_visibility, check_reentrant, parameter_types, procedure_with, empty_list, open_procedure}
 use Rattle.typing.proofs.Kept.{Gives, then_more, anything, gives_ok, gives_fault, gives_after, in_turn, required, is_found}
 use Rattle.typing.proofs.NamesBack.{is_bound, Binds, bound_entity}
 use Rattle.typing.proofs.Tables.{Keeps, keeps_append}
-use Rattle.typing.proofs.TypesKept.{some_and, of_some}
+use Rattle.typing.proofs.TypesKept.{headings, Heading, heading_of, some_and, of_some}
 use Rattle.typing.proofs.SeenNames.{names_within, lies_for_all, IsSeenIn, Stands, sees_names, with_definition-stands, with_procedure-stands, into_body-stands, declare_parameters-stand, declare_names-stand}
-use Rattle.typing.proofs.TypesWalked.{StandsAt, Goes, goes_nowhere, goes_then, goes_as, goes_to}
+use Rattle.typing.proofs.GlobalsListed.{Listed, procedure_listed, typed_item_fits, with_objects-listed}
+use Rattle.typing.proofs.FramesSummed.{OwnFits, procedure_summed, typed_item_home, with_objects-summed}
+use Rattle.typing.proofs.TypesWalked.{headings-append, StandsAt, Goes, goes_nowhere, goes_then, goes_as, goes_to}
 
 -- the conditions of a base
 pub both : (one other : Bool) → (one && other) ≡ true → (one ≡ true) × (other ≡ true)
@@ -216,9 +219,15 @@ declare_item-goes : (block : Block) (item : ItemTree) (progress : Progress) → 
     → Gives (λ after. Goes block.owner progress after Nothing) (declare_item block item progress)
 declare_item-goes block item progress stands =
     in_turn (anything (declare_names block (declared_by item.subject) progress.known.here)) λ here named.
-    in_turn (typed_item_is progress.known block item stands) λ typed seen.
+    in_turn (anything (typed_item progress.known block item)) λ typed typed_as.
+    let seen = (typed_item_is progress.known block item stands.0).holds typed typed_as in
+    let fits = (typed_item_fits progress.known block item).holds typed typed_as in
     gives_after (require (nat_le (size_of_item typed) OBJECT_LIMIT) TooLarge (line_of_item item)) λ small.
-    in_turn (with_objects-make block typed (declared_by item.subject) progress) λ after is.
+    in_turn (anything (with_objects block typed (declared_by item.subject) progress)) λ after declared.
+    let is = (with_objects-make block typed (declared_by item.subject) progress).holds after declared in
+    let listed = (with_objects-listed block typed (declared_by item.subject) progress fits stands.1).holds after declared in
+    let home = (typed_item_home progress.known block item).holds typed typed_as in
+    let summed = (with_objects-summed block typed (declared_by item.subject) progress home stands.2).holds after declared in
     let names : List Identifier = declared_by item.subject in
     let objects = progress.known.objects in
     let longer : length after.known.objects ≡ length objects + length names =
@@ -230,9 +239,9 @@ declare_item-goes block item progress stands =
     let there = (declare_names-stand block names progress.known.here grow longer
     (λ number low high is_here.
     made_seen block typed names progress.known after.known is.objects seen number low
-    (subst (λ (count : ℕ). number < count) longer high) is_here) stands).holds here named in
+    (subst (λ (count : ℕ). number < count) longer high) is_here) stands.0).holds here named in
     gives_ok (record {
-      stands = there.0;
+      stands = (there.0, listed, summed);
       around = there.1;
       objects = grow;
       added = [];
@@ -248,7 +257,7 @@ declare_definition-goes block name progress stands =
     gives_after (require (not (is_declared_again progress.known.here name.name)) DeclaredTwice (line_of name)) λ once.
     gives_after (require (not (is_external block.owner)) MisplacedAttribute (line_of name)) λ placed.
     gives_ok
-    (goes_to (with_definition name.name progress.known.here) refl (with_definition-stands stands name.name)
+    (goes_to (with_definition name.name progress.known.here) refl (with_definition-stands stands.0 name.name)
     (goes_nowhere progress stands (λ tables reaches. tt)))
 
 declare_element-goes : (block : Block) (element : ElementTree) (progress : Progress) → StandsAt block.owner progress
@@ -279,6 +288,7 @@ pub record Opened (owner : Owner) (heading : HeadingTree) (declared : Declaratio
   pub appended : after.known.procedures ≡ before.known.procedures ++ heading_procedure heading declared ∷ []
   pub lists : after.constants ≡ before.constants
   pub is_here : is_external owner ≡ false
+  pub own : OwnFits owner before.known.objects before.known.procedures before.frame
 
 neither : (one other : Bool) → not (one || other) ≡ true → (one ≡ false) × (other ≡ false)
 neither false false e = (refl, refl)
@@ -298,16 +308,27 @@ open_procedure-opens block heading declared progress stands =
     in_turn
     (declare_parameters-stand {owner = OfProcedure number heading} (take PARAMETER_LIMIT heading.parameters)
     (into_body (with_procedure heading.name.name progress.known.here))
-    (into_body-stands number heading free.0 free.1 (with_procedure-stands stands heading.name.name))) λ here is.
+    (into_body-stands number heading free.0 free.1 (with_procedure-stands stands.0 heading.name.name))) λ here is.
     gives_after (no_more_parameters (drop PARAMETER_LIMIT heading.parameters)) λ few.
     gives_after (check_visibility block heading.linkage) λ visible.
     gives_after (check_reentrant heading.linkage heading.reentrant) λ reentrant.
+    let procedures : List TypedProcedure = progress.known.procedures in
+    let head : Heading = heading_of (heading_procedure heading declared) in
+    let listed : Listed progress.known.objects (headings (procedures ++ heading_procedure heading declared ∷ []))
+    (with_global heading.linkage (GlobalProcedure number) progress.globals) =
+    subst
+    (λ heads. Listed progress.known.objects heads
+    (with_global heading.linkage (GlobalProcedure number) progress.globals))
+    (sym (headings-append procedures (heading_procedure heading declared ∷ [])))
+    (procedure_listed heading head number refl (sym (length-map procedures heading_of)) stands.1) in
+    let summed = procedure_summed heading (heading_procedure heading declared) free.0 refl stands.2 in
     gives_ok (record {
-      stands = is.0;
+      stands = (is.0, listed, summed);
       body = (with_procedure heading.name.name progress.known.here).body;
       around = is.1;
       objects = refl;
       appended = refl;
       lists = refl;
       is_here = free.1;
+      own = stands.2.own;
     })

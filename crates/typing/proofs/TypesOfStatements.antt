@@ -1,5 +1,5 @@
--- Every typed module is well typed.
-use Rattle.std.proofs.Common.{◌≡◌, ℕ, ◌+◌, Bool, true, false, List, [], ◌∷◌, ◌++◌, length, map, Option, None, Some, Ok, slice_get, slice_set, refl, sym, ap, ◌∙◌, subst, length-append, arith}
+-- Every typed module is well typed and lists its globals, and its frames fit.
+use Rattle.std.proofs.Common.{◌≡◌, ℕ, ◌+◌, Bool, true, false, List, [], ◌∷◌, ◌++◌, length, map, Option, None, Some, Ok, slice_get, slice_set, refl, sym, ap, ◌∙◌, subst, length-append, arith, append_assoc}
 use Rattle.std.specs.Prelude.{IfSome, IsSomeAnd, is_none, not, ◌&&◌, ◌==◌}
 use Rattle.std.specs.List.{enumerate_from}
 use Rattle.std.proofs.lemmas.List.Elements.{All-from_recursion}
@@ -20,6 +20,8 @@ use Rattle.typed_trees.specs.ObjectParts.{IsScalar}
 use Rattle.typed_trees.specs.ExpressionTypes.{type_of}
 use Rattle.typed_trees.specs.WellTyped.{Within, WithinProcedure, WithinMain, LiesFor, TypesHold, TypesHoldInArguments, TypesHoldInTargets, TypesHoldInHead, TypesHoldIn, TypesHoldInElse, TypesHoldInStatements, TypesHoldInList, TypesHoldInProcedure, IsWellTyped}
 use Rattle.typing.specs.declared.fault.Cause.TheVariants.{WrongUse}
+use Rattle.typed_trees.specs.Globals.{ListsGlobals}
+use Rattle.typed_trees.specs.Frames.{FramesFit}
 use Rattle.typing.specs.Nodes.{Destination, target_of}
 use Rattle.typing.specs.References.{Known, Given, line_of, count_of_given, bound, is_writable, scalar_of}
 use Rattle.typing.specs.Expressions.{arguments}
@@ -36,6 +38,8 @@ use Rattle.typing.proofs.TypesKept.{Holding, holding_at, holding_more, holding_b
 use Rattle.typing.proofs.TypesOfReferences.{as_type_holds, Sees, SeenObject, seen_object, GivenHolds, call_arguments_hold}
 use Rattle.typing.proofs.TypesOfExpressions.{expression_holds, arguments_hold, destination_holds}
 use Rattle.typing.proofs.SeenNames.{within_of, sees_within, into_block-stands, out_of_block-stands, into_list-stands, out_of_list-stands, out_of_body-stands, declare_labels-stand}
+use Rattle.typing.proofs.GlobalsListed.{Listed, none_listed, lists_globals}
+use Rattle.typing.proofs.FramesSummed.{Summed, none_summed, closed_summed, frames_fit}
 use Rattle.typing.proofs.TypesWalked.{StandsAt, Reaches, AllHold, Goes, goes_nowhere, goes_holding, goes_then, goes_as, goes_from, goes_to, closed_table, same_headings}
 use Rattle.typing.proofs.TypesOfDeclarations.{Nothing, not_based_lies, both, declare_elements-go, heading_procedure, Opened, open_procedure-opens}
 
@@ -131,7 +135,7 @@ module _ (owner : Owner) (is_here : is_external owner ≡ false) where
   within = within_of owner
 
   abbrev names : (progress : Progress) → StandsAt owner progress → Sees within progress.known
-  names progress stands = sees_within owner progress.known stands is_here
+  names progress stands = sees_within owner progress.known stands.0 is_here
 
   value_goes : (tree : ExpressionTree) (progress : Progress) → StandsAt owner progress
       → GoesOn owner progress (λ tables. TypesHold tables within) (value tree progress)
@@ -249,8 +253,8 @@ list_goes : (owner : Owner) (trees : StatementTrees)
     → GoesOn owner progress (λ tables. TypesHoldInList tables (within_of owner)) (list_of trees typed_from progress)
 list_goes owner trees typed_from progress stands each =
     let inside : Progress = with_here (into_list (labels_of trees) progress.known.here) progress in
-    in_turn (each progress.known.here.labels inside (into_list-stands stands (labels_of trees))) λ done w.
-    gives_ok (goes_to (out_of_list done.1.known.here) refl (out_of_list-stands w.stands) (goes_from refl w))
+    in_turn (each progress.known.here.labels inside (into_list-stands stands.0 (labels_of trees), stands.1, stands.2)) λ done w.
+    gives_ok (goes_to (out_of_list done.1.known.here) refl (out_of_list-stands w.stands.0) (goes_from refl w))
 
 -- out of a procedure: its entry has the heading that it had
 closed_goes : (owner : Owner) (heading : HeadingTree) (declared : DeclarationTrees) (parameters : List ℕ) (body : TypedList)
@@ -271,7 +275,7 @@ closed_goes owner heading declared parameters body before opened within heads in
     let same : headings (slice_set within.known.procedures number last) ≡ headings within.known.procedures =
     same_headings procedures first last inside.added within.known.procedures refl is in
     let left = out_of_body-stands {outer = owner} heads.body before.known.here.outer_bodies
-    (inside.around ∙ heads.around) inside.stands in
+    (inside.around ∙ heads.around) inside.stands.0 in
     let next : length opened.known.procedures ≡ number + 1 =
     ap length heads.appended ∙ length-append procedures (first ∷ []) in
     let reaches_inside : (tables : TypedModule)
@@ -282,7 +286,17 @@ closed_goes owner heading declared parameters body before opened within heads in
       reaches.1,
     ) in
     record {
-      stands = left.0;
+      stands = (
+        left.0,
+        subst (λ heads. Listed within.known.objects heads within.globals) (sym same) inside.stands.1,
+        subst (λ (table : List TypedProcedure). Summed owner within.known.objects table 0)
+            (sym (closed_table procedures first last inside.added within.known.procedures is))
+            (closed_summed within.known.objects procedures inside.added first last within.frame heading refl
+            (subst (λ (table : List TypedProcedure).
+            Summed (OfProcedure number heading) within.known.objects table within.frame)
+            (is ∙ append_assoc procedures (first ∷ []) inside.added) inside.stands.2)
+            owner before.frame before.known.objects heads.own),
+      );
       around = left.1;
       objects = λ at object e. inside.objects at object (subst (λ all. slice_get all at ≡ Some object) (sym heads.objects) e);
       added = last ∷ inside.added;
@@ -316,13 +330,13 @@ mutual
       in_turn (else_goes block otherwise chosen.1 is w₂.stands) λ other w₃.
       gives_ok (goes_as (goes_then w₁ (goes_then w₂ w₃)) (λ tables says. (says.0, says.1.0, says.1.1)))
   kind_goes block (trees.DoStatement place declared body) progress is stands =
-      in_turn (declarations_go (inner_block block) declared (entered progress) (into_block-stands stands)) λ opened w₁.
+      in_turn (declarations_go (inner_block block) declared (entered progress) (into_block-stands stands.0, stands.1, stands.2)) λ opened w₁.
       in_turn
       (list_goes block.owner body (λ label. statements (inner_block block) body label) opened w₁.stands
       (λ label inside s. statements_go (inner_block block) body label inside (may_stand block.owner body is) s))
       λ done w₂.
       gives_ok
-      (goes_as (goes_to (out_of_block done.1.known.here) refl (out_of_block-stands w₂.stands)
+      (goes_as (goes_to (out_of_block done.1.known.here) refl (out_of_block-stands w₂.stands.0)
       (goes_from refl (goes_then w₁ w₂))) (λ tables says. says.1))
   kind_goes block (trees.WhileStatement place condition body) progress is stands =
       in_turn (value_goes block.owner is condition progress stands) λ tested w₁.
@@ -376,8 +390,8 @@ mutual
   statements_go block trees.NoStatements label progress may stands =
       gives_ok (goes_nowhere progress stands (λ tables reaches. tt))
   statements_go block (trees.MoreStatements first others) label progress is stands =
-      in_turn (declare_labels-stand (labels_before first) progress.known.here stands) λ here there.
-      in_turn (labelled_goes block first (with_here here progress) is there.0) λ done w₁.
+      in_turn (declare_labels-stand (labels_before first) progress.known.here stands.0) λ here there.
+      in_turn (labelled_goes block first (with_here here progress) is (there.0, stands.1, stands.2)) λ done w₁.
       in_turn (statements_go block others (label + length (labels_before first)) done.1
       (may_stand block.owner others is) w₁.stands) λ rest w₂.
       gives_ok (goes_as (goes_then (goes_from there.1 w₁) w₂)
@@ -408,25 +422,33 @@ mutual
       then_more (declarations_go block others between w₁.stands) λ after w₂.
       goes_as (goes_then w₁ w₂) (λ tables says. tt)
 
+-- what holds of a typed module
+abbrev Fits : TypedModule → Type 0
+Fits found = IsWellTyped found × ListsGlobals found × FramesFit found
+
 -- all bodies of a module, from its tables
 module_holds : (name : List ℕ) (body : TypedList) (progress : Progress)
     → Goes TheModule at_the_beginning progress (λ tables. TypesHoldInList tables WithinMain body)
-    → IsWellTyped (module_with name body progress)
+    → Fits (module_with name body progress)
 module_holds name body progress goes =
     let tables : TypedModule = module_with name body progress in
     let reaches : Reaches tables progress = (((λ number x e. e), (λ number x e. e)), omega arith) in
     let bodies : AllHold tables 0 progress.known.procedures =
-    subst (λ procedures. AllHold tables 0 procedures) (sym goes.appended) (goes.bodies tables reaches) in
-    record {
-      procedures = All-from_recursion (TypesHoldInProcedure tables) (enumerate_from 0 progress.known.procedures) bodies;
-      main = goes.says tables reaches;
-    }
+    subst (λ procedures. AllHold tables 0 procedures) (sym goes.appended) (goes.bodies tables reaches) in (
+      record {
+        procedures = All-from_recursion (TypesHoldInProcedure tables) (enumerate_from 0 progress.known.procedures)
+            bodies;
+        main = goes.says tables reaches;
+      },
+      lists_globals tables goes.stands.1,
+      frames_fit tables progress.frame goes.stands.2 refl,
+    )
 
-typing_holds : (tree : ModuleTree) → Gives IsWellTyped (typing_of tree)
+typing_holds : (tree : ModuleTree) → Gives Fits (typing_of tree)
 unfolding typing_of
 typing_holds tree =
     in_turn (declarations_go module_block tree.declarations at_the_beginning
-    (record { count = refl; inside = λ _. (tt, tt, tt); outside = tt })) λ declared w₁.
+    (record { count = refl; inside = λ _. (tt, tt, tt); outside = tt }, none_listed, none_summed)) λ declared w₁.
     in_turn
     (list_goes TheModule tree.statements (λ label. statements module_block tree.statements label) declared w₁.stands
     (λ label inside s. statements_go module_block tree.statements label inside
@@ -434,6 +456,12 @@ typing_holds tree =
     gives_ok
     (module_holds tree.name.name done.0 done.1 (goes_as (goes_then w₁ w₂) (λ tables says. says.1)))
 
--- Every typed module is well typed.
+-- Every typed module is well typed and lists its globals, and its frames fit.
 pub is_well_typed : (tree : ModuleTree) (found : TypedModule) → typing_of tree ≡ Ok found → IsWellTyped found
-is_well_typed tree found is = (typing_holds tree).holds found is
+is_well_typed tree found is = ((typing_holds tree).holds found is).0
+
+pub globals_are_listed : (tree : ModuleTree) (found : TypedModule) → typing_of tree ≡ Ok found → ListsGlobals found
+globals_are_listed tree found is = ((typing_holds tree).holds found is).1
+
+pub frames_are_summed : (tree : ModuleTree) (found : TypedModule) → typing_of tree ≡ Ok found → FramesFit found
+frames_are_summed tree found is = ((typing_holds tree).holds found is).2

@@ -12,9 +12,13 @@ use Rattle.typing.specs.Statements.{with_here, with_constants}
 use Rattle.typing.proofs.Tables.{Keeps, keeps_append}
 use Rattle.typing.proofs.TypesKept.{Heading, heading_of, headings, Has, HasLists, Holding}
 use Rattle.typing.proofs.SeenNames.{Stands}
+use Rattle.typing.proofs.GlobalsListed.{ListedAt}
+use Rattle.typing.proofs.FramesSummed.{SummedAt}
 
+-- a place of a text: names are seen, globals are listed, and frames are summed
 abbrev pub StandsAt : Owner → Progress → Type 0
-StandsAt owner progress = Stands owner progress.known.objects progress.known.here
+StandsAt owner progress =
+    Stands owner progress.known.objects progress.known.here × ListedAt progress × SummedAt owner progress
 
 -- a module that holds what is typed so far
 abbrev pub Reaches : TypedModule → Progress → Type 0
@@ -47,7 +51,7 @@ pub record Goes (owner : Owner) (before after : Progress) (Says : TypedModule �
       → AllHold tables (length before.known.procedures) added
   pub says : (tables : TypedModule) → Reaches tables after → Says tables
 
-headings-append : (procedures more : List TypedProcedure) → headings (procedures ++ more) ≡ headings procedures ++ headings more
+pub headings-append : (procedures more : List TypedProcedure) → headings (procedures ++ more) ≡ headings procedures ++ headings more
 headings-append procedures more = map-append heading_of procedures more
 
 pub reached : {owner : Owner} {before after : Progress} {Says : TypedModule → Type 0} (tables : TypedModule)
@@ -156,7 +160,7 @@ pub goes_to : {owner : Owner} {before after : Progress} {Says : TypedModule → 
     → Goes owner before after Says
     → Goes owner before (with_here here after) Says
 goes_to here same stands goes = record {
-  stands = stands;
+  stands = (stands, goes.stands.1, goes.stands.2);
   around = same ∙ goes.around;
   objects = goes.objects;
   added = goes.added;
