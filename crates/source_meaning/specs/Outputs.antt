@@ -1,4 +1,4 @@
--- Modules whose statements are outputs of numbers to ports. The meaning of programs is given for these so far.
+-- Modules whose statements are outputs of numbers to ports.
 use Rattle.std.specs.Prelude.{Bool, ◌&&◌, List, [], ◌∷◌, flat_map, length, ◌==◌, Option, Some, None, option_map, option_and_then, unwrap_or, if◌then◌else◌}
 use Rattle.typed_trees.specs.TypedTrees.{TypedExpression, NumberNode, TypedTarget, SentTo, TypedStatement, AssignmentStatement, TypedStatements, NoStatements, MoreStatements, TypedList, ListOf, TypedModule}
 use Rattle.source_meaning.specs.declared.outputs.Output.{Output}
@@ -32,11 +32,11 @@ declares_nothing typed =
     length typed.objects == 0 && length typed.procedures == 0 && length typed.constants.lists == 0
     && length typed.constants.items == 0
 
--- the outputs that a module is, if it is served
+-- the outputs that a module is, if it is no more
 abbrev pub outputs_of : TypedModule → Option (List Output)
 outputs_of typed = if declares_nothing typed then outputs_of_list typed.main.body else None
 
--- those of a module, none where it is not served, and those of a program
+-- those of a module, none where it is more, and those of a program
 abbrev pub outputs_from : TypedModule → List Output
 outputs_from typed = unwrap_or (outputs_of typed) []
 

@@ -22,7 +22,7 @@ use Rattle.tool.specs.declared.fault.ToolFault.{ToolFault}
 use Rattle.tool.specs.declared.fault.ToolFault.TheVariants.{TooManySources, Source, CodeTooLong, Code, ConstantsMissing, Program, Link, Locate}
 use Rattle.tool.specs.Code.{module_code}
 
--- a module is served: it is outputs of numbers
+-- a module that the headline speaks of: it is outputs of numbers
 abbrev pub IsServed : TypedModule → Type 0
 IsServed typed = (outputs : List Output) × (outputs_of typed ≡ Some outputs)
 
@@ -62,8 +62,8 @@ abbrev pub HasProgramRefusal : ProgramFault → List (List ℕ) → Plan → Typ
 HasProgramRefusal (Join fault) texts plan = HasNoProgram fault texts
 HasProgramRefusal (Placement fault) texts plan = HasNoPlace fault texts plan
 
--- The cause of a refusal is in the sources or in the plan. Why a module has no object module is not said, but that it is
--- one.
+-- The cause of a refusal is in the sources or in the plan. Of a module without an object module, and of a fault of the
+-- merge or of its placing, it is only said that the texts are those of a module, or of a program.
 abbrev pub HasCause : ToolFault → List (List ℕ) → Plan → Type 0
 HasCause TooManySources texts plan = MOST_SOURCES < length texts
 HasCause (Source file fault) texts plan = (file < length texts) × HasReadCause fault (text_of texts file)
