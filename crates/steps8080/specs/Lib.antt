@@ -1,1 +1,4 @@
+pub mod Instructions
+pub mod Facts
+pub mod Step
 pub mod internal

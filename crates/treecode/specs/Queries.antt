@@ -1,5 +1,5 @@
 -- What code asks of places, and of the nodes of a module.
-use Rattle.std.specs.Prelude.{ℕ, ◌+◌, ◌*◌, ◌%◌, min, max, Bool, true, false, ◌&&◌, ◌||◌, not, if◌then◌else◌, nat_lt, List, slice_get, Option, Some, None, is_some, option_and_then}
+use Rattle.std.specs.Prelude.{ℕ, ◌+◌, ◌%◌, min, max, Bool, true, false, ◌&&◌, ◌||◌, not, if◌then◌else◌, nat_lt, List, slice_get, Option, Some, None, is_some, option_and_then}
 use Rattle.trees.specs.declared.declaration.ScalarType.{ScalarType}
 use Rattle.trees.specs.declared.declaration.ScalarType.TheVariants.{Byte}
 use Rattle.treecode.specs.declared.place.Place.{Place}
