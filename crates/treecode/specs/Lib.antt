@@ -1,0 +1,6 @@
+pub mod Nodes
+pub mod Homes
+pub mod Known
+pub mod Traits
+pub mod Contents
+pub mod Lowered
