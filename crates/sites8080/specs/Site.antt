@@ -21,8 +21,8 @@ scalar site number = elim (expression site number) [
   | None ↦ scalars.Byte
 ]
 
--- how far above the stack pointer a byte of a variable or parameter in the frame lies, where so many bytes are
--- pushed
+-- how far above the stack pointer a byte of a variable or parameter in the frame lies, where so many bytes
+-- are pushed
 unfoldable pub distance : Site → (variable offset pushed : ℕ) → ℕ
 distance site variable offset pushed =
     ((distance_of site.frame.now variable + offset) % 65536 + pushed) % 65536

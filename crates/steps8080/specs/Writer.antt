@@ -1,5 +1,5 @@
--- Code as it is written. Its items speak of labels and of names of other modules by their numbers in the module;
--- the code itself numbers both in the order of their first use.
+-- Code as it is written. Its items speak of labels and of names of other modules by their numbers in the
+-- module; the code itself numbers both in the order of their first use.
 use Rattle.std.specs.Prelude.{◌≡◌, ℕ, List, [], ◌∷◌, ◌++◌, Option, Some, None, option_map}
 use Rattle.object_modules.specs.declared.segment.Segment.TheVariants as segments
 use Rattle.object_modules.specs.declared.segment.Target.TheVariants.{InSegment, External}
@@ -56,7 +56,8 @@ pub record Writes (before after : Written) (items : List Item) : Type 0 where
   pub labels : Extends before.labels after.labels
   pub externals : Extends before.externals after.externals
 
--- A routine is added to code, with a label of the module at its start. Its own labels are known to nobody else.
+-- A routine is added to code, with a label of the module at its start. Its own labels are known to nobody
+-- else.
 pub record WritesRoutine
     (routine : Routine) (label : LabelNumber) (before after : Written) : Type 0 where
   pub entered : Written

@@ -13,5 +13,6 @@ returns c =
     (Address (AtTarget (External c.in_ok-number.number) c.args.offset))
     c.self.view_is c.in_ok-emit_address.ensures.ok refl c.number.ensures.kept
     (ap
-    (λ found. option_map Address (option_map (λ (number : ℕ). AtTarget (External number) c.args.offset) found))
+    (λ found. option_map Address
+    (option_map (λ (number : ℕ). AtTarget (External number) c.args.offset) found))
     c.in_ok-number.ensures.found)
