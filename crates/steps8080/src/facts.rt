@@ -1,5 +1,9 @@
 //! What is known of the registers at a place of the code.
 
+ghost use Rattle.std.specs.Prelude.{◌≡◌};
+ghost use Rattle.std.specs.Option.{option_or};
+ghost use Rattle.steps8080.specs.Facts.{after, after_count, after_form, after_move, after_move_to_memory, after_operation, after_operation_with, after_other, after_pop, after_word, before, byte_for_l, byte_from_hl, holds_byte, is_at, no_facts, origin, with_facts, without_a, without_hl, without_memory, without_operand, without_pair, without_register, without_zero};
+
 use crate::instructions::{copy, load};
 use asm8080::WordForm;
 use isa8080::{Instr, Operand, Operation, Pair, Register, StackPair};
@@ -20,7 +24,9 @@ pub struct Facts {
 }
 
 // The first location if there is one, else the second.
-fn either(first: Option<Location>, second: Option<Location>) -> Option<Location> {
+fn either(first: Option<Location>, second: Option<Location>) -> Option<Location>
+    ensures { result ≡ option_or first second }
+{
     match first {
         Some(location) => Some(location),
         None => second,
@@ -28,7 +34,9 @@ fn either(first: Option<Location>, second: Option<Location>) -> Option<Location>
 }
 
 /// Whether a register that may hold what lies somewhere holds what lies here.
-pub fn is_at(held: Option<Location>, location: Location) -> bool {
+pub fn is_at(held: Option<Location>, location: Location) -> bool
+    ensures { result ≡ is_at held location }
+{
     match held {
         Some(held) => held == location,
         None => false,
@@ -36,13 +44,17 @@ pub fn is_at(held: Option<Location>, location: Location) -> bool {
 }
 
 /// The location one byte before another one.
-pub fn before(location: Location) -> Location {
+pub fn before(location: Location) -> Location
+    ensures { result ≡ before location }
+{
     location.after(65535)
 }
 
 impl Facts {
     /// Nothing is known.
-    pub fn none() -> Facts {
+    pub fn none() -> Facts
+        ensures { result ≡ no_facts }
+    {
         Facts {
             byte_in_a: None,
             word_in_hl: None,
@@ -52,7 +64,9 @@ impl Facts {
     }
 
     /// What is known where other facts hold too.
-    pub fn with(self, others: Facts) -> Facts {
+    pub fn with(self, others: Facts) -> Facts
+        ensures { result ≡ with_facts self others }
+    {
         Facts {
             byte_in_a: either(others.byte_in_a, self.byte_in_a),
             word_in_hl: either(others.word_in_hl, self.word_in_hl),
@@ -62,7 +76,9 @@ impl Facts {
     }
 
     /// What is known after bytes in memory or in the frame may have changed.
-    pub fn without_memory(self) -> Facts {
+    pub fn without_memory(self) -> Facts
+        ensures { result ≡ without_memory self }
+    {
         Facts {
             byte_in_a: None,
             word_in_hl: None,
@@ -71,7 +87,9 @@ impl Facts {
     }
 
     // What is known after A has changed.
-    fn without_a(self) -> Facts {
+    fn without_a(self) -> Facts
+        ensures { result ≡ without_a self }
+    {
         Facts {
             byte_in_a: None,
             zero_shows_a: false,
@@ -80,7 +98,9 @@ impl Facts {
     }
 
     // What is known after HL has changed.
-    fn without_hl(self) -> Facts {
+    fn without_hl(self) -> Facts
+        ensures { result ≡ without_hl self }
+    {
         Facts {
             word_in_hl: None,
             address_in_hl: None,
@@ -89,7 +109,9 @@ impl Facts {
     }
 
     // What is known after the zero flag has changed.
-    fn without_zero(self) -> Facts {
+    fn without_zero(self) -> Facts
+        ensures { result ≡ without_zero self }
+    {
         Facts {
             zero_shows_a: false,
             ..self
@@ -97,7 +119,9 @@ impl Facts {
     }
 
     // What is known after a register has changed.
-    fn without_register(self, register: Register) -> Facts {
+    fn without_register(self, register: Register) -> Facts
+        ensures { result ≡ without_register self register }
+    {
         match register {
             Register::A => self.without_a(),
             Register::H | Register::L => self.without_hl(),
@@ -106,7 +130,9 @@ impl Facts {
     }
 
     // What is known after a register, or the byte at the address in HL, has changed.
-    fn without_operand(self, operand: Operand) -> Facts {
+    fn without_operand(self, operand: Operand) -> Facts
+        ensures { result ≡ without_operand self operand }
+    {
         match operand {
             Operand::Of(register) => self.without_register(register),
             Operand::M => self.without_memory(),
@@ -114,7 +140,9 @@ impl Facts {
     }
 
     // What is known after a pair has changed. Where the stack is moved, nothing is.
-    fn without_pair(self, pair: Pair) -> Facts {
+    fn without_pair(self, pair: Pair) -> Facts
+        ensures { result ≡ without_pair self pair }
+    {
         match pair {
             Pair::Bc | Pair::De => self,
             Pair::Hl => self.without_hl(),
@@ -123,7 +151,9 @@ impl Facts {
     }
 
     // What is known after POP.
-    fn after_pop(self, pair: StackPair) -> Facts {
+    fn after_pop(self, pair: StackPair) -> Facts
+        ensures { result ≡ after_pop self pair }
+    {
         match pair {
             StackPair::StackBc | StackPair::StackDe => self,
             StackPair::StackHl => self.without_hl(),
@@ -132,7 +162,9 @@ impl Facts {
     }
 
     // What is known after INR or DCR.
-    fn after_count(self, operand: Operand) -> Facts {
+    fn after_count(self, operand: Operand) -> Facts
+        ensures { result ≡ after_count self operand }
+    {
         let changed = self.without_operand(operand);
         match operand {
             Operand::Of(Register::A) => Facts {
@@ -144,7 +176,9 @@ impl Facts {
     }
 
     // Where the byte comes from that MOV A puts into A, if that is known.
-    fn origin(self, operand: Operand) -> Option<Location> {
+    fn origin(self, operand: Operand) -> Option<Location>
+        ensures { result ≡ origin self operand }
+    {
         match operand {
             Operand::M => self.address_in_hl,
             Operand::Of(Register::L) => self.word_in_hl,
@@ -157,7 +191,9 @@ impl Facts {
     }
 
     // What is known after MOV to a register.
-    fn after_move(self, register: Register, operand: Operand) -> Facts {
+    fn after_move(self, register: Register, operand: Operand) -> Facts
+        ensures { result ≡ after_move self register operand }
+    {
         match register {
             Register::A => Facts {
                 byte_in_a: self.origin(operand),
@@ -168,7 +204,9 @@ impl Facts {
     }
 
     // What is known after MOV to memory.
-    fn after_move_to_memory(self, register: Register) -> Facts {
+    fn after_move_to_memory(self, register: Register) -> Facts
+        ensures { result ≡ after_move_to_memory self register }
+    {
         let changed = self.without_memory();
         match register {
             Register::A => Facts {
@@ -180,7 +218,9 @@ impl Facts {
     }
 
     // What is known after an operation with A.
-    fn after_operation(self, operation: Operation) -> Facts {
+    fn after_operation(self, operation: Operation) -> Facts
+        ensures { result ≡ after_operation self operation }
+    {
         match operation {
             Operation::Compare => self.without_zero(),
             _ => Facts {
@@ -192,7 +232,9 @@ impl Facts {
     }
 
     // What is known after an operation of A with an operand: A AND A, and A OR A, are A.
-    fn after_operation_with(self, operation: Operation, operand: Operand) -> Facts {
+    fn after_operation_with(self, operation: Operation, operand: Operand) -> Facts
+        ensures { result ≡ after_operation_with self operation operand }
+    {
         match operation {
             Operation::And | Operation::Or if matches!(operand, Operand::Of(Register::A)) => {
                 Facts {
@@ -205,7 +247,9 @@ impl Facts {
     }
 
     /// What is known after an instruction at whose start this is known.
-    pub fn after(self, instruction: Instr) -> Facts {
+    pub fn after(self, instruction: Instr) -> Facts
+        ensures { result ≡ after self instruction }
+    {
         match instruction {
             Instr::Lxi(pair, number) => self.after_word(
                 WordForm::LoadPair(pair),
@@ -232,7 +276,9 @@ impl Facts {
 
     // What is known after an instruction that changes A alone, the carry alone or nothing, or after which the code goes on
     // elsewhere.
-    fn after_other(self, instruction: Instr) -> Facts {
+    fn after_other(self, instruction: Instr) -> Facts
+        ensures { result ≡ after_other self instruction }
+    {
         match instruction {
             Instr::Ldax(_)
             | Instr::Rlc
@@ -254,7 +300,9 @@ impl Facts {
     }
 
     /// What is known after an instruction with a word at whose start this is known.
-    pub fn after_word(self, form: WordForm, place: Place) -> Facts {
+    pub fn after_word(self, form: WordForm, place: Place) -> Facts
+        ensures { result ≡ after_word self form place }
+    {
         let here = Some(Location::Static(place));
         match form {
             WordForm::LoadPair(Pair::Hl) => Facts {
@@ -282,7 +330,9 @@ impl Facts {
     }
 
     /// What is known where the code goes on after a jump, or after another instruction with the place of a label.
-    pub fn after_form(self, form: WordForm) -> Facts {
+    pub fn after_form(self, form: WordForm) -> Facts
+        ensures { result ≡ after_form self form }
+    {
         match form {
             WordForm::JumpWhere(_) => self,
             WordForm::LoadPair(pair) => self.without_pair(pair),
@@ -291,14 +341,18 @@ impl Facts {
     }
 
     /// Whether A, H or L holds the byte here.
-    pub fn holds_byte(&self, location: Location) -> bool {
+    pub fn holds_byte(&self, location: Location) -> bool
+        ensures { result ≡ holds_byte self.now location }
+    {
         is_at(self.byte_in_a, location)
             || is_at(self.word_in_hl, location)
             || is_at(self.word_in_hl, before(location))
     }
 
     /// The instruction that puts the byte at a location into A, where the facts give one.
-    pub fn byte_from_hl(&self, location: Location) -> Option<Instr> {
+    pub fn byte_from_hl(&self, location: Location) -> Option<Instr>
+        ensures { result ≡ byte_from_hl self.now location }
+    {
         if is_at(self.word_in_hl, location) {
             Some(copy(Register::A, Register::L))
         } else if is_at(self.word_in_hl, before(location)) {
@@ -311,7 +365,9 @@ impl Facts {
     }
 
     /// The instruction that puts the byte at a location into L, where the facts give one.
-    pub fn byte_for_l(&self, location: Location) -> Option<Instr> {
+    pub fn byte_for_l(&self, location: Location) -> Option<Instr>
+        ensures { result ≡ byte_for_l self.now location }
+    {
         if is_at(self.byte_in_a, location) {
             Some(copy(Register::L, Register::A))
         } else if is_at(self.word_in_hl, before(location)) {

@@ -1,5 +1,9 @@
 //! Code as it is planned: instructions, labels, and parts whose code is planned in its turn.
 
+ghost use Rattle.std.specs.Prelude.{◌≡◌, [], ◌∷◌, OnOk, length, slice_get, take};
+ghost use Rattle.steps8080.specs.declared.step.Step.TheVariants.{Plain, Word, Jump, Mark};
+ghost use Rattle.steps8080.specs.Step.{Adds, label_after, label_of, part, plain};
+
 use crate::facts::Facts;
 use asm8080::WordForm;
 use isa8080::Instr;
@@ -79,13 +83,16 @@ pub enum Step {
 
 /// Steps in a row, and how many labels are taken.
 pub struct Steps {
-    list: Vec<Step>,
-    labels: u32,
+    pub list: Vec<Step>,
+    pub labels: u32,
 }
 
 impl Steps {
     /// No steps, where so many labels are taken.
-    pub fn new(alloc: Global, labels: u32) -> Steps {
+    pub fn new(alloc: Global, labels: u32) -> Steps
+        ensures list { result.list.items ≡ [] }
+        ensures labels { result.labels ≡ labels }
+    {
         Steps {
             list: Vec::new(alloc),
             labels,
@@ -93,32 +100,44 @@ impl Steps {
     }
 
     /// A label that is not taken yet.
-    pub fn label(&mut self) -> LabelNumber {
+    pub fn label(&mut self) -> LabelNumber
+        ensures label { result ≡ label_of self.old.labels }
+        ensures taken { self.new ≡ record self.old { labels = label_after self.old.labels 1 } }
+    {
         let label = LabelNumber { index: self.labels };
         self.labels = self.labels.saturating_add(1);
         label
     }
 
     /// The first of so many labels that are not taken yet.
-    pub fn labels(&mut self, count: u32) -> LabelNumber {
+    pub fn labels(&mut self, count: u32) -> LabelNumber
+        ensures label { result ≡ label_of self.old.labels }
+        ensures taken { self.new ≡ record self.old { labels = label_after self.old.labels count } }
+    {
         let first = LabelNumber { index: self.labels };
         self.labels = self.labels.saturating_add(count);
         first
     }
 
     /// Adds a step.
-    pub fn push(&mut self, step: Step) -> Result<(), AllocError> {
+    pub fn push(&mut self, step: Step) -> Result<(), AllocError>
+        ensures { OnOk result (Adds self.old self.new (step ∷ [])) }
+    {
         self.list.push(step)?;
         Ok(())
     }
 
     /// Adds an instruction.
-    pub fn plain(&mut self, instruction: Instr) -> Result<(), AllocError> {
+    pub fn plain(&mut self, instruction: Instr) -> Result<(), AllocError>
+        ensures { OnOk result (Adds self.old self.new (Plain instruction ∷ [])) }
+    {
         self.push(Step::Plain(instruction))
     }
 
     /// Adds instructions.
-    pub fn all(&mut self, instructions: &[Instr]) -> Result<(), AllocError> {
+    pub fn all(&mut self, instructions: &[Instr]) -> Result<(), AllocError>
+        ensures { OnOk result (Adds self.old self.new (plain instructions.now)) }
+    {
         for instruction in instructions {
             self.plain(*instruction)?;
         }
@@ -126,37 +145,52 @@ impl Steps {
     }
 
     /// Adds an instruction with a word.
-    pub fn word(&mut self, form: WordForm, place: Place) -> Result<(), AllocError> {
+    pub fn word(&mut self, form: WordForm, place: Place) -> Result<(), AllocError>
+        ensures { OnOk result (Adds self.old self.new (Word form place ∷ [])) }
+    {
         self.push(Step::Word(form, place))
     }
 
     /// Adds a jump, or another instruction with the place of a label.
-    pub fn jump(&mut self, form: WordForm, label: LabelNumber) -> Result<(), AllocError> {
+    pub fn jump(&mut self, form: WordForm, label: LabelNumber) -> Result<(), AllocError>
+        ensures { OnOk result (Adds self.old self.new (Jump form label ∷ [])) }
+    {
         self.push(Step::Jump(form, label))
     }
 
     /// Adds the place of a label.
-    pub fn mark(&mut self, label: LabelNumber) -> Result<(), AllocError> {
+    pub fn mark(&mut self, label: LabelNumber) -> Result<(), AllocError>
+        ensures { OnOk result (Adds self.old self.new (Mark label ∷ [])) }
+    {
         self.push(Step::Mark(label))
     }
 
     /// Adds the code of a task where so many bytes are pushed.
-    pub fn part(&mut self, task: Task, pushed: u16) -> Result<(), AllocError> {
+    pub fn part(&mut self, task: Task, pushed: u16) -> Result<(), AllocError>
+        ensures { OnOk result (Adds self.old self.new (part task pushed ∷ [])) }
+    {
         self.push(Step::Part(Part { task, pushed }))
     }
 
     /// How many steps there are.
-    pub fn count(&self) -> usize {
+    pub fn count(&self) -> usize
+        ensures { result ≡ length self.now.list.items }
+    {
         self.list.len()
     }
 
     /// The step of an index.
-    pub fn get(&self, index: usize) -> Option<Step> {
+    pub fn get(&self, index: usize) -> Option<Step>
+        ensures { result ≡ slice_get self.now.list.items index }
+    {
         self.list.get(index).copied()
     }
 
     /// Takes away all steps but the first so many.
-    pub fn truncate(&mut self, count: usize) {
+    pub fn truncate(&mut self, count: usize)
+        ensures list { self.new.list.items ≡ take count self.old.list.items }
+        ensures labels { self.new.labels ≡ self.old.labels }
+    {
         self.list.truncate(count);
     }
 }

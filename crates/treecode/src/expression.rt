@@ -1,5 +1,8 @@
 //! Expressions as numbered nodes.
 
+ghost use Rattle.std.specs.Prelude.{◌≡◌};
+ghost use Rattle.treecode.specs.Queries.{number_bound};
+
 use crate::lists::Range;
 use crate::reference::{Reference, Target};
 use crate::traits::Traits;
@@ -75,7 +78,9 @@ const _: () = prove!(size_of::<Expression>() <= 64);
 
 impl ExpressionNumber {
     /// One more than the number.
-    pub fn bound(self) -> u32 {
+    pub fn bound(self) -> u32
+        ensures { result ≡ number_bound self }
+    {
         self.index.saturating_add(1)
     }
 }

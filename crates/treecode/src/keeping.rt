@@ -1,5 +1,8 @@
 //! Which registers code keeps that puts something into HL.
 
+ghost use Rattle.std.specs.Prelude.{◌≡◌};
+ghost use Rattle.treecode.specs.Queries.{keeps_of_reference, keeps_of_subscript, keeps_of_sum, keeps_with_base};
+
 use crate::expression::{ExpressionForm, ExpressionNumber};
 use crate::known::place_of;
 use crate::memory::memory_of;
@@ -12,7 +15,9 @@ use typed_trees::ShiftFunction;
 
 // What the code of a computed subscript keeps. None where there is no subscript, or it is a number, which goes into the
 // offset.
-fn keeps_of_subscript(tree: &TreeModule, subscript: Option<Subscript>) -> Option<Keeps> {
+fn keeps_of_subscript(tree: &TreeModule, subscript: Option<Subscript>) -> Option<Keeps>
+    ensures { result ≡ keeps_of_subscript tree.now subscript }
+{
     let index = subscript?.index;
     match tree.number(index) {
         Some(_) => None,
@@ -22,7 +27,9 @@ fn keeps_of_subscript(tree: &TreeModule, subscript: Option<Subscript>) -> Option
 
 // What the code of the sum of two computed subscripts, of which there may be less, keeps. For a sum of two one of them
 // stands in DE.
-fn keeps_of_sum(first: Option<Keeps>, second: Option<Keeps>) -> Keeps {
+fn keeps_of_sum(first: Option<Keeps>, second: Option<Keeps>) -> Keeps
+    ensures { result ≡ keeps_of_sum first second }
+{
     match (first, second) {
         (Some(first), Some(second)) => Keeps {
             a: first.a && second.a,
@@ -35,7 +42,9 @@ fn keeps_of_sum(first: Option<Keeps>, second: Option<Keeps>) -> Keeps {
 
 // What the code keeps that adds the address that a base holds to what the code of computed subscripts gives, if there are
 // any. They stand in DE meanwhile. A base in a frame comes through A.
-fn keeps_with_base(base: Location, is_computed: bool, keeps: Keeps) -> Keeps {
+fn keeps_with_base(base: Location, is_computed: bool, keeps: Keeps) -> Keeps
+    ensures { result ≡ keeps_with_base base is_computed keeps }
+{
     let is_static = match base {
         Location::Static(_) => true,
         Location::Frame { .. } => false,
@@ -47,7 +56,9 @@ fn keeps_with_base(base: Location, is_computed: bool, keeps: Keeps) -> Keeps {
 }
 
 /// What the code that puts the address of an object or a part of it into HL keeps.
-pub fn keeps_of_address(tree: &TreeModule, reference: &Reference) -> Keeps {
+pub fn keeps_of_address(tree: &TreeModule, reference: &Reference) -> Keeps
+    ensures { result ≡ keeps_of_reference tree.now reference.now }
+{
     let first = keeps_of_subscript(tree, reference.subscript);
     let second = keeps_of_subscript(tree, reference.member_subscript);
     let keeps = keeps_of_sum(first, second);

@@ -1,5 +1,8 @@
 //! Modules of tree code.
 
+ghost use Rattle.std.specs.Prelude.{◌≡◌};
+ghost use Rattle.treecode.specs.Queries.{argument, entry_index, home, item, statement, target, traits, tree_expression, tree_number};
+
 use crate::expression::{Expression, ExpressionForm, ExpressionNumber};
 use crate::lists::Range;
 use crate::place::{Home, Place};
@@ -46,12 +49,12 @@ pub struct PublicName {
 pub struct TreeModule {
     pub name: Name,
     /// Where each object begins, by its number.
-    pub(crate) homes: Vec<Home>,
-    pub(crate) expressions: Vec<Expression>,
-    pub(crate) statements: Vec<Statement>,
-    pub(crate) arguments: Vec<ExpressionNumber>,
-    pub(crate) targets: Vec<Target>,
-    pub(crate) lists: Vec<StatementNumber>,
+    pub homes: Vec<Home>,
+    pub expressions: Vec<Expression>,
+    pub statements: Vec<Statement>,
+    pub arguments: Vec<ExpressionNumber>,
+    pub targets: Vec<Target>,
+    pub lists: Vec<StatementNumber>,
     /// The procedures, by their numbers.
     pub procedures: Vec<TreeProcedure>,
     /// The statements at the outer level.
@@ -68,7 +71,9 @@ pub struct TreeModule {
 
 impl TreeModule {
     /// Where an object begins; the address 0 where there is none of that number.
-    pub fn home(&self, object: u32) -> Home {
+    pub fn home(&self, object: u32) -> Home
+        ensures { result ≡ home self.now object }
+    {
         match self.homes.get(object as usize) {
             Some(home) => *home,
             None => Home::Static(Place::Number(0)),
@@ -76,17 +81,23 @@ impl TreeModule {
     }
 
     /// The expression of a number, if there is one.
-    pub fn expression(&self, number: ExpressionNumber) -> Option<Expression> {
+    pub fn expression(&self, number: ExpressionNumber) -> Option<Expression>
+        ensures { result ≡ tree_expression self.now number }
+    {
         self.expressions.get(number.index as usize).copied()
     }
 
     /// The statement of a number, if there is one.
-    pub fn statement(&self, number: StatementNumber) -> Option<Statement> {
+    pub fn statement(&self, number: StatementNumber) -> Option<Statement>
+        ensures { result ≡ statement self.now number }
+    {
         self.statements.get(number.index as usize).copied()
     }
 
     /// An argument of a call, counted from 0.
-    pub fn argument(&self, arguments: Range, index: u32) -> Option<ExpressionNumber> {
+    pub fn argument(&self, arguments: Range, index: u32) -> Option<ExpressionNumber>
+        ensures { result ≡ argument self.now arguments index }
+    {
         match entry(arguments, index) {
             Some(entry) => self.arguments.get(entry).copied(),
             None => None,
@@ -94,7 +105,9 @@ impl TreeModule {
     }
 
     /// A target of an assignment, counted from 0.
-    pub fn target(&self, targets: Range, index: u32) -> Option<Target> {
+    pub fn target(&self, targets: Range, index: u32) -> Option<Target>
+        ensures { result ≡ target self.now targets index }
+    {
         match entry(targets, index) {
             Some(entry) => self.targets.get(entry).copied(),
             None => None,
@@ -102,7 +115,9 @@ impl TreeModule {
     }
 
     /// A statement of a list, counted from 0.
-    pub fn item(&self, list: Range, index: u32) -> Option<StatementNumber> {
+    pub fn item(&self, list: Range, index: u32) -> Option<StatementNumber>
+        ensures { result ≡ item self.now list index }
+    {
         match entry(list, index) {
             Some(entry) => self.lists.get(entry).copied(),
             None => None,
@@ -110,7 +125,9 @@ impl TreeModule {
     }
 
     /// What is known of an expression; nothing where there is none of that number.
-    pub(crate) fn traits(&self, number: ExpressionNumber) -> Traits {
+    pub(crate) fn traits(&self, number: ExpressionNumber) -> Traits
+        ensures { result ≡ traits self.now number }
+    {
         match self.expression(number) {
             Some(expression) => expression.traits,
             None => Traits::none(),
@@ -118,7 +135,9 @@ impl TreeModule {
     }
 
     /// The number that an expression is, where it is known and depends on nothing.
-    pub(crate) fn number(&self, number: ExpressionNumber) -> Option<u16> {
+    pub(crate) fn number(&self, number: ExpressionNumber) -> Option<u16>
+        ensures { result ≡ tree_number self.now number }
+    {
         match self.traits(number).known {
             Some(place) => place.number(),
             None => None,
@@ -184,7 +203,9 @@ fn next_index(count: usize) -> Result<u32, AllocError> {
 }
 
 // Which entry of its table an item of a range is, counted from 0.
-fn entry(range: Range, index: u32) -> Option<usize> {
+fn entry(range: Range, index: u32) -> Option<usize>
+    ensures { result ≡ entry_index range index }
+{
     if index < range.count {
         Some(range.first as usize + index as usize)
     } else {

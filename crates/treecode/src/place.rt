@@ -1,5 +1,8 @@
 //! Where things lie, before a module has its place in memory.
 
+ghost use Rattle.std.specs.Prelude.{◌≡◌};
+ghost use Rattle.treecode.specs.Queries.{location_after, place_after, place_number};
+
 /// A word that is known but for where the segments of the module and the names of other modules will lie.
 #[derive(Clone, Copy, PartialEq, Eq)]
 pub enum Place {
@@ -36,7 +39,9 @@ pub enum Home {
 
 impl Place {
     /// The place so many bytes further on, modulo 65536.
-    pub fn after(self, distance: u16) -> Place {
+    pub fn after(self, distance: u16) -> Place
+        ensures { result ≡ place_after self distance }
+    {
         match self {
             Place::Number(number) => Place::Number(number.wrapping_add(distance)),
             Place::Code(offset) => Place::Code(offset.wrapping_add(distance)),
@@ -49,7 +54,9 @@ impl Place {
     }
 
     /// The number that it is, if it depends on nothing.
-    pub fn number(self) -> Option<u16> {
+    pub fn number(self) -> Option<u16>
+        ensures { result ≡ place_number self }
+    {
         match self {
             Place::Number(number) => Some(number),
             Place::Code(_) | Place::Data(_) | Place::External { .. } => None,
@@ -59,7 +66,9 @@ impl Place {
 
 impl Location {
     /// The location so many bytes further on, modulo 65536.
-    pub fn after(self, distance: u16) -> Location {
+    pub fn after(self, distance: u16) -> Location
+        ensures { result ≡ location_after self distance }
+    {
         match self {
             Location::Static(place) => Location::Static(place.after(distance)),
             Location::Frame { variable, offset } => Location::Frame {

@@ -1,5 +1,8 @@
 //! Objects and parts of objects, and what values are stored in.
 
+ghost use Rattle.std.specs.Prelude.{◌≡◌};
+ghost use Rattle.treecode.specs.Queries.{number_bound, reference_bound, source, subscript_bound, target_bound};
+
 use crate::expression::ExpressionNumber;
 use trees::ScalarType;
 
@@ -40,13 +43,17 @@ pub enum Target {
 
 impl Subscript {
     // One more than the number of its index.
-    fn bound(self) -> u32 {
+    fn bound(self) -> u32
+        ensures { result ≡ number_bound self.index }
+    {
         self.index.index.saturating_add(1)
     }
 }
 
 // One more than the number of the index of a subscript, 0 where there is none.
-fn subscript_bound(subscript: Option<Subscript>) -> u32 {
+fn subscript_bound(subscript: Option<Subscript>) -> u32
+    ensures { result ≡ subscript_bound subscript }
+{
     match subscript {
         Some(subscript) => subscript.bound(),
         None => 0,
@@ -55,14 +62,18 @@ fn subscript_bound(subscript: Option<Subscript>) -> u32 {
 
 impl Reference {
     /// One more than the greatest number of an expression in it, 0 where there is none.
-    pub fn bound(&self) -> u32 {
+    pub fn bound(&self) -> u32
+        ensures { result ≡ reference_bound self.now }
+    {
         subscript_bound(self.subscript).max(subscript_bound(self.member_subscript))
     }
 }
 
 impl Target {
     /// One more than the greatest number of an expression in it, 0 where there is none.
-    pub fn bound(&self) -> u32 {
+    pub fn bound(&self) -> u32
+        ensures { result ≡ target_bound self.now }
+    {
         match self {
             Target::Stored { reference, .. } => reference.bound(),
             Target::Sent { .. } => 0,
@@ -70,7 +81,9 @@ impl Target {
     }
 
     /// The type of the value that goes to it.
-    pub fn source(&self) -> ScalarType {
+    pub fn source(&self) -> ScalarType
+        ensures { result ≡ source self.now }
+    {
         match self {
             Target::Stored { from, .. } | Target::Sent { from, .. } => *from,
         }

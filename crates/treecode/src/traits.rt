@@ -1,5 +1,8 @@
 //! What is known of an expression without looking at its parts again.
 
+ghost use Rattle.std.specs.Prelude.{◌≡◌};
+ghost use Rattle.treecode.specs.Queries.{all_kept, no_traits, none_kept};
+
 use crate::effects::{is_quiet, stores_nothing};
 use crate::expression::ExpressionForm;
 use crate::freedom::is_free;
@@ -39,12 +42,16 @@ pub struct Traits {
 
 impl Keeps {
     /// Both registers are kept.
-    pub(crate) fn both() -> Keeps {
+    pub(crate) fn both() -> Keeps
+        ensures { result ≡ all_kept }
+    {
         Keeps { a: true, de: true }
     }
 
     /// No register is kept.
-    pub(crate) fn none() -> Keeps {
+    pub(crate) fn none() -> Keeps
+        ensures { result ≡ none_kept }
+    {
         Keeps {
             a: false,
             de: false,
@@ -54,7 +61,9 @@ impl Keeps {
 
 impl Traits {
     /// Nothing is known.
-    pub(crate) fn none() -> Traits {
+    pub(crate) fn none() -> Traits
+        ensures { result ≡ no_traits }
+    {
         Traits {
             scalar: ScalarType::Byte,
             known: None,
