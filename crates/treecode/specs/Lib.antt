@@ -4,3 +4,5 @@ pub mod Known
 pub mod Traits
 pub mod Contents
 pub mod Lowered
+pub mod Resolved
+pub mod internal

@@ -1,0 +1,6 @@
+pub mod SameTraits
+pub mod SameMemory
+pub mod TraitsKept
+pub mod Grown
+pub mod KeptValues
+pub mod KnownMeans
