@@ -62,10 +62,12 @@ module _ (around : Surroundings) (starts : List Home) (storage : Storage) (addre
       → Tells (option_and_then (converted_place scalar) known) scalar
       (λ s. then_do (outcome s) (λ number t. Gave (as_type scalar number) t))
   tells_conversion scalar of None outcome told = tt
-  tells_conversion scalar of (Some (Number n)) outcome told =
-      ((λ (s : State). gives _ s (told.0 s)
-      ∙ give s (ap (λ m. as_type scalar m) (resolves.number n)
-      ∙ sym (resolves.number (as_type scalar n)))), tt)
+  tells_conversion scalar of (Some (Number n)) outcome told = (
+    (λ (s : State). gives _ s (told.0 s)
+        ∙ give s (ap (λ m. as_type scalar m) (resolves.number n)
+        ∙ sym (resolves.number (as_type scalar n)))),
+    tt,
+  )
   tells_conversion Byte of (Some (Code o)) outcome told = tt
   tells_conversion Byte of (Some (Data o)) outcome told = tt
   tells_conversion Byte of (Some (External o n)) outcome told = tt
@@ -82,10 +84,12 @@ module _ (around : Surroundings) (starts : List Home) (storage : Storage) (addre
       → Tells (option_and_then (function_of_place function) known) (type_of_function function)
       (λ s. then_do (outcome s) (λ number t. Gave (function_of function number) t))
   tells_function function of None outcome told = tt
-  tells_function function of (Some (Number n)) outcome told =
-      ((λ (s : State). gives _ s (told.0 s)
-      ∙ give s (ap (λ m. function_of function m) (resolves.number n)
-      ∙ sym (resolves.number (function_of function n)))), tt)
+  tells_function function of (Some (Number n)) outcome told = (
+    (λ (s : State). gives _ s (told.0 s)
+        ∙ give s (ap (λ m. function_of function m) (resolves.number n)
+        ∙ sym (resolves.number (function_of function n)))),
+    tt,
+  )
   tells_function Low of (Some (Code o)) outcome told = tt
   tells_function High of (Some (Code o)) outcome told = tt
   tells_function Double of (Some (Code o)) outcome told = ((λ (s : State). gives _ s (told.0 s)), refl)
@@ -103,11 +107,13 @@ module _ (around : Surroundings) (starts : List Home) (storage : Storage) (addre
       (known_number known)) scalar
       (λ s. then_do (outcome s) (λ number t. Gave (result_of_one scalar operator number) t))
   tells_unary scalar of operator None outcome told = tt
-  tells_unary scalar of operator (Some (Number n)) outcome told =
-      ((λ (s : State). gives _ s (told.0 s)
-      ∙ give s
-      (ap (λ m. result_of_one scalar operator m) (resolves.number n)
-      ∙ sym (resolves.number (result_of_one scalar operator n)))), tt)
+  tells_unary scalar of operator (Some (Number n)) outcome told = (
+    (λ (s : State). gives _ s (told.0 s)
+        ∙ give s
+        (ap (λ m. result_of_one scalar operator m) (resolves.number n)
+        ∙ sym (resolves.number (result_of_one scalar operator n)))),
+    tt,
+  )
   tells_unary scalar of operator (Some (Code o)) outcome told = tt
   tells_unary scalar of operator (Some (Data o)) outcome told = tt
   tells_unary scalar of operator (Some (External o n)) outcome told = tt
@@ -136,14 +142,16 @@ module _ (around : Surroundings) (starts : List Home) (storage : Storage) (addre
   tells_shift scalar of by function (Some (Number n)) (Some (Code o)) first second told counted = tt
   tells_shift scalar of by function (Some (Number n)) (Some (Data o)) first second told counted = tt
   tells_shift scalar of by function (Some (Number n)) (Some (External o m)) first second told counted = tt
-  tells_shift scalar of by function (Some (Number n)) (Some (Number m)) first second told counted =
-      ((λ (s : State).
-      twice (Number n) (Number m) first second (λ one two u. Gave
-      (shifted scalar function one two) u) told.0 counted.0 s
-      ∙ give s
-      (ap (λ k. shifted scalar function k (address (Number m))) (resolves.number n)
-      ∙ ap (λ k. shifted scalar function n k) (resolves.number m)
-      ∙ sym (resolves.number (shifted scalar function n m)))), tt)
+  tells_shift scalar of by function (Some (Number n)) (Some (Number m)) first second told counted = (
+    (λ (s : State).
+        twice (Number n) (Number m) first second (λ one two u. Gave
+        (shifted scalar function one two) u) told.0 counted.0 s
+        ∙ give s
+        (ap (λ k. shifted scalar function k (address (Number m))) (resolves.number n)
+        ∙ ap (λ k. shifted scalar function n k) (resolves.number m)
+        ∙ sym (resolves.number (shifted scalar function n m)))),
+    tt,
+  )
 
   -- what an operator gives of two values
   result : (operands : ScalarType) (operator : BinaryOperator) (place other : Place) (first second : State
@@ -170,12 +178,14 @@ module _ (around : Surroundings) (starts : List Home) (storage : Storage) (addre
       (λ s. then_do (first s)
       (λ one t. then_do (second t) (λ two u. computed (result_of operands operator one two) u)))
   tells_numbers operands operator n m first second None one two is_given = tt
-  tells_numbers operands operator n m first second (Some found) one two is_given =
-      ((λ (s : State).
-      result operands operator (Number n) (Number m) first second found one two
-      (ap (λ k. result_of operands operator k (address (Number m))) (resolves.number n)
-      ∙ ap (λ k. result_of operands operator n k) (resolves.number m) ∙ is_given) s
-      ∙ give s (sym (resolves.number found))), tt)
+  tells_numbers operands operator n m first second (Some found) one two is_given = (
+    (λ (s : State).
+        result operands operator (Number n) (Number m) first second found one two
+        (ap (λ k. result_of operands operator k (address (Number m))) (resolves.number n)
+        ∙ ap (λ k. result_of operands operator n k) (resolves.number m) ∙ is_given) s
+        ∙ give s (sym (resolves.number found))),
+    tt,
+  )
 
   sum_after : (operands : ScalarType) (place : Place) (d : ℕ) → operands ≡ Address
       → result_of operands operators.Add (address place) (address (Number d))
@@ -221,35 +231,53 @@ module _ (around : Surroundings) (starts : List Home) (storage : Storage) (addre
   tells_known operands of by operator (Some (External n x)) None first second e f one two = tt
   tells_known operands of by operator (Some (Number n)) (Some (Number m)) first second e f one two =
       tells_numbers operands operator n m first second (result_of operands operator n m) one.0 two.0 refl
-  tells_known operands of by operators.Add (Some (Code n)) (Some (Number m)) first second e f one two =
-      ((λ (s : State). result operands operators.Add (Code n) (Number m) first second _ one.0 two.0
-      (sum_after operands (Code n) m (sym e ∙ one.1)) s), sym e ∙ one.1)
-  tells_known operands of by operators.Add (Some (Data n)) (Some (Number m)) first second e f one two =
-      ((λ (s : State). result operands operators.Add (Data n) (Number m) first second _ one.0 two.0
-      (sum_after operands (Data n) m (sym e ∙ one.1)) s), sym e ∙ one.1)
-  tells_known operands of by operators.Add (Some (External n x)) (Some (Number m)) first second e f one two =
-      ((λ (s : State). result operands operators.Add (External n x) (Number m) first second _ one.0 two.0
-      (sum_after operands (External n x) m (sym e ∙ one.1)) s), sym e ∙ one.1)
-  tells_known operands of by operators.Add (Some (Number m)) (Some (Code n)) first second e f one two =
-      ((λ (s : State). result operands operators.Add (Number m) (Code n) first second _ one.0 two.0
-      (sum_before operands (Code n) m (sym f ∙ two.1)) s), sym f ∙ two.1)
-  tells_known operands of by operators.Add (Some (Number m)) (Some (Data n)) first second e f one two =
-      ((λ (s : State). result operands operators.Add (Number m) (Data n) first second _ one.0 two.0
-      (sum_before operands (Data n) m (sym f ∙ two.1)) s), sym f ∙ two.1)
-  tells_known operands of by operators.Add (Some (Number m)) (Some (External n x)) first second e f one two =
-      ((λ (s : State). result operands operators.Add (Number m) (External n x) first second _ one.0 two.0
-      (sum_before operands (External n x) m (sym f ∙ two.1)) s), sym f ∙ two.1)
-  tells_known operands of by operators.Subtract (Some (Code n)) (Some (Number m)) first second e f one two =
-      ((λ (s : State). result operands operators.Subtract (Code n) (Number m) first second _ one.0 two.0
-      (difference_after operands (Code n) m (sym e ∙ one.1)) s), sym e ∙ one.1)
-  tells_known operands of by operators.Subtract (Some (Data n)) (Some (Number m)) first second e f one two =
-      ((λ (s : State). result operands operators.Subtract (Data n) (Number m) first second _ one.0 two.0
-      (difference_after operands (Data n) m (sym e ∙ one.1)) s), sym e ∙ one.1)
+  tells_known operands of by operators.Add (Some (Code n)) (Some (Number m)) first second e f one two = (
+    (λ (s : State). result operands operators.Add (Code n) (Number m) first second _ one.0 two.0
+        (sum_after operands (Code n) m (sym e ∙ one.1)) s),
+    sym e ∙ one.1,
+  )
+  tells_known operands of by operators.Add (Some (Data n)) (Some (Number m)) first second e f one two = (
+    (λ (s : State). result operands operators.Add (Data n) (Number m) first second _ one.0 two.0
+        (sum_after operands (Data n) m (sym e ∙ one.1)) s),
+    sym e ∙ one.1,
+  )
+  tells_known operands of by operators.Add (Some (External n x)) (Some (Number m)) first second e f one two = (
+    (λ (s : State). result operands operators.Add (External n x) (Number m) first second _ one.0 two.0
+        (sum_after operands (External n x) m (sym e ∙ one.1)) s),
+    sym e ∙ one.1,
+  )
+  tells_known operands of by operators.Add (Some (Number m)) (Some (Code n)) first second e f one two = (
+    (λ (s : State). result operands operators.Add (Number m) (Code n) first second _ one.0 two.0
+        (sum_before operands (Code n) m (sym f ∙ two.1)) s),
+    sym f ∙ two.1,
+  )
+  tells_known operands of by operators.Add (Some (Number m)) (Some (Data n)) first second e f one two = (
+    (λ (s : State). result operands operators.Add (Number m) (Data n) first second _ one.0 two.0
+        (sum_before operands (Data n) m (sym f ∙ two.1)) s),
+    sym f ∙ two.1,
+  )
+  tells_known operands of by operators.Add (Some (Number m)) (Some (External n x)) first second e f one two = (
+    (λ (s : State). result operands operators.Add (Number m) (External n x) first second _ one.0 two.0
+        (sum_before operands (External n x) m (sym f ∙ two.1)) s),
+    sym f ∙ two.1,
+  )
+  tells_known operands of by operators.Subtract (Some (Code n)) (Some (Number m)) first second e f one two = (
+    (λ (s : State). result operands operators.Subtract (Code n) (Number m) first second _ one.0 two.0
+        (difference_after operands (Code n) m (sym e ∙ one.1)) s),
+    sym e ∙ one.1,
+  )
+  tells_known operands of by operators.Subtract (Some (Data n)) (Some (Number m)) first second e f one two = (
+    (λ (s : State). result operands operators.Subtract (Data n) (Number m) first second _ one.0 two.0
+        (difference_after operands (Data n) m (sym e ∙ one.1)) s),
+    sym e ∙ one.1,
+  )
   tells_known operands of by operators.Subtract (Some (External n x)) (Some
-      (Number m)) first second e f one two =
-      ((λ (s : State). result operands operators.Subtract (External n x)
-      (Number m) first second _ one.0 two.0 (difference_after operands (External n x) m (sym e
-      ∙ one.1)) s), sym e ∙ one.1)
+      (Number m)) first second e f one two = (
+        (λ (s : State). result operands operators.Subtract (External n x)
+            (Number m) first second _ one.0 two.0 (difference_after operands (External n x) m (sym e
+            ∙ one.1)) s),
+        sym e ∙ one.1,
+      )
   tells_known operands of by operator (Some left) (Some right) first second e f one two = tt
 
   tells_index : (stride : ℕ) (of : ScalarType) (known : Option Place) (outcome : State
@@ -261,12 +289,14 @@ module _ (around : Surroundings) (starts : List Home) (storage : Storage) (addre
   tells_index stride of (Some (Code o)) outcome count told = tt
   tells_index stride of (Some (Data o)) outcome count told = tt
   tells_index stride of (Some (External o n)) outcome count told = tt
-  tells_index stride of (Some (Number n)) outcome count told =
-      (displaced stride count n, ap (λ k. k % 65536) (commuted stride n)
-      ∙ sym (mul-mod_second n stride 65536),
-      (λ (s : State). ap (λ (given : Outcome ℕ). then_do given (λ number t. Gave
-      (displaced stride count number) t)) (told.0 s)
-      ∙ ap (λ (number : ℕ). Gave (displaced stride count number) s) (resolves.number n)))
+  tells_index stride of (Some (Number n)) outcome count told = (
+    displaced stride count n,
+    ap (λ k. k % 65536) (commuted stride n)
+        ∙ sym (mul-mod_second n stride 65536),
+    (λ (s : State). ap (λ (given : Outcome ℕ). then_do given (λ number t. Gave
+        (displaced stride count number) t)) (told.0 s)
+        ∙ ap (λ (number : ℕ). Gave (displaced stride count number) s) (resolves.number n)),
+  )
     where
       commuted : (a b : ℕ) → a * b ≡ b * a
       commuted a b = grind (arith)
@@ -286,40 +316,43 @@ module _ (around : Surroundings) (starts : List Home) (storage : Storage) (addre
   tells_location later object offset (homes.Static place) index other_index (Some n) None e one two member =
       tt
   tells_location later object offset (homes.Static place) index other_index (Some n)
-      (Some m) e one two member =
-      ((λ (s : State).
-      ap
-      (λ (given : Outcome Displacement).
-      then_do
-      (then_do given
-      (λ found t.
-      then_do (displacement later around other_index t)
-      (λ other u.
-      based_place (home_of around object) around object (found.bytes + offset + other.bytes)
-      (found.is_inside && other.is_inside) u)))
-      (λ place t. Gave (address_in_memory place) t)) (one.2 s)
-      ∙ ap
-      (λ (given : Outcome Displacement).
-      then_do
-      (then_do given
-      (λ other u.
-      based_place (home_of around object) around object ((one.0).bytes + offset + other.bytes)
-      ((one.0).is_inside && other.is_inside) u))
-      (λ place t. Gave (address_in_memory place) t)) (two.2 s)
-      ∙ ap (λ given. then_do given (λ place t. Gave (address_in_memory place) t))
-      (resolves.object object place ((one.0).bytes + offset + (two.0).bytes)
-      ((one.0).is_inside && (two.0).is_inside) s e)
-      ∙ give s
-      (summed (address place) offset (one.0).bytes (two.0).bytes n m one.1 two.1
-      ∙ sym
-      (resolves.after (place_after (place_after place (offset % 65536)) n) m
-      ∙ ap (λ k. (k + m) % 65536)
-      (resolves.after (place_after place (offset % 65536)) n
-      ∙ ap (λ k. (k + n) % 65536) (resolves.after place (offset % 65536)))))), is_address place)
+      (Some m) e one two member = (
+        (λ (s : State).
+            ap
+            (λ (given : Outcome Displacement).
+            then_do
+            (then_do given
+            (λ found t.
+            then_do (displacement later around other_index t)
+            (λ other u.
+            based_place (home_of around object) around object (found.bytes + offset + other.bytes)
+            (found.is_inside && other.is_inside) u)))
+            (λ place t. Gave (address_in_memory place) t)) (one.2 s)
+            ∙ ap
+            (λ (given : Outcome Displacement).
+            then_do
+            (then_do given
+            (λ other u.
+            based_place (home_of around object) around object ((one.0).bytes + offset + other.bytes)
+            ((one.0).is_inside && other.is_inside) u))
+            (λ place t. Gave (address_in_memory place) t)) (two.2 s)
+            ∙ ap (λ given. then_do given (λ place t. Gave (address_in_memory place) t))
+            (resolves.object object place ((one.0).bytes + offset + (two.0).bytes)
+            ((one.0).is_inside && (two.0).is_inside) s e)
+            ∙ give s
+            (summed (address place) offset (one.0).bytes (two.0).bytes n m one.1 two.1
+            ∙ sym
+            (resolves.after (place_after (place_after place (offset % 65536)) n) m
+            ∙ ap (λ k. (k + m) % 65536)
+            (resolves.after (place_after place (offset % 65536)) n
+            ∙ ap (λ k. (k + n) % 65536) (resolves.after place (offset % 65536)))))),
+        is_address place,
+      )
     where
       summed : (a offset one two n m : ℕ) → one % 65536 ≡ n → two % 65536 ≡ m
           → (a + (one + offset + two)) % 65536 ≡ (((a + offset % 65536) % 65536 + n) % 65536 + m) % 65536
       summed a offset one two n m e f = omega arith
+
       is_address : (of : Place) → IsAddress (place_after (place_after (place_after of
           (offset % 65536)) n) m) Address
       is_address (Number x) = tt

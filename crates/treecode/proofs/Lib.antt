@@ -1,3 +1,4 @@
+pub mod HighestArguments
 pub mod SameTraits
 pub mod SameMemory
 pub mod TraitsKept

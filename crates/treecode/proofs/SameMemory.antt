@@ -36,9 +36,11 @@ subscript_up bound greater up (Some subscript) below = omega arith
 reference_up : (bound greater : ℕ) → bound ≤ greater → (reference : Reference)
     → ReferenceIsBelow bound reference
     → ReferenceIsBelow greater reference
-reference_up bound greater up reference below =
-    (subscript_up bound greater up reference.subscript below.0, subscript_up bound greater up
-    reference.member_subscript below.1)
+reference_up bound greater up reference below = (
+  subscript_up bound greater up reference.subscript below.0,
+  subscript_up bound greater up
+      reference.member_subscript below.1,
+)
 
 target_up : (bound greater : ℕ) → bound ≤ greater → (target : Target) → TargetIsBelow bound target
     → TargetIsBelow greater target
@@ -63,8 +65,12 @@ parts_up nodes bound greater up (forms.Unary operator operand) below = less_up _
 parts_up nodes bound greater up (forms.Binary operands operator left right) below =
     (less_up _ bound greater up below.0, less_up _ bound greater up below.1)
 parts_up nodes bound greater up (forms.Call procedure arguments) below =
-    λ (index : ℕ) less. ((below index less).0, (below index less).1, less_up _ bound greater up
-    (below index less).2)
+    λ (index : ℕ) less. (
+      (below index less).0,
+      (below index less).1,
+      less_up _ bound greater up
+          (below index less).2,
+    )
 parts_up nodes bound greater up (forms.Function function operand) below = less_up _ bound greater up below
 parts_up nodes bound greater up (forms.Shift function value count) below =
     (less_up _ bound greater up below.0, less_up _ bound greater up below.1)
@@ -80,7 +86,7 @@ module _ (before after : Nodes) (bound : ℕ)
     (same : (number : ℕ) → number < bound → slice_get after.expressions number
     ≡ slice_get before.expressions number)
     (given : (index : ℕ) (number : ExpressionNumber) → slice_get before.arguments index ≡ Some number
-        → slice_get after.arguments index ≡ Some number)
+    → slice_get after.arguments index ≡ Some number)
     (rises : NumbersRise before) where
   -- the form of a part, and that its parts are below
   form_below : (number : ExpressionNumber) (form : ExpressionForm) → number.index < bound
@@ -123,7 +129,7 @@ module _ (before after : Nodes) (bound : ℕ)
       ap
       (λ (found : Option Expression).
       option_and_then (λ (expression : Expression). byte_after expression.traits.scalar expression.form)
-          found)
+      found)
       (same operand.index below)
 
   byte_after_below : (scalar : ScalarType) (form : ExpressionForm) → PartsAreBelow before bound form

@@ -28,7 +28,7 @@ module _ (before after : Nodes) (bound : ℕ)
     (same : (number : ℕ) → number < bound → slice_get after.expressions number
     ≡ slice_get before.expressions number)
     (given : (index : ℕ) (number : ExpressionNumber) → slice_get before.arguments index ≡ Some number
-        → slice_get after.arguments index ≡ Some number) where
+    → slice_get after.arguments index ≡ Some number) where
   pub same_traits : (number : ExpressionNumber) → number.index < bound
       → traits_at after number ≡ traits_at before number
   same_traits number below =
@@ -114,9 +114,13 @@ module _ (before after : Nodes) (bound : ℕ)
           × (number.index < bound))
           → (number : ExpressionNumber) × (slice_get before.arguments (suc first + index) ≡ Some number)
           × (number.index < bound)
-      next_below first count index found =
-          (found.0, subst (λ (at : ℕ). slice_get before.arguments at
-          ≡ Some found.0) (omega arith) found.1, found.2)
+      next_below first count index found = (
+        found.0,
+        subst (λ (at : ℕ). slice_get before.arguments at
+            ≡ Some found.0) (omega arith) found.1,
+        found.2,
+      )
+
       argument_height : (first : ℕ) (number : ExpressionNumber) → slice_get before.arguments first
           ≡ Some number
           → number.index < bound

@@ -81,6 +81,7 @@ module _ (nodes : Nodes) (scalar : ScalarType) (form : ExpressionForm) (rises : 
         where
           up : number < length nodes.expressions → number ≤ length nodes.expressions
           up less = omega arith
+
       is_own : (expression_of nodes scalar form).traits
           ≡ traits_of (with_expression nodes (expression_of nodes scalar form))
           (expression_of nodes scalar form).traits.scalar form
@@ -89,6 +90,7 @@ module _ (nodes : Nodes) (scalar : ScalarType) (form : ExpressionForm) (rises : 
           ∙ ap (λ (of : ScalarType). traits_of (with_expression nodes
           (expression_of nodes scalar form)) of form)
           (sym (own_scalar nodes scalar form))
+
       new : expression_of nodes scalar form ≡ expression
           → expression.traits
           ≡ traits_of (with_expression nodes
@@ -102,13 +104,14 @@ module _ (nodes : Nodes) (scalar : ScalarType) (form : ExpressionForm) (rises : 
 
   pub numbers_rise : NumbersRise (with_expression nodes (expression_of nodes scalar form))
   numbers_rise number expression e =
-      elim (found_or_last nodes.expressions (expression_of nodes scalar form) expression number e)
-      [ inl found ↦ parts_stay nodes (expression_of nodes scalar form) number expression.form
-      (rises number expression found)
-      | inr is ↦ subst
-      (λ (one : Expression).
-      PartsAreBelow (with_expression nodes (expression_of nodes scalar form)) number one.form) is.1
-      (subst
-      (λ (bound : ℕ). PartsAreBelow (with_expression nodes (expression_of nodes scalar form)) bound form)
-      (sym is.0)
-      (parts_stay nodes (expression_of nodes scalar form) (length nodes.expressions) form below)) ]
+      elim (found_or_last nodes.expressions (expression_of nodes scalar form) expression number e) [
+        | inl found ↦ parts_stay nodes (expression_of nodes scalar form) number expression.form
+            (rises number expression found)
+        | inr is ↦ subst
+            (λ (one : Expression).
+            PartsAreBelow (with_expression nodes (expression_of nodes scalar form)) number one.form) is.1
+            (subst
+            (λ (bound : ℕ). PartsAreBelow (with_expression nodes (expression_of nodes scalar form)) bound form)
+            (sym is.0)
+            (parts_stay nodes (expression_of nodes scalar form) (length nodes.expressions) form below))
+      ]

@@ -98,11 +98,11 @@ mutual
         → IsSubscript nodes storage bound first subscript
         → IsSubscript nodes storage bound second member_subscript
         → IsReference nodes storage bound (record {
-            object = object;
-            subscript = first;
-            offset = offset % 65536;
-            member_subscript = second;
-          })
+          object = object;
+          subscript = first;
+          offset = offset % 65536;
+          member_subscript = second;
+        })
         (PartOf object subscript member offset member_subscript)
 
   pub data IsSubscript (nodes : Nodes) (storage : Storage) :

@@ -1,5 +1,9 @@
 //! Which registers code keeps that puts something into HL.
 
+ghost use Rattle.std.specs.Prelude.{◌≡◌};
+ghost use Rattle.treecode.specs.Nodes.{nodes_of};
+ghost use Rattle.treecode.specs.Traits.{keeps_of, keeps_of_address, keeps_of_binary, keeps_of_byte, keeps_of_extended, keeps_of_shift, keeps_of_subscript, keeps_of_sum, keeps_of_value, keeps_with_base, number_at, traits_at};
+
 use crate::expression::{ExpressionForm, ExpressionNumber};
 use crate::known::place_of;
 use crate::memory::memory_of;
@@ -12,7 +16,9 @@ use typed_trees::ShiftFunction;
 
 // What the code of a computed subscript keeps. None where there is no subscript, or it is a number, which goes into the
 // offset.
-fn keeps_of_subscript(tree: &TreeModule, subscript: Option<Subscript>) -> Option<Keeps> {
+fn keeps_of_subscript(tree: &TreeModule, subscript: Option<Subscript>) -> Option<Keeps>
+    ensures { result ≡ keeps_of_subscript (nodes_of tree.now) subscript }
+{
     let index = subscript?.index;
     match tree.number(index) {
         Some(_) => None,
@@ -22,7 +28,9 @@ fn keeps_of_subscript(tree: &TreeModule, subscript: Option<Subscript>) -> Option
 
 // What the code of the sum of two computed subscripts, of which there may be less, keeps. For a sum of two one of them
 // stands in DE.
-fn keeps_of_sum(first: Option<Keeps>, second: Option<Keeps>) -> Keeps {
+fn keeps_of_sum(first: Option<Keeps>, second: Option<Keeps>) -> Keeps
+    ensures { result ≡ keeps_of_sum first second }
+{
     match (first, second) {
         (Some(first), Some(second)) => Keeps {
             a: first.a && second.a,
@@ -35,7 +43,9 @@ fn keeps_of_sum(first: Option<Keeps>, second: Option<Keeps>) -> Keeps {
 
 // What the code keeps that adds the address that a base holds to what the code of computed subscripts gives, if there are
 // any. They stand in DE meanwhile. A base in a frame comes through A.
-fn keeps_with_base(base: Location, is_computed: bool, keeps: Keeps) -> Keeps {
+fn keeps_with_base(base: Location, is_computed: bool, keeps: Keeps) -> Keeps
+    ensures { result ≡ keeps_with_base base is_computed keeps }
+{
     let is_static = match base {
         Location::Static(_) => true,
         Location::Frame { .. } => false,
@@ -47,7 +57,9 @@ fn keeps_with_base(base: Location, is_computed: bool, keeps: Keeps) -> Keeps {
 }
 
 /// What the code that puts the address of an object or a part of it into HL keeps.
-pub fn keeps_of_address(tree: &TreeModule, reference: &Reference) -> Keeps {
+pub fn keeps_of_address(tree: &TreeModule, reference: &Reference) -> Keeps
+    ensures { result ≡ keeps_of_address (nodes_of tree.now) reference.now }
+{
     let first = keeps_of_subscript(tree, reference.subscript);
     let second = keeps_of_subscript(tree, reference.member_subscript);
     let keeps = keeps_of_sum(first, second);
@@ -61,7 +73,9 @@ pub fn keeps_of_address(tree: &TreeModule, reference: &Reference) -> Keeps {
 }
 
 // What the code of the value of a scalar keeps. A word that does not lie at a known place comes through A.
-fn keeps_of_value(tree: &TreeModule, scalar: ScalarType, reference: &Reference) -> Keeps {
+fn keeps_of_value(tree: &TreeModule, scalar: ScalarType, reference: &Reference) -> Keeps
+    ensures { result ≡ keeps_of_value (nodes_of tree.now) scalar reference.now }
+{
     let keeps = keeps_of_address(tree, reference);
     match scalar {
         ScalarType::Byte => keeps,
@@ -74,7 +88,9 @@ fn keeps_of_value(tree: &TreeModule, scalar: ScalarType, reference: &Reference) 
 
 // What the code keeps that puts the low byte of an expression of a form into HL, with zeros added. What does not lie in
 // memory comes through A.
-fn keeps_of_byte(tree: &TreeModule, form: &ExpressionForm) -> Keeps {
+fn keeps_of_byte(tree: &TreeModule, form: &ExpressionForm) -> Keeps
+    ensures { result ≡ keeps_of_byte (nodes_of tree.now) form.now }
+{
     match memory_of(tree, *form) {
         Some(reference) => keeps_of_address(tree, &reference),
         None => Keeps::none(),
@@ -82,7 +98,9 @@ fn keeps_of_byte(tree: &TreeModule, form: &ExpressionForm) -> Keeps {
 }
 
 // What the code of an operand as an ADDRESS keeps, which is that of a whole expression of this form.
-fn keeps_of_extended(tree: &TreeModule, form: &ExpressionForm, operand: ExpressionNumber) -> Keeps {
+fn keeps_of_extended(tree: &TreeModule, form: &ExpressionForm, operand: ExpressionNumber) -> Keeps
+    ensures { result ≡ keeps_of_extended (nodes_of tree.now) form.now (traits_at (nodes_of tree.now) operand) }
+{
     let traits = tree.traits(operand);
     match traits.scalar {
         ScalarType::Byte => keeps_of_byte(tree, form),
@@ -97,7 +115,9 @@ fn keeps_of_binary(
     operator: BinaryOperator,
     left: ExpressionNumber,
     right: ExpressionNumber,
-) -> Keeps {
+) -> Keeps
+    ensures { result ≡ keeps_of_binary (nodes_of tree.now) operator left right }
+{
     let first = tree.traits(left);
     let second = tree.traits(right);
     match operator {
@@ -117,7 +137,9 @@ fn keeps_of_shift(
     function: ShiftFunction,
     value: ExpressionNumber,
     count: ExpressionNumber,
-) -> Keeps {
+) -> Keeps
+    ensures { result ≡ keeps_of_shift (nodes_of tree.now) function value (number_at (nodes_of tree.now) count) }
+{
     match (function, tree.number(count)) {
         (ShiftFunction::ShiftLeft, Some(count)) if count < 8 => tree.traits(value).keeps,
         _ => Keeps::none(),
@@ -130,7 +152,9 @@ pub(crate) fn keeps_of(
     scalar: ScalarType,
     known: Option<Place>,
     form: &ExpressionForm,
-) -> Keeps {
+) -> Keeps
+    ensures { result ≡ keeps_of (nodes_of tree.now) scalar known form.now }
+{
     if known.is_some() {
         return Keeps::both();
     }

@@ -35,8 +35,13 @@ pub enum Home {
 }
 
 impl Place {
+    ghost use Rattle.std.specs.Prelude.{◌≡◌};
+    ghost use Rattle.treecode.specs.Homes.{number_of_place, place_after};
+
     /// The place so many bytes further on, modulo 65536.
-    pub fn after(self, distance: u16) -> Place {
+    pub fn after(self, distance: u16) -> Place
+        ensures { result ≡ place_after self distance }
+    {
         match self {
             Place::Number(number) => Place::Number(number.wrapping_add(distance)),
             Place::Code(offset) => Place::Code(offset.wrapping_add(distance)),
@@ -49,7 +54,9 @@ impl Place {
     }
 
     /// The number that it is, if it depends on nothing.
-    pub fn number(self) -> Option<u16> {
+    pub fn number(self) -> Option<u16>
+        ensures { result ≡ number_of_place self }
+    {
         match self {
             Place::Number(number) => Some(number),
             Place::Code(_) | Place::Data(_) | Place::External { .. } => None,
@@ -58,8 +65,13 @@ impl Place {
 }
 
 impl Location {
+    ghost use Rattle.std.specs.Prelude.{◌≡◌};
+    ghost use Rattle.treecode.specs.Homes.{location_after};
+
     /// The location so many bytes further on, modulo 65536.
-    pub fn after(self, distance: u16) -> Location {
+    pub fn after(self, distance: u16) -> Location
+        ensures { result ≡ location_after self distance }
+    {
         match self {
             Location::Static(place) => Location::Static(place.after(distance)),
             Location::Frame { variable, offset } => Location::Frame {
