@@ -99,7 +99,8 @@ fn keeps_of_byte(tree: &TreeModule, form: &ExpressionForm) -> Keeps
 
 // What the code of an operand as an ADDRESS keeps, which is that of a whole expression of this form.
 fn keeps_of_extended(tree: &TreeModule, form: &ExpressionForm, operand: ExpressionNumber) -> Keeps
-    ensures { result ≡ keeps_of_extended (nodes_of tree.now) form.now (traits_at (nodes_of tree.now) operand) }
+    ensures { result
+        ≡ keeps_of_extended (nodes_of tree.now) form.now (traits_at (nodes_of tree.now) operand) }
 {
     let traits = tree.traits(operand);
     match traits.scalar {
@@ -138,7 +139,8 @@ fn keeps_of_shift(
     value: ExpressionNumber,
     count: ExpressionNumber,
 ) -> Keeps
-    ensures { result ≡ keeps_of_shift (nodes_of tree.now) function value (number_at (nodes_of tree.now) count) }
+    ensures { result
+        ≡ keeps_of_shift (nodes_of tree.now) function value (number_at (nodes_of tree.now) count) }
 {
     match (function, tree.number(count)) {
         (ShiftFunction::ShiftLeft, Some(count)) if count < 8 => tree.traits(value).keeps,
