@@ -17,7 +17,8 @@ use Rattle.treecode.specs.declared.place.Place.{Place}
 use Rattle.treecode.specs.declared.reference.Reference.{Reference}
 use Rattle.treecode.specs.declared.reference.Subscript.{Subscript}
 use Rattle.treecode.specs.declared.traits.Keeps.{Keeps}
-use Rattle.treecode.specs.Queries.{home, keeps_of_reference, none_kept, place_after, place_number}
+use Rattle.treecode.specs.Homes.{place_after}
+use Rattle.treecode.specs.Queries.{home, keeps_of_reference, none_kept, place_number}
 use Rattle.steps8080.specs.Facts.{same_location}
 use Rattle.sites8080.specs.declared.queries.Base.{Base}
 use Rattle.sites8080.specs.declared.queries.Base.TheVariants.{Static, Based, Frame}

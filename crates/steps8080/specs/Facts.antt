@@ -20,7 +20,7 @@ use Rattle.treecode.specs.declared.place.Place.{Place}
 use Rattle.treecode.specs.declared.place.Place.TheVariants.{Number, Code, Data, External}
 use Rattle.treecode.specs.declared.place.Location.{Location}
 use Rattle.treecode.specs.declared.place.Location.TheVariants.{Static, Frame}
-use Rattle.treecode.specs.Queries.{location_after}
+use Rattle.treecode.specs.Homes.{location_after}
 use Rattle.steps8080.specs.declared.facts.Facts.{Facts}
 use Rattle.steps8080.specs.Instructions.{copy, load}
 

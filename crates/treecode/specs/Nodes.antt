@@ -1,7 +1,9 @@
 -- The tables of nodes of a module, and what an object or an expression of a number is.
-use Rattle.std.specs.Prelude.{ℕ, List, slice_index_or}
+use Rattle.std.specs.Prelude.{◌+◌, nat_lt, Option, Some, None, slice_get, if◌then◌else◌, ℕ, List, slice_index_or}
+use Rattle.std.specs.Option.{option_and_then}
 use Rattle.treecode.specs.declared.expression.Expression.{Expression}
 use Rattle.treecode.specs.declared.expression.ExpressionNumber.{ExpressionNumber}
+use Rattle.treecode.specs.declared.lists.Range.{Range}
 use Rattle.treecode.specs.declared.module.TreeModule.{TreeModule}
 use Rattle.treecode.specs.declared.place.Home.{Home}
 use Rattle.treecode.specs.declared.place.Home.TheVariants.{Static}
@@ -32,3 +34,11 @@ nodes_of tree = record {
 -- where an object begins; the address 0 where there is none of that number
 abbrev pub home_at : List Home → (object : ℕ) → Home
 home_at homes object = slice_index_or homes object (Static (Number 0))
+
+-- which entry of its table an item of a range is, counted from 0
+abbrev pub entry_of : Range → (index : ℕ) → Option ℕ
+entry_of range index = if nat_lt index range.count then Some (range.first + index) else None
+
+-- an item of a range of a table
+abbrev pub item_of : {A : Type 0} → List A → Range → (index : ℕ) → Option A
+item_of table range index = option_and_then (slice_get table) (entry_of range index)

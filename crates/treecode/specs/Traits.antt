@@ -109,11 +109,15 @@ abbrev pub height_of_target : Nodes → Target → ℕ
 height_of_target nodes (targets.Stored from to reference) = height_of_reference nodes reference
 height_of_target nodes (targets.Sent from port) = 1
 
+-- the height of an argument, 0 where there is none
+abbrev pub height_of_argument : Nodes → Option ExpressionNumber → ℕ
+height_of_argument nodes argument = option_map_or (height_at nodes) argument 0
+
 -- the highest of so many arguments in a row, from a first one on
 abbrev pub height_of_arguments : Nodes → (first count : ℕ) → ℕ
 height_of_arguments nodes first zero = 0
 height_of_arguments nodes first (suc count) =
-    max (option_map_or (height_at nodes) (slice_get nodes.arguments first) 0)
+    max (height_of_argument nodes (slice_get nodes.arguments first))
     (height_of_arguments nodes (suc first) count)
 
 abbrev pub height_of_call : Nodes → Range → ℕ
@@ -383,6 +387,10 @@ traits_of nodes scalar form = record {
   is_free = is_free_of nodes scalar (known_of nodes scalar form) form;
   keeps = keeps_of nodes scalar (known_of nodes scalar form) form;
 }
+
+-- the expression of a type and a form, whose parts stand already
+abbrev pub expression_of : Nodes → ScalarType → ExpressionForm → Expression
+expression_of nodes scalar form = record { form = form; traits = traits_of nodes scalar form }
 
 -- each expression keeps what is said of its type, its form and its parts
 abbrev pub KeepTraits : Nodes → Type 0

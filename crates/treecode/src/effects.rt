@@ -1,11 +1,17 @@
 //! What evaluating an expression changes.
 
+ghost use Rattle.std.specs.Prelude.{◌≡◌, ◌&&◌};
+ghost use Rattle.treecode.specs.Nodes.{nodes_of};
+ghost use Rattle.treecode.specs.Traits.{is_quiet_form, quiet_at, reference_is_quiet, reference_stores_nothing, stores_nothing_in_form, storing_nothing_at, subscript_is_quiet, subscript_stores_nothing};
+
 use crate::expression::{ExpressionForm, ExpressionNumber};
 use crate::module::TreeModule;
 use crate::reference::{Reference, Subscript};
 
 // Whether evaluating a subscript, if there is one, changes nothing.
-fn subscript_is_quiet(tree: &TreeModule, subscript: Option<Subscript>) -> bool {
+fn subscript_is_quiet(tree: &TreeModule, subscript: Option<Subscript>) -> bool
+    ensures { result ≡ subscript_is_quiet (nodes_of tree.now) subscript }
+{
     match subscript {
         Some(subscript) => tree.traits(subscript.index).is_quiet,
         None => true,
@@ -13,7 +19,9 @@ fn subscript_is_quiet(tree: &TreeModule, subscript: Option<Subscript>) -> bool {
 }
 
 // Whether a subscript, if there is one, calls nothing and stores nothing.
-fn subscript_stores_nothing(tree: &TreeModule, subscript: Option<Subscript>) -> bool {
+fn subscript_stores_nothing(tree: &TreeModule, subscript: Option<Subscript>) -> bool
+    ensures { result ≡ subscript_stores_nothing (nodes_of tree.now) subscript }
+{
     match subscript {
         Some(subscript) => tree.traits(subscript.index).stores_nothing,
         None => true,
@@ -21,29 +29,40 @@ fn subscript_stores_nothing(tree: &TreeModule, subscript: Option<Subscript>) -> 
 }
 
 // Whether locating an object or a part of it changes nothing.
-fn reference_is_quiet(tree: &TreeModule, reference: &Reference) -> bool {
+fn reference_is_quiet(tree: &TreeModule, reference: &Reference) -> bool
+    ensures { result ≡ reference_is_quiet (nodes_of tree.now) reference.now }
+{
     subscript_is_quiet(tree, reference.subscript)
         && subscript_is_quiet(tree, reference.member_subscript)
 }
 
 // Whether locating an object or a part of it calls nothing and stores nothing.
-fn reference_stores_nothing(tree: &TreeModule, reference: &Reference) -> bool {
+fn reference_stores_nothing(tree: &TreeModule, reference: &Reference) -> bool
+    ensures { result ≡ reference_stores_nothing (nodes_of tree.now) reference.now }
+{
     subscript_stores_nothing(tree, reference.subscript)
         && subscript_stores_nothing(tree, reference.member_subscript)
 }
 
 // Whether evaluating two expressions changes nothing.
-fn are_quiet(tree: &TreeModule, first: ExpressionNumber, second: ExpressionNumber) -> bool {
+fn are_quiet(tree: &TreeModule, first: ExpressionNumber, second: ExpressionNumber) -> bool
+    ensures { result ≡ (quiet_at (nodes_of tree.now) first && quiet_at (nodes_of tree.now) second) }
+{
     tree.traits(first).is_quiet && tree.traits(second).is_quiet
 }
 
 // Whether two expressions call nothing and store nothing.
-fn store_nothing(tree: &TreeModule, first: ExpressionNumber, second: ExpressionNumber) -> bool {
+fn store_nothing(tree: &TreeModule, first: ExpressionNumber, second: ExpressionNumber) -> bool
+    ensures { result
+        ≡ (storing_nothing_at (nodes_of tree.now) first && storing_nothing_at (nodes_of tree.now) second) }
+{
     tree.traits(first).stores_nothing && tree.traits(second).stores_nothing
 }
 
 /// Whether evaluating an expression of a form changes nothing: it calls nothing, stores nothing and reads no port.
-pub(crate) fn is_quiet(tree: &TreeModule, form: &ExpressionForm) -> bool {
+pub(crate) fn is_quiet(tree: &TreeModule, form: &ExpressionForm) -> bool
+    ensures { result ≡ is_quiet_form (nodes_of tree.now) form.now }
+{
     match form {
         ExpressionForm::Number(_) | ExpressionForm::List(_) => true,
         ExpressionForm::Value(reference) | ExpressionForm::Location(reference) => {
@@ -61,7 +80,9 @@ pub(crate) fn is_quiet(tree: &TreeModule, form: &ExpressionForm) -> bool {
 }
 
 /// Whether an expression of a form calls nothing and stores nothing.
-pub(crate) fn stores_nothing(tree: &TreeModule, form: &ExpressionForm) -> bool {
+pub(crate) fn stores_nothing(tree: &TreeModule, form: &ExpressionForm) -> bool
+    ensures { result ≡ stores_nothing_in_form (nodes_of tree.now) form.now }
+{
     match form {
         ExpressionForm::Number(_) | ExpressionForm::List(_) | ExpressionForm::Input(_) => true,
         ExpressionForm::Value(reference) | ExpressionForm::Location(reference) => {

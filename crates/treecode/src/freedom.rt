@@ -1,5 +1,9 @@
 //! Expressions whose low byte is computed in A alone.
 
+ghost use Rattle.std.specs.Prelude.{◌≡◌};
+ghost use Rattle.treecode.specs.Nodes.{nodes_of};
+ghost use Rattle.treecode.specs.Traits.{has_immediate, is_direct, is_free_of, is_free_with, is_of_low_byte};
+
 use crate::expression::{ExpressionForm, ExpressionNumber};
 use crate::known::place_of;
 use crate::memory::memory_of;
@@ -9,7 +13,9 @@ use trees::{BinaryOperator, ScalarType};
 use typed_trees::{ShiftFunction, UnaryFunction};
 
 // Whether the low byte of an expression of a form lies in memory at a place that is known but for where things lie.
-fn is_direct(tree: &TreeModule, form: &ExpressionForm) -> bool {
+fn is_direct(tree: &TreeModule, form: &ExpressionForm) -> bool
+    ensures { result ≡ is_direct (nodes_of tree.now) form.now }
+{
     match memory_of(tree, *form) {
         Some(reference) => place_of(tree, &reference).is_some(),
         None => false,
@@ -17,7 +23,9 @@ fn is_direct(tree: &TreeModule, form: &ExpressionForm) -> bool {
 }
 
 // Whether an operator has an instruction with a byte that is part of it.
-fn has_immediate(operator: BinaryOperator) -> bool {
+fn has_immediate(operator: BinaryOperator) -> bool
+    ensures { result ≡ has_immediate operator }
+{
     match operator {
         BinaryOperator::Or
         | BinaryOperator::Xor
@@ -37,7 +45,9 @@ fn has_immediate(operator: BinaryOperator) -> bool {
 }
 
 // Whether a shift of a value of a type by a number needs the low byte of that alone.
-fn is_of_low_byte(scalar: ScalarType, function: ShiftFunction) -> bool {
+fn is_of_low_byte(scalar: ScalarType, function: ShiftFunction) -> bool
+    ensures { result ≡ is_of_low_byte scalar function }
+{
     match (function, scalar) {
         (ShiftFunction::ShiftRight, ScalarType::Address) => false,
         _ => true,
@@ -45,7 +55,9 @@ fn is_of_low_byte(scalar: ScalarType, function: ShiftFunction) -> bool {
 }
 
 // Whether the low byte of an expression with a number as its right part is computed in A alone.
-fn is_free_with(tree: &TreeModule, left: ExpressionNumber, right: ExpressionNumber) -> bool {
+fn is_free_with(tree: &TreeModule, left: ExpressionNumber, right: ExpressionNumber) -> bool
+    ensures { result ≡ is_free_with (nodes_of tree.now) left right }
+{
     tree.traits(left).is_free && tree.number(right).is_some()
 }
 
@@ -57,7 +69,9 @@ pub(crate) fn is_free(
     scalar: ScalarType,
     known: Option<Place>,
     form: &ExpressionForm,
-) -> bool {
+) -> bool
+    ensures { result ≡ is_free_of (nodes_of tree.now) scalar known form.now }
+{
     if let Some(place) = known {
         return place.number().is_some();
     }

@@ -1,17 +1,25 @@
 //! Heights of expressions, as the stack charge counts them, in numbers that stop at 65,535.
 
+ghost use Rattle.std.specs.Prelude.{◌≡◌};
+ghost use Rattle.treecode.specs.Nodes.{nodes_of};
+ghost use Rattle.treecode.specs.Traits.{height_at, height_of_argument, height_of_call, height_of_form, height_of_reference, height_of_subscript, height_of_target};
+
 use crate::expression::{ExpressionForm, ExpressionNumber};
 use crate::lists::Range;
 use crate::module::TreeModule;
 use crate::reference::{Reference, Subscript, Target};
 
 // The height of an expression.
-fn height(tree: &TreeModule, number: ExpressionNumber) -> u16 {
+fn height(tree: &TreeModule, number: ExpressionNumber) -> u16
+    ensures { result ≡ height_at (nodes_of tree.now) number }
+{
     tree.traits(number).height
 }
 
 // The height of a subscript, 0 where there is none.
-fn height_of_subscript(tree: &TreeModule, subscript: Option<Subscript>) -> u16 {
+fn height_of_subscript(tree: &TreeModule, subscript: Option<Subscript>) -> u16
+    ensures { result ≡ height_of_subscript (nodes_of tree.now) subscript }
+{
     match subscript {
         Some(subscript) => height(tree, subscript.index),
         None => 0,
@@ -19,27 +27,42 @@ fn height_of_subscript(tree: &TreeModule, subscript: Option<Subscript>) -> u16 {
 }
 
 // The height of an object or a part of it.
-fn height_of_reference(tree: &TreeModule, reference: &Reference) -> u16 {
+fn height_of_reference(tree: &TreeModule, reference: &Reference) -> u16
+    ensures { result ≡ height_of_reference (nodes_of tree.now) reference.now }
+{
     height_of_subscript(tree, reference.subscript)
         .max(height_of_subscript(tree, reference.member_subscript))
         .saturating_add(1)
 }
 
 /// The height of a target.
-pub(crate) fn height_of_target(tree: &TreeModule, target: &Target) -> u16 {
+pub(crate) fn height_of_target(tree: &TreeModule, target: &Target) -> u16
+    ensures { result ≡ height_of_target (nodes_of tree.now) target.now }
+{
     match target {
         Target::Stored { reference, .. } => height_of_reference(tree, reference),
         Target::Sent { .. } => 1,
     }
 }
 
+// The height of an argument, 0 where there is none.
+fn height_of_argument(tree: &TreeModule, argument: Option<ExpressionNumber>) -> u16
+    ensures { result ≡ height_of_argument (nodes_of tree.now) argument }
+{
+    match argument {
+        Some(argument) => height(tree, argument),
+        None => 0,
+    }
+}
+
 /// The height of a call with these arguments.
-pub(crate) fn height_of_call(tree: &TreeModule, arguments: Range) -> u16 {
+#[tactic(auto, using(crate::proofs::HighestArguments::highest_next))]
+pub(crate) fn height_of_call(tree: &TreeModule, arguments: Range) -> u16
+    ensures { result ≡ height_of_call (nodes_of tree.now) arguments }
+{
     let mut highest: u16 = 0;
     for index in 0..arguments.count {
-        if let Some(argument) = tree.argument(arguments, index) {
-            highest = highest.max(height(tree, argument));
-        }
+        highest = highest.max(height_of_argument(tree, tree.argument(arguments, index)));
     }
     u16::try_from(arguments.count)
         .unwrap_or(u16::MAX)
@@ -48,7 +71,9 @@ pub(crate) fn height_of_call(tree: &TreeModule, arguments: Range) -> u16 {
 }
 
 /// The height of an expression of a form.
-pub(crate) fn height_of(tree: &TreeModule, form: &ExpressionForm) -> u16 {
+pub(crate) fn height_of(tree: &TreeModule, form: &ExpressionForm) -> u16
+    ensures { result ≡ height_of_form (nodes_of tree.now) form.now }
+{
     match form {
         ExpressionForm::Number(_) | ExpressionForm::List(_) => 1,
         ExpressionForm::Value(reference) | ExpressionForm::Location(reference) => {

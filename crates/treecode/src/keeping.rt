@@ -1,7 +1,8 @@
 //! Which registers code keeps that puts something into HL.
 
 ghost use Rattle.std.specs.Prelude.{◌≡◌};
-ghost use Rattle.treecode.specs.Queries.{keeps_of_reference, keeps_of_subscript, keeps_of_sum, keeps_with_base};
+ghost use Rattle.treecode.specs.Nodes.{nodes_of};
+ghost use Rattle.treecode.specs.Traits.{keeps_of, keeps_of_address, keeps_of_binary, keeps_of_byte, keeps_of_extended, keeps_of_shift, keeps_of_subscript, keeps_of_sum, keeps_of_value, keeps_with_base, number_at, traits_at};
 
 use crate::expression::{ExpressionForm, ExpressionNumber};
 use crate::known::place_of;
@@ -16,7 +17,7 @@ use typed_trees::ShiftFunction;
 // What the code of a computed subscript keeps. None where there is no subscript, or it is a number, which goes into the
 // offset.
 fn keeps_of_subscript(tree: &TreeModule, subscript: Option<Subscript>) -> Option<Keeps>
-    ensures { result ≡ keeps_of_subscript tree.now subscript }
+    ensures { result ≡ keeps_of_subscript (nodes_of tree.now) subscript }
 {
     let index = subscript?.index;
     match tree.number(index) {
@@ -57,7 +58,7 @@ fn keeps_with_base(base: Location, is_computed: bool, keeps: Keeps) -> Keeps
 
 /// What the code that puts the address of an object or a part of it into HL keeps.
 pub fn keeps_of_address(tree: &TreeModule, reference: &Reference) -> Keeps
-    ensures { result ≡ keeps_of_reference tree.now reference.now }
+    ensures { result ≡ keeps_of_address (nodes_of tree.now) reference.now }
 {
     let first = keeps_of_subscript(tree, reference.subscript);
     let second = keeps_of_subscript(tree, reference.member_subscript);
@@ -72,7 +73,9 @@ pub fn keeps_of_address(tree: &TreeModule, reference: &Reference) -> Keeps
 }
 
 // What the code of the value of a scalar keeps. A word that does not lie at a known place comes through A.
-fn keeps_of_value(tree: &TreeModule, scalar: ScalarType, reference: &Reference) -> Keeps {
+fn keeps_of_value(tree: &TreeModule, scalar: ScalarType, reference: &Reference) -> Keeps
+    ensures { result ≡ keeps_of_value (nodes_of tree.now) scalar reference.now }
+{
     let keeps = keeps_of_address(tree, reference);
     match scalar {
         ScalarType::Byte => keeps,
@@ -85,7 +88,9 @@ fn keeps_of_value(tree: &TreeModule, scalar: ScalarType, reference: &Reference) 
 
 // What the code keeps that puts the low byte of an expression of a form into HL, with zeros added. What does not lie in
 // memory comes through A.
-fn keeps_of_byte(tree: &TreeModule, form: &ExpressionForm) -> Keeps {
+fn keeps_of_byte(tree: &TreeModule, form: &ExpressionForm) -> Keeps
+    ensures { result ≡ keeps_of_byte (nodes_of tree.now) form.now }
+{
     match memory_of(tree, *form) {
         Some(reference) => keeps_of_address(tree, &reference),
         None => Keeps::none(),
@@ -93,7 +98,10 @@ fn keeps_of_byte(tree: &TreeModule, form: &ExpressionForm) -> Keeps {
 }
 
 // What the code of an operand as an ADDRESS keeps, which is that of a whole expression of this form.
-fn keeps_of_extended(tree: &TreeModule, form: &ExpressionForm, operand: ExpressionNumber) -> Keeps {
+fn keeps_of_extended(tree: &TreeModule, form: &ExpressionForm, operand: ExpressionNumber) -> Keeps
+    ensures { result
+        ≡ keeps_of_extended (nodes_of tree.now) form.now (traits_at (nodes_of tree.now) operand) }
+{
     let traits = tree.traits(operand);
     match traits.scalar {
         ScalarType::Byte => keeps_of_byte(tree, form),
@@ -108,7 +116,9 @@ fn keeps_of_binary(
     operator: BinaryOperator,
     left: ExpressionNumber,
     right: ExpressionNumber,
-) -> Keeps {
+) -> Keeps
+    ensures { result ≡ keeps_of_binary (nodes_of tree.now) operator left right }
+{
     let first = tree.traits(left);
     let second = tree.traits(right);
     match operator {
@@ -128,7 +138,10 @@ fn keeps_of_shift(
     function: ShiftFunction,
     value: ExpressionNumber,
     count: ExpressionNumber,
-) -> Keeps {
+) -> Keeps
+    ensures { result
+        ≡ keeps_of_shift (nodes_of tree.now) function value (number_at (nodes_of tree.now) count) }
+{
     match (function, tree.number(count)) {
         (ShiftFunction::ShiftLeft, Some(count)) if count < 8 => tree.traits(value).keeps,
         _ => Keeps::none(),
@@ -141,7 +154,9 @@ pub(crate) fn keeps_of(
     scalar: ScalarType,
     known: Option<Place>,
     form: &ExpressionForm,
-) -> Keeps {
+) -> Keeps
+    ensures { result ≡ keeps_of (nodes_of tree.now) scalar known form.now }
+{
     if known.is_some() {
         return Keeps::both();
     }

@@ -1,5 +1,13 @@
 //! Values that are known but for where things lie.
 
+ghost use Rattle.std.specs.Prelude.{◌≡◌, option_map};
+ghost use Rattle.std.specs.Option.{option_and_then};
+ghost use Rattle.meaning.specs.Values.{result_of};
+ghost use Rattle.treecode.specs.Known.{converted_place, function_of_place, result_of_known, result_of_place};
+ghost use Rattle.treecode.specs.Nodes.{nodes_of};
+ghost use Rattle.treecode.specs.Traits.{distance_of, known_at, known_of, place_of_reference};
+ghost use Rattle.treecode.specs.declared.place.Place.TheVariants.{Number};
+
 use crate::expression::{ExpressionForm, ExpressionNumber};
 use crate::module::TreeModule;
 use crate::place::{Home, Place};
@@ -9,7 +17,9 @@ use trees::{BinaryOperator, ScalarType};
 use typed_trees::UnaryFunction;
 
 /// How many bytes a subscript, if there is one, adds to an address, modulo 65536, where that is known.
-pub(crate) fn known_distance(tree: &TreeModule, subscript: Option<Subscript>) -> Option<u16> {
+pub(crate) fn known_distance(tree: &TreeModule, subscript: Option<Subscript>) -> Option<u16>
+    ensures { result ≡ distance_of (nodes_of tree.now) subscript }
+{
     match subscript {
         Some(subscript) => {
             let index = tree.number(subscript.index)?;
@@ -20,7 +30,9 @@ pub(crate) fn known_distance(tree: &TreeModule, subscript: Option<Subscript>) ->
 }
 
 /// The place in memory of an object or a part of it, where it is known but for where things lie.
-pub(crate) fn place_of(tree: &TreeModule, reference: &Reference) -> Option<Place> {
+pub(crate) fn place_of(tree: &TreeModule, reference: &Reference) -> Option<Place>
+    ensures { result ≡ place_of_reference (nodes_of tree.now) reference.now }
+{
     let first = known_distance(tree, reference.subscript)?;
     let second = known_distance(tree, reference.member_subscript)?;
     match tree.home(reference.object) {
@@ -30,7 +42,9 @@ pub(crate) fn place_of(tree: &TreeModule, reference: &Reference) -> Option<Place
 }
 
 // A known value as one of a type. Where something lies has no low byte that is known.
-fn converted(scalar: ScalarType, known: Option<Place>) -> Option<Place> {
+fn converted(scalar: ScalarType, known: Option<Place>) -> Option<Place>
+    ensures { result ≡ option_and_then (converted_place scalar) known }
+{
     match (scalar, known?) {
         (_, Place::Number(number)) => Some(Place::Number(convert(scalar, number))),
         (ScalarType::Address, place) => Some(place),
@@ -39,7 +53,9 @@ fn converted(scalar: ScalarType, known: Option<Place>) -> Option<Place> {
 }
 
 // What LOW, HIGH or DOUBLE gives of a known value.
-fn function_value(function: UnaryFunction, known: Option<Place>) -> Option<Place> {
+fn function_value(function: UnaryFunction, known: Option<Place>) -> Option<Place>
+    ensures { result ≡ option_and_then (function_of_place function) known }
+{
     match (function, known?) {
         (_, Place::Number(number)) => Some(Place::Number(unary_function(function, number))),
         (UnaryFunction::Double, place) => Some(place),
@@ -53,13 +69,17 @@ fn number_value(
     operator: BinaryOperator,
     left: u16,
     right: u16,
-) -> Option<Place> {
+) -> Option<Place>
+    ensures { result ≡ option_map Number (result_of operands operator left right) }
+{
     let number = binary(operands, operator, left, right)?;
     Some(Place::Number(number))
 }
 
 // What an operator gives of two ADDRESS values that are known but for where things lie.
-fn place_value(operator: BinaryOperator, left: Place, right: Place) -> Option<Place> {
+fn place_value(operator: BinaryOperator, left: Place, right: Place) -> Option<Place>
+    ensures { result ≡ result_of_place operator left right }
+{
     match (operator, left, right) {
         (BinaryOperator::Add, place, Place::Number(distance))
         | (BinaryOperator::Add, Place::Number(distance), place) => Some(place.after(distance)),
@@ -76,7 +96,9 @@ fn binary_value(
     operator: BinaryOperator,
     left: Option<Place>,
     right: Option<Place>,
-) -> Option<Place> {
+) -> Option<Place>
+    ensures { result ≡ result_of_known operands operator left right }
+{
     match (left?, right?) {
         (Place::Number(left), Place::Number(right)) => {
             number_value(operands, operator, left, right)
@@ -86,7 +108,9 @@ fn binary_value(
 }
 
 // The known value of an expression.
-fn known(tree: &TreeModule, number: ExpressionNumber) -> Option<Place> {
+fn known(tree: &TreeModule, number: ExpressionNumber) -> Option<Place>
+    ensures { result ≡ known_at (nodes_of tree.now) number }
+{
     tree.traits(number).known
 }
 
@@ -95,7 +119,9 @@ pub(crate) fn known_value(
     tree: &TreeModule,
     scalar: ScalarType,
     form: &ExpressionForm,
-) -> Option<Place> {
+) -> Option<Place>
+    ensures { result ≡ known_of (nodes_of tree.now) scalar form.now }
+{
     match form {
         ExpressionForm::Number(number) => Some(Place::Number(*number)),
         ExpressionForm::Location(reference) => place_of(tree, reference),

@@ -1,5 +1,9 @@
 //! Expressions whose low byte lies in memory.
 
+ghost use Rattle.std.specs.Prelude.{◌≡◌};
+ghost use Rattle.treecode.specs.Nodes.{nodes_of};
+ghost use Rattle.treecode.specs.Traits.{high_in_memory, memory_of_form, same_low_byte};
+
 use crate::expression::{ExpressionForm, ExpressionNumber};
 use crate::module::TreeModule;
 use crate::reference::Reference;
@@ -7,7 +11,9 @@ use trees::ScalarType;
 use typed_trees::UnaryFunction;
 
 // The form inside LOW, DOUBLE or a conversion, which has the same low byte; else the form itself.
-fn same_low_byte(tree: &TreeModule, form: ExpressionForm) -> ExpressionForm {
+fn same_low_byte(tree: &TreeModule, form: ExpressionForm) -> ExpressionForm
+    ensures { result ≡ same_low_byte (nodes_of tree.now) form }
+{
     let inner = match form {
         ExpressionForm::Conversion(inner) => inner,
         ExpressionForm::Function {
@@ -23,7 +29,9 @@ fn same_low_byte(tree: &TreeModule, form: ExpressionForm) -> ExpressionForm {
 }
 
 // The part of memory that HIGH of an expression is, if it is one.
-fn high_in_memory(tree: &TreeModule, operand: ExpressionNumber) -> Option<Reference> {
+fn high_in_memory(tree: &TreeModule, operand: ExpressionNumber) -> Option<Reference>
+    ensures { result ≡ high_in_memory (nodes_of tree.now) operand }
+{
     let expression = tree.expression(operand)?;
     match (expression.form, expression.traits.scalar) {
         (ExpressionForm::Value(reference), ScalarType::Address) => Some(Reference {
@@ -36,7 +44,9 @@ fn high_in_memory(tree: &TreeModule, operand: ExpressionNumber) -> Option<Refere
 
 /// The part of memory that holds the low byte of an expression of a form, where the expression is a scalar, or LOW, HIGH,
 /// DOUBLE or a conversion of one.
-pub(crate) fn memory_of(tree: &TreeModule, form: ExpressionForm) -> Option<Reference> {
+pub(crate) fn memory_of(tree: &TreeModule, form: ExpressionForm) -> Option<Reference>
+    ensures { result ≡ memory_of_form (nodes_of tree.now) form }
+{
     match same_low_byte(tree, same_low_byte(tree, form)) {
         ExpressionForm::Value(reference) => Some(reference),
         ExpressionForm::Function {

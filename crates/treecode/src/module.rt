@@ -1,7 +1,7 @@
 //! Modules of tree code.
 
-ghost use Rattle.std.specs.Prelude.{◌≡◌};
-ghost use Rattle.treecode.specs.Queries.{argument, entry_index, home, item, statement, target, traits, tree_expression, tree_number};
+ghost use Rattle.std.specs.Prelude.{◌≡◌, IfOk};
+ghost use Rattle.treecode.specs.Nodes.{entry_of};
 
 use crate::expression::{Expression, ExpressionForm, ExpressionNumber};
 use crate::lists::Range;
@@ -70,9 +70,13 @@ pub struct TreeModule {
 }
 
 impl TreeModule {
+    ghost use Rattle.std.specs.Prelude.{◌≡◌, [], ◌∷◌, ◌++◌, length, slice_get, IfOk};
+    ghost use Rattle.treecode.specs.Nodes.{home_at, item_of, nodes_of};
+    ghost use Rattle.treecode.specs.Traits.{expression_of, number_at, traits_at};
+
     /// Where an object begins; the address 0 where there is none of that number.
     pub fn home(&self, object: u32) -> Home
-        ensures { result ≡ home self.now object }
+        ensures { result ≡ home_at (nodes_of self.now).homes object }
     {
         match self.homes.get(object as usize) {
             Some(home) => *home,
@@ -82,21 +86,21 @@ impl TreeModule {
 
     /// The expression of a number, if there is one.
     pub fn expression(&self, number: ExpressionNumber) -> Option<Expression>
-        ensures { result ≡ tree_expression self.now number }
+        ensures { result ≡ slice_get (nodes_of self.now).expressions number.index }
     {
         self.expressions.get(number.index as usize).copied()
     }
 
     /// The statement of a number, if there is one.
     pub fn statement(&self, number: StatementNumber) -> Option<Statement>
-        ensures { result ≡ statement self.now number }
+        ensures { result ≡ slice_get (nodes_of self.now).statements number.index }
     {
         self.statements.get(number.index as usize).copied()
     }
 
     /// An argument of a call, counted from 0.
     pub fn argument(&self, arguments: Range, index: u32) -> Option<ExpressionNumber>
-        ensures { result ≡ argument self.now arguments index }
+        ensures { result ≡ item_of (nodes_of self.now).arguments arguments index }
     {
         match entry(arguments, index) {
             Some(entry) => self.arguments.get(entry).copied(),
@@ -106,7 +110,7 @@ impl TreeModule {
 
     /// A target of an assignment, counted from 0.
     pub fn target(&self, targets: Range, index: u32) -> Option<Target>
-        ensures { result ≡ target self.now targets index }
+        ensures { result ≡ item_of (nodes_of self.now).targets targets index }
     {
         match entry(targets, index) {
             Some(entry) => self.targets.get(entry).copied(),
@@ -116,7 +120,7 @@ impl TreeModule {
 
     /// A statement of a list, counted from 0.
     pub fn item(&self, list: Range, index: u32) -> Option<StatementNumber>
-        ensures { result ≡ item self.now list index }
+        ensures { result ≡ item_of (nodes_of self.now).lists list index }
     {
         match entry(list, index) {
             Some(entry) => self.lists.get(entry).copied(),
@@ -126,7 +130,7 @@ impl TreeModule {
 
     /// What is known of an expression; nothing where there is none of that number.
     pub(crate) fn traits(&self, number: ExpressionNumber) -> Traits
-        ensures { result ≡ traits self.now number }
+        ensures { result ≡ traits_at (nodes_of self.now) number }
     {
         match self.expression(number) {
             Some(expression) => expression.traits,
@@ -136,7 +140,7 @@ impl TreeModule {
 
     /// The number that an expression is, where it is known and depends on nothing.
     pub(crate) fn number(&self, number: ExpressionNumber) -> Option<u16>
-        ensures { result ≡ tree_number self.now number }
+        ensures { result ≡ number_at (nodes_of self.now) number }
     {
         match self.traits(number).known {
             Some(place) => place.number(),
@@ -149,7 +153,12 @@ impl TreeModule {
         &mut self,
         scalar: ScalarType,
         form: ExpressionForm,
-    ) -> Result<ExpressionNumber, AllocError> {
+    ) -> Result<ExpressionNumber, AllocError>
+        ensures kept { self.new ≡ record self.old { expressions = self.new.expressions } }
+        ensures ok { IfOk result (λ number. (number.index ≡ length (nodes_of self.old).expressions)
+            × ((nodes_of self.new).expressions ≡ (nodes_of self.old).expressions
+            ++ (expression_of (nodes_of self.old) scalar form ∷ []))) }
+    {
         let index = next_index(self.expressions.len())?;
         let traits = traits_of(self, scalar, &form);
         self.expressions.push(Expression { form, traits })?;
@@ -160,7 +169,11 @@ impl TreeModule {
     pub(crate) fn add_statement(
         &mut self,
         statement: Statement,
-    ) -> Result<StatementNumber, AllocError> {
+    ) -> Result<StatementNumber, AllocError>
+        ensures kept { self.new ≡ record self.old { statements = self.new.statements } }
+        ensures ok { IfOk result (λ number. (number.index ≡ length (nodes_of self.old).statements)
+            × ((nodes_of self.new).statements ≡ (nodes_of self.old).statements ++ (statement ∷ []))) }
+    {
         let index = next_index(self.statements.len())?;
         self.statements.push(statement)?;
         Ok(StatementNumber { index })
@@ -170,7 +183,12 @@ impl TreeModule {
     pub(crate) fn add_arguments(
         &mut self,
         arguments: &[ExpressionNumber],
-    ) -> Result<Range, AllocError> {
+    ) -> Result<Range, AllocError>
+        ensures kept { self.new ≡ record self.old { arguments = self.new.arguments } }
+        ensures ok { IfOk result (λ range. (range.first ≡ length (nodes_of self.old).arguments)
+            × (range.count ≡ length arguments.now)
+            × ((nodes_of self.new).arguments ≡ (nodes_of self.old).arguments ++ arguments.now)) }
+    {
         let first = next_index(self.arguments.len())?;
         let count = next_index(arguments.len())?;
         self.arguments.extend_from_slice(arguments)?;
@@ -178,7 +196,12 @@ impl TreeModule {
     }
 
     /// Adds targets in a row.
-    pub(crate) fn add_targets(&mut self, targets: &[Target]) -> Result<Range, AllocError> {
+    pub(crate) fn add_targets(&mut self, targets: &[Target]) -> Result<Range, AllocError>
+        ensures kept { self.new ≡ record self.old { targets = self.new.targets } }
+        ensures ok { IfOk result (λ range. (range.first ≡ length (nodes_of self.old).targets)
+            × (range.count ≡ length targets.now)
+            × ((nodes_of self.new).targets ≡ (nodes_of self.old).targets ++ targets.now)) }
+    {
         let first = next_index(self.targets.len())?;
         let count = next_index(targets.len())?;
         self.targets.extend_from_slice(targets)?;
@@ -186,7 +209,12 @@ impl TreeModule {
     }
 
     /// Adds a list of statements in a row.
-    pub(crate) fn add_list(&mut self, list: &[StatementNumber]) -> Result<Range, AllocError> {
+    pub(crate) fn add_list(&mut self, list: &[StatementNumber]) -> Result<Range, AllocError>
+        ensures kept { self.new ≡ record self.old { lists = self.new.lists } }
+        ensures ok { IfOk result (λ range. (range.first ≡ length (nodes_of self.old).lists)
+            × (range.count ≡ length list.now)
+            × ((nodes_of self.new).lists ≡ (nodes_of self.old).lists ++ list.now)) }
+    {
         let first = next_index(self.lists.len())?;
         let count = next_index(list.len())?;
         self.lists.extend_from_slice(list)?;
@@ -195,7 +223,9 @@ impl TreeModule {
 }
 
 // The index that follows so many entries. A table of more than 4,294,967,295 entries is out of memory.
-fn next_index(count: usize) -> Result<u32, AllocError> {
+fn next_index(count: usize) -> Result<u32, AllocError>
+    ensures { IfOk result (λ index. index ≡ count) }
+{
     match u32::try_from(count) {
         Ok(index) => Ok(index),
         Err(_) => Err(AllocError),
@@ -204,7 +234,7 @@ fn next_index(count: usize) -> Result<u32, AllocError> {
 
 // Which entry of its table an item of a range is, counted from 0.
 fn entry(range: Range, index: u32) -> Option<usize>
-    ensures { result ≡ entry_index range index }
+    ensures { result ≡ entry_of range index }
 {
     if index < range.count {
         Some(range.first as usize + index as usize)

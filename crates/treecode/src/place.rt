@@ -1,8 +1,5 @@
 //! Where things lie, before a module has its place in memory.
 
-ghost use Rattle.std.specs.Prelude.{◌≡◌};
-ghost use Rattle.treecode.specs.Queries.{location_after, place_after, place_number};
-
 /// A word that is known but for where the segments of the module and the names of other modules will lie.
 #[derive(Clone, Copy, PartialEq, Eq)]
 pub enum Place {
@@ -38,6 +35,9 @@ pub enum Home {
 }
 
 impl Place {
+    ghost use Rattle.std.specs.Prelude.{◌≡◌};
+    ghost use Rattle.treecode.specs.Homes.{number_of_place, place_after};
+
     /// The place so many bytes further on, modulo 65536.
     pub fn after(self, distance: u16) -> Place
         ensures { result ≡ place_after self distance }
@@ -55,7 +55,7 @@ impl Place {
 
     /// The number that it is, if it depends on nothing.
     pub fn number(self) -> Option<u16>
-        ensures { result ≡ place_number self }
+        ensures { result ≡ number_of_place self }
     {
         match self {
             Place::Number(number) => Some(number),
@@ -65,6 +65,9 @@ impl Place {
 }
 
 impl Location {
+    ghost use Rattle.std.specs.Prelude.{◌≡◌};
+    ghost use Rattle.treecode.specs.Homes.{location_after};
+
     /// The location so many bytes further on, modulo 65536.
     pub fn after(self, distance: u16) -> Location
         ensures { result ≡ location_after self distance }

@@ -1,7 +1,8 @@
 //! What is known of an expression without looking at its parts again.
 
 ghost use Rattle.std.specs.Prelude.{◌≡◌};
-ghost use Rattle.treecode.specs.Queries.{all_kept, no_traits, none_kept};
+ghost use Rattle.treecode.specs.Nodes.{nodes_of};
+ghost use Rattle.treecode.specs.Traits.{traits_of};
 
 use crate::effects::{is_quiet, stores_nothing};
 use crate::expression::ExpressionForm;
@@ -41,16 +42,19 @@ pub struct Traits {
 }
 
 impl Keeps {
+    ghost use Rattle.std.specs.Prelude.{◌≡◌};
+    ghost use Rattle.treecode.specs.Traits.{keeps_both, keeps_none};
+
     /// Both registers are kept.
     pub(crate) fn both() -> Keeps
-        ensures { result ≡ all_kept }
+        ensures { result ≡ keeps_both }
     {
         Keeps { a: true, de: true }
     }
 
     /// No register is kept.
     pub(crate) fn none() -> Keeps
-        ensures { result ≡ none_kept }
+        ensures { result ≡ keeps_none }
     {
         Keeps {
             a: false,
@@ -60,6 +64,9 @@ impl Keeps {
 }
 
 impl Traits {
+    ghost use Rattle.std.specs.Prelude.{◌≡◌};
+    ghost use Rattle.treecode.specs.Traits.{no_traits};
+
     /// Nothing is known.
     pub(crate) fn none() -> Traits
         ensures { result ≡ no_traits }
@@ -77,7 +84,10 @@ impl Traits {
 }
 
 /// What is known of an expression of a type and a form, whose parts stand in the module.
-pub(crate) fn traits_of(tree: &TreeModule, scalar: ScalarType, form: &ExpressionForm) -> Traits {
+#[tactic(auto, unfolding(crate::specs::Traits::traits_of))]
+pub(crate) fn traits_of(tree: &TreeModule, scalar: ScalarType, form: &ExpressionForm) -> Traits
+    ensures { result ≡ traits_of (nodes_of tree.now) scalar form.now }
+{
     let known = known_value(tree, scalar, form);
     Traits {
         scalar,

@@ -1,0 +1,55 @@
+-- What is asked of a placement and of typed trees so that known values are what expressions mean.
+use Rattle.std.specs.Prelude.{◌≡◌, ℕ, ◌+◌, ◌%◌, ◌<◌, Bool, List, None}
+use Rattle.mem80.specs.declared.memory.TheConstants.{MEMORY_SIZE}
+use Rattle.typed_trees.specs.ExpressionTypes.{type_of}
+use Rattle.typed_trees.specs.TypedTrees.{TypedExpression, NumberNode, ValueNode, LocationNode, ListNode, ConversionNode, AssignmentNode, UnaryNode, BinaryNode, CallNode, FunctionNode, ShiftNode, InputNode, TypedReference, PartOf, Subscript, NoSubscript, At}
+use Rattle.layout.specs.Storage.{Storage}
+use Rattle.meaning.specs.Access.{InMemory, Surroundings, home_of}
+use Rattle.meaning.specs.Meaning.{address_of_list, based_place}
+use Rattle.meaning.specs.Outcomes.{State, Gave}
+use Rattle.treecode.specs.declared.place.Home.{Home}
+use Rattle.treecode.specs.declared.place.Home.TheVariants as homes
+use Rattle.treecode.specs.declared.place.Place.{Place}
+use Rattle.treecode.specs.declared.place.Place.TheVariants.{Number, Code}
+use Rattle.treecode.specs.Homes.{number_of_place, place_after}
+use Rattle.treecode.specs.Known.{offset_of_list}
+use Rattle.treecode.specs.Nodes.{home_at}
+
+-- The places of a module have addresses where its program lies: those at which its objects and lists begin.
+pub record Resolves
+    (around : Surroundings) (starts : List Home) (storage : Storage) (address : Place → ℕ) : Type 0 where
+  pub number : (number : ℕ) → address (Number number) ≡ number
+  pub below : (place : Place) → number_of_place place ≡ None → address place < 65536
+  pub after : (place : Place) (distance : ℕ) → address (place_after place distance)
+      ≡ (address place + distance) % 65536
+  pub list : (list : ℕ) → address_of_list around list ≡ address (Code (offset_of_list storage list))
+  pub object :
+      (object : ℕ) (place : Place) (bytes : ℕ) (is_inside : Bool) (s : State)
+      → home_at starts object ≡ homes.Static place
+      → based_place (home_of around object) around object bytes is_inside s
+      ≡ Gave (InMemory ((address place + bytes) % MEMORY_SIZE)) s
+
+abbrev mutual
+  -- the operands of each operator in an expression are of its type
+  pub HaveOperands : TypedExpression → Type 0
+  HaveOperands (NumberNode scalar number origin) = Unit {0}
+  HaveOperands (ValueNode scalar reference) = PartHasOperands reference
+  HaveOperands (LocationNode reference) = PartHasOperands reference
+  HaveOperands (ListNode list) = Unit {0}
+  HaveOperands (ConversionNode scalar inner) = HaveOperands inner
+  HaveOperands (AssignmentNode target inner) = HaveOperands inner
+  HaveOperands (UnaryNode scalar operator operand) = HaveOperands operand
+  HaveOperands (BinaryNode operands operator left right) =
+      (type_of left ≡ operands) × (type_of right ≡ operands) × HaveOperands left × HaveOperands right
+  HaveOperands (CallNode procedure scalar given) = Unit {0}
+  HaveOperands (FunctionNode function operand) = HaveOperands operand
+  HaveOperands (ShiftNode scalar function moved count) = HaveOperands moved × HaveOperands count
+  HaveOperands (InputNode port) = Unit {0}
+
+  pub PartHasOperands : TypedReference → Type 0
+  PartHasOperands (PartOf object subscript member offset member_subscript) =
+      SubscriptHasOperands subscript × SubscriptHasOperands member_subscript
+
+  pub SubscriptHasOperands : Subscript → Type 0
+  SubscriptHasOperands NoSubscript = Unit {0}
+  SubscriptHasOperands (At stride count index) = HaveOperands index

@@ -1,0 +1,17 @@
+-- Tables of nodes to which nodes are added.
+use Rattle.std.specs.Prelude.{◌≡◌, ℕ, ◌≤◌, List, length, Some, slice_get}
+use Rattle.treecode.specs.Nodes.{Nodes}
+
+-- what a list has at a place, another one has there too
+abbrev pub Holds : {A : Type 0} → (before after : List A) → Type 0
+Holds {A} before after =
+    (index : ℕ) (x : A) → slice_get before index ≡ Some x → slice_get after index ≡ Some x
+
+-- other nodes stand after those that there were
+pub record Grows (before after : Nodes) : Type 0 where
+  pub expressions : Holds before.expressions after.expressions
+  pub statements : Holds before.statements after.statements
+  pub arguments : Holds before.arguments after.arguments
+  pub targets : Holds before.targets after.targets
+  pub lists : Holds before.lists after.lists
+  pub count : length before.expressions ≤ length after.expressions
