@@ -1,5 +1,10 @@
 //! Where the variables and parameters of a call lie.
 
+ghost use Rattle.std.specs.Prelude.{◌≡◌, IfOk};
+ghost use Rattle.treecode.specs.declared.procedure.ProcedureKind.TheVariants.{Reentrant};
+ghost use Rattle.frames.specs.Frames.{distance_of, variable_bytes, HasFrame, HasNothing, IsPlanOf, LiesApart};
+ghost use Rattle.frames.specs.internal.Distances.{capped, capped_parameter, distances_from, IsFound};
+
 use std::alloc::{AllocError, Global};
 use treecode::{FrameVariable, ProcedureKind, TreeProcedure};
 
@@ -18,7 +23,9 @@ pub struct FramePlan {
 
 impl FramePlan {
     /// The plan of a procedure without a frame.
-    pub fn empty(alloc: Global) -> FramePlan {
+    pub fn empty(alloc: Global) -> FramePlan
+        ensures { HasNothing result }
+    {
         FramePlan {
             distances: Vec::new(alloc),
             variable_bytes: 0,
@@ -28,7 +35,9 @@ impl FramePlan {
 
     /// How far above the stack pointer, where nothing is pushed, a variable or parameter begins, by its number in the
     /// frame (0 where there is none of that number).
-    pub fn distance(&self, variable: u16) -> u16 {
+    pub fn distance(&self, variable: u16) -> u16
+        ensures { result ≡ distance_of self.now variable }
+    {
         match self.distances.get(variable as usize) {
             Some(distance) => *distance,
             None => 0,
@@ -37,7 +46,9 @@ impl FramePlan {
 }
 
 // How many bytes the variables of a frame take, without parameters (65,535 where they take more).
-fn variable_bytes(frame: &[FrameVariable]) -> u16 {
+fn variable_bytes(frame: &[FrameVariable]) -> u16
+    ensures { result ≡ capped (variable_bytes frame.now) }
+{
     let mut bytes: u16 = 0;
     for variable in frame {
         if variable.parameter.is_none() {
@@ -49,7 +60,9 @@ fn variable_bytes(frame: &[FrameVariable]) -> u16 {
 
 // How far above the stack pointer a parameter begins that so many others follow. The return address lies between the word
 // of the last one and those of the others. A BYTE is the high byte of its word.
-fn parameter_distance(variable_bytes: u16, followers: u16, size: u16) -> u16 {
+fn parameter_distance(variable_bytes: u16, followers: u16, size: u16) -> u16
+    ensures { result ≡ capped_parameter variable_bytes followers size }
+{
     let words = match followers {
         0 => 0,
         _ => followers.saturating_add(1),
@@ -67,7 +80,9 @@ fn distances_of(
     frame: &[FrameVariable],
     variable_bytes: u16,
     parameter_count: u16,
-) -> Result<Vec<u16>, AllocError> {
+) -> Result<Vec<u16>, AllocError>
+    ensures { IfOk result (λ made. made.items ≡ distances_from variable_bytes parameter_count 0 frame.now) }
+{
     let mut distances = Vec::with_capacity(alloc, frame.len())?;
     let mut next: u16 = 0;
     for variable in frame {
@@ -86,7 +101,9 @@ fn distances_of(
 }
 
 // Where the variables and parameters of a call of a REENTRANT procedure lie.
-fn reentrant_plan(alloc: Global, procedure: &TreeProcedure) -> Result<FramePlan, AllocError> {
+fn reentrant_plan(alloc: Global, procedure: &TreeProcedure) -> Result<FramePlan, AllocError>
+    ensures { IfOk result (λ plan. IsFound procedure.now plan) }
+{
     let frame = procedure.frame.as_slice();
     let variable_bytes = variable_bytes(frame);
     let parameter_count = u16::try_from(procedure.parameters.len()).unwrap_or(u16::MAX);
@@ -98,7 +115,14 @@ fn reentrant_plan(alloc: Global, procedure: &TreeProcedure) -> Result<FramePlan,
 }
 
 /// Where the variables and parameters of a call of a procedure lie. The plan of a procedure that is not REENTRANT is empty.
-pub fn plan(alloc: Global, procedure: &TreeProcedure) -> Result<FramePlan, AllocError> {
+#[tactic(auto, using(crate::proofs::Distances::planned, crate::proofs::Places::apart))]
+pub fn plan(alloc: Global, procedure: &TreeProcedure) -> Result<FramePlan, AllocError>
+    ensures planned { procedure.now.kind ≡ Reentrant
+        → HasFrame procedure.now → IfOk result (λ plan. IsPlanOf procedure.now plan) }
+    ensures apart { procedure.now.kind ≡ Reentrant
+        → HasFrame procedure.now → IfOk result (λ plan. LiesApart procedure.now plan) }
+    ensures empty { (procedure.now.kind ≡ Reentrant → ⊥) → IfOk result (λ plan. HasNothing plan) }
+{
     match procedure.kind {
         ProcedureKind::Reentrant => reentrant_plan(alloc, procedure),
         ProcedureKind::Static | ProcedureKind::External(_) => Ok(FramePlan::empty(alloc)),

@@ -1,5 +1,8 @@
 //! What code asks of the tree, each in O(1).
 
+ghost use Rattle.std.specs.Prelude.{◌≡◌};
+ghost use Rattle.sites8080.specs.Queries.{are_same, base_after, base_of, direct, high_in_memory, is_at_hl, is_free, is_quiet, keeps, keeps_of_address, known, located, location_of, location_of_byte, may_exchange, memory, number as number_of, plain_in_memory, reference_after, same_low_byte, split, split_computed, split_sum, stores_nothing};
+
 use crate::site::Site;
 use treecode::{
     Expression, ExpressionForm, ExpressionNumber, Home, Keeps, Location, Place, Reference,
@@ -36,7 +39,9 @@ struct Split {
 
 impl Base {
     // The base so many bytes further on, modulo 65536.
-    fn after(self, distance: u16) -> Base {
+    fn after(self, distance: u16) -> Base
+        ensures { result ≡ base_after self distance }
+    {
         match self {
             Base::Static(place) => Base::Static(place.after(distance)),
             Base::Based { pointer, offset } => Base::Based {
@@ -52,7 +57,9 @@ impl Base {
 }
 
 // The base of an object.
-fn base_of(home: Home) -> Base {
+fn base_of(home: Home) -> Base
+    ensures { result ≡ base_of home }
+{
     match home {
         Home::Static(place) => Base::Static(place),
         Home::Based(pointer) => Base::Based { pointer, offset: 0 },
@@ -64,7 +71,9 @@ fn base_of(home: Home) -> Base {
 }
 
 // Whether there are two locations, and they are the same.
-fn same_location(first: Option<Location>, second: Option<Location>) -> bool {
+fn same_location(first: Option<Location>, second: Option<Location>) -> bool
+    ensures { result ≡ are_same first second }
+{
     match (first, second) {
         (Some(first), Some(second)) => first == second,
         _ => false,
@@ -72,7 +81,9 @@ fn same_location(first: Option<Location>, second: Option<Location>) -> bool {
 }
 
 /// A reference to what lies so many bytes further on.
-pub fn reference_after(reference: Reference, distance: u16) -> Reference {
+pub fn reference_after(reference: Reference, distance: u16) -> Reference
+    ensures { result ≡ reference_after reference distance }
+{
     Reference {
         offset: reference.offset.wrapping_add(distance),
         ..reference
@@ -81,7 +92,10 @@ pub fn reference_after(reference: Reference, distance: u16) -> Reference {
 
 impl<'a> Site<'a> {
     /// The value of an expression, where it is known but for where things lie. Exact in the type of the expression.
-    pub fn known(&self, number: ExpressionNumber) -> Option<Place> {
+    #[tactic(auto, unfolding(crate::specs::Queries::known))]
+    pub fn known(&self, number: ExpressionNumber) -> Option<Place>
+        ensures { result ≡ known self.now number }
+    {
         match self.expression(number) {
             Some(expression) => expression.traits.known,
             None => None,
@@ -89,7 +103,10 @@ impl<'a> Site<'a> {
     }
 
     /// The number that an expression is, where it is known and depends on nothing.
-    pub fn number(&self, number: ExpressionNumber) -> Option<u16> {
+    #[tactic(auto, unfolding(crate::specs::Queries::number))]
+    pub fn number(&self, number: ExpressionNumber) -> Option<u16>
+        ensures { result ≡ number_of self.now number }
+    {
         match self.known(number) {
             Some(place) => place.number(),
             None => None,
@@ -97,7 +114,10 @@ impl<'a> Site<'a> {
     }
 
     /// Whether evaluating an expression changes nothing: it calls nothing, stores nothing and reads no port.
-    pub fn is_quiet(&self, number: ExpressionNumber) -> bool {
+    #[tactic(auto, unfolding(crate::specs::Queries::is_quiet))]
+    pub fn is_quiet(&self, number: ExpressionNumber) -> bool
+        ensures { result ≡ is_quiet self.now number }
+    {
         match self.expression(number) {
             Some(expression) => expression.traits.is_quiet,
             None => false,
@@ -105,7 +125,10 @@ impl<'a> Site<'a> {
     }
 
     /// Whether an expression calls nothing and stores nothing.
-    pub fn stores_nothing(&self, number: ExpressionNumber) -> bool {
+    #[tactic(auto, unfolding(crate::specs::Queries::stores_nothing))]
+    pub fn stores_nothing(&self, number: ExpressionNumber) -> bool
+        ensures { result ≡ stores_nothing self.now number }
+    {
         match self.expression(number) {
             Some(expression) => expression.traits.stores_nothing,
             None => false,
@@ -113,7 +136,10 @@ impl<'a> Site<'a> {
     }
 
     /// Whether the code that puts the low byte of an expression into A changes A and the flags alone.
-    pub fn is_free(&self, number: ExpressionNumber) -> bool {
+    #[tactic(auto, unfolding(crate::specs::Queries::is_free))]
+    pub fn is_free(&self, number: ExpressionNumber) -> bool
+        ensures { result ≡ is_free self.now number }
+    {
         match self.expression(number) {
             Some(expression) => expression.traits.is_free,
             None => false,
@@ -121,7 +147,10 @@ impl<'a> Site<'a> {
     }
 
     /// What the code that puts the value of an expression into HL keeps.
-    pub fn keeps(&self, number: ExpressionNumber) -> Keeps {
+    #[tactic(auto, unfolding(crate::specs::Queries::keeps))]
+    pub fn keeps(&self, number: ExpressionNumber) -> Keeps
+        ensures { result ≡ keeps self.now number }
+    {
         match self.expression(number) {
             Some(expression) => expression.traits.keeps,
             None => Keeps {
@@ -132,13 +161,19 @@ impl<'a> Site<'a> {
     }
 
     /// What the code that puts the address of a part of an object into HL keeps.
-    pub fn keeps_of_address(&self, reference: &Reference) -> Keeps {
+    #[tactic(auto, unfolding(crate::specs::Queries::keeps_of_address))]
+    pub fn keeps_of_address(&self, reference: &Reference) -> Keeps
+        ensures { result ≡ keeps_of_address self.now reference.now }
+    {
         keeps_of_address(self.tree, reference)
     }
 
     /// Whether the second of two operands may be evaluated first, since nobody can tell: the first is known, or it changes
     /// nothing and the second stores nothing.
-    pub fn may_exchange(&self, left: ExpressionNumber, right: ExpressionNumber) -> bool {
+    #[tactic(auto, unfolding(crate::specs::Queries::may_exchange))]
+    pub fn may_exchange(&self, left: ExpressionNumber, right: ExpressionNumber) -> bool
+        ensures { result ≡ may_exchange self.now left right }
+    {
         self.known(left).is_some() || self.is_quiet(left) && self.stores_nothing(right)
     }
 
@@ -149,7 +184,9 @@ impl<'a> Site<'a> {
         operator: BinaryOperator,
         right: u16,
         left: ExpressionNumber,
-    ) -> Option<Split> {
+    ) -> Option<Split>
+        ensures { result ≡ split_sum subscript operator right left }
+    {
         let distance = right.wrapping_mul(subscript.stride);
         let offset = match operator {
             BinaryOperator::Add => distance,
@@ -166,7 +203,10 @@ impl<'a> Site<'a> {
     }
 
     // A computed subscript, and what of it is known.
-    fn split_computed(&self, subscript: Subscript) -> Split {
+    #[tactic(auto, unfolding(crate::specs::Queries::split_computed))]
+    fn split_computed(&self, subscript: Subscript) -> Split
+        ensures { result ≡ split_computed self.now subscript }
+    {
         let whole = Split {
             computed: Some(subscript),
             offset: 0,
@@ -195,7 +235,10 @@ impl<'a> Site<'a> {
 
     // A subscript, if there is one, and what of it is known: numbers, and a number that is added to an ADDRESS or taken
     // from it, are known.
-    fn split(&self, subscript: Option<Subscript>) -> Split {
+    #[tactic(auto, unfolding(crate::specs::Queries::split))]
+    fn split(&self, subscript: Option<Subscript>) -> Split
+        ensures { result ≡ split self.now subscript }
+    {
         let Some(subscript) = subscript else {
             return Split {
                 computed: None,
@@ -212,7 +255,10 @@ impl<'a> Site<'a> {
     }
 
     /// What the address of an object or a part of it is made of.
-    pub fn located(&self, reference: &Reference) -> Located {
+    #[tactic(auto, unfolding(crate::specs::Queries::located))]
+    pub fn located(&self, reference: &Reference) -> Located
+        ensures { result ≡ located self.now reference.now }
+    {
         let first = self.split(reference.subscript);
         let second = self.split(reference.member_subscript);
         let base = base_of(self.tree.home(reference.object))
@@ -234,7 +280,10 @@ impl<'a> Site<'a> {
     }
 
     /// Where an object or a part of it lies, where neither a base nor a computed subscript has a part in it.
-    pub fn location_of(&self, reference: &Reference) -> Option<Location> {
+    #[tactic(auto, unfolding(crate::specs::Queries::location_of))]
+    pub fn location_of(&self, reference: &Reference) -> Option<Location>
+        ensures { result ≡ location_of self.now reference.now }
+    {
         let located = self.located(reference);
         if located.first.is_some() {
             return None;
@@ -247,7 +296,10 @@ impl<'a> Site<'a> {
     }
 
     /// The place in memory of an object or a part of it, where it is known but for where things lie.
-    pub fn direct(&self, reference: &Reference) -> Option<Place> {
+    #[tactic(auto, unfolding(crate::specs::Queries::direct))]
+    pub fn direct(&self, reference: &Reference) -> Option<Place>
+        ensures { result ≡ direct self.now reference.now }
+    {
         match self.location_of(reference) {
             Some(Location::Static(place)) => Some(place),
             Some(Location::Frame { .. }) | None => None,
@@ -255,7 +307,10 @@ impl<'a> Site<'a> {
     }
 
     // The part of memory that HIGH of an expression is, if it is one.
-    fn high_in_memory(&self, operand: ExpressionNumber) -> Option<Reference> {
+    #[tactic(auto, unfolding(crate::specs::Queries::high_in_memory))]
+    fn high_in_memory(&self, operand: ExpressionNumber) -> Option<Reference>
+        ensures { result ≡ high_in_memory self.now operand }
+    {
         match self.expression(operand) {
             Some(
                 Expression {
@@ -270,7 +325,10 @@ impl<'a> Site<'a> {
     }
 
     // The part of memory that the low byte of an expression without LOW, DOUBLE and conversions around it is, if it is one.
-    fn plain_in_memory(&self, number: ExpressionNumber) -> Option<Reference> {
+    #[tactic(auto, unfolding(crate::specs::Queries::plain_in_memory))]
+    fn plain_in_memory(&self, number: ExpressionNumber) -> Option<Reference>
+        ensures { result ≡ plain_in_memory self.now number }
+    {
         match self.expression(number) {
             Some(expression) => match expression.form {
                 ExpressionForm::Value(reference) => Some(reference),
@@ -285,7 +343,10 @@ impl<'a> Site<'a> {
     }
 
     /// The expression inside LOW, DOUBLE or a conversion, which has the same low byte; else the expression itself.
-    pub fn same_low_byte(&self, number: ExpressionNumber) -> ExpressionNumber {
+    #[tactic(auto, unfolding(crate::specs::Queries::same_low_byte))]
+    pub fn same_low_byte(&self, number: ExpressionNumber) -> ExpressionNumber
+        ensures { result ≡ same_low_byte self.now number }
+    {
         match self.expression(number) {
             Some(expression) => match expression.form {
                 ExpressionForm::Conversion(inner) => inner,
@@ -301,13 +362,19 @@ impl<'a> Site<'a> {
 
     /// The part of memory that holds the low byte of an expression, where the expression is a reference, or LOW, HIGH,
     /// DOUBLE or a conversion of one.
-    pub fn memory(&self, number: ExpressionNumber) -> Option<Reference> {
+    #[tactic(auto, unfolding(crate::specs::Queries::memory))]
+    pub fn memory(&self, number: ExpressionNumber) -> Option<Reference>
+        ensures { result ≡ memory self.now number }
+    {
         let inner = self.same_low_byte(self.same_low_byte(number));
         self.plain_in_memory(inner)
     }
 
     // Where the low byte of an expression lies, where it lies in memory at a place without a computed part.
-    fn location_of_byte(&self, number: ExpressionNumber) -> Option<Location> {
+    #[tactic(auto, unfolding(crate::specs::Queries::location_of_byte))]
+    fn location_of_byte(&self, number: ExpressionNumber) -> Option<Location>
+        ensures { result ≡ location_of_byte self.now number }
+    {
         match self.memory(number) {
             Some(reference) => self.location_of(&reference),
             None => None,
@@ -315,7 +382,10 @@ impl<'a> Site<'a> {
     }
 
     /// Whether HL is known to hold the address of the low byte of an expression.
-    pub fn is_at_hl(&self, number: ExpressionNumber) -> bool {
+    #[tactic(auto, unfolding(crate::specs::Queries::is_at_hl))]
+    pub fn is_at_hl(&self, number: ExpressionNumber) -> bool
+        ensures { result ≡ is_at_hl self.now number }
+    {
         same_location(self.location_of_byte(number), self.facts.address_in_hl)
     }
 }

@@ -1,5 +1,8 @@
 //! What relations ask.
 
+ghost use Rattle.std.specs.Prelude.{◌≡◌};
+ghost use Rattle.sites8080.specs.Questions.{greatest, mirrored, number_question, question_of, relation_between, relation_of, relation_with_number};
+
 use crate::site::Site;
 use treecode::{ExpressionForm, ExpressionNumber};
 use trees::{BinaryOperator, ScalarType};
@@ -56,7 +59,9 @@ pub struct Relation {
 }
 
 // What a relation's operator asks, and whether the relation holds where the answer is yes.
-fn question_of(operator: BinaryOperator) -> Option<(Question, bool)> {
+fn question_of(operator: BinaryOperator) -> Option<(Question, bool)>
+    ensures { result ≡ question_of operator }
+{
     match operator {
         BinaryOperator::Less => Some((Question::LeftBelow, true)),
         BinaryOperator::GreaterOrEqual => Some((Question::LeftBelow, false)),
@@ -69,7 +74,9 @@ fn question_of(operator: BinaryOperator) -> Option<(Question, bool)> {
 }
 
 // The question with its sides changed.
-fn mirrored(question: Question) -> Question {
+fn mirrored(question: Question) -> Question
+    ensures { result ≡ mirrored question }
+{
     match question {
         Question::LeftBelow => Question::RightBelow,
         Question::RightBelow => Question::LeftBelow,
@@ -78,7 +85,9 @@ fn mirrored(question: Question) -> Question {
 }
 
 // The greatest number of a type.
-fn greatest(scalar: ScalarType) -> u16 {
+fn greatest(scalar: ScalarType) -> u16
+    ensures { result ≡ greatest scalar }
+{
     match scalar {
         ScalarType::Byte => 255,
         ScalarType::Address => 65535,
@@ -87,7 +96,9 @@ fn greatest(scalar: ScalarType) -> u16 {
 
 // What is asked of an operand and a number on its right, and whether the answer is the same: it is above the number where
 // it is not below the next one.
-fn number_question(question: Question, number: u16, scalar: ScalarType) -> (NumberQuestion, bool) {
+fn number_question(question: Question, number: u16, scalar: ScalarType) -> (NumberQuestion, bool)
+    ensures { result ≡ number_question question number scalar }
+{
     match question {
         Question::Equal => (NumberQuestion::Is(number), true),
         Question::LeftBelow if number == 0 => (NumberQuestion::Never, true),
@@ -104,7 +115,9 @@ fn relation_with_number(
     comparison: &Comparison,
     question: Question,
     holds_if: bool,
-) -> Relation {
+) -> Relation
+    ensures { result ≡ relation_with_number operand number comparison.now question holds_if }
+{
     let scalar = comparison.operands;
     let (question, same) = number_question(question, number, scalar);
     Relation {
@@ -118,7 +131,10 @@ fn relation_with_number(
 }
 
 // The relation of two operands, where `holds_if` tells whether it holds where the answer is yes.
-fn relation_between(site: &Site<'_>, comparison: &Comparison, holds_if: bool) -> Relation {
+#[tactic(auto, unfolding(crate::specs::Questions::relation_between))]
+fn relation_between(site: &Site<'_>, comparison: &Comparison, holds_if: bool) -> Relation
+    ensures { result ≡ relation_between site.now comparison.now holds_if }
+{
     let question = comparison.question;
     if let Some(number) = site.number(comparison.right) {
         return relation_with_number(comparison.left, number, comparison, question, holds_if);
@@ -134,7 +150,10 @@ fn relation_between(site: &Site<'_>, comparison: &Comparison, holds_if: bool) ->
 }
 
 /// The relation that an expression is, if it is one.
-pub fn relation_of(site: &Site<'_>, number: ExpressionNumber) -> Option<Relation> {
+#[tactic(auto, unfolding(crate::specs::Questions::relation_of))]
+pub fn relation_of(site: &Site<'_>, number: ExpressionNumber) -> Option<Relation>
+    ensures { result ≡ relation_of site.now number }
+{
     let Some(expression) = site.expression(number) else {
         return None;
     };

@@ -1,5 +1,8 @@
 //! Where code stands.
 
+ghost use Rattle.std.specs.Prelude.{◌≡◌};
+ghost use Rattle.sites8080.specs.Site.{distance, expression, rank, rank_at, scalar};
+
 use frames::FramePlan;
 use steps8080::{Facts, Task};
 use treecode::{Expression, ExpressionNumber, Reference, Target, TreeModule};
@@ -17,18 +20,26 @@ pub struct Site<'a> {
 const RANKS: u8 = 16;
 
 // A rank for a number of an expression, above all those for lower numbers.
-fn rank_at(bound: u32, level: u8) -> u64 {
+fn rank_at(bound: u32, level: u8) -> u64
+    ensures { result ≡ rank_at bound level }
+{
     bound as u64 * RANKS as u64 + level as u64
 }
 
 impl<'a> Site<'a> {
     /// The expression of a number, if there is one.
-    pub fn expression(&self, number: ExpressionNumber) -> Option<Expression> {
+    #[tactic(auto, unfolding(crate::specs::Site::expression))]
+    pub fn expression(&self, number: ExpressionNumber) -> Option<Expression>
+        ensures { result ≡ expression self.now number }
+    {
         self.tree.expression(number)
     }
 
     /// The type of an expression.
-    pub fn scalar(&self, number: ExpressionNumber) -> ScalarType {
+    #[tactic(auto, unfolding(crate::specs::Site::scalar))]
+    pub fn scalar(&self, number: ExpressionNumber) -> ScalarType
+        ensures { result ≡ scalar self.now number }
+    {
         match self.expression(number) {
             Some(expression) => expression.traits.scalar,
             None => ScalarType::Byte,
@@ -37,7 +48,10 @@ impl<'a> Site<'a> {
 
     /// How far above the stack pointer a byte of a variable or parameter in the frame lies, where so many bytes are
     /// pushed.
-    pub fn distance(&self, variable: u16, offset: u16, pushed: u16) -> u16 {
+    #[tactic(auto, unfolding(crate::specs::Site::distance))]
+    pub fn distance(&self, variable: u16, offset: u16, pushed: u16) -> u16
+        ensures { result ≡ distance self.now variable offset pushed }
+    {
         self.frame
             .distance(variable)
             .wrapping_add(offset)
@@ -45,7 +59,10 @@ impl<'a> Site<'a> {
     }
 
     /// A number for a task that is above that of each part of its code.
-    pub fn rank(&self, task: Task) -> u64 {
+    #[tactic(auto, unfolding(crate::specs::Site::rank))]
+    pub fn rank(&self, task: Task) -> u64
+        ensures { result ≡ rank self.now task }
+    {
         match task {
             Task::Byte(number) => match self.scalar(number) {
                 ScalarType::Byte => rank_at(number.bound(), 1),

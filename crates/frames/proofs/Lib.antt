@@ -1,0 +1,3 @@
+pub mod Words
+pub mod Distances
+pub mod Places

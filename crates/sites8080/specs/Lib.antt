@@ -1,0 +1,4 @@
+pub mod Site
+pub mod Queries
+pub mod Widths
+pub mod Questions

@@ -1,0 +1,34 @@
+-- The tables of nodes of a module, and what an object or an expression of a number is.
+use Rattle.std.specs.Prelude.{ℕ, List, slice_index_or}
+use Rattle.treecode.specs.declared.expression.Expression.{Expression}
+use Rattle.treecode.specs.declared.expression.ExpressionNumber.{ExpressionNumber}
+use Rattle.treecode.specs.declared.module.TreeModule.{TreeModule}
+use Rattle.treecode.specs.declared.place.Home.{Home}
+use Rattle.treecode.specs.declared.place.Home.TheVariants.{Static}
+use Rattle.treecode.specs.declared.place.Place.TheVariants.{Number}
+use Rattle.treecode.specs.declared.reference.Target.{Target}
+use Rattle.treecode.specs.declared.statement.Statement.{Statement}
+use Rattle.treecode.specs.declared.statement.StatementNumber.{StatementNumber}
+
+-- where each object begins, and the tables of nodes
+pub record Nodes : Type 0 where
+  pub homes : List Home
+  pub expressions : List Expression
+  pub statements : List Statement
+  pub arguments : List ExpressionNumber
+  pub targets : List Target
+  pub lists : List StatementNumber
+
+abbrev pub nodes_of : TreeModule → Nodes
+nodes_of tree = record {
+  homes = tree.homes.items;
+  expressions = tree.expressions.items;
+  statements = tree.statements.items;
+  arguments = tree.arguments.items;
+  targets = tree.targets.items;
+  lists = tree.lists.items;
+}
+
+-- where an object begins; the address 0 where there is none of that number
+abbrev pub home_at : List Home → (object : ℕ) → Home
+home_at homes object = slice_index_or homes object (Static (Number 0))
