@@ -1,0 +1,5 @@
+pub mod Products
+pub mod Addresses
+pub mod Loads
+pub mod Pairs
+pub mod Stores
