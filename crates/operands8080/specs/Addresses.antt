@@ -73,10 +73,10 @@ word_at_hl_steps = plain (load A ∷ Inx Hl ∷ load H ∷ copy L A ∷ [])
 
 -- the word at a location of the frame into HL, where this comes first: a word next to the stack pointer is
 -- taken from the stack and put back; DE is kept
-abbrev pub frame_word_steps : Site → Location → (distance pushed : ℕ) → List Step
-frame_word_steps site location distance pushed =
-    if distance == 0 then plain (Pop StackHl ∷ Push StackHl ∷ []) ++ hold_word_steps location
-    else if distance == 2
+abbrev pub frame_word_steps : Site → Location → (away pushed : ℕ) → List Step
+frame_word_steps site location away pushed =
+    if away == 0 then plain (Pop StackHl ∷ Push StackHl ∷ []) ++ hold_word_steps location
+    else if away == 2
     then plain (Pop StackBc ∷ Pop StackHl ∷ Push StackHl ∷ Push StackBc ∷ []) ++ hold_word_steps location
     else location_address_steps site location pushed ++ word_at_hl_steps ++ hold_word_steps location
 
@@ -87,7 +87,7 @@ location_word_steps site location pushed =
     else elim location [
       | locations.Static place ↦ Word LoadHl place ∷ []
       | locations.Frame variable offset ↦
-        frame_word_steps site (locations.Frame variable offset) (distance site variable offset pushed) pushed
+          frame_word_steps site (locations.Frame variable offset) (distance site variable offset pushed) pushed
     ]
 
 -- the address that a base without computed subscripts is, into HL
@@ -117,13 +117,13 @@ second_steps site second pushed =
 
 -- the address of an object or a part of it, taken apart, into HL
 abbrev pub located_steps : Site → Located → (pushed : ℕ) → List Step
-located_steps site located pushed = elim located.first [
-  | None ↦ base_steps site located.base pushed
-  | Some first ↦ elim located.second [
-    | None ↦ product_steps first.index first.stride pushed ++ base_added_steps site located.base pushed
+located_steps site parts pushed = elim parts.first [
+  | None ↦ base_steps site parts.base pushed
+  | Some first ↦ elim parts.second [
+    | None ↦ product_steps first.index first.stride pushed ++ base_added_steps site parts.base pushed
     | Some second ↦
-      product_steps first.index first.stride pushed ++ second_steps site second pushed
-      ++ base_added_steps site located.base pushed
+        product_steps first.index first.stride pushed ++ second_steps site second pushed
+        ++ base_added_steps site parts.base pushed
   ]
 ]
 

@@ -23,10 +23,10 @@ abbrev pub top_word_steps : List Step
 top_word_steps = plain (Pop StackHl ∷ Push StackHl ∷ [])
 
 -- the byte at a location of the frame into A, where this comes first
-abbrev pub frame_byte_steps : Site → Location → (distance pushed : ℕ) → List Step
-frame_byte_steps site location distance pushed =
-    if distance == 0 then top_word_steps ++ hold_word_steps location ++ (Plain (copy A L) ∷ [])
-    else if distance == 1
+abbrev pub frame_byte_steps : Site → Location → (away pushed : ℕ) → List Step
+frame_byte_steps site location away pushed =
+    if away == 0 then top_word_steps ++ hold_word_steps location ++ (Plain (copy A L) ∷ [])
+    else if away == 1
     then top_word_steps ++ hold_word_steps (before location) ++ (Plain (copy A H) ∷ [])
     else location_address_steps site location pushed ++ (Plain (load A) ∷ [])
 
@@ -39,7 +39,7 @@ location_byte_steps site location pushed =
       | None ↦ elim location [
         | Static place ↦ Word LoadA place ∷ []
         | Frame variable offset ↦
-          frame_byte_steps site (Frame variable offset) (distance site variable offset pushed) pushed
+            frame_byte_steps site (Frame variable offset) (distance site variable offset pushed) pushed
       ]
     ]
 
@@ -51,10 +51,10 @@ byte_in_memory_steps site reference pushed = elim (location_of site reference) [
 ]
 
 -- the byte at a location of the frame into L, where this comes first; A and DE are kept
-abbrev pub frame_byte_to_l_steps : Site → Location → (distance pushed : ℕ) → List Step
-frame_byte_to_l_steps site location distance pushed =
-    if distance == 0 then top_word_steps
-    else if distance == 1 then top_word_steps ++ (Plain (copy L H) ∷ [])
+abbrev pub frame_byte_to_l_steps : Site → Location → (away pushed : ℕ) → List Step
+frame_byte_to_l_steps site location away pushed =
+    if away == 0 then top_word_steps
+    else if away == 1 then top_word_steps ++ (Plain (copy L H) ∷ [])
     else location_address_steps site location pushed ++ (Plain (load L) ∷ [])
 
 -- the byte at a location into L, where this comes first; A and DE are kept
@@ -66,7 +66,7 @@ byte_to_l_steps site location pushed =
       | None ↦ elim location [
         | Static place ↦ Word LoadHl place ∷ []
         | Frame variable offset ↦
-          frame_byte_to_l_steps site (Frame variable offset) (distance site variable offset pushed) pushed
+            frame_byte_to_l_steps site (Frame variable offset) (distance site variable offset pushed) pushed
       ]
     ]
 

@@ -91,8 +91,8 @@ order_of LeftFree = RightInHl
 order_of Pushed = RightInHl
 
 -- the first one into HL, then a known word into DE
-abbrev pub with_known_steps : (first : ExpressionNumber) → (known : Place) → (pushed : ℕ) → List Step
-with_known_steps first known pushed = part (tasks.Word first) pushed ∷ Word (LoadPair De) known ∷ []
+abbrev pub with_known_steps : (first : ExpressionNumber) → Place → (pushed : ℕ) → List Step
+with_known_steps first place pushed = part (tasks.Word first) pushed ∷ Word (LoadPair De) place ∷ []
 
 -- the first one into DE, then the second one, which leaves DE alone, into HL
 abbrev pub with_exchange_steps : (first second : ExpressionNumber) → (pushed : ℕ) → List Step

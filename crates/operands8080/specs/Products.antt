@@ -34,7 +34,7 @@ chain_from (suc bit) number twice once_more is_below =
     ++ chain_from bit number twice once_more (is_below || has_bit number bit)
 
 -- a number as a chain of sums: each bit below its highest one
-unfoldable pub chain_steps : (number : ℕ) → (twice once_more : Instr) → List Step
+abbrev pub chain_steps : (number : ℕ) → (twice once_more : Instr) → List Step
 chain_steps number twice once_more = chain_from 16 number twice once_more false
 
 -- HL is multiplied by a number that is not 0, by doubling it, and by adding what it was, which is in BC

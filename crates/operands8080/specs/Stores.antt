@@ -36,10 +36,10 @@ goal_of site to reference = record {
 }
 
 -- which word next to the stack pointer lies so far above it, if it is one
-abbrev pub near_at : (distance : ℕ) → Option Near
-near_at distance =
-    if distance == 0 then Some First
-    else if distance == 2 then Some Second
+abbrev pub near_at : (away : ℕ) → Option Near
+near_at away =
+    if away == 0 then Some First
+    else if away == 2 then Some Second
     else None
 
 -- which word next to the stack pointer a location is, if it is one

@@ -1,5 +1,9 @@
 //! Addresses of objects and their parts in HL.
 
+ghost use Rattle.std.specs.Prelude.{◌≡◌, OnOk};
+ghost use Rattle.steps8080.specs.Step.{Adds};
+ghost use Rattle.operands8080.specs.Addresses.{addition_steps, address_steps, base_added_steps, base_steps, frame_word_steps, hold_address_steps, hold_word_steps, location_address_steps, location_word_steps, new_address_steps, number_added_steps, second_steps, word_at_hl_steps};
+
 use crate::products::plan_product;
 use asm8080::WordForm;
 use isa8080::{Instr, Pair, Register, StackPair};
@@ -9,7 +13,9 @@ use steps8080::{Facts, Step, Steps, before, copy, is_at, load, repeat};
 use treecode::{Location, Place, Reference, Subscript};
 
 // Adds a number to HL. A and DE are kept.
-fn plan_number_added(number: u16, steps: &mut Steps) -> Result<(), AllocError> {
+fn plan_number_added(number: u16, steps: &mut Steps) -> Result<(), AllocError>
+    ensures { OnOk result (Adds steps.old steps.new (number_added_steps number)) }
+{
     let negated = 0_u16.wrapping_sub(number);
     if number <= 3 {
         repeat(Instr::Inx(Pair::Hl), number, steps)
@@ -21,7 +27,9 @@ fn plan_number_added(number: u16, steps: &mut Steps) -> Result<(), AllocError> {
 }
 
 /// Adds a known word to HL. A and DE are kept.
-pub fn plan_addition(place: Place, steps: &mut Steps) -> Result<(), AllocError> {
+pub fn plan_addition(place: Place, steps: &mut Steps) -> Result<(), AllocError>
+    ensures { OnOk result (Adds steps.old steps.new (addition_steps place)) }
+{
     match place.number() {
         Some(number) => plan_number_added(number, steps),
         None => {
@@ -32,7 +40,9 @@ pub fn plan_addition(place: Place, steps: &mut Steps) -> Result<(), AllocError> 
 }
 
 // HL holds the address of a location.
-fn hold_address(location: Location, steps: &mut Steps) -> Result<(), AllocError> {
+fn hold_address(location: Location, steps: &mut Steps) -> Result<(), AllocError>
+    ensures { OnOk result (Adds steps.old steps.new (hold_address_steps location)) }
+{
     steps.push(Step::Holds(Facts {
         address_in_hl: Some(location),
         ..Facts::none()
@@ -40,7 +50,9 @@ fn hold_address(location: Location, steps: &mut Steps) -> Result<(), AllocError>
 }
 
 /// HL holds the word at a location.
-pub fn hold_word(location: Location, steps: &mut Steps) -> Result<(), AllocError> {
+pub fn hold_word(location: Location, steps: &mut Steps) -> Result<(), AllocError>
+    ensures { OnOk result (Adds steps.old steps.new (hold_word_steps location)) }
+{
     steps.push(Step::Holds(Facts {
         word_in_hl: Some(location),
         ..Facts::none()
@@ -53,7 +65,9 @@ fn plan_new_address(
     location: Location,
     pushed: u16,
     steps: &mut Steps,
-) -> Result<(), AllocError> {
+) -> Result<(), AllocError>
+    ensures { OnOk result (Adds steps.old steps.new (new_address_steps site.now location pushed)) }
+{
     match location {
         Location::Static(place) => steps.word(WordForm::LoadPair(Pair::Hl), place),
         Location::Frame { variable, offset } => steps.all(&[
@@ -69,7 +83,9 @@ pub fn plan_location_address(
     location: Location,
     pushed: u16,
     steps: &mut Steps,
-) -> Result<(), AllocError> {
+) -> Result<(), AllocError>
+    ensures { OnOk result (Adds steps.old steps.new (location_address_steps site.now location pushed)) }
+{
     let held = site.facts.address_in_hl;
     if is_at(held, location) {
         return Ok(());
@@ -85,7 +101,9 @@ pub fn plan_location_address(
 }
 
 /// Loads HL with the word at the address that it holds. DE is kept.
-pub fn plan_word_at_hl(steps: &mut Steps) -> Result<(), AllocError> {
+pub fn plan_word_at_hl(steps: &mut Steps) -> Result<(), AllocError>
+    ensures { OnOk result (Adds steps.old steps.new word_at_hl_steps) }
+{
     steps.all(&[
         load(Register::A),
         Instr::Inx(Pair::Hl),
@@ -101,7 +119,9 @@ fn plan_frame_word(
     distance: u16,
     pushed: u16,
     steps: &mut Steps,
-) -> Result<(), AllocError> {
+) -> Result<(), AllocError>
+    ensures { OnOk result (Adds steps.old steps.new (frame_word_steps site.now location distance pushed)) }
+{
     let take = Instr::Pop(StackPair::StackHl);
     let give = Instr::Push(StackPair::StackHl);
     if distance == 0 {
@@ -125,7 +145,9 @@ pub fn plan_location_word(
     location: Location,
     pushed: u16,
     steps: &mut Steps,
-) -> Result<(), AllocError> {
+) -> Result<(), AllocError>
+    ensures { OnOk result (Adds steps.old steps.new (location_word_steps site.now location pushed)) }
+{
     if is_at(site.facts.word_in_hl, location) {
         return Ok(());
     }
@@ -139,12 +161,9 @@ pub fn plan_location_word(
 }
 
 // The address that a base without computed subscripts is, into HL.
-fn plan_base(
-    site: &Site<'_>,
-    base: Base,
-    pushed: u16,
-    steps: &mut Steps,
-) -> Result<(), AllocError> {
+fn plan_base(site: &Site<'_>, base: Base, pushed: u16, steps: &mut Steps) -> Result<(), AllocError>
+    ensures { OnOk result (Adds steps.old steps.new (base_steps site.now base pushed)) }
+{
     match base {
         Base::Static(place) => {
             plan_location_address(site, Location::Static(place), pushed, steps)
@@ -166,7 +185,9 @@ fn plan_base_added(
     base: Base,
     pushed: u16,
     steps: &mut Steps,
-) -> Result<(), AllocError> {
+) -> Result<(), AllocError>
+    ensures { OnOk result (Adds steps.old steps.new (base_added_steps site.now base pushed)) }
+{
     match base {
         Base::Static(place) => plan_addition(place, steps),
         Base::Frame { variable, offset } => steps.all(&[
@@ -189,7 +210,9 @@ fn plan_second(
     second: Subscript,
     pushed: u16,
     steps: &mut Steps,
-) -> Result<(), AllocError> {
+) -> Result<(), AllocError>
+    ensures { OnOk result (Adds steps.old steps.new (second_steps site.now second pushed)) }
+{
     if site.keeps(second.index).de {
         steps.plain(Instr::Xchg)?;
         plan_product(second.index, second.stride, pushed, steps)?;
@@ -206,7 +229,9 @@ pub fn plan_address(
     reference: &Reference,
     pushed: u16,
     steps: &mut Steps,
-) -> Result<(), AllocError> {
+) -> Result<(), AllocError>
+    ensures { OnOk result (Adds steps.old steps.new (address_steps site.now reference.now pushed)) }
+{
     let located = site.located(reference);
     let Some(first) = located.first else {
         return plan_base(site, located.base, pushed, steps);

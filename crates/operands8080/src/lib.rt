@@ -1,5 +1,5 @@
 //! The code of addresses, of pairs of operands, of products by numbers, and of stores.
-#![tactic(auto)]
+#![tactic(auto, using(std::proofs::lemmas::List::append_assoc))]
 
 mod addresses;
 mod loads;

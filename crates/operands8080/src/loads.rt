@@ -1,5 +1,9 @@
 //! Values in memory.
 
+ghost use Rattle.std.specs.Prelude.{◌≡◌, OnOk};
+ghost use Rattle.steps8080.specs.Step.{Adds};
+ghost use Rattle.operands8080.specs.Loads.{byte_in_memory_steps, byte_to_l_steps, extended_byte_in_memory_steps, frame_byte_steps, frame_byte_to_l_steps, location_byte_steps, top_word_steps, word_in_memory_steps};
+
 use crate::addresses::{hold_word, plan_location_address, plan_location_word, plan_word_at_hl};
 use asm8080::WordForm;
 use isa8080::{Instr, Register, StackPair};
@@ -9,7 +13,9 @@ use steps8080::{Steps, Task, before, copy, is_at, load, set};
 use treecode::{Location, Reference};
 
 // The word at the stack pointer into HL.
-fn plan_top_word(steps: &mut Steps) -> Result<(), AllocError> {
+fn plan_top_word(steps: &mut Steps) -> Result<(), AllocError>
+    ensures { OnOk result (Adds steps.old steps.new top_word_steps) }
+{
     steps.all(&[
         Instr::Pop(StackPair::StackHl),
         Instr::Push(StackPair::StackHl),
@@ -23,17 +29,25 @@ fn plan_frame_byte(
     distance: u16,
     pushed: u16,
     steps: &mut Steps,
-) -> Result<(), AllocError> {
-    if distance <= 1 {
-        let is_high = distance == 1;
-        let word = if is_high { before(location) } else { location };
-        plan_top_word(steps)?;
-        hold_word(word, steps)?;
-        let from = if is_high { Register::H } else { Register::L };
-        return steps.plain(copy(Register::A, from));
+) -> Result<(), AllocError>
+    ensures { OnOk result (Adds steps.old steps.new (frame_byte_steps site.now location distance pushed)) }
+{
+    match distance {
+        0 => {
+            plan_top_word(steps)?;
+            hold_word(location, steps)?;
+            steps.plain(copy(Register::A, Register::L))
+        }
+        1 => {
+            plan_top_word(steps)?;
+            hold_word(before(location), steps)?;
+            steps.plain(copy(Register::A, Register::H))
+        }
+        _ => {
+            plan_location_address(site, location, pushed, steps)?;
+            steps.plain(load(Register::A))
+        }
     }
-    plan_location_address(site, location, pushed, steps)?;
-    steps.plain(load(Register::A))
 }
 
 // The byte at a location into A, where this comes first. Where the location is static, A alone changes.
@@ -42,7 +56,9 @@ fn plan_location_byte(
     location: Location,
     pushed: u16,
     steps: &mut Steps,
-) -> Result<(), AllocError> {
+) -> Result<(), AllocError>
+    ensures { OnOk result (Adds steps.old steps.new (location_byte_steps site.now location pushed)) }
+{
     if is_at(site.facts.byte_in_a, location) {
         return Ok(());
     }
@@ -64,7 +80,9 @@ pub fn plan_byte_in_memory(
     reference: &Reference,
     pushed: u16,
     steps: &mut Steps,
-) -> Result<(), AllocError> {
+) -> Result<(), AllocError>
+    ensures { OnOk result (Adds steps.old steps.new (byte_in_memory_steps site.now reference.now pushed)) }
+{
     match site.location_of(reference) {
         Some(location) => plan_location_byte(site, location, pushed, steps),
         None => {
@@ -81,7 +99,10 @@ fn plan_frame_byte_to_l(
     distance: u16,
     pushed: u16,
     steps: &mut Steps,
-) -> Result<(), AllocError> {
+) -> Result<(), AllocError>
+    ensures { OnOk result (Adds steps.old steps.new
+        (frame_byte_to_l_steps site.now location distance pushed)) }
+{
     match distance {
         0 => plan_top_word(steps),
         1 => {
@@ -101,7 +122,9 @@ fn plan_byte_to_l(
     location: Location,
     pushed: u16,
     steps: &mut Steps,
-) -> Result<(), AllocError> {
+) -> Result<(), AllocError>
+    ensures { OnOk result (Adds steps.old steps.new (byte_to_l_steps site.now location pushed)) }
+{
     if is_at(site.facts.word_in_hl, location) {
         return Ok(());
     }
@@ -124,7 +147,10 @@ pub fn plan_extended_byte_in_memory(
     reference: &Reference,
     pushed: u16,
     steps: &mut Steps,
-) -> Result<(), AllocError> {
+) -> Result<(), AllocError>
+    ensures { OnOk result (Adds steps.old steps.new
+        (extended_byte_in_memory_steps site.now reference.now pushed)) }
+{
     match site.location_of(reference) {
         Some(location) => {
             plan_byte_to_l(site, location, pushed, steps)?;
@@ -143,7 +169,9 @@ pub fn plan_word_in_memory(
     reference: &Reference,
     pushed: u16,
     steps: &mut Steps,
-) -> Result<(), AllocError> {
+) -> Result<(), AllocError>
+    ensures { OnOk result (Adds steps.old steps.new (word_in_memory_steps site.now reference.now pushed)) }
+{
     match site.location_of(reference) {
         Some(location) => plan_location_word(site, location, pushed, steps),
         None => {

@@ -1,5 +1,9 @@
 //! Two words, one in HL and the other in DE.
 
+ghost use Rattle.std.specs.Prelude.{◌≡◌, IfOk, OnOk};
+ghost use Rattle.steps8080.specs.Step.{Adds};
+ghost use Rattle.operands8080.specs.Pairs.{any_order, choices_of, form_steps, is_free_byte, left_in_hl, order_of, pair_form, pair_in_order_steps, pair_order, pair_order_by, pair_steps, right_in_hl, with_byte_steps, with_exchange_steps, with_known_steps, with_stack_steps};
+
 use asm8080::WordForm;
 use isa8080::{Instr, Pair, Register, StackPair};
 use sites8080::Site;
@@ -50,12 +54,16 @@ struct Choices {
 }
 
 // Whether an operand is a byte that can be put into A by code that changes A alone.
-fn is_free_byte(site: &Site<'_>, number: ExpressionNumber) -> bool {
+fn is_free_byte(site: &Site<'_>, number: ExpressionNumber) -> bool
+    ensures { result ≡ is_free_byte site.now number }
+{
     site.fits_byte(number) && site.is_free(number)
 }
 
 // What two operands allow.
-fn choices_of(site: &Site<'_>, left: ExpressionNumber, right: ExpressionNumber) -> Choices {
+fn choices_of(site: &Site<'_>, left: ExpressionNumber, right: ExpressionNumber) -> Choices
+    ensures { result ≡ choices_of site.now left right }
+{
     let may_exchange = site.may_exchange(left, right);
     Choices {
         right_keeps: site.keeps(right).de,
@@ -69,7 +77,9 @@ fn choices_of(site: &Site<'_>, left: ExpressionNumber, right: ExpressionNumber) 
 
 impl Choices {
     // The form where either order will do.
-    fn any_order(&self) -> PairForm {
+    fn any_order(&self) -> PairForm
+        ensures { result ≡ any_order self.now }
+    {
         if self.left_keeps && self.right_is_in_hl {
             PairForm::LeftKeeps
         } else if self.right_keeps {
@@ -86,7 +96,9 @@ impl Choices {
     }
 
     // The form where the left one is wanted in HL.
-    fn left_in_hl(&self) -> PairForm {
+    fn left_in_hl(&self) -> PairForm
+        ensures { result ≡ left_in_hl self.now }
+    {
         if self.left_is_in_hl && self.right_is_free {
             PairForm::RightFree
         } else if self.left_is_in_hl && self.right_keeps {
@@ -101,7 +113,9 @@ impl Choices {
     }
 
     // The form where the right one is wanted in HL.
-    fn right_in_hl(&self) -> PairForm {
+    fn right_in_hl(&self) -> PairForm
+        ensures { result ≡ right_in_hl self.now }
+    {
         if self.right_is_in_hl && self.left_is_free {
             PairForm::LeftFree
         } else if self.right_is_in_hl && self.left_keeps {
@@ -122,7 +136,9 @@ fn form_of(
     left: ExpressionNumber,
     right: ExpressionNumber,
     wish: Option<PairOrder>,
-) -> PairForm {
+) -> PairForm
+    ensures { result ≡ pair_form site.now left right wish }
+{
     if let Some(place) = site.known(right) {
         return PairForm::RightKnown(place);
     }
@@ -143,7 +159,9 @@ fn plan_with_known(
     known: Place,
     pushed: u16,
     steps: &mut Steps,
-) -> Result<(), AllocError> {
+) -> Result<(), AllocError>
+    ensures { OnOk result (Adds steps.old steps.new (with_known_steps first known pushed)) }
+{
     steps.part(Task::Word(first), pushed)?;
     steps.word(WordForm::LoadPair(Pair::De), known)
 }
@@ -154,7 +172,9 @@ fn plan_with_exchange(
     second: ExpressionNumber,
     pushed: u16,
     steps: &mut Steps,
-) -> Result<(), AllocError> {
+) -> Result<(), AllocError>
+    ensures { OnOk result (Adds steps.old steps.new (with_exchange_steps first second pushed)) }
+{
     steps.part(Task::Word(first), pushed)?;
     steps.plain(Instr::Xchg)?;
     steps.part(Task::Word(second), pushed)
@@ -166,7 +186,9 @@ fn plan_with_byte(
     second: ExpressionNumber,
     pushed: u16,
     steps: &mut Steps,
-) -> Result<(), AllocError> {
+) -> Result<(), AllocError>
+    ensures { OnOk result (Adds steps.old steps.new (with_byte_steps first second pushed)) }
+{
     steps.part(Task::Word(first), pushed)?;
     steps.part(Task::Byte(second), pushed)?;
     steps.all(&[copy(Register::E, Register::A), set(Register::D, 0)])
@@ -178,7 +200,9 @@ fn plan_with_stack(
     second: ExpressionNumber,
     pushed: u16,
     steps: &mut Steps,
-) -> Result<(), AllocError> {
+) -> Result<(), AllocError>
+    ensures { OnOk result (Adds steps.old steps.new (with_stack_steps first second pushed)) }
+{
     steps.part(Task::Word(first), pushed)?;
     steps.plain(Instr::Push(StackPair::StackHl))?;
     steps.part(Task::Word(second), pushed.wrapping_add(2))?;
@@ -192,7 +216,10 @@ fn plan_form(
     right: ExpressionNumber,
     pushed: u16,
     steps: &mut Steps,
-) -> Result<PairOrder, AllocError> {
+) -> Result<PairOrder, AllocError>
+    ensures adds { OnOk result (Adds steps.old steps.new (form_steps form left right pushed)) }
+    ensures order { IfOk result (λ order. order ≡ order_of form) }
+{
     match form {
         PairForm::RightKnown(place) => plan_with_known(left, place, pushed, steps)?,
         PairForm::LeftKnown(place) => plan_with_known(right, place, pushed, steps)?,
@@ -207,7 +234,9 @@ fn plan_form(
 
 impl PairForm {
     // Which operand is in HL after it.
-    fn order(self) -> PairOrder {
+    fn order(self) -> PairOrder
+        ensures { result ≡ order_of self }
+    {
         match self {
             PairForm::RightKnown(_) | PairForm::LeftKeeps | PairForm::RightFree => {
                 PairOrder::LeftInHl
@@ -226,7 +255,11 @@ pub fn plan_pair_in_order(
     wish: Option<PairOrder>,
     pushed: u16,
     steps: &mut Steps,
-) -> Result<PairOrder, AllocError> {
+) -> Result<PairOrder, AllocError>
+    ensures adds { OnOk result (Adds steps.old steps.new
+        (pair_in_order_steps site.now left right wish pushed)) }
+    ensures order { IfOk result (λ order. order ≡ pair_order_by site.now left right wish) }
+{
     let form = form_of(site, left, right, wish);
     let order = plan_form(form, left, right, pushed, steps)?;
     match wish {
@@ -248,7 +281,11 @@ pub fn plan_pair(
     wants_left_in_hl: bool,
     pushed: u16,
     steps: &mut Steps,
-) -> Result<PairOrder, AllocError> {
+) -> Result<PairOrder, AllocError>
+    ensures adds { OnOk result (Adds steps.old steps.new
+        (pair_steps site.now left right wants_left_in_hl pushed)) }
+    ensures order { IfOk result (λ order. order ≡ pair_order site.now left right wants_left_in_hl) }
+{
     let wish = if wants_left_in_hl {
         Some(PairOrder::LeftInHl)
     } else {

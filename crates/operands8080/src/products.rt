@@ -1,5 +1,9 @@
 //! Products with a number.
 
+ghost use Rattle.std.specs.Prelude.{◌≡◌, OnOk};
+ghost use Rattle.steps8080.specs.Step.{Adds};
+ghost use Rattle.operands8080.specs.Products.{bit_steps, byte_product_steps, chain_steps, has_bit, multiple_steps, product_steps, small_multiple_steps};
+
 use asm8080::WordForm;
 use isa8080::{Instr, Operation, Pair, Register};
 use sites8080::power_of_two;
@@ -8,12 +12,34 @@ use steps8080::{Steps, Task, clear_a, copy, repeat, set, with_register};
 use treecode::{ExpressionNumber, Place};
 
 // Whether a bit of a number is 1.
-fn has_bit(number: u16, bit: u16) -> bool {
+#[tactic(auto, unfolding(crate::specs::Products::has_bit))]
+fn has_bit(number: u16, bit: u16) -> bool
+    ensures { result ≡ has_bit number bit }
+{
     if bit < 16 {
-        number / (1_u16 << bit) % 2 == 1
+        (number >> bit) % 2 == 1
     } else {
         false
     }
+}
+
+// Repeats for a bit below the highest one: twice, and once more where the bit is 1.
+fn plan_bit(
+    twice: Instr,
+    once_more: Instr,
+    is_below: bool,
+    is_set: bool,
+    steps: &mut Steps,
+) -> Result<(), AllocError>
+    ensures { OnOk result (Adds steps.old steps.new (bit_steps twice once_more is_below is_set)) }
+{
+    if is_below {
+        steps.plain(twice)?;
+        if is_set {
+            steps.plain(once_more)?;
+        }
+    }
+    Ok(())
 }
 
 // Repeats for each bit of a number below its highest one, from there on down: twice, and once more where the bit is 1.
@@ -22,23 +48,22 @@ fn plan_chain(
     twice: Instr,
     once_more: Instr,
     steps: &mut Steps,
-) -> Result<(), AllocError> {
+) -> Result<(), AllocError>
+    ensures { OnOk result (Adds steps.old steps.new (chain_steps number twice once_more)) }
+{
     let mut is_below = false;
     for index in 0_u16..16 {
         let is_set = has_bit(number, 15_u16.saturating_sub(index));
-        if is_below {
-            steps.plain(twice)?;
-            if is_set {
-                steps.plain(once_more)?;
-            }
-        }
-        is_below = is_below || is_set;
+        plan_bit(twice, once_more, is_below, is_set, steps)?;
+        is_below = is_below | is_set;
     }
     Ok(())
 }
 
 // Multiplies HL by a number that is not 0. A and DE are kept.
-fn plan_small_multiple(number: u16, steps: &mut Steps) -> Result<(), AllocError> {
+fn plan_small_multiple(number: u16, steps: &mut Steps) -> Result<(), AllocError>
+    ensures { OnOk result (Adds steps.old steps.new (small_multiple_steps number)) }
+{
     let twice = Instr::Dad(Pair::Hl);
     match power_of_two(number) {
         Some(power) => repeat(twice, power, steps),
@@ -53,7 +78,9 @@ fn plan_small_multiple(number: u16, steps: &mut Steps) -> Result<(), AllocError>
 }
 
 // Multiplies HL by a number that is not 0, whose low byte may be. A and DE are kept.
-fn plan_multiple(number: u16, steps: &mut Steps) -> Result<(), AllocError> {
+fn plan_multiple(number: u16, steps: &mut Steps) -> Result<(), AllocError>
+    ensures { OnOk result (Adds steps.old steps.new (multiple_steps number)) }
+{
     if number % 256 != 0 {
         return plan_small_multiple(number, steps);
     }
@@ -67,7 +94,9 @@ pub fn plan_product(
     number: u16,
     pushed: u16,
     steps: &mut Steps,
-) -> Result<(), AllocError> {
+) -> Result<(), AllocError>
+    ensures { OnOk result (Adds steps.old steps.new (product_steps value number pushed)) }
+{
     if number == 0 {
         steps.part(Task::Effects(value), pushed)?;
         return steps.word(WordForm::LoadPair(Pair::Hl), Place::Number(0));
@@ -82,7 +111,9 @@ pub fn plan_byte_product(
     number: u8,
     pushed: u16,
     steps: &mut Steps,
-) -> Result<(), AllocError> {
+) -> Result<(), AllocError>
+    ensures { OnOk result (Adds steps.old steps.new (byte_product_steps value number pushed)) }
+{
     if number == 0 {
         steps.part(Task::Effects(value), pushed)?;
         return steps.plain(clear_a());

@@ -1,5 +1,9 @@
 //! Stores of a value that is in A or HL.
 
+ghost use Rattle.std.specs.Prelude.{◌≡◌, OnOk};
+ghost use Rattle.steps8080.specs.Step.{Adds};
+ghost use Rattle.operands8080.specs.Stores.{address_beside_a_steps, address_beside_de_steps, byte_is_here_steps, goal_of, send_steps, store_a_at_steps, store_a_steps, store_extended_steps, store_hl_at_steps, store_low_byte_steps, store_near_steps, store_steps, store_word_steps, word_is_here_steps, word_near};
+
 use asm8080::WordForm;
 use isa8080::{Instr, Operand, Pair, Register, StackPair};
 use sites8080::Site;
@@ -27,7 +31,9 @@ enum Near {
 }
 
 // The scalar that a value goes to.
-fn goal_of(site: &Site<'_>, to: ScalarType, reference: Reference) -> Goal {
+fn goal_of(site: &Site<'_>, to: ScalarType, reference: Reference) -> Goal
+    ensures { result ≡ goal_of site.now to reference }
+{
     Goal {
         to,
         reference,
@@ -37,12 +43,13 @@ fn goal_of(site: &Site<'_>, to: ScalarType, reference: Reference) -> Goal {
 }
 
 // Which word next to the stack pointer a location is, if it is one.
-fn word_near(site: &Site<'_>, location: Location, pushed: u16) -> Option<Near> {
+fn word_near(site: &Site<'_>, location: Location, pushed: u16) -> Option<Near>
+    ensures { result ≡ word_near site.now location pushed }
+{
     let Location::Frame { variable, offset } = location else {
         return None;
     };
-    let distance = site.frame.distance(variable);
-    match distance.wrapping_add(offset).wrapping_add(pushed) {
+    match site.distance(variable, offset, pushed) {
         0 => Some(Near::First),
         2 => Some(Near::Second),
         _ => None,
@@ -50,7 +57,9 @@ fn word_near(site: &Site<'_>, location: Location, pushed: u16) -> Option<Near> {
 }
 
 // Adds what is known of HL after a word was stored from it.
-fn word_is_here(location: Option<Location>, steps: &mut Steps) -> Result<(), AllocError> {
+fn word_is_here(location: Option<Location>, steps: &mut Steps) -> Result<(), AllocError>
+    ensures { OnOk result (Adds steps.old steps.new (word_is_here_steps location)) }
+{
     steps.push(Step::Holds(Facts {
         word_in_hl: location,
         ..Facts::none()
@@ -58,7 +67,9 @@ fn word_is_here(location: Option<Location>, steps: &mut Steps) -> Result<(), All
 }
 
 // Adds what is known of A after its byte was stored.
-fn byte_is_here(location: Option<Location>, steps: &mut Steps) -> Result<(), AllocError> {
+fn byte_is_here(location: Option<Location>, steps: &mut Steps) -> Result<(), AllocError>
+    ensures { OnOk result (Adds steps.old steps.new (byte_is_here_steps location)) }
+{
     steps.push(Step::Holds(Facts {
         byte_in_a: location,
         ..Facts::none()
@@ -66,7 +77,9 @@ fn byte_is_here(location: Option<Location>, steps: &mut Steps) -> Result<(), All
 }
 
 // The steps that store HL in a word next to the stack pointer.
-fn store_near(near: Near, location: Location, steps: &mut Steps) -> Result<(), AllocError> {
+fn store_near(near: Near, location: Location, steps: &mut Steps) -> Result<(), AllocError>
+    ensures { OnOk result (Adds steps.old steps.new (store_near_steps near location)) }
+{
     match near {
         Near::First => steps.all(&[
             Instr::Pop(StackPair::StackBc),
@@ -84,7 +97,9 @@ fn store_near(near: Near, location: Location, steps: &mut Steps) -> Result<(), A
 }
 
 // The steps that put an address into HL while A keeps its value.
-fn address_beside_a(goal: &Goal, pushed: u16, steps: &mut Steps) -> Result<(), AllocError> {
+fn address_beside_a(goal: &Goal, pushed: u16, steps: &mut Steps) -> Result<(), AllocError>
+    ensures { OnOk result (Adds steps.old steps.new (address_beside_a_steps goal.now pushed)) }
+{
     let task = Task::Address(goal.reference);
     if goal.keeps.a {
         return steps.part(task, pushed);
@@ -95,7 +110,9 @@ fn address_beside_a(goal: &Goal, pushed: u16, steps: &mut Steps) -> Result<(), A
 }
 
 // The steps that put an address into HL and the value that was there into DE.
-fn address_beside_de(goal: &Goal, pushed: u16, steps: &mut Steps) -> Result<(), AllocError> {
+fn address_beside_de(goal: &Goal, pushed: u16, steps: &mut Steps) -> Result<(), AllocError>
+    ensures { OnOk result (Adds steps.old steps.new (address_beside_de_steps goal.now pushed)) }
+{
     let task = Task::Address(goal.reference);
     if goal.keeps.de {
         steps.plain(Instr::Xchg)?;
@@ -107,7 +124,9 @@ fn address_beside_de(goal: &Goal, pushed: u16, steps: &mut Steps) -> Result<(), 
 }
 
 // The steps that store A at an address that is computed. The value stays in A.
-fn store_a_at(goal: &Goal, pushed: u16, steps: &mut Steps) -> Result<(), AllocError> {
+fn store_a_at(goal: &Goal, pushed: u16, steps: &mut Steps) -> Result<(), AllocError>
+    ensures { OnOk result (Adds steps.old steps.new (store_a_at_steps goal.now pushed)) }
+{
     address_beside_a(goal, pushed, steps)?;
     steps.plain(Instr::MovToMemory(Register::A))?;
     match goal.to {
@@ -120,7 +139,9 @@ fn store_a_at(goal: &Goal, pushed: u16, steps: &mut Steps) -> Result<(), AllocEr
 }
 
 // The steps that store A. The value stays in A.
-fn store_a(site: &Site<'_>, goal: &Goal, pushed: u16, steps: &mut Steps) -> Result<(), AllocError> {
+fn store_a(site: &Site<'_>, goal: &Goal, pushed: u16, steps: &mut Steps) -> Result<(), AllocError>
+    ensures { OnOk result (Adds steps.old steps.new (store_a_steps site.now goal.now pushed)) }
+{
     match (goal.to, goal.location) {
         (ScalarType::Byte, Some(Location::Static(place))) => { steps.word(WordForm::StoreA, place) }
         (ScalarType::Address, Some(location)) => store_extended(
@@ -137,7 +158,10 @@ fn store_extended(
     location: Location,
     pushed: u16,
     steps: &mut Steps,
-) -> Result<(), AllocError> {
+) -> Result<(), AllocError>
+    ensures { OnOk result (Adds steps.old steps.new
+        (store_extended_steps site.now goal.now location pushed)) }
+{
     match (location, word_near(site, location, pushed)) {
         (Location::Static(place), _) => {
             plan_extension(steps)?;
@@ -160,7 +184,9 @@ fn store_hl_at(
     is_wanted: bool,
     pushed: u16,
     steps: &mut Steps,
-) -> Result<(), AllocError> {
+) -> Result<(), AllocError>
+    ensures { OnOk result (Adds steps.old steps.new (store_hl_at_steps goal.now is_wanted pushed)) }
+{
     address_beside_de(goal, pushed, steps)?;
     steps.plain(Instr::MovToMemory(Register::E))?;
     if matches!(goal.to, ScalarType::Address) {
@@ -182,7 +208,9 @@ fn store_low_byte(
     is_wanted: bool,
     pushed: u16,
     steps: &mut Steps,
-) -> Result<(), AllocError> {
+) -> Result<(), AllocError>
+    ensures { OnOk result (Adds steps.old steps.new (store_low_byte_steps goal.now is_wanted pushed)) }
+{
     let to_a = copy(Register::A, Register::L);
     match goal.location {
         Some(Location::Static(place)) => {
@@ -204,7 +232,9 @@ fn store_word(
     is_wanted: bool,
     pushed: u16,
     steps: &mut Steps,
-) -> Result<(), AllocError> {
+) -> Result<(), AllocError>
+    ensures { OnOk result (Adds steps.old steps.new (store_word_steps site.now goal.now is_wanted pushed)) }
+{
     let Some(location) = goal.location else {
         return store_hl_at(goal, is_wanted, pushed, steps);
     };
@@ -216,7 +246,9 @@ fn store_word(
 }
 
 // The steps that send the low byte of a value to a port.
-fn send(from: ScalarType, port: u8, steps: &mut Steps) -> Result<(), AllocError> {
+fn send(from: ScalarType, port: u8, steps: &mut Steps) -> Result<(), AllocError>
+    ensures { OnOk result (Adds steps.old steps.new (send_steps from port)) }
+{
     match from {
         ScalarType::Byte => {}
         ScalarType::Address => { steps.plain(copy(Register::A, Register::L))? }
@@ -232,7 +264,9 @@ pub fn plan_store(
     is_wanted: bool,
     pushed: u16,
     steps: &mut Steps,
-) -> Result<(), AllocError> {
+) -> Result<(), AllocError>
+    ensures { OnOk result (Adds steps.old steps.new (store_steps site.now target is_wanted pushed)) }
+{
     match target {
         Target::Sent { from, port } => send(from, port, steps),
         Target::Stored {
