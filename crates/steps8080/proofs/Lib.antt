@@ -1,1 +1,2 @@
 pub mod Labels
+pub mod Numbered

@@ -1,6 +1,10 @@
 //! The names of other modules that code refers to.
 
+ghost use Rattle.std.specs.Prelude.{◌≡◌, None, Some, replicate, IfOk};
+ghost use Rattle.steps8080.specs.Externals.{Extends, entry};
+
 use std::alloc::{AllocError, Global};
+use std::marker::Model;
 
 /// The names of other modules that code refers to, numbered in the order of their first use.
 pub struct Externals {
@@ -9,33 +13,48 @@ pub struct Externals {
     used: u16,
 }
 
+impl Model for Externals {
+    ghost use Rattle.std.specs.Prelude.{ℕ, List, Option};
+
+    ghost Value = { List (Option ℕ) };
+
+    ghost view = { λ externals. externals.numbers.items };
+}
+
 impl Externals {
     /// None is used of so many names.
-    pub fn new(alloc: Global, count: usize) -> Result<Externals, AllocError> {
+    pub fn new(alloc: Global, count: usize) -> Result<Externals, AllocError>
+        ensures { IfOk result (λ externals. externals ≡ replicate count None) }
+    {
         Ok(Externals {
             numbers: vec![in alloc; None; count]?,
             used: 0,
         })
     }
 
-    /// The number of a name by its index, which is used from now on; 0 where there is none of that index. There are at
-    /// most as many uses as a segment has places for them, which is less than 65536.
-    pub fn number(&mut self, name: u32) -> u16 {
+    /// The number of a name by its index, which is used from now on. Fails where there is none of that index. There are
+    /// at most as many uses as a segment has places for them, which is less than 65536.
+    pub fn number(&mut self, name: u32) -> Result<u16, AllocError>
+        ensures found { IfOk result (λ number. entry self.new name ≡ Some number) }
+        ensures kept { Extends self.old self.new }
+    {
         let index = name as usize;
         if index >= self.numbers.len() {
-            return 0;
+            return Err(AllocError);
         }
         if let Some(number) = self.numbers[index] {
-            return number;
+            return Ok(number);
         }
         let number = self.used;
         self.used = self.used.saturating_add(1);
         self.numbers[index] = Some(number);
-        number
+        Ok(number)
     }
 
     /// The number of each name that is used, by its index among the external names of the module.
-    pub fn numbers(&self) -> &[Option<u16>] {
+    pub fn numbers(&self) -> &[Option<u16>]
+        ensures { result.now ≡ self.now }
+    {
         self.numbers.as_slice()
     }
 }

@@ -1,7 +1,15 @@
 //! Code with numbered labels and the names of other modules.
 
-ghost use Rattle.std.specs.Prelude.{◌≡◌, IfOk};
+ghost use Rattle.std.specs.Prelude.{◌≡◌, [], ◌∷◌, ◌++◌, None, Some, replicate, IfOk, IsTrue, OnErr, OnOk};
+ghost use Rattle.asm8080.specs.declared.item.Item.TheVariants.{Plain, WithWord, Byte, Address, Gap, Mark};
+ghost use Rattle.asm8080.specs.declared.item.Reference.TheVariants.{AtTarget};
+ghost use Rattle.object_modules.specs.declared.segment.Target.TheVariants.{External, InSegment};
+ghost use Rattle.object_modules.specs.Module.{is_movable};
 ghost use Rattle.asm8080.specs.Assembled.{Assembles};
+ghost use Rattle.runtime8080.specs.Routines.{AddsRoutine};
+ghost use Rattle.steps8080.specs.Externals.{Extends, entry};
+ghost use Rattle.steps8080.specs.Instructions.{high, low};
+ghost use Rattle.steps8080.specs.Writer.{Writes, WritesRoutine, address_items, external_call_item, jump_item, stack_end_item, word_item};
 ghost use Rattle.steps8080.specs.internal.Labels.{Follows};
 
 use crate::externals::Externals;
@@ -27,25 +35,41 @@ pub struct Writer {
 }
 
 impl Model for Writer {
-    ghost use Rattle.asm8080.specs.Items.{Assembly};
+    ghost use Rattle.steps8080.specs.Writer.{Written};
     ghost use Rattle.steps8080.specs.internal.Labels.{Follows};
 
-    ghost Value = { Assembly };
+    ghost Value = { Written };
 
-    ghost view = { λ writer. writer.code };
+    ghost view = { λ writer. record {
+      code = writer.code;
+      labels = writer.labels.items;
+      externals = writer.externals;
+    } };
 
     ghost invariant = { λ writer. Follows writer.is_bound.items writer.code };
 }
 
 impl Writer {
     /// No code, in a module that may refer to so many names of other modules.
-    pub fn new(alloc: Global, external_count: usize) -> Result<Writer, AllocError> {
+    pub fn new(alloc: Global, external_count: usize) -> Result<Writer, AllocError>
+        ensures { IfOk result (λ writer. writer ≡ record {
+          code = record { items = []; labels = 0 };
+          labels = [];
+          externals = replicate external_count None;
+        }) }
+    {
         let externals = Externals::new(alloc, external_count)?;
         Ok(Writer::sharing(alloc, externals))
     }
 
     /// No code, in a module of which other code refers to these names already.
-    pub fn sharing(alloc: Global, externals: Externals) -> Writer {
+    pub fn sharing(alloc: Global, externals: Externals) -> Writer
+        ensures { result ≡ record {
+          code = record { items = []; labels = 0 };
+          labels = [];
+          externals = externals;
+        } }
+    {
         Writer {
             code: Code::new(alloc),
             is_bound: Vec::new(alloc),
@@ -55,79 +79,124 @@ impl Writer {
     }
 
     /// Adds an instruction.
-    pub fn plain(&mut self, instruction: Instr) -> Result<(), AllocError> {
-        self.code.emit(instruction)
+    pub fn plain(&mut self, instruction: Instr) -> Result<(), AllocError>
+        ensures { OnOk result (Writes self.old self.new (Plain instruction ∷ [])) }
+    {
+        self.code.emit(instruction)?;
+        Ok(())
+    }
+
+    // Adds an instruction whose word counts from the start of a segment.
+    fn fixed(&mut self, form: WordForm, segment: Segment, offset: u16) -> Result<(), AllocError>
+        requires { IsTrue (is_movable segment) }
+        ensures { OnOk result (Writes self.old self.new
+            (WithWord form (AtTarget (InSegment segment) offset) ∷ [])) }
+    {
+        self.code
+            .emit_fixed(form, Target::InSegment(segment), offset)?;
+        Ok(())
+    }
+
+    // Adds an instruction whose word counts from what a name of another module stands for.
+    fn fixed_by_name(&mut self, form: WordForm, name: u32, offset: u16) -> Result<(), AllocError>
+        ensures { OnOk result (Writes self.old self.new
+            (WithWord form (AtTarget (External name) offset) ∷ [])) }
+    {
+        let number = self.externals.number(name)?;
+        self.code
+            .emit_fixed(form, Target::External(number), offset)?;
+        Ok(())
     }
 
     /// Adds an instruction with the word of a place.
-    pub fn word(&mut self, form: WordForm, place: Place) -> Result<(), AllocError> {
+    pub fn word(&mut self, form: WordForm, place: Place) -> Result<(), AllocError>
+        ensures { OnOk result (Writes self.old self.new (word_item form place ∷ [])) }
+    {
         match place {
-            Place::Number(number) => self.code.emit(instruction_with(form, number)),
-            Place::Code(offset) => {
-                self.code
-                    .emit_fixed(form, Target::InSegment(Segment::Code), offset)
-            }
-            Place::Data(offset) => {
-                self.code
-                    .emit_fixed(form, Target::InSegment(Segment::Data), offset)
-            }
-            Place::External { name, offset } => {
-                let number = self.externals.number(name);
-                self.code.emit_fixed(form, Target::External(number), offset)
-            }
+            Place::Number(number) => self.plain(instruction_with(form, number)),
+            Place::Code(offset) => self.fixed(form, Segment::Code, offset),
+            Place::Data(offset) => self.fixed(form, Segment::Data, offset),
+            Place::External { name, offset } => self.fixed_by_name(form, name, offset),
         }
     }
 
     /// Adds an instruction whose word is the address just past the stack.
-    pub fn stack_end(&mut self, form: WordForm) -> Result<(), AllocError> {
-        self.code
-            .emit_fixed(form, Target::InSegment(Segment::Stack), 0)
+    pub fn stack_end(&mut self, form: WordForm) -> Result<(), AllocError>
+        ensures { OnOk result (Writes self.old self.new (stack_end_item form ∷ [])) }
+    {
+        self.fixed(form, Segment::Stack, 0)
     }
 
     /// Adds a call of a procedure of another module, by the index of its name among the external names.
-    pub fn call_external(&mut self, name: u32) -> Result<(), AllocError> {
-        let number = self.externals.number(name);
-        self.code
-            .emit_fixed(WordForm::CallTo, Target::External(number), 0)
+    pub fn call_external(&mut self, name: u32) -> Result<(), AllocError>
+        ensures { OnOk result (Writes self.old self.new (external_call_item name ∷ [])) }
+    {
+        self.fixed_by_name(WordForm::CallTo, name, 0)
     }
 
     /// Adds a byte of data.
-    pub fn byte(&mut self, value: u8) -> Result<(), AllocError> {
-        self.code.emit_byte(value)
+    pub fn byte(&mut self, value: u8) -> Result<(), AllocError>
+        ensures { OnOk result (Writes self.old self.new (Byte value ∷ [])) }
+    {
+        self.code.emit_byte(value)?;
+        Ok(())
+    }
+
+    // Adds a word of data that counts from the start of a segment.
+    fn fixed_address(&mut self, segment: Segment, offset: u16) -> Result<(), AllocError>
+        requires { IsTrue (is_movable segment) }
+        ensures { OnOk result (Writes self.old self.new
+            (Address (AtTarget (InSegment segment) offset) ∷ [])) }
+    {
+        self.code.emit_address(Target::InSegment(segment), offset)?;
+        Ok(())
+    }
+
+    // Adds a word of data that counts from what a name of another module stands for.
+    fn address_by_name(&mut self, name: u32, offset: u16) -> Result<(), AllocError>
+        ensures { OnOk result (Writes self.old self.new
+            (Address (AtTarget (External name) offset) ∷ [])) }
+    {
+        let number = self.externals.number(name)?;
+        self.code.emit_address(Target::External(number), offset)?;
+        Ok(())
     }
 
     // Adds a number as a word of data.
-    fn number(&mut self, number: u16) -> Result<(), AllocError> {
-        self.code.emit_byte((number % 256) as u8)?;
-        self.code.emit_byte((number / 256) as u8)
+    fn number(&mut self, number: u16) -> Result<(), AllocError>
+        ensures { OnOk result (Writes self.old self.new (Byte (low number) ∷ Byte (high number) ∷ [])) }
+    {
+        self.byte((number % 256) as u8)?;
+        self.byte((number / 256) as u8)?;
+        Ok(())
     }
 
     /// Adds a word of data.
-    pub fn address(&mut self, place: Place) -> Result<(), AllocError> {
+    pub fn address(&mut self, place: Place) -> Result<(), AllocError>
+        ensures { OnOk result (Writes self.old self.new (address_items place)) }
+    {
         match place {
             Place::Number(number) => self.number(number),
-            Place::Code(offset) => {
-                self.code
-                    .emit_address(Target::InSegment(Segment::Code), offset)
-            }
-            Place::Data(offset) => {
-                self.code
-                    .emit_address(Target::InSegment(Segment::Data), offset)
-            }
-            Place::External { name, offset } => {
-                let number = self.externals.number(name);
-                self.code.emit_address(Target::External(number), offset)
-            }
+            Place::Code(offset) => self.fixed_address(Segment::Code, offset),
+            Place::Data(offset) => self.fixed_address(Segment::Data, offset),
+            Place::External { name, offset } => self.address_by_name(name, offset),
         }
     }
 
     /// Adds so many bytes that stay unset.
-    pub fn gap(&mut self, count: u16) -> Result<(), AllocError> {
-        self.code.leave(count)
+    pub fn gap(&mut self, count: u16) -> Result<(), AllocError>
+        ensures { OnOk result (Writes self.old self.new (Gap count ∷ [])) }
+    {
+        self.code.leave(count)?;
+        Ok(())
     }
 
     // A new label of the code.
-    fn new_label(&mut self) -> Result<usize, AllocError> {
+    fn new_label(&mut self) -> Result<usize, AllocError>
+        ensures items { OnOk result (self.new.code.items ≡ self.old.code.items) }
+        ensures labels { self.new.labels ≡ self.old.labels }
+        ensures externals { self.new.externals ≡ self.old.externals }
+    {
         let index = self.code.label_count();
         self.is_bound.push(false)?;
         let _ = self.code.label()?;
@@ -135,7 +204,12 @@ impl Writer {
     }
 
     // Which label of the code a number is, a new one where it is not used before.
-    fn label_of(&mut self, number: LabelNumber) -> Result<usize, AllocError> {
+    fn label_of(&mut self, number: LabelNumber) -> Result<usize, AllocError>
+        ensures found { IfOk result (λ index. entry self.new.labels number.index ≡ Some index) }
+        ensures items { OnOk result (self.new.code.items ≡ self.old.code.items) }
+        ensures labels { OnOk result (Extends self.old.labels self.new.labels) }
+        ensures externals { OnOk result (self.new.externals ≡ self.old.externals) }
+    {
         let entry = number.index as usize;
         if entry >= self.labels.len() {
             self.labels.resize(entry + 1, None)?;
@@ -151,30 +225,41 @@ impl Writer {
     }
 
     /// Adds a jump to a label, or another instruction with its place.
-    pub fn jump(&mut self, form: WordForm, number: LabelNumber) -> Result<(), AllocError> {
+    pub fn jump(&mut self, form: WordForm, number: LabelNumber) -> Result<(), AllocError>
+        ensures { OnOk result (Writes self.old self.new (jump_item form number ∷ [])) }
+    {
         let index = self.label_of(number)?;
-        match self.code.known(index) {
-            Some(label) => self.code.jump(form, label),
-            None => Ok(()),
-        }
-    }
-
-    // Gives a label of the code its place here, if it has none.
-    fn bind(&mut self, index: usize) -> Result<(), AllocError> {
         let Some(label) = self.code.known(index) else {
-            return Ok(());
+            return Err(AllocError);
         };
-        if let Some(false) = self.is_bound.get(index) {
-            self.code.bind(label)?;
-            self.is_bound[index] = true;
-        }
+        self.code.jump(form, label)?;
         Ok(())
     }
 
-    /// Gives a label its place here. A label that has a place keeps it.
-    pub fn mark(&mut self, number: LabelNumber) -> Result<(), AllocError> {
+    // Gives a label of the code its place here. Fails where it has one.
+    fn bind(&mut self, index: usize) -> Result<(), AllocError>
+        ensures items { OnOk result (self.new.code.items ≡ self.old.code.items ++ Mark index ∷ []) }
+        ensures labels { self.new.labels ≡ self.old.labels }
+        ensures externals { self.new.externals ≡ self.old.externals }
+    {
+        let Some(label) = self.code.known(index) else {
+            return Err(AllocError);
+        };
+        let Some(false) = self.is_bound.get(index) else {
+            return Err(AllocError);
+        };
+        self.code.bind(label)?;
+        self.is_bound[index] = true;
+        Ok(())
+    }
+
+    /// Gives a label its place here. Fails where it has one: no code has a label twice.
+    pub fn mark(&mut self, number: LabelNumber) -> Result<(), AllocError>
+        ensures { OnOk result (Writes self.old self.new (Mark number.index ∷ [])) }
+    {
         let index = self.label_of(number)?;
-        self.bind(index)
+        self.bind(index)?;
+        Ok(())
     }
 
     /// The code with a routine at its end, which begins at a label. Where there is no memory for it, the code is dropped.
@@ -182,7 +267,9 @@ impl Writer {
         mut self,
         routine: Routine,
         number: LabelNumber,
-    ) -> Result<Writer, AllocError> {
+    ) -> Result<Writer, AllocError>
+        ensures { IfOk result (λ after. WritesRoutine routine number self after) }
+    {
         self.mark(number)?;
         let Writer {
             code,
@@ -201,7 +288,8 @@ impl Writer {
 
     /// The code as bytes and fixes with its labels, and the names that it refers to.
     pub fn finish(self) -> Result<(Finished, Externals), Failure<Fault>>
-        ensures { IfOk result (λ both. Assembles self both.0.bytes) }
+        ensures code { IfOk result (λ both. Assembles self.code both.0.bytes) }
+        ensures externals { IfOk result (λ both. both.1 ≡ self.externals) }
     {
         let Writer {
             code,
@@ -239,7 +327,8 @@ fn add_routine(
     routine: Routine,
 ) -> Result<(Code, Vec<bool>), AllocError>
     requires { Follows is_bound.items code }
-    ensures { IfOk result (λ both. Follows both.1.items both.0) }
+    ensures follows { IfOk result (λ both. Follows both.1.items both.0) }
+    ensures added { IfOk result (λ both. AddsRoutine routine code both.0) }
 {
     let mut is_bound = is_bound;
     is_bound.resize(code.label_count(), false)?;

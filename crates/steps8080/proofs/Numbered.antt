@@ -1,0 +1,211 @@
+-- Items by the numbers that code has for labels and names: numbers that were given stay.
+use Rattle.std.proofs.Common.{◌≡◌, ℕ, List, [], ◌∷◌, ◌++◌, refl, ap, sym, subst, ◌∙◌, append_assoc, append-nil}
+use Rattle.std.specs.Prelude.{Option, Some, None, option_map, unwrap_or}
+use Rattle.object_modules.specs.declared.segment.Target.TheVariants.{InSegment, External}
+use Rattle.asm8080.specs.declared.item.Item.{Item}
+use Rattle.asm8080.specs.declared.item.Item.TheVariants.{Plain, WithWord, Byte, Address, Gap, Mark}
+use Rattle.asm8080.specs.declared.item.Reference.{Reference}
+use Rattle.asm8080.specs.declared.item.Reference.TheVariants.{AtLabel, AtTarget}
+use Rattle.asm8080.specs.Items.{Assembly}
+use Rattle.steps8080.specs.Externals.{Extends, entry}
+use Rattle.steps8080.specs.Writer.{Written, Writes, in_front, numbered, numbered_item, numbered_reference}
+
+-- what is found stays found
+map_stays :
+    {A B : Type 0} (f : A → B) (before after : Option A) (made : B)
+    → ((found : A) → before ≡ Some found → after ≡ Some found)
+    → option_map f before ≡ Some made
+    → option_map f after ≡ Some made
+map_stays f None after made stays given = let bad : None ≡ Some made = given in cc
+map_stays f (Some found) after made stays given = ap (option_map f) (stays found refl) ∙ given
+
+reference_stays :
+    (before after : Written) (reference made : Reference)
+    → Extends before.labels after.labels
+    → Extends before.externals after.externals
+    → numbered_reference before reference ≡ Some made
+    → numbered_reference after reference ≡ Some made
+reference_stays before after (AtLabel label) made labels externals given =
+    map_stays AtLabel (entry before.labels label) (entry after.labels label) made (labels label) given
+reference_stays before after (AtTarget (External name) offset) made labels externals given =
+    map_stays
+    (λ (number : ℕ). AtTarget (External number) offset)
+    (entry before.externals name)
+    (entry after.externals name)
+    made
+    (externals name)
+    given
+reference_stays before after (AtTarget (InSegment segment) offset) made labels externals given = given
+
+item_stays :
+    (before after : Written) (item made : Item)
+    → Extends before.labels after.labels
+    → Extends before.externals after.externals
+    → numbered_item before item ≡ Some made
+    → numbered_item after item ≡ Some made
+item_stays before after (WithWord form reference) made labels externals given =
+    map_stays
+    (WithWord form)
+    (numbered_reference before reference)
+    (numbered_reference after reference)
+    made
+    (λ found is. reference_stays before after reference found labels externals is)
+    given
+item_stays before after (Address reference) made labels externals given =
+    map_stays
+    Address
+    (numbered_reference before reference)
+    (numbered_reference after reference)
+    made
+    (λ found is. reference_stays before after reference found labels externals is)
+    given
+item_stays before after (Mark label) made labels externals given =
+    map_stays Mark (entry before.labels label) (entry after.labels label) made (labels label) given
+item_stays before after (Plain instruction) made labels externals given = given
+item_stays before after (Byte value) made labels externals given = given
+item_stays before after (Gap count) made labels externals given = given
+
+front_stays :
+    (item later_item : Option Item) (others later : Option (List Item)) (made : List Item)
+    → ((found : Item) → item ≡ Some found → later_item ≡ Some found)
+    → ((found : List Item) → others ≡ Some found → later ≡ Some found)
+    → in_front item others ≡ Some made
+    → in_front later_item later ≡ Some made
+front_stays (Some item) later_item (Some others) later made stays others_stay given =
+    ap (λ front. in_front front later) (stays item refl)
+    ∙ ap (in_front (Some item)) (others_stay others refl)
+    ∙ given
+front_stays (Some item) later_item None later made stays others_stay given =
+    let bad : None ≡ Some made = given in cc
+front_stays None later_item (Some others) later made stays others_stay given =
+    let bad : None ≡ Some made = given in cc
+front_stays None later_item None later made stays others_stay given =
+    let bad : None ≡ Some made = given in cc
+
+items_stay :
+    (before after : Written) (items made : List Item)
+    → Extends before.labels after.labels
+    → Extends before.externals after.externals
+    → numbered before items ≡ Some made
+    → numbered after items ≡ Some made
+items_stay before after [] made labels externals given = given
+items_stay before after (item ∷ others) made labels externals given =
+    front_stays
+    (numbered_item before item)
+    (numbered_item after item)
+    (numbered before others)
+    (numbered after others)
+    made
+    (λ found is. item_stays before after item found labels externals is)
+    (λ found is. items_stay before after others found labels externals is)
+    given
+
+-- items after others
+front_followed :
+    (item : Option Item) (others all : Option (List Item)) (made more : List Item)
+    → in_front item others ≡ Some made
+    → ((found : List Item) → others ≡ Some found → all ≡ Some (found ++ more))
+    → in_front item all ≡ Some (made ++ more)
+front_followed (Some item) (Some others) all made more given followed =
+    ap (in_front (Some item)) (followed others refl)
+    ∙ ap (λ list. Some (list ++ more)) (ap (λ found. unwrap_or found []) given)
+front_followed (Some item) None all made more given followed = let bad : None ≡ Some made = given in cc
+front_followed None (Some others) all made more given followed = let bad : None ≡ Some made = given in cc
+front_followed None None all made more given followed = let bad : None ≡ Some made = given in cc
+
+items_followed :
+    (written : Written) (items later made more : List Item)
+    → numbered written items ≡ Some made
+    → numbered written later ≡ Some more
+    → numbered written (items ++ later) ≡ Some (made ++ more)
+items_followed written [] later made more given followed =
+    followed ∙ ap (λ list. Some (list ++ more)) (ap (λ found. unwrap_or found []) given)
+items_followed written (item ∷ others) later made more given followed =
+    front_followed
+    (numbered_item written item)
+    (numbered written others)
+    (numbered written (others ++ later))
+    made
+    more
+    given
+    (λ found is. items_followed written others later found more is followed)
+
+-- nothing is added
+pub writes_nothing : (written : Written) → Writes written written []
+writes_nothing written = record {
+  made = [];
+  added = sym (append-nil written.code.items);
+  same = refl;
+  labels = λ number found given. given;
+  externals = λ number found given. given;
+}
+
+-- items are added one after another
+pub writes_then :
+    (before between after : Written) (items later : List Item)
+    → Writes before between items
+    → Writes between after later
+    → Writes before after (items ++ later)
+writes_then before between after items later first second = record {
+  made = first.made ++ second.made;
+  added =
+      second.added
+      ∙ ap (λ list. list ++ second.made) first.added
+      ∙ append_assoc before.code.items first.made second.made;
+  same =
+      items_followed after items later first.made second.made
+      (items_stay between after items first.made second.labels second.externals first.same)
+      second.same;
+  labels = λ number found given. second.labels number found (first.labels number found given);
+  externals = λ number found given. second.externals number found (first.externals number found given);
+}
+
+-- one item is added, where the numbers of labels and names may have changed
+pub writes_one :
+    (inside before after : Written) (item made : Item)
+    → inside ≡ before
+    → after.code.items ≡ inside.code.items ++ made ∷ []
+    → Extends inside.labels after.labels
+    → Extends inside.externals after.externals
+    → numbered_item after item ≡ Some made
+    → Writes before after (item ∷ [])
+writes_one inside before after item made same added labels externals named =
+    subst (λ old. Writes old after (item ∷ [])) same (record {
+      made = made ∷ [];
+      added = added;
+      same = ap (λ front. in_front front (Some [])) named;
+      labels = labels;
+      externals = externals;
+    })
+
+-- and where they have not
+pub writes_known :
+    (inside before after : Written) (item made : Item)
+    → inside ≡ before
+    → after.code ≡ record (inside.code) { items = inside.code.items ++ made ∷ [] }
+    → after.labels ≡ inside.labels
+    → after.externals ≡ inside.externals
+    → numbered_item after item ≡ Some made
+    → Writes before after (item ∷ [])
+writes_known inside before after item made same added labels externals named =
+    writes_one inside before after item made same
+    (ap (λ (code : Assembly). code.items) added)
+    (λ number found given. ap (λ table. entry table number) labels ∙ given)
+    (λ number found given. ap (λ table. entry table number) externals ∙ given)
+    named
+
+-- and where names have got numbers
+pub writes_named :
+    (inside before after : Written) (item made : Item)
+    → inside ≡ before
+    → after.code ≡ record (inside.code) { items = inside.code.items ++ made ∷ [] }
+    → after.labels ≡ inside.labels
+    → Extends inside.externals after.externals
+    → numbered_item after item ≡ Some made
+    → Writes before after (item ∷ [])
+writes_named inside before after item made same added labels externals named =
+    writes_one inside before after item made same
+    (ap (λ (code : Assembly). code.items) added)
+    (λ number found given. ap (λ table. entry table number) labels ∙ given)
+    externals
+    named

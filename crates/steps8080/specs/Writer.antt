@@ -1,0 +1,92 @@
+-- Code as it is written. Its items speak of labels and of names of other modules by their numbers in the module;
+-- the code itself numbers both in the order of their first use.
+use Rattle.std.specs.Prelude.{◌≡◌, ℕ, List, [], ◌∷◌, ◌++◌, Option, Some, None, option_map}
+use Rattle.object_modules.specs.declared.segment.Segment.TheVariants as segments
+use Rattle.object_modules.specs.declared.segment.Target.TheVariants.{InSegment, External}
+use Rattle.asm8080.specs.declared.item.Item.{Item}
+use Rattle.asm8080.specs.declared.item.Item.TheVariants.{Plain, WithWord, Byte, Address, Mark}
+use Rattle.asm8080.specs.declared.item.Reference.{Reference}
+use Rattle.asm8080.specs.declared.item.Reference.TheVariants.{AtLabel, AtTarget}
+use Rattle.asm8080.specs.declared.item.WordForm.{WordForm}
+use Rattle.asm8080.specs.declared.item.WordForm.TheVariants.{CallTo}
+use Rattle.asm8080.specs.Items.{Assembly, instruction_with}
+use Rattle.runtime8080.specs.declared.routine.Routine.{Routine}
+use Rattle.runtime8080.specs.Routines.{AddsRoutine}
+use Rattle.treecode.specs.declared.place.Place.{Place}
+use Rattle.treecode.specs.declared.place.Place.TheVariants as places
+use Rattle.steps8080.specs.declared.step.LabelNumber.{LabelNumber}
+use Rattle.steps8080.specs.Instructions.{high, low}
+use Rattle.steps8080.specs.Externals.{Extends, entry}
+
+-- code, and by which numbers it knows the labels of the module and the names of other modules, where it uses
+-- them
+pub record Written : Type 0 where
+  pub code : Assembly
+  pub labels : List (Option ℕ)
+  pub externals : List (Option ℕ)
+
+-- a reference, an item, items by these numbers
+abbrev pub numbered_reference : Written → Reference → Option Reference
+numbered_reference written (AtLabel label) = option_map AtLabel (entry written.labels label)
+numbered_reference written (AtTarget (External name) offset) =
+    option_map (λ number. AtTarget (External number) offset) (entry written.externals name)
+numbered_reference written (AtTarget (InSegment segment) offset) = Some (AtTarget (InSegment segment) offset)
+
+abbrev pub numbered_item : Written → Item → Option Item
+numbered_item written (WithWord form reference) =
+    option_map (WithWord form) (numbered_reference written reference)
+numbered_item written (Address reference) = option_map Address (numbered_reference written reference)
+numbered_item written (Mark label) = option_map Mark (entry written.labels label)
+numbered_item written item = Some item
+
+-- an item before others, where there are all
+abbrev pub in_front : Option Item → Option (List Item) → Option (List Item)
+in_front (Some item) (Some others) = Some (item ∷ others)
+in_front item others = None
+
+abbrev pub numbered : Written → List Item → Option (List Item)
+numbered written [] = Some []
+numbered written (item ∷ others) = in_front (numbered_item written item) (numbered written others)
+
+-- Items are added to code. Numbers that were given stay.
+pub record Writes (before after : Written) (items : List Item) : Type 0 where
+  pub made : List Item
+  pub added : after.code.items ≡ before.code.items ++ made
+  pub same : numbered after items ≡ Some made
+  pub labels : Extends before.labels after.labels
+  pub externals : Extends before.externals after.externals
+
+-- A routine is added to code, with a label of the module at its start. Its own labels are known to nobody else.
+pub record WritesRoutine
+    (routine : Routine) (label : LabelNumber) (before after : Written) : Type 0 where
+  pub entered : Written
+  pub marked : Writes before entered (Mark label.index ∷ [])
+  pub added : AddsRoutine routine entered.code after.code
+  pub labels : after.labels ≡ entered.labels
+  pub externals : after.externals ≡ entered.externals
+
+-- an instruction with the word of a place
+abbrev pub word_item : WordForm → Place → Item
+word_item form (places.Number number) = Plain (instruction_with form number)
+word_item form (places.Code offset) = WithWord form (AtTarget (InSegment segments.Code) offset)
+word_item form (places.Data offset) = WithWord form (AtTarget (InSegment segments.Data) offset)
+word_item form (places.External offset name) = WithWord form (AtTarget (External name) offset)
+
+-- an instruction whose word is the address just past the stack
+abbrev pub stack_end_item : WordForm → Item
+stack_end_item form = WithWord form (AtTarget (InSegment segments.Stack) 0)
+
+-- a call of a procedure of another module
+abbrev pub external_call_item : (name : ℕ) → Item
+external_call_item name = WithWord CallTo (AtTarget (External name) 0)
+
+-- an instruction with the place of a label
+abbrev pub jump_item : WordForm → LabelNumber → Item
+jump_item form label = WithWord form (AtLabel label.index)
+
+-- a word of data
+abbrev pub address_items : Place → List Item
+address_items (places.Number number) = Byte (low number) ∷ Byte (high number) ∷ []
+address_items (places.Code offset) = Address (AtTarget (InSegment segments.Code) offset) ∷ []
+address_items (places.Data offset) = Address (AtTarget (InSegment segments.Data) offset) ∷ []
+address_items (places.External offset name) = Address (AtTarget (External name) offset) ∷ []
