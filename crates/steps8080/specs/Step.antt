@@ -22,11 +22,11 @@ pub record Adds (before after : Steps) (list : List Step) : Type 0 where
   pub added : after.list.items ≡ before.list.items ++ list
   pub labels : after.labels ≡ before.labels
 
--- so many labels are taken, and what is added is this by the first of them
+-- so many labels are taken, none or more, and what is added is this by the first of them
 pub record AddsWithLabels
     (before after : Steps) (count : ℕ) (list : (first : ℕ) → List Step) : Type 0 where
   pub added : after.list.items ≡ before.list.items ++ list before.labels
-  pub labels : after.labels ≡ label_after before.labels count
+  pub labels : label_after after.labels 0 ≡ label_after before.labels count
 
 -- the code of a task where so many bytes are pushed
 abbrev pub part : Task → (pushed : ℕ) → Step
