@@ -1,5 +1,9 @@
 //! Assignments.
 
+ghost use Rattle.std.specs.Prelude.{◌≡◌, OnOk};
+ghost use Rattle.statements8080.specs.Plans.{PlanAdds};
+ghost use Rattle.statements8080.specs.Assignments.{assignment_steps, byte_steps, count_of, each_steps, from_byte_steps, from_type, from_word_steps, is_address_first, is_one, is_quiet_subscript, is_value_of, number_steps, several_steps, single_steps, stores_steps, takes_word, together_steps, types_of, word_steps};
+
 use crate::body::Body;
 use crate::plan::Plan;
 use crate::same::are_same;
@@ -20,7 +24,9 @@ enum TargetTypes {
 }
 
 // Whether a target takes a word.
-fn takes_word(target: Target) -> bool {
+fn takes_word(target: Target) -> bool
+    ensures { result ≡ takes_word target }
+{
     match target {
         Target::Stored { to, .. } => matches!(to, ScalarType::Address),
         Target::Sent { .. } => false,
@@ -28,7 +34,9 @@ fn takes_word(target: Target) -> bool {
 }
 
 // The target of a value that is there in this type.
-fn from_type(target: Target, from: ScalarType) -> Target {
+fn from_type(target: Target, from: ScalarType) -> Target
+    ensures { result ≡ from_type target from }
+{
     match target {
         Target::Stored {
             from: _,
@@ -44,7 +52,9 @@ fn from_type(target: Target, from: ScalarType) -> Target {
 }
 
 // Whether a subscript is evaluated without changing anything.
-fn is_quiet_subscript(site: &Site<'_>, subscript: Option<Subscript>) -> bool {
+fn is_quiet_subscript(site: &Site<'_>, subscript: Option<Subscript>) -> bool
+    ensures { result ≡ is_quiet_subscript site.now subscript }
+{
     match subscript {
         Some(subscript) => site.is_quiet(subscript.index),
         None => true,
@@ -53,7 +63,9 @@ fn is_quiet_subscript(site: &Site<'_>, subscript: Option<Subscript>) -> bool {
 
 // Whether the address of a BYTE target is to come before its value: its code does not keep A, the code of the value uses A
 // alone, and nobody can tell the order.
-fn is_address_first(site: &Site<'_>, reference: &Reference, value: ExpressionNumber) -> bool {
+fn is_address_first(site: &Site<'_>, reference: &Reference, value: ExpressionNumber) -> bool
+    ensures { result ≡ is_address_first site.now reference.now value }
+{
     !site.keeps_of_address(reference).a
         && site.is_free(value)
         && is_quiet_subscript(site, reference.subscript)
@@ -61,7 +73,9 @@ fn is_address_first(site: &Site<'_>, reference: &Reference, value: ExpressionNum
 }
 
 // INR M or DCR M, where a BYTE is to become itself and 1 or itself less 1.
-fn count_of(site: &Site<'_>, reference: &Reference, value: ExpressionNumber) -> Option<Instr> {
+fn count_of(site: &Site<'_>, reference: &Reference, value: ExpressionNumber) -> Option<Instr>
+    ensures { result ≡ count_of site.now reference.now value }
+{
     let Some(expression) = site.expression(value) else {
         return None;
     };
@@ -85,12 +99,16 @@ fn count_of(site: &Site<'_>, reference: &Reference, value: ExpressionNumber) -> 
 }
 
 // Whether an expression is the number 1.
-fn is_one(site: &Site<'_>, number: ExpressionNumber) -> bool {
+fn is_one(site: &Site<'_>, number: ExpressionNumber) -> bool
+    ensures { result ≡ is_one site.now number }
+{
     matches!(site.number(number), Some(1))
 }
 
 // Whether an expression is the value of a reference.
-fn is_value_of(site: &Site<'_>, number: ExpressionNumber, reference: &Reference) -> bool {
+fn is_value_of(site: &Site<'_>, number: ExpressionNumber, reference: &Reference) -> bool
+    ensures { result ≡ is_value_of site.now number reference.now }
+{
     match site.expression(number) {
         Some(expression) => match expression.form {
             ExpressionForm::Value(other) => are_same(site, &other, reference),
@@ -106,7 +124,9 @@ fn plan_byte(
     plan: &mut Plan,
     reference: Reference,
     value: ExpressionNumber,
-) -> Result<(), AllocError> {
+) -> Result<(), AllocError>
+    ensures { OnOk result (PlanAdds plan.old plan.new (byte_steps site.now reference value)) }
+{
     if let Some(number) = site.number(value) {
         plan.part(Task::Address(reference), 0)?;
         return plan.plain(Instr::Mvi(Operand::M, (number % 256) as u8));
@@ -133,7 +153,9 @@ fn plan_from_byte(
     plan: &mut Plan,
     target: Target,
     value: ExpressionNumber,
-) -> Result<(), AllocError> {
+) -> Result<(), AllocError>
+    ensures { OnOk result (PlanAdds plan.old plan.new (from_byte_steps target value)) }
+{
     plan.part(Task::Byte(value), 0)?;
     plan.part(
         Task::Store {
@@ -149,7 +171,9 @@ fn plan_from_word(
     plan: &mut Plan,
     target: Target,
     value: ExpressionNumber,
-) -> Result<(), AllocError> {
+) -> Result<(), AllocError>
+    ensures { OnOk result (PlanAdds plan.old plan.new (from_word_steps target value)) }
+{
     plan.part(Task::Word(value), 0)?;
     plan.part(
         Task::Store {
@@ -161,7 +185,9 @@ fn plan_from_word(
 }
 
 // A number goes to an ADDRESS, byte by byte.
-fn plan_number(plan: &mut Plan, reference: Reference, number: u16) -> Result<(), AllocError> {
+fn plan_number(plan: &mut Plan, reference: Reference, number: u16) -> Result<(), AllocError>
+    ensures { OnOk result (PlanAdds plan.old plan.new (number_steps reference number)) }
+{
     plan.part(Task::Address(reference), 0)?;
     plan.plain(Instr::Mvi(Operand::M, (number % 256) as u8))?;
     plan.plain(Instr::Inx(Pair::Hl))?;
@@ -176,7 +202,9 @@ fn plan_word(
     target: Target,
     reference: Reference,
     value: ExpressionNumber,
-) -> Result<(), AllocError> {
+) -> Result<(), AllocError>
+    ensures { OnOk result (PlanAdds plan.old plan.new (word_steps body.now site.now target reference value)) }
+{
     if body.is_near(site.location_of(&reference)) {
         return plan_from_word(plan, target, value);
     }
@@ -196,7 +224,9 @@ pub fn plan_single(
     plan: &mut Plan,
     target: Target,
     value: ExpressionNumber,
-) -> Result<(), AllocError> {
+) -> Result<(), AllocError>
+    ensures { OnOk result (PlanAdds plan.old plan.new (single_steps body.now site.now target value)) }
+{
     match target {
         Target::Stored { to, reference, .. } => match to {
             ScalarType::Byte => plan_byte(site, plan, reference, value),
@@ -207,7 +237,10 @@ pub fn plan_single(
 }
 
 // How the types of targets go together.
-fn types_of(body: &Body<'_>, targets: Range) -> TargetTypes {
+#[tactic(auto, using(crate::proofs::Adding::any_target_here))]
+fn types_of(body: &Body<'_>, targets: Range) -> TargetTypes
+    ensures { result ≡ types_of body.now targets }
+{
     let mut takes_bytes = false;
     let mut takes_words = false;
     for index in 0..targets.count {
@@ -225,13 +258,16 @@ fn types_of(body: &Body<'_>, targets: Range) -> TargetTypes {
 }
 
 // Each target gets a value, as if it were the only one.
+#[tactic(auto, using(crate::proofs::Adding::adding_begins, crate::proofs::Adding::adding_goes_on, crate::proofs::Adding::adding_ends, crate::proofs::Adding::steps_from_here))]
 fn plan_each(
     body: &Body<'_>,
     site: &Site<'_>,
     plan: &mut Plan,
     targets: Range,
     value: ExpressionNumber,
-) -> Result<(), AllocError> {
+) -> Result<(), AllocError>
+    ensures { OnOk result (PlanAdds plan.old plan.new (each_steps body.now site.now targets value)) }
+{
     for index in 0..targets.count {
         if let Some(target) = body.tree.target(targets, index) {
             plan_single(body, site, plan, target, value)?;
@@ -241,15 +277,18 @@ fn plan_each(
 }
 
 // A value that is in A or HL in this type goes to all targets.
+#[tactic(auto, using(crate::proofs::Adding::adding_begins, crate::proofs::Adding::adding_goes_on, crate::proofs::Adding::adding_ends, crate::proofs::Adding::steps_from_here))]
 fn plan_stores(
     body: &Body<'_>,
     plan: &mut Plan,
     targets: Range,
     from: ScalarType,
-) -> Result<(), AllocError> {
+) -> Result<(), AllocError>
+    ensures { OnOk result (PlanAdds plan.old plan.new (stores_steps body.now targets from)) }
+{
     for index in 0..targets.count {
         if let Some(target) = body.tree.target(targets, index) {
-            let is_wanted = index.saturating_add(1) < targets.count;
+            let is_wanted = index < targets.count.saturating_sub(1);
             let target = from_type(target, from);
             plan.part(Task::Store { target, is_wanted }, 0)?;
         }
@@ -264,7 +303,9 @@ fn plan_together(
     targets: Range,
     value: ExpressionNumber,
     from: ScalarType,
-) -> Result<(), AllocError> {
+) -> Result<(), AllocError>
+    ensures { OnOk result (PlanAdds plan.old plan.new (together_steps body.now targets value from)) }
+{
     match from {
         ScalarType::Byte => plan.part(Task::Byte(value), 0)?,
         ScalarType::Address => plan.part(Task::Word(value), 0)?,
@@ -279,7 +320,9 @@ fn plan_several(
     plan: &mut Plan,
     targets: Range,
     value: ExpressionNumber,
-) -> Result<(), AllocError> {
+) -> Result<(), AllocError>
+    ensures { OnOk result (PlanAdds plan.old plan.new (several_steps body.now site.now targets value)) }
+{
     match types_of(body, targets) {
         TargetTypes::Bytes => plan_together(body, plan, targets, value, ScalarType::Byte),
         TargetTypes::Words => plan_together(body, plan, targets, value, ScalarType::Address),
@@ -300,7 +343,9 @@ pub fn plan_assignment(
     plan: &mut Plan,
     targets: Range,
     value: ExpressionNumber,
-) -> Result<(), AllocError> {
+) -> Result<(), AllocError>
+    ensures { OnOk result (PlanAdds plan.old plan.new (assignment_steps body.now site.now targets value)) }
+{
     if targets.count == 1 {
         plan_each(body, site, plan, targets, value)
     } else {

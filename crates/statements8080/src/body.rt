@@ -1,5 +1,8 @@
 //! The bodies that code is made of.
 
+ghost use Rattle.std.specs.Prelude.{◌≡◌};
+ghost use Rattle.statements8080.specs.Bodies.{body_label, is_near, whole};
+
 use exprgen8080::LabelNumber;
 use frames::FramePlan;
 use treecode::{Location, Reference, TreeModule, TreeProcedure};
@@ -16,7 +19,9 @@ pub struct Body<'a> {
 
 impl<'a> Body<'a> {
     /// The label of the code that a label of the body is, by its number there.
-    pub fn label(&self, number: u32) -> LabelNumber {
+    pub fn label(&self, number: u32) -> LabelNumber
+        ensures { result ≡ body_label self.now number }
+    {
         LabelNumber {
             index: self.first_label.index.saturating_add(number),
         }
@@ -24,7 +29,9 @@ impl<'a> Body<'a> {
 
     /// Whether the code loads and stores a word here without its address in HL: in memory, or as one of the two words next
     /// to the stack pointer, where nothing is pushed.
-    pub fn is_near(&self, location: Option<Location>) -> bool {
+    pub fn is_near(&self, location: Option<Location>) -> bool
+        ensures { result ≡ is_near self.now location }
+    {
         match location {
             Some(Location::Static(_)) => true,
             Some(Location::Frame { variable, offset }) => {
@@ -37,7 +44,9 @@ impl<'a> Body<'a> {
 }
 
 /// A whole object.
-pub fn whole(object: u32) -> Reference {
+pub fn whole(object: u32) -> Reference
+    ensures { result ≡ whole object }
+{
     Reference {
         object,
         subscript: None,

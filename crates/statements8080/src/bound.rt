@@ -1,5 +1,9 @@
 //! The test of an iterative DO: whether its variable is not above its bound.
 
+ghost use Rattle.std.specs.Prelude.{◌≡◌, OnOk};
+ghost use Rattle.statements8080.specs.Plans.{PlanAdds};
+ghost use Rattle.statements8080.specs.Tests.{byte_below_steps, byte_below_word_steps, facts_of_test, frame_word_below_steps, known_test, place_below_steps, test_of, test_steps, word_at, word_below_steps, word_test};
+
 use crate::iteration::{Counter, plan_less};
 use crate::plan::{Plan, Planned};
 use asm8080::WordForm;
@@ -31,7 +35,9 @@ pub enum Test {
 }
 
 // The test with a bound that is known.
-fn known_test(counter: &Counter, last: u16) -> Test {
+fn known_test(counter: &Counter, last: u16) -> Test
+    ensures { result ≡ known_test counter.now.scalar last }
+{
     let Some(bound) = last.checked_add(1) else {
         return Test::Always;
     };
@@ -48,7 +54,9 @@ fn known_test(counter: &Counter, last: u16) -> Test {
 }
 
 // The place in memory of an ADDRESS that an expression is the value of, if it is one.
-fn word_at(site: &Site<'_>, number: ExpressionNumber) -> Option<Place> {
+fn word_at(site: &Site<'_>, number: ExpressionNumber) -> Option<Place>
+    ensures { result ≡ word_at site.now number }
+{
     match site.expression(number) {
         Some(expression) => match (expression.form, expression.traits.scalar) {
             (ExpressionForm::Value(reference), ScalarType::Address) => site.direct(&reference),
@@ -59,7 +67,9 @@ fn word_at(site: &Site<'_>, number: ExpressionNumber) -> Option<Place> {
 }
 
 // The test of an ADDRESS with a bound that is not known.
-fn word_test(site: &Site<'_>, counter: &Counter, last: ExpressionNumber) -> Test {
+fn word_test(site: &Site<'_>, counter: &Counter, last: ExpressionNumber) -> Test
+    ensures { result ≡ word_test site.now counter.now last }
+{
     match (counter.place(), word_at(site, last)) {
         (Some(_), Some(place)) => Test::WordWithPlace(place),
         (Some(_), None) => Test::Word(last),
@@ -68,7 +78,10 @@ fn word_test(site: &Site<'_>, counter: &Counter, last: ExpressionNumber) -> Test
 }
 
 /// How it is tested whether the variable is not above the bound.
-pub fn test_of(site: &Site<'_>, counter: &Counter, last: ExpressionNumber) -> Test {
+#[tactic(auto, unfolding(crate::specs::Tests::test_of))]
+pub fn test_of(site: &Site<'_>, counter: &Counter, last: ExpressionNumber) -> Test
+    ensures { result ≡ test_of site.now counter.now last }
+{
     if let Some(last) = site.number(last) {
         return known_test(counter, last);
     }
@@ -80,7 +93,9 @@ pub fn test_of(site: &Site<'_>, counter: &Counter, last: ExpressionNumber) -> Te
 }
 
 /// What holds where the test jumps.
-pub fn facts_of_test(counter: &Counter, test: Test) -> Facts {
+pub fn facts_of_test(counter: &Counter, test: Test) -> Facts
+    ensures { result ≡ facts_of_test counter.now test }
+{
     match test {
         Test::Always | Test::FrameWord(_) => Facts::none(),
         Test::ByteBelow(_) => Facts {
@@ -93,7 +108,9 @@ pub fn facts_of_test(counter: &Counter, test: Test) -> Facts {
 }
 
 // The carry shows whether the word at a place is less than HL.
-fn plan_place_below(plan: &mut Plan, place: Place) -> Result<(), AllocError> {
+fn plan_place_below(plan: &mut Plan, place: Place) -> Result<(), AllocError>
+    ensures { OnOk result (PlanAdds plan.old plan.new (place_below_steps place)) }
+{
     plan.word(WordForm::LoadA, place)?;
     plan.plain(Instr::Accumulate(Operation::Subtract, Operand::Of(Register::L)))?;
     plan.word(WordForm::LoadA, place.after(1))?;
@@ -105,7 +122,9 @@ fn plan_word_below(
     plan: &mut Plan,
     counter: &Counter,
     last: ExpressionNumber,
-) -> Result<(), AllocError> {
+) -> Result<(), AllocError>
+    ensures { OnOk result (PlanAdds plan.old plan.new (word_below_steps counter.now last)) }
+{
     plan.part(Task::Word(last), 0)?;
     plan.plain(Instr::Xchg)?;
     plan.push(Planned::LoadWord(counter.reference))?;
@@ -122,7 +141,9 @@ fn plan_frame_word_below(
     plan: &mut Plan,
     counter: &Counter,
     last: ExpressionNumber,
-) -> Result<(), AllocError> {
+) -> Result<(), AllocError>
+    ensures { OnOk result (PlanAdds plan.old plan.new (frame_word_below_steps counter.now last)) }
+{
     plan.part(Task::Word(last), 0)?;
     plan.plain(Instr::Xchg)?;
     plan.part(Task::Address(counter.reference), 0)?;
@@ -140,7 +161,9 @@ fn plan_byte_below_word(
     plan: &mut Plan,
     counter: &Counter,
     last: ExpressionNumber,
-) -> Result<(), AllocError> {
+) -> Result<(), AllocError>
+    ensures { OnOk result (PlanAdds plan.old plan.new (byte_below_word_steps counter.now last)) }
+{
     plan.part(Task::Word(last), 0)?;
     plan.plain(Instr::Xchg)?;
     plan.part(Task::Address(counter.reference), 0)?;
@@ -157,19 +180,24 @@ fn plan_byte_below(
     plan: &mut Plan,
     counter: &Counter,
     last: ExpressionNumber,
-) -> Result<(), AllocError> {
+) -> Result<(), AllocError>
+    ensures { OnOk result (PlanAdds plan.old plan.new (byte_below_steps counter.now last)) }
+{
     plan.part(Task::Byte(last), 0)?;
     plan.part(Task::Address(counter.reference), 0)?;
     plan.plain(Instr::Accumulate(Operation::Compare, Operand::M))
 }
 
 /// A jump to a label where the variable is not above the bound.
+#[tactic(auto, unfolding(crate::specs::Tests::test_steps))]
 pub fn plan_test(
     plan: &mut Plan,
     counter: &Counter,
     test: Test,
     turn: LabelNumber,
-) -> Result<(), AllocError> {
+) -> Result<(), AllocError>
+    ensures { OnOk result (PlanAdds plan.old plan.new (test_steps counter.now test turn)) }
+{
     match test {
         Test::Always => return plan.jump(WordForm::Jump, turn),
         Test::ByteBelow(bound) => {

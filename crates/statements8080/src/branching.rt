@@ -1,7 +1,12 @@
 //! IF and DO WHILE.
 
+ghost use Rattle.std.specs.Prelude.{◌≡◌, OnOk};
+ghost use Rattle.steps8080.specs.declared.step.Task.TheVariants as tasks;
+ghost use Rattle.statements8080.specs.Plans.{PlanAdds, PlanAddsWithLabels};
+ghost use Rattle.statements8080.specs.Branches.{either_labels, either_steps, forever_steps, goto_label, has_one_jump, if_labels, if_steps, inner, may_jump_twice, statement_if_any, tested_if_labels, tested_if_steps, tested_while_steps, then_steps, while_labels, while_steps};
+
 use crate::body::Body;
-use crate::plan::{Plan, Planned};
+use crate::plan::{Plan, Planned, label_at};
 use asm8080::WordForm;
 use exprgen8080::{LabelNumber, Site, Task};
 use std::alloc::AllocError;
@@ -12,7 +17,9 @@ use trees::{BinaryOperator, UnaryOperator};
 const LOOKED_THROUGH: u32 = 8;
 
 // An expression inside NOT or a conversion, whose lowest bit is the same or the other one.
-fn inner(site: &Site<'_>, number: ExpressionNumber) -> Option<ExpressionNumber> {
+fn inner(site: &Site<'_>, number: ExpressionNumber) -> Option<ExpressionNumber>
+    ensures { result ≡ inner site.now number }
+{
     match site.expression(number) {
         Some(expression) => match expression.form {
             ExpressionForm::Conversion(inner) => Some(inner),
@@ -27,7 +34,9 @@ fn inner(site: &Site<'_>, number: ExpressionNumber) -> Option<ExpressionNumber> 
 }
 
 // Whether the code of a condition may be that of AND or OR, which may jump at each side.
-fn may_jump_twice(site: &Site<'_>, number: ExpressionNumber) -> bool {
+fn may_jump_twice(site: &Site<'_>, number: ExpressionNumber) -> bool
+    ensures { result ≡ may_jump_twice site.now number }
+{
     match site.expression(number) {
         Some(expression) => match expression.form {
             ExpressionForm::Binary { operator, .. } => {
@@ -43,19 +52,26 @@ fn may_jump_twice(site: &Site<'_>, number: ExpressionNumber) -> bool {
 }
 
 // Whether the code of a condition surely has one jump at most to its label.
-fn has_one_jump(site: &Site<'_>, condition: ExpressionNumber) -> bool {
+#[tactic(auto, using(crate::proofs::Jumps::one_jump_here, crate::proofs::Jumps::one_jump_last, crate::proofs::Jumps::one_jump_ends))]
+fn has_one_jump(site: &Site<'_>, condition: ExpressionNumber) -> bool
+    ensures { result ≡ has_one_jump site.now condition }
+{
     let mut condition = condition;
-    for _ in 0..LOOKED_THROUGH {
+    let mut left = LOOKED_THROUGH;
+    while left > 0 {
         match inner(site, condition) {
             Some(inner) => condition = inner,
             None => return !may_jump_twice(site, condition),
         }
+        left -= 1;
     }
     false
 }
 
 // The label that a statement goes to, where it is a GOTO.
-fn goto_label(body: &Body<'_>, statement: StatementNumber) -> Option<LabelNumber> {
+fn goto_label(body: &Body<'_>, statement: StatementNumber) -> Option<LabelNumber>
+    ensures { result ≡ goto_label body.now statement }
+{
     match body.tree.statement(statement) {
         Some(Statement::Goto(label)) => Some(body.label(label)),
         _ => None,
@@ -63,7 +79,9 @@ fn goto_label(body: &Body<'_>, statement: StatementNumber) -> Option<LabelNumber
 }
 
 // A jump to a label by a condition.
-fn branch(condition: ExpressionNumber, label: LabelNumber, sense: bool) -> Task {
+fn branch(condition: ExpressionNumber, label: LabelNumber, sense: bool) -> Task
+    ensures { result ≡ tasks.Branch condition label sense }
+{
     Task::Branch {
         condition,
         label,
@@ -77,7 +95,10 @@ fn plan_then(
     plan: &mut Plan,
     condition: ExpressionNumber,
     then: StatementNumber,
-) -> Result<(), AllocError> {
+) -> Result<(), AllocError>
+    ensures { OnOk result (PlanAddsWithLabels plan.old plan.new 1
+        (then_steps site.now condition then)) }
+{
     let end = plan.label();
     plan.part(branch(condition, end, false), 0)?;
     plan.push(Planned::Jumped {
@@ -95,13 +116,16 @@ fn plan_either(
     condition: ExpressionNumber,
     then: StatementNumber,
     otherwise: StatementNumber,
-) -> Result<(), AllocError> {
+) -> Result<(), AllocError>
+    ensures { OnOk result (PlanAddsWithLabels plan.old plan.new (either_labels body.now otherwise)
+        (either_steps body.now site.now condition then otherwise)) }
+{
     if let Some(label) = goto_label(body, otherwise) {
         plan.part(branch(condition, label, false), 0)?;
         return plan.push(Planned::Statement(then));
     }
-    let other = plan.label();
-    let end = plan.label();
+    let other = plan.labels(2);
+    let end = label_at(other, 1);
     plan.part(branch(condition, other, false), 0)?;
     plan.push(Planned::Jumped {
         is_the_only_one: has_one_jump(site, condition),
@@ -120,7 +144,10 @@ fn plan_test(
     condition: ExpressionNumber,
     then: StatementNumber,
     otherwise: Option<StatementNumber>,
-) -> Result<(), AllocError> {
+) -> Result<(), AllocError>
+    ensures { OnOk result (PlanAddsWithLabels plan.old plan.new (tested_if_labels body.now then otherwise)
+        (tested_if_steps body.now site.now condition then otherwise)) }
+{
     if let Some(label) = goto_label(body, then) {
         plan.part(branch(condition, label, true), 0)?;
         return plan_statement_if_any(plan, otherwise);
@@ -135,7 +162,9 @@ fn plan_test(
 fn plan_statement_if_any(
     plan: &mut Plan,
     statement: Option<StatementNumber>,
-) -> Result<(), AllocError> {
+) -> Result<(), AllocError>
+    ensures { OnOk result (PlanAdds plan.old plan.new (statement_if_any statement)) }
+{
     match statement {
         Some(statement) => plan.push(Planned::Statement(statement)),
         None => Ok(()),
@@ -151,7 +180,11 @@ pub fn plan_if(
     condition: ExpressionNumber,
     then: StatementNumber,
     otherwise: Option<StatementNumber>,
-) -> Result<(), AllocError> {
+) -> Result<(), AllocError>
+    ensures { OnOk result (PlanAddsWithLabels plan.old plan.new
+        (if_labels body.now site.now condition then otherwise)
+        (if_steps body.now site.now condition then otherwise)) }
+{
     match site.number(condition) {
         Some(number) => {
             if number % 2 == 1 {
@@ -165,7 +198,10 @@ pub fn plan_if(
 }
 
 // A list that is carried out again and again.
-fn plan_forever(plan: &mut Plan, list: Range) -> Result<(), AllocError> {
+fn plan_forever(plan: &mut Plan, list: Range) -> Result<(), AllocError>
+    ensures { OnOk result (PlanAddsWithLabels plan.old plan.new 1
+        (forever_steps list)) }
+{
     let begin = plan.label();
     plan.mark(begin)?;
     plan.push(Planned::List(list))?;
@@ -178,9 +214,12 @@ fn plan_while_tested(
     plan: &mut Plan,
     condition: ExpressionNumber,
     list: Range,
-) -> Result<(), AllocError> {
-    let begin = plan.label();
-    let test = plan.label();
+) -> Result<(), AllocError>
+    ensures { OnOk result (PlanAddsWithLabels plan.old plan.new 2
+        (tested_while_steps condition list)) }
+{
+    let begin = plan.labels(2);
+    let test = label_at(begin, 1);
     if list.count > 0 {
         plan.jump(WordForm::Jump, test)?;
     }
@@ -197,7 +236,10 @@ pub fn plan_while(
     plan: &mut Plan,
     condition: ExpressionNumber,
     list: Range,
-) -> Result<(), AllocError> {
+) -> Result<(), AllocError>
+    ensures { OnOk result (PlanAddsWithLabels plan.old plan.new (while_labels site.now condition)
+        (while_steps site.now condition list)) }
+{
     match site.number(condition) {
         Some(number) => {
             if number % 2 == 1 {

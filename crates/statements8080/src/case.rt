@@ -1,8 +1,12 @@
 //! DO CASE.
 
+ghost use Rattle.std.specs.Prelude.{◌≡◌, OnOk};
+ghost use Rattle.statements8080.specs.Plans.{PlanAdds, PlanAddsWithLabels};
+ghost use Rattle.statements8080.specs.Cases.{byte_choice_steps, case_labels, case_steps, cases_end_steps, choice_at_steps, choice_labels, choice_steps, entry_of, into_table_steps, number_in_de_steps, statement_at, statements_steps, table_at, table_steps, word_choice_steps};
+
 use crate::body::Body;
 use crate::iteration::plan_less;
-use crate::plan::{Plan, Planned};
+use crate::plan::{Plan, Planned, label_at};
 use asm8080::WordForm;
 use exprgen8080::{LabelNumber, Site, Task};
 use isa8080::{Condition, Instr, Operand, Operation, Pair, Register};
@@ -16,7 +20,9 @@ fn plan_byte_choice(
     choice: ExpressionNumber,
     count: u32,
     end: LabelNumber,
-) -> Result<(), AllocError> {
+) -> Result<(), AllocError>
+    ensures { OnOk result (PlanAdds plan.old plan.new (byte_choice_steps choice count end)) }
+{
     plan.part(Task::Byte(choice), 0)?;
     if count < 256 {
         plan.plain(Instr::AccumulateImmediate(Operation::Compare, (count % 256) as u8))?;
@@ -32,13 +38,32 @@ fn plan_word_choice(
     choice: ExpressionNumber,
     count: u32,
     end: LabelNumber,
-) -> Result<(), AllocError> {
+) -> Result<(), AllocError>
+    ensures { OnOk result (PlanAdds plan.old plan.new (word_choice_steps choice count end)) }
+{
     plan.part(Task::Word(choice), 0)?;
     if let Ok(count) = u16::try_from(count) {
         plan_less(plan, count)?;
         plan.jump(WordForm::JumpWhere(Condition::NoCarry), end)?;
     }
     plan.plain(Instr::Xchg)
+}
+
+// The number comes into DE, by its type.
+#[tactic(auto, unfolding(crate::specs::Cases::number_in_de_steps))]
+fn plan_number_in_de(
+    plan: &mut Plan,
+    scalar: ScalarType,
+    choice: ExpressionNumber,
+    count: u32,
+    end: LabelNumber,
+) -> Result<(), AllocError>
+    ensures { OnOk result (PlanAdds plan.old plan.new (number_in_de_steps scalar choice count end)) }
+{
+    match scalar {
+        ScalarType::Byte => plan_byte_choice(plan, choice, count, end),
+        ScalarType::Address => plan_word_choice(plan, choice, count, end),
+    }
 }
 
 // Where a statement of the list is entered: at the label that it goes to, at the end where it does nothing, else at a
@@ -49,7 +74,9 @@ fn entry_of(
     index: u32,
     own: LabelNumber,
     end: LabelNumber,
-) -> LabelNumber {
+) -> LabelNumber
+    ensures { result ≡ entry_of body.now list index own end }
+{
     let statement = match body.tree.item(list, index) {
         Some(number) => body.tree.statement(number),
         None => None,
@@ -61,51 +88,127 @@ fn entry_of(
     }
 }
 
-// The label of an index among labels in a row.
-fn label_at(first: LabelNumber, index: u32) -> LabelNumber {
-    LabelNumber {
-        index: first.index.saturating_add(index),
-    }
+// The jump to the statement of an index.
+#[tactic(auto, unfolding(crate::specs::Cases::table_at))]
+fn plan_table_entry(
+    body: &Body<'_>,
+    plan: &mut Plan,
+    list: Range,
+    first: LabelNumber,
+    end: LabelNumber,
+    index: u32,
+) -> Result<(), AllocError>
+    ensures { OnOk result (PlanAdds plan.old plan.new (table_at body.now list first end index)) }
+{
+    let entry = entry_of(body, list, index, label_at(first, index), end);
+    plan.jump(WordForm::Jump, entry)
 }
 
 // The jumps to the statements, one after another.
+#[tactic(auto, using(crate::proofs::Adding::adding_begins, crate::proofs::Adding::adding_goes_on, crate::proofs::Adding::adding_ends, crate::proofs::Adding::steps_from_here), unfolding(crate::specs::Cases::table_steps))]
 fn plan_table(
     body: &Body<'_>,
     plan: &mut Plan,
     list: Range,
     first: LabelNumber,
     end: LabelNumber,
-) -> Result<(), AllocError> {
+) -> Result<(), AllocError>
+    ensures { OnOk result (PlanAdds plan.old plan.new (table_steps body.now list first end)) }
+{
     for index in 0..list.count {
-        let entry = entry_of(body, list, index, label_at(first, index), end);
-        plan.jump(WordForm::Jump, entry)?;
+        plan_table_entry(body, plan, list, first, end, index)?;
+    }
+    Ok(())
+}
+
+// The statement of an index at its label, if it has code here.
+fn plan_statement_at(
+    body: &Body<'_>,
+    plan: &mut Plan,
+    list: Range,
+    first: LabelNumber,
+    end: LabelNumber,
+    index: u32,
+) -> Result<(), AllocError>
+    ensures { OnOk result (PlanAdds plan.old plan.new (statement_at body.now list first end index)) }
+{
+    let Some(statement) = body.tree.item(list, index) else {
+        return Ok(());
+    };
+    let own = label_at(first, index);
+    if entry_of(body, list, index, own, end) != own {
+        return Ok(());
+    }
+    plan.mark(own)?;
+    plan.push(Planned::Statement(statement))?;
+    if index < list.count.saturating_sub(1) {
+        plan.push(Planned::JumpOn(end))?;
     }
     Ok(())
 }
 
 // The statements at their labels. Each but the last goes on to the end; those that do nothing or go to a label have no
 // code here.
+#[tactic(auto, using(crate::proofs::Adding::adding_begins, crate::proofs::Adding::adding_goes_on, crate::proofs::Adding::adding_ends, crate::proofs::Adding::steps_from_here), unfolding(crate::specs::Cases::statements_steps))]
 fn plan_statements(
     body: &Body<'_>,
     plan: &mut Plan,
     list: Range,
     first: LabelNumber,
     end: LabelNumber,
-) -> Result<(), AllocError> {
+) -> Result<(), AllocError>
+    ensures { OnOk result (PlanAdds plan.old plan.new (statements_steps body.now list first end)) }
+{
     for index in 0..list.count {
-        let own = label_at(first, index);
-        let is_own = entry_of(body, list, index, own, end) == own;
-        if let Some(statement) = body.tree.item(list, index)
-            && is_own
-        {
-            plan.mark(own)?;
-            plan.push(Planned::Statement(statement))?;
-            if index.saturating_add(1) < list.count {
-                plan.push(Planned::JumpOn(end))?;
-            }
-        }
+        plan_statement_at(body, plan, list, first, end, index)?;
     }
     Ok(())
+}
+
+// The code goes on at the jump in the table whose number is in DE. The table begins here.
+#[tactic(auto, unfolding(crate::specs::Cases::into_table_steps))]
+fn plan_into_table(plan: &mut Plan, table: LabelNumber) -> Result<(), AllocError>
+    ensures { OnOk result (PlanAdds plan.old plan.new (into_table_steps table)) }
+{
+    plan.jump(WordForm::LoadPair(Pair::Hl), table)?;
+    plan.all(&[
+        Instr::Dad(Pair::De),
+        Instr::Dad(Pair::De),
+        Instr::Dad(Pair::De),
+        Instr::Pchl,
+    ])?;
+    plan.mark(table)
+}
+
+// Where all statements go on.
+#[tactic(auto, unfolding(crate::specs::Cases::cases_end_steps))]
+fn plan_cases_end(plan: &mut Plan, end: LabelNumber) -> Result<(), AllocError>
+    ensures { OnOk result (PlanAdds plan.old plan.new (cases_end_steps end)) }
+{
+    plan.mark(end)?;
+    plan.push(Planned::Reaches(true))
+}
+
+// DO CASE of a choice that is not known, with these labels of the table, the end and the first statement.
+#[tactic(auto, unfolding(crate::specs::Cases::choice_at_steps))]
+fn plan_choice_at(
+    body: &Body<'_>,
+    site: &Site<'_>,
+    plan: &mut Plan,
+    choice: ExpressionNumber,
+    list: Range,
+    table: LabelNumber,
+    end: LabelNumber,
+    own: LabelNumber,
+) -> Result<(), AllocError>
+    ensures { OnOk result (PlanAdds plan.old plan.new
+        (choice_at_steps body.now site.now choice list table end own)) }
+{
+    plan_number_in_de(plan, site.scalar(choice), choice, list.count, end)?;
+    plan_into_table(plan, table)?;
+    plan_table(body, plan, list, own, end)?;
+    plan_statements(body, plan, list, own, end)?;
+    plan_cases_end(plan, end)
 }
 
 // DO CASE of a choice that is not known, by a table of jumps.
@@ -115,26 +218,14 @@ fn plan_choice(
     plan: &mut Plan,
     choice: ExpressionNumber,
     list: Range,
-) -> Result<(), AllocError> {
-    let table = plan.label();
-    let end = plan.label();
-    let first = plan.labels(list.count);
-    match site.scalar(choice) {
-        ScalarType::Byte => plan_byte_choice(plan, choice, list.count, end)?,
-        ScalarType::Address => plan_word_choice(plan, choice, list.count, end)?,
-    }
-    plan.jump(WordForm::LoadPair(Pair::Hl), table)?;
-    plan.all(&[
-        Instr::Dad(Pair::De),
-        Instr::Dad(Pair::De),
-        Instr::Dad(Pair::De),
-        Instr::Pchl,
-    ])?;
-    plan.mark(table)?;
-    plan_table(body, plan, list, first, end)?;
-    plan_statements(body, plan, list, first, end)?;
-    plan.mark(end)?;
-    plan.push(Planned::Reaches(true))
+) -> Result<(), AllocError>
+    ensures { OnOk result (PlanAddsWithLabels plan.old plan.new (choice_labels list)
+        (choice_steps body.now site.now choice list)) }
+{
+    let table = plan.labels(list.count.saturating_add(2));
+    let end = label_at(table, 1);
+    let own = label_at(table, 2);
+    plan_choice_at(body, site, plan, choice, list, table, end, own)
 }
 
 /// The steps of DO CASE. Where the choice is known, its statement stands alone.
@@ -144,7 +235,10 @@ pub fn plan_case(
     plan: &mut Plan,
     choice: ExpressionNumber,
     list: Range,
-) -> Result<(), AllocError> {
+) -> Result<(), AllocError>
+    ensures { OnOk result (PlanAddsWithLabels plan.old plan.new (case_labels site.now choice list)
+        (case_steps body.now site.now choice list)) }
+{
     if let Some(number) = site.number(choice) {
         return match body.tree.item(list, number as u32) {
             Some(statement) => plan.push(Planned::Statement(statement)),

@@ -1,9 +1,15 @@
 //! Iterative DO.
 
+ghost use Rattle.std.specs.Prelude.{◌≡◌, OnOk};
+ghost use Rattle.statements8080.specs.Plans.{PlanAdds, PlanAddsWithLabels, TakesLabels, free_label};
+ghost use Rattle.statements8080.specs.Counters.{address_fact, counter_place, counts_by_one, first_value, has_a_turn, word_fact};
+ghost use Rattle.statements8080.specs.Tests.{less_steps};
+ghost use Rattle.statements8080.specs.Iterations.{add_byte_steps, add_de_in_frame_steps, add_de_steps, add_word_steps, add_word_to_byte_steps, asked_jump, asked_mark, asked_test_steps, count_steps, facts_of_turn, first_steps, first_test_steps, general_begin_steps, general_end_steps, general_steps, is_byte, is_byte_type, iteration_labels, iteration_steps, loop_labels, next_byte_steps, next_turn_steps, next_word_steps, step_in_de_steps, step_steps, sum_of_byte_steps, sum_of_word_steps, test_label_steps, to_known_steps, turns_labels, turns_steps};
+
 use crate::assignment::plan_single;
 use crate::body::{Body, whole};
 use crate::bound::{Test, facts_of_test, plan_test, test_of};
-use crate::plan::{Plan, Planned};
+use crate::plan::{Plan, Planned, label_at};
 use asm8080::WordForm;
 use exprgen8080::{Facts, LabelNumber, Site, Task};
 use isa8080::{Condition, Instr, Operand, Operation, Pair, Register};
@@ -21,7 +27,9 @@ pub struct Counter {
 
 impl Counter {
     /// Its place in memory, where it is not in the frame.
-    pub fn place(&self) -> Option<Place> {
+    pub fn place(&self) -> Option<Place>
+        ensures { result ≡ counter_place self.now }
+    {
         match self.location {
             Some(Location::Static(place)) => Some(place),
             _ => None,
@@ -29,7 +37,9 @@ impl Counter {
     }
 
     /// That HL holds its address.
-    pub fn address_fact(&self) -> Facts {
+    pub fn address_fact(&self) -> Facts
+        ensures { result ≡ address_fact self.now }
+    {
         Facts {
             address_in_hl: self.location,
             ..Facts::none()
@@ -37,7 +47,9 @@ impl Counter {
     }
 
     /// That HL holds its value.
-    pub fn word_fact(&self) -> Facts {
+    pub fn word_fact(&self) -> Facts
+        ensures { result ≡ word_fact self.now }
+    {
         Facts {
             word_in_hl: self.location,
             ..Facts::none()
@@ -45,7 +57,9 @@ impl Counter {
     }
 
     // Its first value, where that is known: a number as it is converted to its type.
-    fn first_value(&self, site: &Site<'_>, first: ExpressionNumber) -> Option<u16> {
+    fn first_value(&self, site: &Site<'_>, first: ExpressionNumber) -> Option<u16>
+        ensures { result ≡ first_value self.now site.now first }
+    {
         match site.number(first) {
             Some(number) => match self.scalar {
                 ScalarType::Byte => Some(number % 256),
@@ -69,17 +83,31 @@ struct LoopLabels {
 
 impl LoopLabels {
     // Three labels that are not taken yet.
-    fn new(plan: &mut Plan) -> LoopLabels {
+    fn new(plan: &mut Plan) -> LoopLabels
+        ensures labels { result ≡ loop_labels (free_label plan.old) }
+        ensures takes { TakesLabels plan.old plan.new 3 }
+    {
+        let turn = plan.labels(3);
         LoopLabels {
-            turn: plan.label(),
-            test: plan.label(),
-            end: plan.label(),
+            turn,
+            test: label_at(turn, 1),
+            end: label_at(turn, 2),
         }
     }
 }
 
+// Whether a type is BYTE.
+fn is_byte_type(scalar: ScalarType) -> bool
+    ensures { result ≡ is_byte_type scalar }
+{
+    matches!(scalar, ScalarType::Byte)
+}
+
 // Whether it is known that there is a first turn, or that there is none.
-fn has_a_turn(site: &Site<'_>, counter: &Counter, head: &Iteration) -> Option<bool> {
+#[tactic(auto, unfolding(crate::specs::Counters::has_a_turn))]
+fn has_a_turn(site: &Site<'_>, counter: &Counter, head: &Iteration) -> Option<bool>
+    ensures { result ≡ has_a_turn site.now counter.now head.now }
+{
     match (
         counter.first_value(site, head.first),
         site.number(head.last),
@@ -90,7 +118,9 @@ fn has_a_turn(site: &Site<'_>, counter: &Counter, head: &Iteration) -> Option<bo
 }
 
 // Whether the variable is counted by 1.
-fn counts_by_one(site: &Site<'_>, step: Option<ExpressionNumber>) -> bool {
+fn counts_by_one(site: &Site<'_>, step: Option<ExpressionNumber>) -> bool
+    ensures { result ≡ counts_by_one site.now step }
+{
     match step {
         Some(step) => matches!(site.number(step), Some(1)),
         None => true,
@@ -98,13 +128,16 @@ fn counts_by_one(site: &Site<'_>, step: Option<ExpressionNumber>) -> bool {
 }
 
 // The variable gets its first value.
+#[tactic(auto, unfolding(crate::specs::Iterations::first_steps))]
 fn plan_first(
     body: &Body<'_>,
     site: &Site<'_>,
     plan: &mut Plan,
     counter: &Counter,
     first: ExpressionNumber,
-) -> Result<(), AllocError> {
+) -> Result<(), AllocError>
+    ensures { OnOk result (PlanAdds plan.old plan.new (first_steps body.now site.now counter.now first)) }
+{
     let target = Target::Stored {
         from: site.scalar(first),
         to: counter.scalar,
@@ -114,12 +147,15 @@ fn plan_first(
 }
 
 // The test before the first turn of a loop to a known bound, where it is not known that there is one.
+#[tactic(auto, unfolding(crate::specs::Iterations::first_test_steps))]
 fn plan_first_test(
     plan: &mut Plan,
     counter: &Counter,
     last: u16,
     end: LabelNumber,
-) -> Result<(), AllocError> {
+) -> Result<(), AllocError>
+    ensures { OnOk result (PlanAdds plan.old plan.new (first_test_steps counter.now last end)) }
+{
     let Some(bound) = last.checked_add(1) else {
         return Ok(());
     };
@@ -137,7 +173,9 @@ fn plan_first_test(
 }
 
 /// The carry shows whether HL is less than a number.
-pub fn plan_less(plan: &mut Plan, number: u16) -> Result<(), AllocError> {
+pub fn plan_less(plan: &mut Plan, number: u16) -> Result<(), AllocError>
+    ensures { OnOk result (PlanAdds plan.old plan.new (less_steps number)) }
+{
     if number % 256 == 0 {
         return plan.all(&[
             Instr::Mov(Register::A, Operand::Of(Register::H)),
@@ -158,7 +196,9 @@ fn plan_next_byte(
     counter: &Counter,
     last: u16,
     turn: LabelNumber,
-) -> Result<(), AllocError> {
+) -> Result<(), AllocError>
+    ensures { OnOk result (PlanAdds plan.old plan.new (next_byte_steps counter.now last turn)) }
+{
     plan.part(Task::Address(counter.reference), 0)?;
     if last >= 255 {
         plan.plain(Instr::Inr(Operand::M))?;
@@ -180,7 +220,9 @@ fn plan_next_word(
     place: Place,
     last: u16,
     turn: LabelNumber,
-) -> Result<(), AllocError> {
+) -> Result<(), AllocError>
+    ensures { OnOk result (PlanAdds plan.old plan.new (next_word_steps counter.now place last turn)) }
+{
     plan.push(Planned::LoadWord(counter.reference))?;
     plan.all(&[
         Instr::Mov(Register::A, Operand::Of(Register::L)),
@@ -193,42 +235,90 @@ fn plan_next_word(
     plan.jump(WordForm::JumpWhere(Condition::Carry), turn)
 }
 
+// The variable is counted, by its type and its place.
+#[tactic(auto, unfolding(crate::specs::Iterations::next_turn_steps))]
+fn plan_next(
+    plan: &mut Plan,
+    counter: &Counter,
+    last: u16,
+    turn: LabelNumber,
+) -> Result<(), AllocError>
+    ensures { OnOk result (PlanAdds plan.old plan.new (next_turn_steps counter.now last turn)) }
+{
+    let is_byte = is_byte_type(counter.scalar);
+    match counter.place() {
+        Some(place) if !is_byte => plan_next_word(plan, counter, place, last, turn),
+        _ => plan_next_byte(plan, counter, last, turn),
+    }
+}
+
+// What holds where a turn begins.
+#[tactic(auto, unfolding(crate::specs::Iterations::facts_of_turn))]
+fn facts_of_turn(counter: &Counter) -> Facts
+    ensures { result ≡ facts_of_turn counter.now }
+{
+    if is_byte_type(counter.scalar) {
+        counter.address_fact()
+    } else {
+        counter.word_fact()
+    }
+}
+
+// The test before the first turn, where it is asked for and not every BYTE passes it.
+#[tactic(auto, unfolding(crate::specs::Iterations::asked_test_steps))]
+fn plan_asked_test(
+    plan: &mut Plan,
+    counter: &Counter,
+    last: u16,
+    is_tested: bool,
+    end: LabelNumber,
+) -> Result<(), AllocError>
+    ensures { OnOk result (PlanAdds plan.old plan.new (asked_test_steps counter.now last is_tested end)) }
+{
+    if is_tested && !(is_byte_type(counter.scalar) && last >= 255) {
+        plan_first_test(plan, counter, last, end)
+    } else {
+        Ok(())
+    }
+}
+
+// The place of a label, where it is asked for.
+fn plan_asked_mark(plan: &mut Plan, is_asked: bool, label: LabelNumber) -> Result<(), AllocError>
+    ensures { OnOk result (PlanAdds plan.old plan.new (asked_mark is_asked label)) }
+{
+    if is_asked { plan.mark(label) } else { Ok(()) }
+}
+
 // Counting by 1 to a known bound: the test stands at the end, together with the counting.
+#[tactic(auto, unfolding(crate::specs::Iterations::to_known_steps))]
 fn plan_to_known(
     plan: &mut Plan,
     counter: &Counter,
     last: u16,
     is_tested: bool,
     list: Range,
-) -> Result<(), AllocError> {
-    let turn = plan.label();
-    let end = plan.label();
-    let is_byte = matches!(counter.scalar, ScalarType::Byte);
-    if is_tested && !(is_byte && last >= 255) {
-        plan_first_test(plan, counter, last, end)?;
-    }
+) -> Result<(), AllocError>
+    ensures { OnOk result (PlanAddsWithLabels plan.old plan.new 2
+        (to_known_steps counter.now last is_tested list)) }
+{
+    let turn = plan.labels(2);
+    let end = label_at(turn, 1);
+    plan_asked_test(plan, counter, last, is_tested, end)?;
     plan.push(Planned::Again {
         label: turn,
-        facts: if is_byte {
-            counter.address_fact()
-        } else {
-            counter.word_fact()
-        },
+        facts: facts_of_turn(counter),
         is_entered: true,
     })?;
     plan.push(Planned::List(list))?;
-    match counter.place() {
-        Some(place) if !is_byte => plan_next_word(plan, counter, place, last, turn)?,
-        _ => plan_next_byte(plan, counter, last, turn)?,
-    }
-    if is_tested {
-        plan.mark(end)?;
-    }
+    plan_next(plan, counter, last, turn)?;
+    plan_asked_mark(plan, is_tested, end)?;
     plan.push(Planned::Reaches(true))
 }
 
 // The variable is counted by 1. Where it becomes 0 the loop ends.
-fn plan_count(plan: &mut Plan, counter: &Counter, labels: &LoopLabels) -> Result<(), AllocError> {
+fn plan_count(plan: &mut Plan, counter: &Counter, labels: &LoopLabels) -> Result<(), AllocError>
+    ensures { OnOk result (PlanAdds plan.old plan.new (count_steps counter.now labels.now)) }
+{
     plan.part(Task::Address(counter.reference), 0)?;
     plan.plain(Instr::Inr(Operand::M))?;
     match counter.scalar {
@@ -248,12 +338,28 @@ fn plan_add_byte(
     counter: &Counter,
     step: ExpressionNumber,
     end: LabelNumber,
-) -> Result<(), AllocError> {
+) -> Result<(), AllocError>
+    ensures { OnOk result (PlanAdds plan.old plan.new (add_byte_steps counter.now step end)) }
+{
     plan.part(Task::Byte(step), 0)?;
     plan.part(Task::Address(counter.reference), 0)?;
     plan.plain(Instr::Accumulate(Operation::Add, Operand::M))?;
     plan.plain(Instr::MovToMemory(Register::A))?;
     plan.jump(WordForm::JumpWhere(Condition::Carry), end)
+}
+
+// DE is added to the byte at the address in HL. A and the carry show whether the sum is no BYTE.
+#[tactic(auto, unfolding(crate::specs::Iterations::sum_of_byte_steps))]
+fn plan_sum_of_byte(plan: &mut Plan) -> Result<(), AllocError>
+    ensures { OnOk result (PlanAdds plan.old plan.new sum_of_byte_steps) }
+{
+    plan.all(&[
+        Instr::Mov(Register::A, Operand::Of(Register::E)),
+        Instr::Accumulate(Operation::Add, Operand::M),
+        Instr::MovToMemory(Register::A),
+        Instr::Mvi(Operand::Of(Register::A), 0),
+        Instr::Accumulate(Operation::AddWithCarry, Operand::Of(Register::D)),
+    ])
 }
 
 // An ADDRESS is added to the BYTE. Where the whole sum is no BYTE the loop ends.
@@ -262,17 +368,13 @@ fn plan_add_word_to_byte(
     counter: &Counter,
     step: ExpressionNumber,
     end: LabelNumber,
-) -> Result<(), AllocError> {
+) -> Result<(), AllocError>
+    ensures { OnOk result (PlanAdds plan.old plan.new (add_word_to_byte_steps counter.now step end)) }
+{
     plan.part(Task::Word(step), 0)?;
     plan.plain(Instr::Xchg)?;
     plan.part(Task::Address(counter.reference), 0)?;
-    plan.all(&[
-        Instr::Mov(Register::A, Operand::Of(Register::E)),
-        Instr::Accumulate(Operation::Add, Operand::M),
-        Instr::MovToMemory(Register::A),
-        Instr::Mvi(Operand::Of(Register::A), 0),
-        Instr::Accumulate(Operation::AddWithCarry, Operand::Of(Register::D)),
-    ])?;
+    plan_sum_of_byte(plan)?;
     plan.jump(WordForm::JumpWhere(Condition::Carry), end)?;
     plan.plain(Instr::Accumulate(Operation::Or, Operand::Of(Register::A)))?;
     plan.jump(WordForm::JumpWhere(Condition::NotZero), end)
@@ -283,7 +385,9 @@ fn plan_step_in_de(
     site: &Site<'_>,
     plan: &mut Plan,
     step: ExpressionNumber,
-) -> Result<(), AllocError> {
+) -> Result<(), AllocError>
+    ensures { OnOk result (PlanAdds plan.old plan.new (step_in_de_steps site.now step)) }
+{
     match site.known(step) {
         Some(place) => plan.word(WordForm::LoadPair(Pair::De), place),
         None => {
@@ -293,22 +397,11 @@ fn plan_step_in_de(
     }
 }
 
-// The step is added to the ADDRESS. Where that overflows the loop ends.
-fn plan_add_word(
-    site: &Site<'_>,
-    plan: &mut Plan,
-    counter: &Counter,
-    step: ExpressionNumber,
-    end: LabelNumber,
-) -> Result<(), AllocError> {
-    plan_step_in_de(site, plan, step)?;
-    if let Some(place) = counter.place() {
-        plan.push(Planned::LoadWord(counter.reference))?;
-        plan.plain(Instr::Dad(Pair::De))?;
-        plan.word(WordForm::StoreHl, place)?;
-        return plan.jump(WordForm::JumpWhere(Condition::Carry), end);
-    }
-    plan.part(Task::Address(counter.reference), 0)?;
+// DE is added to the word at the address in HL. The carry shows whether that overflows.
+#[tactic(auto, unfolding(crate::specs::Iterations::sum_of_word_steps))]
+fn plan_sum_of_word(plan: &mut Plan) -> Result<(), AllocError>
+    ensures { OnOk result (PlanAdds plan.old plan.new sum_of_word_steps) }
+{
     plan.all(&[
         Instr::Mov(Register::A, Operand::M),
         Instr::Accumulate(Operation::Add, Operand::Of(Register::E)),
@@ -317,26 +410,71 @@ fn plan_add_word(
         Instr::Mov(Register::A, Operand::M),
         Instr::Accumulate(Operation::AddWithCarry, Operand::Of(Register::D)),
         Instr::MovToMemory(Register::A),
-    ])?;
+    ])
+}
+
+// DE is added to the ADDRESS in the frame.
+fn plan_add_de_in_frame(
+    plan: &mut Plan,
+    counter: &Counter,
+    end: LabelNumber,
+) -> Result<(), AllocError>
+    ensures { OnOk result (PlanAdds plan.old plan.new (add_de_in_frame_steps counter.now end)) }
+{
+    plan.part(Task::Address(counter.reference), 0)?;
+    plan_sum_of_word(plan)?;
     plan.jump(WordForm::JumpWhere(Condition::Carry), end)
 }
 
+// DE is added to the ADDRESS, in memory or in the frame. Where that overflows the loop ends.
+fn plan_add_de(plan: &mut Plan, counter: &Counter, end: LabelNumber) -> Result<(), AllocError>
+    ensures { OnOk result (PlanAdds plan.old plan.new
+        (add_de_steps (counter_place counter.now) counter.now end)) }
+{
+    let Some(place) = counter.place() else {
+        return plan_add_de_in_frame(plan, counter, end);
+    };
+    plan.push(Planned::LoadWord(counter.reference))?;
+    plan.plain(Instr::Dad(Pair::De))?;
+    plan.word(WordForm::StoreHl, place)?;
+    plan.jump(WordForm::JumpWhere(Condition::Carry), end)
+}
+
+// The step is added to the ADDRESS.
+fn plan_add_word(
+    site: &Site<'_>,
+    plan: &mut Plan,
+    counter: &Counter,
+    step: ExpressionNumber,
+    end: LabelNumber,
+) -> Result<(), AllocError>
+    ensures { OnOk result (PlanAdds plan.old plan.new (add_word_steps site.now counter.now step end)) }
+{
+    plan_step_in_de(site, plan, step)?;
+    plan_add_de(plan, counter, end)
+}
+
 // Whether the value of an expression is surely a BYTE.
-fn is_byte(site: &Site<'_>, number: ExpressionNumber) -> bool {
+fn is_byte(site: &Site<'_>, number: ExpressionNumber) -> bool
+    ensures { result ≡ is_byte site.now number }
+{
     match site.number(number) {
         Some(value) => value < 256,
-        None => matches!(site.scalar(number), ScalarType::Byte),
+        None => is_byte_type(site.scalar(number)),
     }
 }
 
 // The step is added to the variable. Where that overflows the loop ends.
+#[tactic(auto, unfolding(crate::specs::Iterations::step_steps))]
 fn plan_step(
     site: &Site<'_>,
     plan: &mut Plan,
     counter: &Counter,
     step: Option<ExpressionNumber>,
     labels: &LoopLabels,
-) -> Result<(), AllocError> {
+) -> Result<(), AllocError>
+    ensures { OnOk result (PlanAdds plan.old plan.new (step_steps site.now counter.now step labels.now)) }
+{
     match step {
         Some(step) if !counts_by_one(site, Some(step)) => match counter.scalar {
             ScalarType::Byte => {
@@ -353,14 +491,18 @@ fn plan_step(
 }
 
 // The place of the test, to which the code before the loop jumps where it `is_entered` there.
+#[tactic(auto, unfolding(crate::specs::Iterations::test_label_steps))]
 fn plan_test_label(
     plan: &mut Plan,
     counter: &Counter,
     step_is_one: bool,
     is_entered: bool,
     test: LabelNumber,
-) -> Result<(), AllocError> {
-    if step_is_one && matches!(counter.scalar, ScalarType::Address) {
+) -> Result<(), AllocError>
+    ensures { OnOk result (PlanAdds plan.old plan.new
+        (test_label_steps counter.now step_is_one is_entered test)) }
+{
+    if step_is_one && !is_byte_type(counter.scalar) {
         return plan.mark(test);
     }
     if is_entered {
@@ -369,7 +511,65 @@ fn plan_test_label(
     Ok(())
 }
 
+// The jump to the test, where it is asked for.
+fn plan_asked_jump(plan: &mut Plan, is_tested: bool, test: LabelNumber) -> Result<(), AllocError>
+    ensures { OnOk result (PlanAdds plan.old plan.new (asked_jump is_tested test)) }
+{
+    if !is_tested {
+        return Ok(());
+    }
+    plan.push(Planned::Jumped {
+        is_the_only_one: true,
+    })?;
+    plan.jump(WordForm::Jump, test)
+}
+
+// Counting in general up to the end of a turn.
+#[tactic(auto, unfolding(crate::specs::Iterations::general_begin_steps))]
+fn plan_general_begin(
+    plan: &mut Plan,
+    counter: &Counter,
+    test: Test,
+    is_tested: bool,
+    list: Range,
+    labels: &LoopLabels,
+) -> Result<(), AllocError>
+    ensures { OnOk result (PlanAdds plan.old plan.new
+        (general_begin_steps counter.now test is_tested list labels.now)) }
+{
+    plan_asked_jump(plan, is_tested, labels.test)?;
+    plan.push(Planned::Again {
+        label: labels.turn,
+        facts: facts_of_test(counter, test),
+        is_entered: !is_tested,
+    })?;
+    plan.push(Planned::List(list))
+}
+
+// Counting in general from the end of a turn on: the step, and the test.
+#[tactic(auto, unfolding(crate::specs::Iterations::general_end_steps))]
+fn plan_general_end(
+    site: &Site<'_>,
+    plan: &mut Plan,
+    counter: &Counter,
+    head: &Iteration,
+    test: Test,
+    is_tested: bool,
+    labels: &LoopLabels,
+) -> Result<(), AllocError>
+    ensures { OnOk result (PlanAdds plan.old plan.new
+        (general_end_steps site.now counter.now head.now test is_tested labels.now)) }
+{
+    plan_step(site, plan, counter, head.step, labels)?;
+    let step_is_one = counts_by_one(site, head.step);
+    plan_test_label(plan, counter, step_is_one, is_tested, labels.test)?;
+    plan_test(plan, counter, test, labels.turn)?;
+    plan.mark(labels.end)?;
+    plan.push(Planned::Reaches(true))
+}
+
 // Counting in general: the test stands at the end, after the step.
+#[tactic(auto, unfolding(crate::specs::Iterations::general_steps))]
 fn plan_general(
     site: &Site<'_>,
     plan: &mut Plan,
@@ -377,27 +577,14 @@ fn plan_general(
     head: &Iteration,
     is_tested: bool,
     list: Range,
-) -> Result<(), AllocError> {
+) -> Result<(), AllocError>
+    ensures { OnOk result (PlanAddsWithLabels plan.old plan.new 3
+        (general_steps site.now counter.now head.now is_tested list)) }
+{
     let labels = LoopLabels::new(plan);
-    let test: Test = test_of(site, counter, head.last);
-    if is_tested {
-        plan.push(Planned::Jumped {
-            is_the_only_one: true,
-        })?;
-        plan.jump(WordForm::Jump, labels.test)?;
-    }
-    plan.push(Planned::Again {
-        label: labels.turn,
-        facts: facts_of_test(counter, test),
-        is_entered: !is_tested,
-    })?;
-    plan.push(Planned::List(list))?;
-    plan_step(site, plan, counter, head.step, &labels)?;
-    let step_is_one = counts_by_one(site, head.step);
-    plan_test_label(plan, counter, step_is_one, is_tested, labels.test)?;
-    plan_test(plan, counter, test, labels.turn)?;
-    plan.mark(labels.end)?;
-    plan.push(Planned::Reaches(true))
+    let test = test_of(site, counter, head.last);
+    plan_general_begin(plan, counter, test, is_tested, list, &labels)?;
+    plan_general_end(site, plan, counter, head, test, is_tested, &labels)
 }
 
 // The turns of an iterative DO, if it is not known that there is none.
@@ -408,8 +595,11 @@ fn plan_turns(
     head: &Iteration,
     is_tested: bool,
     list: Range,
-) -> Result<(), AllocError> {
-    let is_in_place = matches!(counter.scalar, ScalarType::Byte) || counter.place().is_some();
+) -> Result<(), AllocError>
+    ensures { OnOk result (PlanAddsWithLabels plan.old plan.new (turns_labels site.now counter.now head.now)
+        (turns_steps site.now counter.now head.now is_tested list)) }
+{
+    let is_in_place = is_byte_type(counter.scalar) || counter.place().is_some();
     match site.number(head.last) {
         Some(last) if is_in_place && counts_by_one(site, head.step) => {
             plan_to_known(plan, counter, last, is_tested, list)
@@ -425,7 +615,10 @@ pub fn plan_iteration(
     plan: &mut Plan,
     head: &Iteration,
     list: Range,
-) -> Result<(), AllocError> {
+) -> Result<(), AllocError>
+    ensures { OnOk result (PlanAddsWithLabels plan.old plan.new (iteration_labels site.now head.now)
+        (iteration_steps body.now site.now head.now list)) }
+{
     let reference = whole(head.variable);
     let counter = Counter {
         reference,

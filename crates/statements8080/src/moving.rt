@@ -1,5 +1,9 @@
 //! CALL MOVE.
 
+ghost use Rattle.std.specs.Prelude.{OnOk};
+ghost use Rattle.statements8080.specs.Plans.{PlanAdds};
+ghost use Rattle.statements8080.specs.Moves.{ends_steps, known_move_steps, move_steps};
+
 use crate::plan::{Plan, Planned};
 use asm8080::WordForm;
 use exprgen8080::{Site, Step, Task};
@@ -15,7 +19,9 @@ fn plan_ends(
     source: ExpressionNumber,
     destination: ExpressionNumber,
     pushed: u16,
-) -> Result<(), AllocError> {
+) -> Result<(), AllocError>
+    ensures { OnOk result (PlanAdds plan.old plan.new (ends_steps site.now source destination pushed)) }
+{
     if let Some(place) = site.known(source) {
         plan.part(Task::Word(destination), pushed)?;
         return plan.word(WordForm::LoadPair(Pair::De), place);
@@ -37,7 +43,9 @@ fn plan_known(
     count: Place,
     source: ExpressionNumber,
     destination: ExpressionNumber,
-) -> Result<(), AllocError> {
+) -> Result<(), AllocError>
+    ensures { OnOk result (PlanAdds plan.old plan.new (known_move_steps site.now count source destination)) }
+{
     plan_ends(site, plan, source, destination, 0)?;
     plan.word(WordForm::LoadPair(Pair::Bc), count)?;
     plan.push(Planned::Code(Step::CallRoutine(Routine::Move)))
@@ -50,7 +58,9 @@ pub fn plan_move(
     count: ExpressionNumber,
     source: ExpressionNumber,
     destination: ExpressionNumber,
-) -> Result<(), AllocError> {
+) -> Result<(), AllocError>
+    ensures { OnOk result (PlanAdds plan.old plan.new (move_steps site.now count source destination)) }
+{
     if let Some(place) = site.known(count) {
         return plan_known(site, plan, place, source, destination);
     }

@@ -1,5 +1,9 @@
 //! Code of statements as it is planned.
 
+ghost use Rattle.std.specs.Prelude.{◌≡◌, ◌∷◌, [], length, replicate, slice_get, take, OnOk};
+ghost use Rattle.steps8080.specs.Step.{label_of};
+ghost use Rattle.statements8080.specs.Plans.{PlanAdds, TakesLabels, all, free_label, holds, jump, label_at, mark, part, plain, word};
+
 use asm8080::WordForm;
 use exprgen8080::{Facts, LabelNumber, Part, Step, Task};
 use isa8080::Instr;
@@ -45,16 +49,31 @@ pub enum Planned {
     Reaches(bool),
 }
 
+/// The label of an index among labels in a row.
+pub(crate) fn label_at(first: LabelNumber, index: u32) -> LabelNumber
+    ensures { result ≡ label_at first index }
+{
+    LabelNumber {
+        index: first.index.saturating_add(index),
+    }
+}
+
 /// Steps in a row, and how many labels they take.
 pub struct Plan {
-    list: Vec<Planned>,
-    first_label: u32,
-    taken: u32,
+    pub list: Vec<Planned>,
+    /// The number of the first label of these steps.
+    pub first_label: u32,
+    /// How many labels from that one on are taken.
+    pub taken: u32,
 }
 
 impl Plan {
     /// No steps.
-    pub fn new(alloc: Global) -> Plan {
+    pub fn new(alloc: Global) -> Plan
+        ensures list { result.list.items ≡ [] }
+        ensures first { result.first_label ≡ 0 }
+        ensures taken { result.taken ≡ 0 }
+    {
         Plan {
             list: Vec::new(alloc),
             first_label: 0,
@@ -63,23 +82,35 @@ impl Plan {
     }
 
     /// From now on labels are taken from this one on.
-    pub fn take_labels_from(&mut self, first: LabelNumber) {
+    pub fn take_labels_from(&mut self, first: LabelNumber)
+        ensures list { self.new.list.items ≡ self.old.list.items }
+        ensures first { self.new.first_label ≡ first.index }
+        ensures taken { self.new.taken ≡ 0 }
+    {
         self.first_label = first.index;
         self.taken = 0;
     }
 
     /// How many labels are taken.
-    pub fn taken(&self) -> u32 {
+    pub fn taken(&self) -> u32
+        ensures { result ≡ self.now.taken }
+    {
         self.taken
     }
 
     /// A label that is not taken yet.
-    pub fn label(&mut self) -> LabelNumber {
+    pub fn label(&mut self) -> LabelNumber
+        ensures label { result ≡ label_of (free_label self.old) }
+        ensures takes { TakesLabels self.old self.new 1 }
+    {
         self.labels(1)
     }
 
     /// The first of so many labels that are not taken yet.
-    pub fn labels(&mut self, count: u32) -> LabelNumber {
+    pub fn labels(&mut self, count: u32) -> LabelNumber
+        ensures label { result ≡ label_of (free_label self.old) }
+        ensures takes { TakesLabels self.old self.new count }
+    {
         let label = LabelNumber {
             index: self.first_label.saturating_add(self.taken),
         };
@@ -88,69 +119,101 @@ impl Plan {
     }
 
     /// Adds a step.
-    pub fn push(&mut self, step: Planned) -> Result<(), AllocError> {
+    pub fn push(&mut self, step: Planned) -> Result<(), AllocError>
+        ensures { OnOk result (PlanAdds self.old self.new (step ∷ [])) }
+    {
         self.list.push(step)?;
         Ok(())
     }
 
     /// Adds an instruction.
-    pub fn plain(&mut self, instruction: Instr) -> Result<(), AllocError> {
+    pub fn plain(&mut self, instruction: Instr) -> Result<(), AllocError>
+        ensures { OnOk result (PlanAdds self.old self.new (plain instruction ∷ [])) }
+    {
         self.push(Planned::Code(Step::Plain(instruction)))
     }
 
     /// Adds instructions.
-    pub fn all(&mut self, instructions: &[Instr]) -> Result<(), AllocError> {
-        for instruction in instructions {
+    #[tactic(auto, using(crate::proofs::Adding::adding_begins, crate::proofs::Adding::adding_goes_on, crate::proofs::Adding::adding_ends))]
+    pub fn all(&mut self, instructions: &[Instr]) -> Result<(), AllocError>
+        ensures { OnOk result (PlanAdds self.old self.new (all instructions.now)) }
+    {
+        let mut left = instructions;
+        while let [instruction, others @ ..] = left {
             self.plain(*instruction)?;
+            left = others;
         }
         Ok(())
     }
 
     /// Adds an instruction, so many times.
-    pub fn repeated(&mut self, instruction: Instr, count: u16) -> Result<(), AllocError> {
-        for _ in 0..count {
+    #[tactic(auto, using(crate::proofs::Adding::adding_begins, crate::proofs::Adding::adding_goes_on, crate::proofs::Adding::adding_ends))]
+    pub fn repeated(&mut self, instruction: Instr, count: u16) -> Result<(), AllocError>
+        ensures { OnOk result (PlanAdds self.old self.new (replicate count (plain instruction))) }
+    {
+        let mut left = count;
+        while left > 0 {
             self.plain(instruction)?;
+            left -= 1;
         }
         Ok(())
     }
 
     /// Adds an instruction with a word.
-    pub fn word(&mut self, form: WordForm, place: Place) -> Result<(), AllocError> {
+    pub fn word(&mut self, form: WordForm, place: Place) -> Result<(), AllocError>
+        ensures { OnOk result (PlanAdds self.old self.new (word form place ∷ [])) }
+    {
         self.push(Planned::Code(Step::Word(form, place)))
     }
 
     /// Adds a jump, or another instruction with the place of a label.
-    pub fn jump(&mut self, form: WordForm, label: LabelNumber) -> Result<(), AllocError> {
+    pub fn jump(&mut self, form: WordForm, label: LabelNumber) -> Result<(), AllocError>
+        ensures { OnOk result (PlanAdds self.old self.new (jump form label ∷ [])) }
+    {
         self.push(Planned::Code(Step::Jump(form, label)))
     }
 
     /// Adds the place of a label.
-    pub fn mark(&mut self, label: LabelNumber) -> Result<(), AllocError> {
+    pub fn mark(&mut self, label: LabelNumber) -> Result<(), AllocError>
+        ensures { OnOk result (PlanAdds self.old self.new (mark label ∷ [])) }
+    {
         self.push(Planned::Code(Step::Mark(label)))
     }
 
     /// Adds the code of a task where so many bytes are pushed.
-    pub fn part(&mut self, task: Task, pushed: u16) -> Result<(), AllocError> {
+    pub fn part(&mut self, task: Task, pushed: u16) -> Result<(), AllocError>
+        ensures { OnOk result (PlanAdds self.old self.new (part task pushed ∷ [])) }
+    {
         self.push(Planned::Code(Step::Part(Part { task, pushed })))
     }
 
     /// What holds here, beside what is known by the instructions alone.
-    pub fn holds(&mut self, facts: Facts) -> Result<(), AllocError> {
+    pub fn holds(&mut self, facts: Facts) -> Result<(), AllocError>
+        ensures { OnOk result (PlanAdds self.old self.new (holds facts ∷ [])) }
+    {
         self.push(Planned::Code(Step::Holds(facts)))
     }
 
     /// How many steps there are.
-    pub fn count(&self) -> usize {
+    pub fn count(&self) -> usize
+        ensures { result ≡ length self.now.list.items }
+    {
         self.list.len()
     }
 
     /// The step of an index.
-    pub fn get(&self, index: usize) -> Option<Planned> {
+    pub fn get(&self, index: usize) -> Option<Planned>
+        ensures { result ≡ slice_get self.now.list.items index }
+    {
         self.list.get(index).copied()
     }
 
     /// Takes away all steps but the first so many.
-    pub fn truncate(&mut self, count: usize) {
+    pub fn truncate(&mut self, count: usize)
+        ensures list { self.new.list.items ≡ take count self.old.list.items }
+        ensures first { self.new.first_label ≡ self.old.first_label }
+        ensures taken { self.new.taken ≡ self.old.taken }
+    {
         self.list.truncate(count);
     }
 }

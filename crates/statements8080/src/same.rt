@@ -1,12 +1,17 @@
 //! References that mean the same place, as far as that is seen at once.
 
+ghost use Rattle.std.specs.Prelude.{◌≡◌};
+ghost use Rattle.statements8080.specs.SamePlaces.{are_same, are_same_leaf, are_same_scalar, are_same_subscript, are_same_subscripts, scalar_at, unconverted};
+
 use exprgen8080::Site;
 use treecode::{ExpressionForm, ExpressionNumber, Location, Reference, Subscript};
 use trees::ScalarType;
 
 // Where the scalar lies that an expression is the value of, if it is one without a base and computed subscripts; with its
 // type.
-fn scalar_at(site: &Site<'_>, number: ExpressionNumber) -> Option<(Location, ScalarType)> {
+fn scalar_at(site: &Site<'_>, number: ExpressionNumber) -> Option<(Location, ScalarType)>
+    ensures { result ≡ scalar_at site.now number }
+{
     match site.expression(number) {
         Some(expression) => match expression.form {
             ExpressionForm::Value(reference) => match site.location_of(&reference) {
@@ -20,7 +25,9 @@ fn scalar_at(site: &Site<'_>, number: ExpressionNumber) -> Option<(Location, Sca
 }
 
 // Whether two expressions are the same scalar.
-fn are_same_scalar(site: &Site<'_>, left: ExpressionNumber, right: ExpressionNumber) -> bool {
+fn are_same_scalar(site: &Site<'_>, left: ExpressionNumber, right: ExpressionNumber) -> bool
+    ensures { result ≡ are_same_scalar site.now left right }
+{
     let (Some((left, left_type)), Some((right, right_type))) = (
         scalar_at(site, left),
         scalar_at(site, right),
@@ -36,7 +43,9 @@ fn are_same_scalar(site: &Site<'_>, left: ExpressionNumber, right: ExpressionNum
 }
 
 // Whether two expressions are the same number or the same scalar.
-fn are_same_leaf(site: &Site<'_>, left: ExpressionNumber, right: ExpressionNumber) -> bool {
+fn are_same_leaf(site: &Site<'_>, left: ExpressionNumber, right: ExpressionNumber) -> bool
+    ensures { result ≡ are_same_leaf site.now left right }
+{
     match (site.number(left), site.number(right)) {
         (Some(left), Some(right)) => left == right,
         _ => are_same_scalar(site, left, right),
@@ -44,7 +53,9 @@ fn are_same_leaf(site: &Site<'_>, left: ExpressionNumber, right: ExpressionNumbe
 }
 
 // An expression without the conversion around it, if there is one.
-fn unconverted(site: &Site<'_>, number: ExpressionNumber) -> ExpressionNumber {
+fn unconverted(site: &Site<'_>, number: ExpressionNumber) -> ExpressionNumber
+    ensures { result ≡ unconverted site.now number }
+{
     match site.expression(number) {
         Some(expression) => match expression.form {
             ExpressionForm::Conversion(inner) => inner,
@@ -55,7 +66,9 @@ fn unconverted(site: &Site<'_>, number: ExpressionNumber) -> ExpressionNumber {
 }
 
 // Whether two subscripts are seen to be the same: numbers or scalars, which a subscript is converted from.
-fn are_same_subscript(site: &Site<'_>, left: Subscript, right: Subscript) -> bool {
+fn are_same_subscript(site: &Site<'_>, left: Subscript, right: Subscript) -> bool
+    ensures { result ≡ are_same_subscript site.now left right }
+{
     left.stride == right.stride
         && (are_same_leaf(site, left.index, right.index)
             || are_same_scalar(
@@ -66,7 +79,9 @@ fn are_same_subscript(site: &Site<'_>, left: Subscript, right: Subscript) -> boo
 }
 
 // Whether two subscripts that may be there are the same.
-fn are_same_subscripts(site: &Site<'_>, left: Option<Subscript>, right: Option<Subscript>) -> bool {
+fn are_same_subscripts(site: &Site<'_>, left: Option<Subscript>, right: Option<Subscript>) -> bool
+    ensures { result ≡ are_same_subscripts site.now left right }
+{
     match (left, right) {
         (None, None) => true,
         (Some(left), Some(right)) => are_same_subscript(site, left, right),
@@ -76,7 +91,9 @@ fn are_same_subscripts(site: &Site<'_>, left: Option<Subscript>, right: Option<S
 
 /// Whether two references are seen to mean the same place, and to locate it changes nothing: both have the same numbers or
 /// scalars as subscripts.
-pub fn are_same(site: &Site<'_>, left: &Reference, right: &Reference) -> bool {
+pub fn are_same(site: &Site<'_>, left: &Reference, right: &Reference) -> bool
+    ensures { result ≡ are_same site.now left.now right.now }
+{
     left.object == right.object
         && left.offset == right.offset
         && are_same_subscripts(site, left.subscript, right.subscript)

@@ -1,0 +1,61 @@
+-- Steps that are being added one after another.
+use Rattle.std.proofs.Common.{◌≡◌, ℕ, suc, ◌+◌, ◌-◌, ◌<◌, Bool, false, ◌||◌, Some, None, List, [], ◌++◌, refl, sym, ◌∙◌, ap, arith, add-one}
+use Rattle.std.proofs.lemmas.List.{append_assoc, append-nil}
+use Rattle.treecode.specs.declared.lists.Range.{Range}
+use Rattle.treecode.specs.declared.reference.Target.{Target}
+use Rattle.treecode.specs.Queries.{target as target_at}
+use Rattle.statements8080.specs.declared.body.Body.{Body}
+use Rattle.statements8080.specs.declared.plan.Plan.{Plan}
+use Rattle.statements8080.specs.declared.plan.Planned.{Planned}
+use Rattle.statements8080.specs.Plans.{PlanAdds, steps_from}
+use Rattle.statements8080.specs.Assignments.{any_target}
+use Rattle.statements8080.specs.internal.Adding.{IsAdding}
+
+-- nothing is added yet
+pub adding_begins : (plan : Plan) (whole : List Planned) → IsAdding plan plan whole whole
+adding_begins plan whole = record { added = refl; first = refl; taken = refl }
+
+-- some of the steps that are left are added
+pub adding_goes_on :
+    (before now next : Plan) (whole here left : List Planned)
+    → IsAdding before now whole (here ++ left) → PlanAdds now next here → IsAdding before next whole left
+adding_goes_on before now next whole here left adding adds = record {
+  added = ap (λ items. items ++ left) adds.added ∙ append_assoc now.list.items here left ∙ adding.added;
+  first = adds.first ∙ adding.first;
+  taken = adds.taken ∙ adding.taken;
+}
+
+-- nothing is left
+pub adding_ends :
+    (before now : Plan) (whole : List Planned) → IsAdding before now whole [] → PlanAdds before now whole
+adding_ends before now whole adding = record {
+  added = sym (append-nil now.list.items) ∙ adding.added;
+  first = adding.first;
+  taken = adding.taken;
+}
+
+-- what is left of so many in a row is one more than what is left after it
+left_here : (index count : ℕ) → index < count → count - index ≡ suc (count - (index + 1))
+left_here index count below = omega arith
+
+-- the steps of the indexes that are left begin with those of this one
+pub steps_from_here :
+    (steps_at : ℕ → List Planned) (index count : ℕ) → index < count
+    → steps_from steps_at index (count - index)
+    ≡ steps_at index ++ steps_from steps_at (index + 1) (count - (index + 1))
+steps_from_here steps_at index count below =
+    ap (steps_from steps_at index) (left_here index count below)
+    ∙ ap (λ next. steps_at index ++ steps_from steps_at next (count - (index + 1))) (sym (add-one index))
+
+-- one of the targets that are left passes a test where this one does, or one of those after it
+pub any_target_here :
+    (test : Target → Bool) (body : Body) (targets : Range) (index count : ℕ) → index < count
+    → any_target test body targets index (count - index)
+    ≡ ((elim (target_at body.tree.now targets index) [ Some found ↦ test found | None ↦ false ])
+    || any_target test body targets (index + 1) (count - (index + 1)))
+any_target_here test body targets index count below =
+    ap (any_target test body targets index) (left_here index count below)
+    ∙ ap
+    (λ next. (elim (target_at body.tree.now targets index) [ Some found ↦ test found | None ↦ false ])
+    || any_target test body targets next (count - (index + 1)))
+    (sym (add-one index))

@@ -1,0 +1,11 @@
+use Rattle.std.proofs.Common.{replicate}
+use Rattle.statements8080.specs.Plans.{plain}
+use Rattle.statements8080.specs.internal.Adding.{IsAdding}
+use Rattle.statements8080.proofs.plan.Plan.repeated.Given as goal
+
+abbrev pub invariant-loop-left : goal.invariant-loop-left
+invariant-loop-left l =
+    IsAdding l.fn.self l.self (replicate l.count (plain l.instruction)) (replicate l.left (plain l.instruction))
+
+abbrev pub decreases-loop-left : goal.decreases-loop-left
+decreases-loop-left l = l.left

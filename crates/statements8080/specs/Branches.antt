@@ -1,0 +1,206 @@
+-- The code of IF and DO WHILE.
+use Rattle.std.specs.Prelude.{ℕ, zero, suc, ◌%◌, Bool, true, false, not, if◌then◌else◌, nat_eq, nat_lt, List, [], ◌∷◌, ◌++◌, Option, Some, None}
+use Rattle.asm8080.specs.declared.item.WordForm.TheVariants.{Jump}
+use Rattle.trees.specs.declared.expression.BinaryOperator.{BinaryOperator}
+use Rattle.trees.specs.declared.expression.BinaryOperator.TheVariants.{And, Or}
+use Rattle.trees.specs.declared.expression.UnaryOperator.TheVariants.{Not}
+use Rattle.treecode.specs.declared.expression.ExpressionForm.{ExpressionForm}
+use Rattle.treecode.specs.declared.expression.ExpressionForm.TheVariants.{Binary, Conversion, Function, Unary}
+use Rattle.treecode.specs.declared.expression.ExpressionNumber.{ExpressionNumber}
+use Rattle.treecode.specs.declared.lists.Range.{Range}
+use Rattle.treecode.specs.declared.statement.StatementNumber.{StatementNumber}
+use Rattle.treecode.specs.declared.statement.Statement.{Statement as TreeStatement}
+use Rattle.treecode.specs.declared.statement.Statement.TheVariants.{Goto}
+use Rattle.treecode.specs.Queries.{statement}
+use Rattle.steps8080.specs.declared.step.LabelNumber.{LabelNumber}
+use Rattle.steps8080.specs.declared.step.Task.TheVariants as tasks
+use Rattle.steps8080.specs.Step.{label_of}
+use Rattle.sites8080.specs.declared.site.Site.{Site}
+use Rattle.sites8080.specs.Site.{expression}
+use Rattle.sites8080.specs.Queries.{number}
+use Rattle.statements8080.specs.declared.body.Body.{Body}
+use Rattle.statements8080.specs.declared.branching.TheConstants.{LOOKED_THROUGH}
+use Rattle.statements8080.specs.declared.plan.Planned.{Planned}
+use Rattle.statements8080.specs.declared.plan.Planned.TheVariants.{Jumped, JumpOn, List as ListOf, Meet, Reaches, Statement, Turn}
+use Rattle.statements8080.specs.Plans.{jump, mark, nth_label, part}
+use Rattle.statements8080.specs.Bodies.{body_label}
+
+-- an expression inside NOT or a conversion that is an expression of a form
+abbrev pub inner_of_form : ExpressionForm → Option ExpressionNumber
+inner_of_form (Conversion inside) = Some inside
+inner_of_form (Unary Not operand) = Some operand
+inner_of_form form = None
+
+-- an expression inside NOT or a conversion, whose lowest bit is the same or the other one
+abbrev pub inner : Site → ExpressionNumber → Option ExpressionNumber
+inner site value = elim (expression site value) [ Some found ↦ inner_of_form found.form | None ↦ None ]
+
+-- whether an operator is AND or OR
+abbrev pub is_and_or_or : BinaryOperator → Bool
+is_and_or_or And = true
+is_and_or_or Or = true
+is_and_or_or operator = false
+
+-- whether the code of a condition of a form may be that of AND or OR
+abbrev pub may_jump_twice_by : ExpressionForm → Bool
+may_jump_twice_by (Binary operands operator left right) = is_and_or_or operator
+may_jump_twice_by (Unary operator operand) = true
+may_jump_twice_by (Conversion inside) = true
+may_jump_twice_by (Function function operand) = true
+may_jump_twice_by form = false
+
+-- whether the code of a condition may be that of AND or OR, which may jump at each side
+abbrev pub may_jump_twice : Site → ExpressionNumber → Bool
+may_jump_twice site value = elim (expression site value) [
+  | Some found ↦ may_jump_twice_by found.form
+  | None ↦ true
+]
+
+-- whether the code of a condition surely has one jump at most to its label, where so many signs of negation
+-- and conversions around it are looked through
+unfoldable pub has_one_jump_within : (left : ℕ) → Site → (condition : ExpressionNumber) → Bool
+has_one_jump_within zero site condition = false
+has_one_jump_within (suc left) site condition = elim (inner site condition) [
+  | Some inside ↦ has_one_jump_within left site inside
+  | None ↦ not (may_jump_twice site condition)
+]
+
+-- whether the code of a condition surely has one jump at most to its label
+abbrev pub has_one_jump : Site → (condition : ExpressionNumber) → Bool
+has_one_jump site condition = has_one_jump_within LOOKED_THROUGH site condition
+
+-- the label of a GOTO
+abbrev pub goto_label_of : Body → TreeStatement → Option LabelNumber
+goto_label_of body (Goto label) = Some (body_label body label)
+goto_label_of body other = None
+
+-- the label that a statement goes to, where it is a GOTO
+abbrev pub goto_label : Body → StatementNumber → Option LabelNumber
+goto_label body entry = elim (statement body.tree.now entry) [
+  | Some found ↦ goto_label_of body found
+  | None ↦ None
+]
+
+-- a jump to a label by a condition
+abbrev pub branch : (condition : ExpressionNumber) → LabelNumber → (sense : Bool) → Planned
+branch condition label sense = part (tasks.Branch condition label sense) 0
+
+-- a statement that is carried out where a condition holds
+abbrev pub then_steps :
+    Site → (condition : ExpressionNumber) → (then_part : StatementNumber) → (first : ℕ) → List Planned
+then_steps site condition then_part first =
+    branch condition (label_of first) false
+    ∷ Jumped (has_one_jump site condition)
+    ∷ Statement then_part
+    ∷ Meet (label_of first)
+    ∷ []
+
+-- one of two statements, by a condition, of which the second is no GOTO
+abbrev pub both_steps :
+    Site → (condition : ExpressionNumber) → (then_part else_part : StatementNumber) → (first : ℕ)
+    → List Planned
+both_steps site condition then_part else_part first =
+    branch condition (label_of first) false
+    ∷ Jumped (has_one_jump site condition)
+    ∷ Statement then_part
+    ∷ Turn (label_of first) (nth_label first 1)
+    ∷ Statement else_part
+    ∷ Meet (nth_label first 1)
+    ∷ []
+
+-- one of two statements, by a condition; a second one that is a GOTO is a jump by the condition
+abbrev pub either_steps :
+    Body → Site → (condition : ExpressionNumber) → (then_part else_part : StatementNumber) → (first : ℕ)
+    → List Planned
+either_steps body site condition then_part else_part first = elim (goto_label body else_part) [
+  | Some label ↦ branch condition label false ∷ Statement then_part ∷ []
+  | None ↦ both_steps site condition then_part else_part first
+]
+
+-- how many labels that takes
+abbrev pub either_labels : Body → (else_part : StatementNumber) → ℕ
+either_labels body else_part = elim (goto_label body else_part) [ Some label ↦ 0 | None ↦ 2 ]
+
+-- a statement, if there is one
+abbrev pub statement_if_any : Option StatementNumber → List Planned
+statement_if_any (Some there) = Statement there ∷ []
+statement_if_any None = []
+
+-- IF of a condition that is not known, whose first statement is no GOTO
+abbrev pub computed_if_steps :
+    Body → Site → (condition : ExpressionNumber) → (then_part : StatementNumber)
+    → (else_part : Option StatementNumber) → (first : ℕ) → List Planned
+computed_if_steps body site condition then_part (Some else_part) first =
+    either_steps body site condition then_part else_part first
+computed_if_steps body site condition then_part None first = then_steps site condition then_part first
+
+-- how many labels that takes
+abbrev pub computed_if_labels : Body → (else_part : Option StatementNumber) → ℕ
+computed_if_labels body (Some else_part) = either_labels body else_part
+computed_if_labels body None = 1
+
+-- IF of a condition that is not known; a first statement that is a GOTO is a jump by the condition
+abbrev pub tested_if_steps :
+    Body → Site → (condition : ExpressionNumber) → (then_part : StatementNumber)
+    → (else_part : Option StatementNumber) → (first : ℕ) → List Planned
+tested_if_steps body site condition then_part else_part first = elim (goto_label body then_part) [
+  | Some label ↦ branch condition label true ∷ statement_if_any else_part
+  | None ↦ computed_if_steps body site condition then_part else_part first
+]
+
+-- how many labels that takes
+abbrev pub tested_if_labels :
+    Body → (then_part : StatementNumber) → (else_part : Option StatementNumber) → ℕ
+tested_if_labels body then_part else_part = elim (goto_label body then_part) [
+  | Some label ↦ 0
+  | None ↦ computed_if_labels body else_part
+]
+
+-- IF; where the condition is known, one of both statements is left out: no code outside it goes to its labels
+abbrev pub if_steps :
+    Body → Site → (condition : ExpressionNumber) → (then_part : StatementNumber)
+    → (else_part : Option StatementNumber) → (first : ℕ) → List Planned
+if_steps body site condition then_part else_part first = elim (number site condition) [
+  | Some known ↦ if nat_eq (known % 2) 1 then Statement then_part ∷ [] else statement_if_any else_part
+  | None ↦ tested_if_steps body site condition then_part else_part first
+]
+
+-- how many labels that takes
+abbrev pub if_labels :
+    Body → Site → (condition : ExpressionNumber) → (then_part : StatementNumber)
+    → (else_part : Option StatementNumber) → ℕ
+if_labels body site condition then_part else_part = elim (number site condition) [
+  | Some known ↦ 0
+  | None ↦ tested_if_labels body then_part else_part
+]
+
+-- a list that is carried out again and again
+abbrev pub forever_steps : Range → (first : ℕ) → List Planned
+forever_steps list first =
+    mark (label_of first) ∷ ListOf list ∷ JumpOn (label_of first) ∷ Reaches false ∷ []
+
+-- DO WHILE of a condition that is not known: it is tested at the end, to which the code before the loop jumps
+-- unless the list is empty
+abbrev pub tested_while_steps : (condition : ExpressionNumber) → Range → (first : ℕ) → List Planned
+tested_while_steps condition list first =
+    (if nat_lt 0 list.count then jump Jump (nth_label first 1) ∷ [] else [])
+    ++ (mark (label_of first)
+    ∷ ListOf list
+    ∷ mark (nth_label first 1)
+    ∷ branch condition (label_of first) true
+    ∷ Reaches true
+    ∷ [])
+
+-- DO WHILE; nothing where the condition is known not to hold
+abbrev pub while_steps : Site → (condition : ExpressionNumber) → Range → (first : ℕ) → List Planned
+while_steps site condition list first = elim (number site condition) [
+  | Some known ↦ if nat_eq (known % 2) 1 then forever_steps list first else []
+  | None ↦ tested_while_steps condition list first
+]
+
+-- how many labels that takes
+abbrev pub while_labels : Site → (condition : ExpressionNumber) → ℕ
+while_labels site condition = elim (number site condition) [
+  | Some known ↦ if nat_eq (known % 2) 1 then 1 else 0
+  | None ↦ 2
+]
