@@ -11,7 +11,8 @@ use Rattle.treecode.specs.declared.place.Place.{Place}
 use Rattle.treecode.specs.declared.place.Place.TheVariants.{Number}
 use Rattle.treecode.specs.declared.reference.Reference.{Reference}
 use Rattle.treecode.specs.declared.reference.Subscript.{Subscript}
-use Rattle.treecode.specs.Queries.{location_after, place_number}
+use Rattle.treecode.specs.Homes.{location_after}
+use Rattle.treecode.specs.Queries.{place_number}
 use Rattle.steps8080.specs.declared.step.Step.{Step}
 use Rattle.steps8080.specs.declared.step.Step.TheVariants.{Holds, Plain, Word}
 use Rattle.steps8080.specs.Step.{plain, repeat_steps}
