@@ -1,6 +1,11 @@
 //! Jumps where a condition holds, or where it does not.
 
-use crate::relations::{Outcome, Purpose, Setting, plan_relation};
+ghost use Rattle.std.specs.Prelude.{◌≡◌, [], ◌∷◌, OnOk};
+ghost use Rattle.steps8080.specs.Step.{Adds, AddsWithLabels};
+ghost use Rattle.relations8080.specs.Branches.{branch_labels, branch_part, branch_steps, by_bit_steps, equality_labels, equality_steps, is_odd, joined_labels, joined_steps, known_branch_steps, opposite, opposite_condition, other_labels, other_steps, shape_of, shape_of_binary, shape_of_form, shape_of_junction, shape_with_number, where_flags_steps};
+
+use crate::answers::{Purpose, Setting};
+use crate::relations::{Outcome, plan_relation};
 use crate::word_relations::{equality_of_words, plan_words};
 use asm8080::WordForm;
 use isa8080::{Condition, Instr};
@@ -46,7 +51,9 @@ enum Shape {
 
 impl Branch {
     // The jump where the condition is the other way round.
-    fn opposite(self) -> Branch {
+    fn opposite(self) -> Branch
+        ensures { result ≡ opposite self }
+    {
         Branch {
             sense: !self.sense,
             ..self
@@ -54,7 +61,9 @@ impl Branch {
     }
 
     // Adds the jump on a condition of this kind.
-    fn part(self, condition: ExpressionNumber, steps: &mut Steps) -> Result<(), AllocError> {
+    fn part(self, condition: ExpressionNumber, steps: &mut Steps) -> Result<(), AllocError>
+        ensures { OnOk result (Adds steps.old steps.new (branch_part self condition ∷ [])) }
+    {
         let Branch {
             label,
             sense,
@@ -71,7 +80,9 @@ impl Branch {
     }
 
     // Adds the jump where the answer is known.
-    fn known(self, answer: bool, steps: &mut Steps) -> Result<(), AllocError> {
+    fn known(self, answer: bool, steps: &mut Steps) -> Result<(), AllocError>
+        ensures { OnOk result (Adds steps.old steps.new (known_branch_steps self answer)) }
+    {
         if answer == self.sense {
             steps.jump(WordForm::Jump, self.label)
         } else {
@@ -80,7 +91,9 @@ impl Branch {
     }
 
     // Adds the jump where the answer is yes where the flags are so.
-    fn where_flags(self, condition: Condition, steps: &mut Steps) -> Result<(), AllocError> {
+    fn where_flags(self, condition: Condition, steps: &mut Steps) -> Result<(), AllocError>
+        ensures { OnOk result (Adds steps.old steps.new (where_flags_steps self condition)) }
+    {
         let wanted = if self.sense {
             condition
         } else {
@@ -91,7 +104,9 @@ impl Branch {
 }
 
 // The condition that holds where another does not.
-fn negated(condition: Condition) -> Condition {
+fn negated(condition: Condition) -> Condition
+    ensures { result ≡ opposite_condition condition }
+{
     match condition {
         Condition::NotZero => Condition::Zero,
         Condition::Zero => Condition::NotZero,
@@ -105,12 +120,16 @@ fn negated(condition: Condition) -> Condition {
 }
 
 // Whether the lowest bit of a number is 1.
-fn is_odd(number: u16) -> bool {
+fn is_odd(number: u16) -> bool
+    ensures { result ≡ is_odd number }
+{
     number % 2 == 1
 }
 
 // The lowest bit of AND or OR of a value and a number.
-fn shape_with_number(operand: ExpressionNumber, number: u16, deciding: bool) -> Shape {
+fn shape_with_number(operand: ExpressionNumber, number: u16, deciding: bool) -> Shape
+    ensures { result ≡ shape_with_number operand number deciding }
+{
     if is_odd(number) == deciding {
         Shape::Whatever(operand, deciding)
     } else {
@@ -119,7 +138,9 @@ fn shape_with_number(operand: ExpressionNumber, number: u16, deciding: bool) -> 
 }
 
 // The lowest bit of AND or OR.
-fn shape_of_junction(site: &Site<'_>, junction: Junction) -> Shape {
+fn shape_of_junction(site: &Site<'_>, junction: Junction) -> Shape
+    ensures { result ≡ shape_of_junction site.now junction }
+{
     let Junction {
         deciding,
         left,
@@ -144,7 +165,9 @@ fn shape_of_binary(
     operator: BinaryOperator,
     left: ExpressionNumber,
     right: ExpressionNumber,
-) -> Shape {
+) -> Shape
+    ensures { result ≡ shape_of_binary site.now operator left right }
+{
     let deciding = match operator {
         BinaryOperator::And => false,
         BinaryOperator::Or => true,
@@ -161,7 +184,9 @@ fn shape_of_binary(
 }
 
 // The lowest bit of an expression of this form.
-fn shape_of_form(site: &Site<'_>, form: ExpressionForm) -> Shape {
+fn shape_of_form(site: &Site<'_>, form: ExpressionForm) -> Shape
+    ensures { result ≡ shape_of_form site.now form }
+{
     match form {
         ExpressionForm::Conversion(inner) => Shape::SameAs(inner),
         ExpressionForm::Function {
@@ -187,7 +212,10 @@ fn shape_of_form(site: &Site<'_>, form: ExpressionForm) -> Shape {
 }
 
 // The lowest bit of an expression.
-fn shape_of(site: &Site<'_>, condition: ExpressionNumber) -> Shape {
+#[tactic(auto, unfolding(crate::specs::Branches::shape_of))]
+fn shape_of(site: &Site<'_>, condition: ExpressionNumber) -> Shape
+    ensures { result ≡ shape_of site.now condition }
+{
     if let Some(number) = site.number(condition) {
         return Shape::Known(is_odd(number));
     }
@@ -198,7 +226,10 @@ fn shape_of(site: &Site<'_>, condition: ExpressionNumber) -> Shape {
 }
 
 // The steps that jump by two operands. Where the left one decides, the right one is passed over.
-fn plan_joined(junction: Junction, branch: Branch, steps: &mut Steps) -> Result<(), AllocError> {
+fn plan_joined(junction: Junction, branch: Branch, steps: &mut Steps) -> Result<(), AllocError>
+    ensures { OnOk result (AddsWithLabels steps.old steps.new (joined_labels junction branch)
+        (joined_steps junction branch)) }
+{
     let Junction {
         deciding,
         left,
@@ -224,7 +255,9 @@ fn plan_by_bit(
     condition: ExpressionNumber,
     branch: Branch,
     steps: &mut Steps,
-) -> Result<(), AllocError> {
+) -> Result<(), AllocError>
+    ensures { OnOk result (Adds steps.old steps.new (by_bit_steps condition branch)) }
+{
     steps.part(Task::Byte(condition), branch.pushed)?;
     steps.plain(Instr::Rrc)?;
     branch.where_flags(Condition::Carry, steps)
@@ -238,7 +271,10 @@ fn plan_equality(
     is_equal: bool,
     branch: Branch,
     steps: &mut Steps,
-) -> Result<(), AllocError> {
+) -> Result<(), AllocError>
+    ensures { OnOk result (AddsWithLabels steps.old steps.new (equality_labels is_equal)
+        (equality_steps site.now comparison.now is_equal branch)) }
+{
     let words = plan_words(site, comparison, branch.pushed, steps)?;
     words.plan_low_difference(steps)?;
     if !is_equal {
@@ -259,7 +295,10 @@ fn plan_other(
     condition: ExpressionNumber,
     branch: Branch,
     steps: &mut Steps,
-) -> Result<(), AllocError> {
+) -> Result<(), AllocError>
+    ensures { OnOk result (AddsWithLabels steps.old steps.new (other_labels site.now condition branch)
+        (other_steps site.now condition branch)) }
+{
     let Some(relation) = relation_of(site, condition) else {
         return plan_by_bit(condition, branch, steps);
     };
@@ -285,7 +324,11 @@ pub fn plan_branch(
     sense: bool,
     pushed: u16,
     steps: &mut Steps,
-) -> Result<(), AllocError> {
+) -> Result<(), AllocError>
+    ensures { OnOk result (AddsWithLabels steps.old steps.new
+        (branch_labels site.now condition label sense pushed)
+        (branch_steps site.now condition label sense pushed)) }
+{
     let branch = Branch {
         label,
         sense,

@@ -1,6 +1,10 @@
 //! Relations of BYTEs.
 
-use crate::relations::{Answer, Purpose, Setting, plan_known};
+ghost use Rattle.std.specs.Prelude.{◌≡◌, IfOk, OnOk};
+ghost use Rattle.steps8080.specs.Step.{Adds};
+ghost use Rattle.relations8080.specs.ByteRelations.{answer_to, better_form, byte_is_steps, byte_number_answer, byte_number_steps, byte_relation_steps, comparing, exchanged, form_of, form_of_equality, in_order, is_better_exchanged, is_zero_steps, known_answer, may_begin_with, memory_form, number_in_a_answer, number_in_a_steps, pushed_steps, register_form, with_e_steps, with_memory_steps, without_push};
+
+use crate::answers::{Answer, Purpose, Setting, plan_known};
 use isa8080::{Instr, Operand, Operation, Register, StackPair};
 use sites8080::{Comparison, NumberQuestion, Question, Site};
 use std::alloc::AllocError;
@@ -29,7 +33,9 @@ enum Form {
 
 impl Sides {
     // The left operand in A.
-    fn in_order(comparison: &Comparison) -> Sides {
+    fn in_order(comparison: &Comparison) -> Sides
+        ensures { result ≡ in_order comparison.now }
+    {
         Sides {
             first: comparison.left,
             second: comparison.right,
@@ -38,7 +44,9 @@ impl Sides {
     }
 
     // The right operand in A.
-    fn exchanged(comparison: &Comparison) -> Sides {
+    fn exchanged(comparison: &Comparison) -> Sides
+        ensures { result ≡ exchanged comparison.now }
+    {
         Sides {
             first: comparison.right,
             second: comparison.left,
@@ -48,7 +56,9 @@ impl Sides {
 }
 
 // The steps that compare A with a number that is not 0: by the zero flag, or by whether A is 0 then.
-fn plan_is(number: u8, setting: Setting, steps: &mut Steps) -> Result<(), AllocError> {
+fn plan_is(number: u8, setting: Setting, steps: &mut Steps) -> Result<(), AllocError>
+    ensures { OnOk result (Adds steps.old steps.new (byte_is_steps number setting)) }
+{
     match setting.purpose {
         Purpose::Branch => steps.plain(Instr::AccumulateImmediate(Operation::Compare, number)),
         Purpose::Value => match number {
@@ -60,7 +70,9 @@ fn plan_is(number: u8, setting: Setting, steps: &mut Steps) -> Result<(), AllocE
 }
 
 // The steps that tell whether A is 0.
-fn plan_is_zero(setting: Setting, steps: &mut Steps) -> Result<(), AllocError> {
+fn plan_is_zero(setting: Setting, steps: &mut Steps) -> Result<(), AllocError>
+    ensures { OnOk result (Adds steps.old steps.new (is_zero_steps setting)) }
+{
     match setting.purpose {
         Purpose::Branch => steps.push(Step::TestA),
         Purpose::Value => Ok(()),
@@ -72,7 +84,10 @@ pub fn plan_number_in_a(
     question: NumberQuestion,
     setting: Setting,
     steps: &mut Steps,
-) -> Result<Answer, AllocError> {
+) -> Result<Answer, AllocError>
+    ensures adds { OnOk result (Adds steps.old steps.new (number_in_a_steps question setting)) }
+    ensures answer { IfOk result (λ answer. answer ≡ number_in_a_answer question) }
+{
     match question {
         NumberQuestion::Never => Ok(Answer::Known(false)),
         NumberQuestion::Below(1) | NumberQuestion::Is(0) => {
@@ -97,7 +112,9 @@ pub fn plan_number_in_a(
 }
 
 // The answer to a question about a BYTE that does not depend on it.
-fn known_answer(question: NumberQuestion) -> Option<bool> {
+fn known_answer(question: NumberQuestion) -> Option<bool>
+    ensures { result ≡ known_answer question }
+{
     match question {
         NumberQuestion::Never => Some(false),
         NumberQuestion::Below(number) if number > 255 => Some(true),
@@ -112,7 +129,10 @@ pub fn plan_byte_number(
     question: NumberQuestion,
     setting: Setting,
     steps: &mut Steps,
-) -> Result<Answer, AllocError> {
+) -> Result<Answer, AllocError>
+    ensures adds { OnOk result (Adds steps.old steps.new (byte_number_steps operand question setting)) }
+    ensures answer { IfOk result (λ answer. answer ≡ byte_number_answer question) }
+{
     match known_answer(question) {
         Some(answer) => plan_known(operand, answer, setting, steps),
         None => {
@@ -123,15 +143,19 @@ pub fn plan_byte_number(
 }
 
 // The operation that answers a question: where equality is asked for a value, A is to be 0.
-fn comparing(question: Question, setting: Setting) -> Operation {
-    match question {
-        Question::Equal if setting.purpose == Purpose::Value => Operation::Subtract,
+fn comparing(question: Question, setting: Setting) -> Operation
+    ensures { result ≡ comparing question setting }
+{
+    match (question, setting.purpose) {
+        (Question::Equal, Purpose::Value) => Operation::Subtract,
         _ => Operation::Compare,
     }
 }
 
 // How the operation leaves the answer.
-fn answer_to(question: Question) -> Answer {
+fn answer_to(question: Question) -> Answer
+    ensures { result ≡ answer_to question }
+{
     match question {
         Question::LeftBelow | Question::RightBelow => Answer::Carry,
         Question::Equal => Answer::Zero,
@@ -139,12 +163,16 @@ fn answer_to(question: Question) -> Answer {
 }
 
 // Whether the operands can be evaluated with this one first.
-fn may_begin_with(site: &Site<'_>, comparison: &Comparison, is_left: bool) -> bool {
+fn may_begin_with(site: &Site<'_>, comparison: &Comparison, is_left: bool) -> bool
+    ensures { result ≡ may_begin_with site.now comparison.now is_left }
+{
     is_left || site.may_exchange(comparison.left, comparison.right)
 }
 
 // The comparison of A with a byte in memory, where it can be made.
-fn memory_form(site: &Site<'_>, comparison: &Comparison, sides: Sides) -> Option<Form> {
+fn memory_form(site: &Site<'_>, comparison: &Comparison, sides: Sides) -> Option<Form>
+    ensures { result ≡ memory_form site.now comparison.now sides }
+{
     match site.operand_in_memory(sides.second) {
         Some(reference) if may_begin_with(site, comparison, sides.is_in_order) => {
             Some(Form::WithMemory(sides, reference))
@@ -154,7 +182,9 @@ fn memory_form(site: &Site<'_>, comparison: &Comparison, sides: Sides) -> Option
 }
 
 // The comparison of A with E, where it can be made.
-fn register_form(site: &Site<'_>, comparison: &Comparison, sides: Sides) -> Option<Form> {
+fn register_form(site: &Site<'_>, comparison: &Comparison, sides: Sides) -> Option<Form>
+    ensures { result ≡ register_form site.now comparison.now sides }
+{
     if site.is_free(sides.first) && may_begin_with(site, comparison, !sides.is_in_order) {
         Some(Form::WithE(sides))
     } else {
@@ -163,7 +193,10 @@ fn register_form(site: &Site<'_>, comparison: &Comparison, sides: Sides) -> Opti
 }
 
 // The better one of the two comparisons without a push, where one can be made.
-fn without_push(site: &Site<'_>, comparison: &Comparison, sides: Sides) -> Option<Form> {
+#[tactic(auto, unfolding(crate::specs::ByteRelations::without_push))]
+fn without_push(site: &Site<'_>, comparison: &Comparison, sides: Sides) -> Option<Form>
+    ensures { result ≡ without_push site.now comparison.now sides }
+{
     let by_register = register_form(site, comparison, sides);
     if by_register.is_some() && site.is_byte_in_register(sides.second) {
         return by_register;
@@ -176,7 +209,10 @@ fn without_push(site: &Site<'_>, comparison: &Comparison, sides: Sides) -> Optio
 
 // Whether the operands are better compared with the right one in A: it is at hand, or the address of the left one is in HL
 // and stays there.
-fn is_better_exchanged(site: &Site<'_>, comparison: &Comparison) -> bool {
+#[tactic(auto, unfolding(crate::specs::ByteRelations::is_better_exchanged))]
+fn is_better_exchanged(site: &Site<'_>, comparison: &Comparison) -> bool
+    ensures { result ≡ is_better_exchanged site.now comparison.now }
+{
     if site.is_byte_in_register(comparison.left) {
         return false;
     }
@@ -184,12 +220,12 @@ fn is_better_exchanged(site: &Site<'_>, comparison: &Comparison) -> bool {
         || site.is_at_hl(comparison.left) && site.is_free(comparison.right)
 }
 
-// How equality is tested: either operand may be in A.
-fn form_of_equality(site: &Site<'_>, comparison: &Comparison) -> Form {
-    let in_order = without_push(site, comparison, Sides::in_order(comparison));
-    let exchanged = without_push(site, comparison, Sides::exchanged(comparison));
-    match (in_order, exchanged) {
-        (Some(_), Some(form)) if is_better_exchanged(site, comparison) => form,
+// The better one of the comparisons with the left operand in A and with the right one, or the one with a push.
+fn better_form(one: Option<Form>, other: Option<Form>, is_other_better: bool) -> Form
+    ensures { result ≡ better_form one other is_other_better }
+{
+    match (one, other) {
+        (Some(_), Some(form)) if is_other_better => form,
         (Some(Form::WithE(_)), Some(Form::WithMemory(sides, reference))) => {
             Form::WithMemory(sides, reference)
         }
@@ -198,8 +234,22 @@ fn form_of_equality(site: &Site<'_>, comparison: &Comparison) -> Form {
     }
 }
 
+// How equality is tested: either operand may be in A.
+fn form_of_equality(site: &Site<'_>, comparison: &Comparison) -> Form
+    ensures { result ≡ form_of_equality site.now comparison.now }
+{
+    better_form(
+        without_push(site, comparison, Sides::in_order(comparison)),
+        without_push(site, comparison, Sides::exchanged(comparison)),
+        is_better_exchanged(site, comparison),
+    )
+}
+
 // How two operands are compared.
-fn form_of(site: &Site<'_>, comparison: &Comparison) -> Form {
+#[tactic(auto, unfolding(crate::specs::ByteRelations::form_of))]
+fn form_of(site: &Site<'_>, comparison: &Comparison) -> Form
+    ensures { result ≡ form_of site.now comparison.now }
+{
     let sides = match comparison.question {
         Question::LeftBelow => Sides::in_order(comparison),
         Question::RightBelow => Sides::exchanged(comparison),
@@ -218,7 +268,9 @@ fn plan_with_memory(
     operation: Operation,
     pushed: u16,
     steps: &mut Steps,
-) -> Result<(), AllocError> {
+) -> Result<(), AllocError>
+    ensures { OnOk result (Adds steps.old steps.new (with_memory_steps sides reference operation pushed)) }
+{
     steps.part(Task::Byte(sides.first), pushed)?;
     steps.part(Task::Address(reference), pushed)?;
     steps.plain(with_memory(operation))
@@ -230,7 +282,9 @@ fn plan_with_e(
     operation: Operation,
     pushed: u16,
     steps: &mut Steps,
-) -> Result<(), AllocError> {
+) -> Result<(), AllocError>
+    ensures { OnOk result (Adds steps.old steps.new (with_e_steps sides operation pushed)) }
+{
     steps.part(Task::Byte(sides.second), pushed)?;
     steps.plain(copy(Register::E, Register::A))?;
     steps.part(Task::Byte(sides.first), pushed)?;
@@ -243,7 +297,9 @@ fn plan_pushed(
     operation: Operation,
     pushed: u16,
     steps: &mut Steps,
-) -> Result<(), AllocError> {
+) -> Result<(), AllocError>
+    ensures { OnOk result (Adds steps.old steps.new (pushed_steps comparison.now operation pushed)) }
+{
     steps.part(Task::Byte(comparison.left), pushed)?;
     steps.plain(Instr::Push(StackPair::Psw))?;
     steps.part(Task::Byte(comparison.right), pushed.wrapping_add(2))?;
@@ -263,7 +319,11 @@ pub fn plan_byte_relation(
     comparison: &Comparison,
     setting: Setting,
     steps: &mut Steps,
-) -> Result<Answer, AllocError> {
+) -> Result<Answer, AllocError>
+    ensures adds { OnOk result (Adds steps.old steps.new
+        (byte_relation_steps site.now comparison.now setting)) }
+    ensures answer { IfOk result (λ answer. answer ≡ answer_to comparison.now.question) }
+{
     let operation = comparing(comparison.question, setting);
     let pushed = setting.pushed;
     match form_of(site, comparison) {

@@ -1,39 +1,19 @@
 //! Relations, as flags and as values.
 
+ghost use Rattle.std.specs.Prelude.{◌≡◌, IfOk, OnOk};
+ghost use Rattle.steps8080.specs.Step.{Adds};
+ghost use Rattle.relations8080.specs.ByteRelations.{answer_to};
+ghost use Rattle.relations8080.specs.Relations.{carry_steps, comparison_steps, number_answer, number_steps, outcome_of, outcome_value_steps, relation_outcome, relation_steps, relation_value_steps};
+
+use crate::answers::{Answer, Purpose, Setting};
 use crate::byte_relations::{plan_byte_number, plan_byte_relation};
 use crate::word_relations::{plan_word_number, plan_word_relation};
 use isa8080::{Condition, Instr, Operation, Register};
 use sites8080::{Comparison, Inquiry, NumberQuestion, Relation, Site, relation_of};
 use std::alloc::AllocError;
-use steps8080::{Steps, Task, clear_a, set, with_register};
+use steps8080::{Steps, clear_a, set, with_register};
 use treecode::ExpressionNumber;
 use trees::ScalarType;
-
-/// What the answer of a question is wanted for.
-#[derive(Clone, Copy, PartialEq, Eq)]
-pub enum Purpose {
-    /// A jump: the flags show it.
-    Branch,
-    /// A value: whether A is 0 may show it.
-    Value,
-}
-
-/// Where the code of a question stands, and what the answer is wanted for.
-#[derive(Clone, Copy)]
-pub struct Setting {
-    pub purpose: Purpose,
-    pub pushed: u16,
-}
-
-/// How the code of a question leaves the answer.
-#[derive(Clone, Copy)]
-pub enum Answer {
-    Known(bool),
-    /// It is yes where the carry is set.
-    Carry,
-    /// It is yes where the zero flag is set (for a jump), or where A is 0 (for a value).
-    Zero,
-}
 
 /// Where a relation holds.
 #[derive(Clone, Copy)]
@@ -45,7 +25,9 @@ pub enum Outcome {
 }
 
 // Where a relation holds by the answer to its question.
-fn outcome_of(answer: Answer, holds_if: bool) -> Outcome {
+fn outcome_of(answer: Answer, holds_if: bool) -> Outcome
+    ensures { result ≡ outcome_of answer holds_if }
+{
     match answer {
         Answer::Known(known) => Outcome::Known(known == holds_if),
         Answer::Carry if holds_if => Outcome::Where(Condition::Carry),
@@ -53,17 +35,6 @@ fn outcome_of(answer: Answer, holds_if: bool) -> Outcome {
         Answer::Zero if holds_if => Outcome::Where(Condition::Zero),
         Answer::Zero => Outcome::Where(Condition::NotZero),
     }
-}
-
-/// The steps that evaluate an operand for what that does, where the answer is known.
-pub fn plan_known(
-    operand: ExpressionNumber,
-    answer: bool,
-    setting: Setting,
-    steps: &mut Steps,
-) -> Result<Answer, AllocError> {
-    steps.part(Task::Effects(operand), setting.pushed)?;
-    Ok(Answer::Known(answer))
 }
 
 // The steps that answer what is asked of an operand and a number.
@@ -74,7 +45,11 @@ fn plan_number(
     question: NumberQuestion,
     setting: Setting,
     steps: &mut Steps,
-) -> Result<Answer, AllocError> {
+) -> Result<Answer, AllocError>
+    ensures adds { OnOk result (Adds steps.old steps.new
+        (number_steps site.now operand scalar question setting)) }
+    ensures answer { IfOk result (λ answer. answer ≡ number_answer site.now operand scalar question) }
+{
     match scalar {
         ScalarType::Byte => plan_byte_number(operand, question, setting, steps),
         ScalarType::Address => plan_word_number(site, operand, question, setting, steps),
@@ -87,7 +62,10 @@ fn plan_comparison(
     comparison: &Comparison,
     setting: Setting,
     steps: &mut Steps,
-) -> Result<Answer, AllocError> {
+) -> Result<Answer, AllocError>
+    ensures adds { OnOk result (Adds steps.old steps.new (comparison_steps site.now comparison.now setting)) }
+    ensures answer { IfOk result (λ answer. answer ≡ answer_to comparison.now.question) }
+{
     match comparison.operands {
         ScalarType::Byte => plan_byte_relation(site, comparison, setting, steps),
         ScalarType::Address => plan_word_relation(site, comparison, setting, steps),
@@ -100,7 +78,10 @@ pub fn plan_relation(
     relation: &Relation,
     setting: Setting,
     steps: &mut Steps,
-) -> Result<Outcome, AllocError> {
+) -> Result<Outcome, AllocError>
+    ensures adds { OnOk result (Adds steps.old steps.new (relation_steps site.now relation.now setting)) }
+    ensures outcome { IfOk result (λ outcome. outcome ≡ relation_outcome site.now relation.now) }
+{
     let answer = match &relation.inquiry {
         Inquiry::Between(comparison) => plan_comparison(site, comparison, setting, steps)?,
         Inquiry::WithNumber {
@@ -113,7 +94,9 @@ pub fn plan_relation(
 }
 
 // The steps that make the carry of an outcome.
-fn plan_carry(condition: Condition, steps: &mut Steps) -> Result<(), AllocError> {
+fn plan_carry(condition: Condition, steps: &mut Steps) -> Result<(), AllocError>
+    ensures { OnOk result (Adds steps.old steps.new (carry_steps condition)) }
+{
     match condition {
         Condition::NoCarry => steps.plain(Instr::Cmc),
         Condition::Zero => steps.plain(Instr::AccumulateImmediate(Operation::Subtract, 1)),
@@ -123,7 +106,9 @@ fn plan_carry(condition: Condition, steps: &mut Steps) -> Result<(), AllocError>
 }
 
 // The steps that put 0FFH into A where an outcome is true, else 0.
-fn plan_outcome_value(outcome: Outcome, steps: &mut Steps) -> Result<(), AllocError> {
+fn plan_outcome_value(outcome: Outcome, steps: &mut Steps) -> Result<(), AllocError>
+    ensures { OnOk result (Adds steps.old steps.new (outcome_value_steps outcome)) }
+{
     match outcome {
         Outcome::Known(true) => steps.plain(set(Register::A, 255)),
         Outcome::Known(false) => steps.plain(clear_a()),
@@ -140,7 +125,9 @@ pub fn plan_relation_value(
     number: ExpressionNumber,
     pushed: u16,
     steps: &mut Steps,
-) -> Result<(), AllocError> {
+) -> Result<(), AllocError>
+    ensures { OnOk result (Adds steps.old steps.new (relation_value_steps site.now number pushed)) }
+{
     let setting = Setting {
         purpose: Purpose::Value,
         pushed,

@@ -1,7 +1,13 @@
 //! Relations of ADDRESSes.
 
+ghost use Rattle.std.specs.Prelude.{◌≡◌, IfOk, OnOk};
+ghost use Rattle.relations8080.specs.declared.answers.Answer.TheVariants.{Carry, Zero};
+ghost use Rattle.steps8080.specs.Step.{Adds};
+ghost use Rattle.relations8080.specs.ByteRelations.{answer_to};
+ghost use Rattle.relations8080.specs.WordRelations.{below_steps, difference_steps, equality_of_words, high_byte_steps, high_difference_steps, high_steps, left_apart, load_a_steps, low_difference_steps, low_steps, masked, masked_steps, operand_apart, other_word, place_apart, right_apart, with_pair_steps, with_place_steps, word_below_answer, word_below_steps, word_is_steps, word_is_zero_steps, word_number_answer, word_number_steps, word_relation_steps, word_taken_from, words_of, words_steps};
+
+use crate::answers::{Answer, Setting, plan_known};
 use crate::byte_relations::{plan_byte_number, plan_byte_relation, plan_number_in_a};
-use crate::relations::{Answer, Setting, plan_known};
 use asm8080::WordForm;
 use isa8080::{Instr, Operation, Pair, Register};
 use operands8080::{PairOrder, plan_pair};
@@ -45,7 +51,10 @@ pub(crate) enum Words {
 }
 
 // The ADDRESS and the number of which an expression is the AND, if it is one.
-fn masked(site: &Site<'_>, number: ExpressionNumber) -> Option<(ExpressionNumber, u16)> {
+#[tactic(auto, unfolding(crate::specs::WordRelations::masked))]
+fn masked(site: &Site<'_>, number: ExpressionNumber) -> Option<(ExpressionNumber, u16)>
+    ensures { result ≡ masked site.now number }
+{
     let Some(expression) = site.expression(number) else {
         return None;
     };
@@ -66,17 +75,22 @@ fn masked(site: &Site<'_>, number: ExpressionNumber) -> Option<(ExpressionNumber
 }
 
 // Adds a load of the byte at a place into A.
-fn load_a(place: Place, steps: &mut Steps) -> Result<(), AllocError> {
+fn load_a(place: Place, steps: &mut Steps) -> Result<(), AllocError>
+    ensures { OnOk result (Adds steps.old steps.new (load_a_steps place)) }
+{
     steps.word(WordForm::LoadA, place)
 }
 
 // The steps that put the high byte of an ADDRESS into A.
+#[tactic(auto, using(std::proofs::lemmas::List::append_assoc), unfolding(crate::specs::WordRelations::high_byte_steps))]
 fn plan_high_byte(
     site: &Site<'_>,
     number: ExpressionNumber,
     pushed: u16,
     steps: &mut Steps,
-) -> Result<(), AllocError> {
+) -> Result<(), AllocError>
+    ensures { OnOk result (Adds steps.old steps.new (high_byte_steps site.now number pushed)) }
+{
     match site.high_byte_in_memory(number) {
         Some(reference) if !site.is_word_in_hl(number) => match site.direct(&reference) {
             Some(place) => load_a(place, steps),
@@ -93,7 +107,10 @@ fn plan_high_byte(
 }
 
 // The steps that tell whether HL is below a number.
-fn plan_below(number: u16, steps: &mut Steps) -> Result<Answer, AllocError> {
+fn plan_below(number: u16, steps: &mut Steps) -> Result<Answer, AllocError>
+    ensures adds { OnOk result (Adds steps.old steps.new (below_steps number)) }
+    ensures answer { IfOk result (λ answer. answer ≡ Carry) }
+{
     steps.all(&[
         copy(Register::A, Register::L),
         Instr::AccumulateImmediate(Operation::Subtract, low(number)),
@@ -104,7 +121,9 @@ fn plan_below(number: u16, steps: &mut Steps) -> Result<Answer, AllocError> {
 }
 
 // The steps that take a number from HL.
-fn plan_difference(number: u16, steps: &mut Steps) -> Result<(), AllocError> {
+fn plan_difference(number: u16, steps: &mut Steps) -> Result<(), AllocError>
+    ensures { OnOk result (Adds steps.old steps.new (difference_steps number)) }
+{
     match 0_u16.wrapping_sub(number) {
         sum if sum < 4 => repeat(Instr::Inx(Pair::Hl), sum, steps),
         sum => steps.all(&[Instr::Lxi(Pair::De, sum), Instr::Dad(Pair::De)]),
@@ -112,15 +131,21 @@ fn plan_difference(number: u16, steps: &mut Steps) -> Result<(), AllocError> {
 }
 
 // The steps that tell whether HL is a number.
-fn plan_is(number: u16, steps: &mut Steps) -> Result<Answer, AllocError> {
-    if number > 255 {
+fn plan_is(number: u16, steps: &mut Steps) -> Result<Answer, AllocError>
+    ensures adds { OnOk result (Adds steps.old steps.new (word_is_steps number)) }
+    ensures answer { IfOk result (λ answer. answer ≡ Zero) }
+{
+    let to_a = copy(Register::A, Register::L);
+    let with_high = with_register(Operation::Or, Register::H);
+    if number == 0 {
+        steps.all(&[to_a, with_high])?;
+    } else if number < 256 {
+        let differs = Instr::AccumulateImmediate(Operation::ExclusiveOr, low(number));
+        steps.all(&[to_a, differs, with_high])?;
+    } else {
         plan_difference(number, steps)?;
+        steps.all(&[to_a, with_high])?;
     }
-    steps.plain(copy(Register::A, Register::L))?;
-    if number > 0 && number < 256 {
-        steps.plain(Instr::AccumulateImmediate(Operation::ExclusiveOr, low(number)))?;
-    }
-    steps.plain(with_register(Operation::Or, Register::H))?;
     Ok(Answer::Zero)
 }
 
@@ -131,7 +156,9 @@ fn plan_masked(
     mask: u16,
     pushed: u16,
     steps: &mut Steps,
-) -> Result<(), AllocError> {
+) -> Result<(), AllocError>
+    ensures { OnOk result (Adds steps.old steps.new (masked_steps site.now operand mask pushed)) }
+{
     if mask < 256 {
         steps.part(Task::Byte(operand), pushed)?;
         return steps.plain(Instr::AccumulateImmediate(Operation::And, low(mask)));
@@ -141,12 +168,16 @@ fn plan_masked(
 }
 
 // The steps that tell whether an ADDRESS is 0.
+#[tactic(auto, using(std::proofs::lemmas::List::append_assoc), unfolding(crate::specs::WordRelations::word_is_zero_steps))]
 fn plan_word_is_zero(
     site: &Site<'_>,
     operand: ExpressionNumber,
     setting: Setting,
     steps: &mut Steps,
-) -> Result<Answer, AllocError> {
+) -> Result<Answer, AllocError>
+    ensures adds { OnOk result (Adds steps.old steps.new (word_is_zero_steps site.now operand setting)) }
+    ensures answer { IfOk result (λ answer. answer ≡ Zero) }
+{
     match masked(site, operand) {
         Some((word, mask)) if mask < 256 || mask % 256 == 0 => {
             plan_masked(site, word, mask, setting.pushed, steps)?;
@@ -166,7 +197,10 @@ fn plan_word_below(
     number: u16,
     setting: Setting,
     steps: &mut Steps,
-) -> Result<Answer, AllocError> {
+) -> Result<Answer, AllocError>
+    ensures adds { OnOk result (Adds steps.old steps.new (word_below_steps site.now operand number setting)) }
+    ensures answer { IfOk result (λ answer. answer ≡ word_below_answer number) }
+{
     if number % 256 == 0 {
         plan_high_byte(site, operand, setting.pushed, steps)?;
         return plan_number_in_a(NumberQuestion::Below(number / 256), setting, steps);
@@ -182,7 +216,11 @@ pub fn plan_word_number(
     question: NumberQuestion,
     setting: Setting,
     steps: &mut Steps,
-) -> Result<Answer, AllocError> {
+) -> Result<Answer, AllocError>
+    ensures adds { OnOk result (Adds steps.old steps.new
+        (word_number_steps site.now operand question setting)) }
+    ensures answer { IfOk result (λ answer. answer ≡ word_number_answer site.now operand question) }
+{
     if site.fits_byte(operand) {
         return plan_byte_number(operand, question, setting, steps);
     }
@@ -200,7 +238,9 @@ pub fn plan_word_number(
 }
 
 // The place of an ADDRESS that lies in memory at a place without a computed part, if it is one that is not in HL already.
-fn place_apart(site: &Site<'_>, number: ExpressionNumber) -> Option<Place> {
+fn place_apart(site: &Site<'_>, number: ExpressionNumber) -> Option<Place>
+    ensures { result ≡ place_apart site.now number }
+{
     if site.is_word_in_hl(number) {
         return None;
     }
@@ -208,7 +248,9 @@ fn place_apart(site: &Site<'_>, number: ExpressionNumber) -> Option<Place> {
 }
 
 // The left operand as one that stays in memory, where that can be.
-fn left_apart(site: &Site<'_>, comparison: &Comparison) -> Option<Apart> {
+fn left_apart(site: &Site<'_>, comparison: &Comparison) -> Option<Apart>
+    ensures { result ≡ left_apart site.now comparison.now }
+{
     if !site.may_exchange(comparison.left, comparison.right) {
         return None;
     }
@@ -222,7 +264,9 @@ fn left_apart(site: &Site<'_>, comparison: &Comparison) -> Option<Apart> {
 }
 
 // The right operand as one that stays in memory, where that can be.
-fn right_apart(site: &Site<'_>, comparison: &Comparison) -> Option<Apart> {
+fn right_apart(site: &Site<'_>, comparison: &Comparison) -> Option<Apart>
+    ensures { result ≡ right_apart site.now comparison.now }
+{
     match place_apart(site, comparison.right) {
         Some(place) => Some(Apart {
             place,
@@ -233,7 +277,10 @@ fn right_apart(site: &Site<'_>, comparison: &Comparison) -> Option<Apart> {
 }
 
 // The operand that stays in memory, from which the other one is taken, where there is one.
-fn operand_apart(site: &Site<'_>, comparison: &Comparison) -> Option<Apart> {
+#[tactic(auto, unfolding(crate::specs::WordRelations::operand_apart))]
+fn operand_apart(site: &Site<'_>, comparison: &Comparison) -> Option<Apart>
+    ensures { result ≡ operand_apart site.now comparison.now }
+{
     match comparison.question {
         Question::LeftBelow => left_apart(site, comparison),
         Question::RightBelow => right_apart(site, comparison),
@@ -250,7 +297,10 @@ fn plan_with_place(
     question: Question,
     pushed: u16,
     steps: &mut Steps,
-) -> Result<Answer, AllocError> {
+) -> Result<Answer, AllocError>
+    ensures adds { OnOk result (Adds steps.old steps.new (with_place_steps apart question pushed)) }
+    ensures answer { IfOk result (λ answer. answer ≡ answer_to question) }
+{
     steps.part(Task::Word(apart.other), pushed)?;
     load_a(apart.place, steps)?;
     plan_low(IN_HL, question, steps)?;
@@ -259,7 +309,9 @@ fn plan_with_place(
 }
 
 // The steps that take the low byte of a word from A.
-fn plan_low(word: Word, question: Question, steps: &mut Steps) -> Result<(), AllocError> {
+fn plan_low(word: Word, question: Question, steps: &mut Steps) -> Result<(), AllocError>
+    ensures { OnOk result (Adds steps.old steps.new (low_steps word question)) }
+{
     steps.plain(with_register(Operation::Subtract, word.low))?;
     match question {
         Question::Equal => steps.plain(copy(Register::B, Register::A)),
@@ -268,7 +320,10 @@ fn plan_low(word: Word, question: Question, steps: &mut Steps) -> Result<(), All
 }
 
 // The steps that take the high byte of a word from A, after those for the low one.
-fn plan_high(word: Word, question: Question, steps: &mut Steps) -> Result<Answer, AllocError> {
+fn plan_high(word: Word, question: Question, steps: &mut Steps) -> Result<Answer, AllocError>
+    ensures adds { OnOk result (Adds steps.old steps.new (high_steps word question)) }
+    ensures answer { IfOk result (λ answer. answer ≡ answer_to question) }
+{
     steps.plain(with_register(Operation::SubtractWithBorrow, word.high))?;
     match question {
         Question::Equal => {
@@ -280,7 +335,9 @@ fn plan_high(word: Word, question: Question, steps: &mut Steps) -> Result<Answer
 }
 
 // The registers of the operand from which the other one is taken.
-fn word_taken_from(question: Question, order: PairOrder) -> Word {
+fn word_taken_from(question: Question, order: PairOrder) -> Word
+    ensures { result ≡ word_taken_from question order }
+{
     match (question, order) {
         (Question::LeftBelow, PairOrder::LeftInHl) => IN_HL,
         (Question::LeftBelow, PairOrder::RightInHl) => IN_DE,
@@ -291,7 +348,9 @@ fn word_taken_from(question: Question, order: PairOrder) -> Word {
 }
 
 // The other one of the two words in registers.
-fn other_word(word: Word) -> Word {
+fn other_word(word: Word) -> Word
+    ensures { result ≡ other_word word }
+{
     match word.low {
         Register::L => IN_DE,
         _ => IN_HL,
@@ -304,7 +363,10 @@ fn plan_with_pair(
     comparison: &Comparison,
     pushed: u16,
     steps: &mut Steps,
-) -> Result<Answer, AllocError> {
+) -> Result<Answer, AllocError>
+    ensures adds { OnOk result (Adds steps.old steps.new (with_pair_steps site.now comparison.now pushed)) }
+    ensures answer { IfOk result (λ answer. answer ≡ answer_to comparison.now.question) }
+{
     let question = comparison.question;
     let order = plan_pair(
         site,
@@ -323,7 +385,10 @@ fn plan_with_pair(
 }
 
 /// The two ADDRESSes of which a relation asks whether they are equal, where that takes both their bytes.
-pub(crate) fn equality_of_words(site: &Site<'_>, relation: &Relation) -> Option<Comparison> {
+#[tactic(auto, unfolding(crate::specs::WordRelations::equality_of_words))]
+pub(crate) fn equality_of_words(site: &Site<'_>, relation: &Relation) -> Option<Comparison>
+    ensures { result ≡ equality_of_words site.now relation.now }
+{
     let Inquiry::Between(comparison) = relation.inquiry else {
         return None;
     };
@@ -349,7 +414,10 @@ pub(crate) fn plan_words(
     comparison: &Comparison,
     pushed: u16,
     steps: &mut Steps,
-) -> Result<Words, AllocError> {
+) -> Result<Words, AllocError>
+    ensures adds { OnOk result (Adds steps.old steps.new (words_steps site.now comparison.now pushed)) }
+    ensures words { IfOk result (λ words. words ≡ words_of site.now comparison.now) }
+{
     match operand_apart(site, comparison) {
         Some(apart) => {
             steps.part(Task::Word(apart.other), pushed)?;
@@ -371,7 +439,9 @@ pub(crate) fn plan_words(
 
 impl Words {
     /// The steps that put the difference of the low bytes into A. The words stay where they are.
-    pub(crate) fn plan_low_difference(self, steps: &mut Steps) -> Result<(), AllocError> {
+    pub(crate) fn plan_low_difference(self, steps: &mut Steps) -> Result<(), AllocError>
+        ensures { OnOk result (Adds steps.old steps.new (low_difference_steps self)) }
+    {
         match self {
             Words::PlaceAndHl(place) => load_a(place, steps)?,
             Words::DeAndHl => steps.plain(copy(Register::A, Register::E))?,
@@ -380,7 +450,9 @@ impl Words {
     }
 
     /// The steps that put the difference of the high bytes into A. The words stay where they are.
-    pub(crate) fn plan_high_difference(self, steps: &mut Steps) -> Result<(), AllocError> {
+    pub(crate) fn plan_high_difference(self, steps: &mut Steps) -> Result<(), AllocError>
+        ensures { OnOk result (Adds steps.old steps.new (high_difference_steps self)) }
+    {
         match self {
             Words::PlaceAndHl(place) => load_a(place.after(1), steps)?,
             Words::DeAndHl => steps.plain(copy(Register::A, Register::D))?,
@@ -395,7 +467,11 @@ pub fn plan_word_relation(
     comparison: &Comparison,
     setting: Setting,
     steps: &mut Steps,
-) -> Result<Answer, AllocError> {
+) -> Result<Answer, AllocError>
+    ensures adds { OnOk result (Adds steps.old steps.new
+        (word_relation_steps site.now comparison.now setting)) }
+    ensures answer { IfOk result (λ answer. answer ≡ answer_to comparison.now.question) }
+{
     if site.fits_byte(comparison.left) && site.fits_byte(comparison.right) {
         return plan_byte_relation(site, comparison, setting, steps);
     }

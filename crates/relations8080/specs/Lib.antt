@@ -1,0 +1,5 @@
+pub mod Answers
+pub mod ByteRelations
+pub mod WordRelations
+pub mod Relations
+pub mod Branches
