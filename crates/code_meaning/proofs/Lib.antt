@@ -8,3 +8,4 @@ pub mod Access
 pub mod ByteResults
 pub mod Pops
 pub mod Sequences
+pub mod Lawful

@@ -52,7 +52,7 @@ pub pushed_is_not_owned :
     → ⊥
 pushed_is_not_owned activation top address lies low above below (inl variable) =
     let whole = lies.above in
-    lies.stack_free address variable.0 (omega (arith, low, above)) (omega (arith, below, whole))
+    lies.placed.stack_free address variable.0 (omega (arith, low, above)) (omega (arith, below, whole))
 pushed_is_not_owned activation top address lies low above below (inr (inl mine)) =
     let less : address < top = mine.1 in omega (arith, less, above)
 pushed_is_not_owned activation top address lies low above below (inr (inr mine)) =

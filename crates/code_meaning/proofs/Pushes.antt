@@ -47,9 +47,9 @@ pushed_shares :
     → Shares activation.around.program activation.image source (pushed top word memory)
 pushed_shares activation top word source memory lies room below small shares =
     let above = lies.above in
-    let stack = lies.stack_in_memory in
-    let free = lies.stack_free in
-    let apart = lies.apart in
+    let stack = lies.placed.stack_in_memory in
+    let free = lies.placed.stack_free in
+    let apart = lies.placed.apart in
     record {
       is_memory = pushed_is_memory top word memory small shares.is_memory;
       size = shares.size;
@@ -151,7 +151,7 @@ pub still_pushed :
     → IsPushed top word ended
 still_pushed activation top word other others after memory ended lies room below size ready =
     let above = lies.above in
-    let stack = lies.stack_in_memory in
+    let stack = lies.placed.stack_in_memory in
     let is = pushed_is_pushed top word memory (omega (arith, room)) (omega (arith, below, above, stack)) size in
     record {
       high =

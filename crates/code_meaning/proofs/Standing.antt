@@ -38,7 +38,7 @@ pub stands_now :
 stands_now activation memory items from to lies agrees there =
     let low = there.low in
     let high = there.high in
-    let limit = lies.code_in_memory in
+    let limit = lies.placed.code_in_memory in
     stands_still activation.layout activation.image memory items from to (omega (arith, high, limit))
     (λ address above below. agrees address (omega (arith, low, above), omega (arith, high, below)))
     there.stands

@@ -87,7 +87,7 @@ variable_elsewhere activation address lies variable object offset within same =
     let inside = lies.inside object offset within in
     let low = lies.low in
     let above = lies.above in
-    lies.stack_free address variable.0 (omega (arith, same, low)) (omega (arith, same, inside, above))
+    lies.placed.stack_free address variable.0 (omega (arith, same, low)) (omega (arith, same, inside, above))
 
 -- a variable of the program
 pub ready_with_variable :
@@ -103,7 +103,7 @@ ready_with_variable activation top base source frame r memory address value lies
   pointer = ready.pointer;
   registers = ready.registers;
   shares =
-      variable_shared activation.around.program activation.image source memory address value lies.code_free variable
+      variable_shared activation.around.program activation.image source memory address value lies.placed.code_free variable
       inside small ready.shares;
   frame_lies =
       frame_kept activation frame memory address value (variable_elsewhere activation address lies variable)

@@ -73,25 +73,27 @@ pub record HasRoom (activation : Activation) (top pushed need : ℕ) : Type 0 wh
   pub depth : top + pushed ≡ activation.level
   pub enough : activation.around.program.placement.stack.start + activation.around.room + need ≤ top
 
--- what is true of where a program and a frame lie, whatever runs
+-- what is true of where a program lies, whatever runs
+pub record PlacementLies (program : Program) : Type 0 where
+  pub stack_free : (address : ℕ) → is_declared program address ≡ true
+      → program.placement.stack.start ≤ address
+      → address < program.placement.stack.start + program.placement.stack.len
+      → ⊥
+  pub code_free : (address : ℕ) → IsVariable program address
+      → program.placement.code.start ≤ address
+      → address < program.placement.code.start + program.placement.code.len
+      → ⊥
+  pub apart : (address : ℕ) → program.placement.code.start ≤ address
+      → address < program.placement.code.start + program.placement.code.len
+      → program.placement.stack.start ≤ address
+      → address < program.placement.stack.start + program.placement.stack.len
+      → ⊥
+  pub code_in_memory : program.placement.code.start + program.placement.code.len ≤ MEMORY_SIZE
+  pub stack_in_memory : program.placement.stack.start + program.placement.stack.len ≤ MEMORY_SIZE
+
+-- and of where a frame lies: within the stack, each byte of its own, and none of the return address
 pub record LiesWell (activation : Activation) : Type 0 where
-  pub stack_free : (address : ℕ) → is_declared activation.around.program address ≡ true
-      → (activation.around.program.placement.stack.start ≤ address)
-      → (address < activation.around.program.placement.stack.start + activation.around.program.placement.stack.len)
-      → ⊥
-  pub code_free : (address : ℕ) → IsVariable activation.around.program address
-      → (activation.around.program.placement.code.start ≤ address)
-      → (address < activation.around.program.placement.code.start + activation.around.program.placement.code.len)
-      → ⊥
-  pub apart : (address : ℕ) → (activation.around.program.placement.code.start ≤ address)
-      → (address < activation.around.program.placement.code.start + activation.around.program.placement.code.len)
-      → (activation.around.program.placement.stack.start ≤ address)
-      → (address < activation.around.program.placement.stack.start + activation.around.program.placement.stack.len)
-      → ⊥
-  pub code_in_memory : activation.around.program.placement.code.start + activation.around.program.placement.code.len
-      ≤ MEMORY_SIZE
-  pub stack_in_memory :
-      activation.around.program.placement.stack.start + activation.around.program.placement.stack.len ≤ MEMORY_SIZE
+  pub placed : PlacementLies activation.around.program
   pub low : activation.around.program.placement.stack.start ≤ activation.level
   pub above : activation.level + activation.whole
       ≤ activation.around.program.placement.stack.start + activation.around.program.placement.stack.len
