@@ -75,14 +75,18 @@ from_number_steps operation number value pushed =
     if commutes operation then with_number_steps operation value number pushed
     else part (tasks.Byte value) pushed ∷ Plain Cma ∷ added_steps ((number + 1) % 256)
 
+-- the form where the right operand comes first, if the left one is in memory or free
+unfoldable pub form_after_right : Site → Operation → Operands → Option ByteForm
+form_after_right site operation operands =
+    if commutes operation then option_map LeftInMemory (operand_in_memory site operands.left)
+    else if is_free site operands.left then Some LeftFree
+    else None
+
 -- the form where the right operand is in a register already, if that makes one shorter
 unfoldable pub form_from_register : Site → Operation → Operands → Option ByteForm
 form_from_register site operation operands =
     if is_byte_in_register site operands.right && may_exchange site operands.left operands.right
-    then
-    if commutes operation then option_map LeftInMemory (operand_in_memory site operands.left)
-    else if is_free site operands.left then Some LeftFree
-    else None
+    then form_after_right site operation operands
     else None
 
 -- the form where no operand is in memory

@@ -28,15 +28,17 @@ use Rattle.exprgen8080.specs.Halves.{high_byte_steps, low_of_word_steps}
 unfoldable pub kept_bits : (count : ℕ) → ℕ
 kept_bits count = if nat_lt count 8 then 255 / 2 ^ count else 0
 
--- A shifted to the right by a count below 8: by 1 through the carry, by more by turning it the shorter way
--- and masking what came in
+-- A turned to the right by a count below 8, the shorter way
+unfoldable pub turned_right_steps : (count : ℕ) → List Step
+turned_right_steps count = if nat_le count 4 then repeat_steps Rrc count else repeat_steps Rlc (8 - count)
+
+-- A shifted to the right by a count below 8: by 1 through the carry, by more by turning it and masking what
+-- came in
 unfoldable pub right_shift_steps : (count : ℕ) → List Step
 right_shift_steps count =
     if count == 0 then []
     else if count == 1 then plain (with_register Or A ∷ Rar ∷ [])
-    else
-    (if nat_le count 4 then repeat_steps Rrc count else repeat_steps Rlc (8 - count))
-    ++ (Plain (AccumulateImmediate And (kept_bits count)) ∷ [])
+    else turned_right_steps count ++ (Plain (AccumulateImmediate And (kept_bits count)) ∷ [])
 
 -- A rotated to the left by a count below 8, the shorter way
 unfoldable pub rotation_steps : (count : ℕ) → List Step

@@ -33,9 +33,7 @@ unfoldable pub shifted_left_steps : ExpressionNumber → (count pushed : ℕ) �
 shifted_left_steps value count pushed =
     if nat_le 16 count then zero_steps value pushed
     else if nat_le 8 count
-    then
-    part (tasks.Byte value) pushed ∷ Plain (copy H A) ∷ Plain (set L 0)
-    ∷ repeat_steps (Dad Hl) (count - 8)
+    then part (tasks.Byte value) pushed ∷ plain (copy H A ∷ set L 0 ∷ []) ++ repeat_steps (Dad Hl) (count - 8)
     else part (tasks.Word value) pushed ∷ repeat_steps (Dad Hl) count
 
 -- HL shifted to the right by 1, through A
@@ -77,14 +75,16 @@ word_routine RotateLeft = routines.ShiftLeftAddress
 word_routine ShiftRight = routines.ShiftRightAddress
 word_routine RotateRight = routines.ShiftRightAddress
 
+-- a count into A, while the word in HL stays there or waits on the stack
+unfoldable pub count_beside_word_steps : Site → (count : ExpressionNumber) → (pushed : ℕ) → List Step
+count_beside_word_steps site count pushed =
+    if is_free site count then part (tasks.Byte count) pushed ∷ []
+    else Plain (Push StackHl) ∷ part (tasks.Byte count) ((pushed + 2) % 65536) ∷ Plain (Pop StackHl) ∷ []
+
 -- a word shifted by a count that is not known into HL
 unfoldable pub computed_count_steps : Site → Shifted → (pushed : ℕ) → List Step
 computed_count_steps site shifted pushed =
-    part (tasks.Word shifted.value) pushed
-    ∷ (if is_free site shifted.count then part (tasks.Byte shifted.count) pushed ∷ []
-    else
-    Plain (Push StackHl) ∷ part (tasks.Byte shifted.count) ((pushed + 2) % 65536)
-    ∷ Plain (Pop StackHl) ∷ [])
+    part (tasks.Word shifted.value) pushed ∷ count_beside_word_steps site shifted.count pushed
     ++ (CallRoutine (word_routine shifted.function) ∷ [])
 
 -- a shift of an ADDRESS by a number into HL

@@ -126,7 +126,7 @@ fn plan_from_number(
 }
 
 // The form where the right operand is in a register already, if that makes one shorter.
-#[tactic(auto, unfolding(crate::specs::ByteOperators::form_from_register))]
+#[tactic(auto, unfolding(crate::specs::ByteOperators::form_from_register, crate::specs::ByteOperators::form_after_right))]
 fn form_from_register(site: &Site<'_>, operation: Operation, operands: Operands) -> Option<ByteForm>
     ensures { result ≡ form_from_register site.now operation operands }
 {

@@ -31,7 +31,7 @@ fn kept_bits(count: u16) -> u8
 }
 
 /// Shifts A to the right by a count below 8.
-#[tactic(auto, unfolding(crate::specs::ByteShifts::right_shift_steps))]
+#[tactic(auto, unfolding(crate::specs::ByteShifts::right_shift_steps, crate::specs::ByteShifts::turned_right_steps))]
 pub(crate) fn plan_right_shift(count: u16, steps: &mut Steps) -> Result<(), AllocError>
     ensures { OnOk result (Adds steps.old steps.new (right_shift_steps count)) }
 {

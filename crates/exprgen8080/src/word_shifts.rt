@@ -148,7 +148,7 @@ fn word_routine(function: ShiftFunction) -> Routine
 }
 
 // A word shifted by a count that is not known into HL.
-#[tactic(auto, unfolding(crate::specs::WordShifts::computed_count_steps))]
+#[tactic(auto, unfolding(crate::specs::WordShifts::computed_count_steps, crate::specs::WordShifts::count_beside_word_steps))]
 fn plan_computed_count(
     site: &Site<'_>,
     shifted: Shifted,
