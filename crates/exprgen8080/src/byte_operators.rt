@@ -1,7 +1,11 @@
 //! Operators whose low byte comes into A.
 
+ghost use Rattle.std.specs.Prelude.{OnOk, ◌≡◌};
+ghost use Rattle.steps8080.specs.Step.{Adds};
+ghost use Rattle.exprgen8080.specs.ByteOperators.{added_steps, byte_binary_steps, byte_operation_steps, commutes, form_from_register, form_of, from_number_steps, immediate_steps, product_byte_steps, quotient_byte_steps, remainder_byte_steps, with_e_steps, with_memory_steps, with_number_steps, with_stack_steps};
+
 use crate::byte_shifts::plan_low_byte_shifted_right;
-use crate::bytes::{plan_byte_number, plan_low_of_word};
+use crate::halves::{plan_byte_number, plan_low_of_word};
 use isa8080::{Instr, Operand, Operation, Register, StackPair};
 use operands8080::{plan_byte_product, plan_pair};
 use relations8080::plan_relation_value;
@@ -35,7 +39,10 @@ enum ByteForm {
 }
 
 // Whether the sides of an operation may be changed.
-fn commutes(operation: Operation) -> bool {
+#[tactic(auto, unfolding(crate::specs::ByteOperators::commutes))]
+fn commutes(operation: Operation) -> bool
+    ensures { result ≡ commutes operation }
+{
     match operation {
         Operation::Add | Operation::And | Operation::ExclusiveOr | Operation::Or => true,
         Operation::AddWithCarry
@@ -46,7 +53,10 @@ fn commutes(operation: Operation) -> bool {
 }
 
 // Adds a number to A.
-fn plan_added(number: u8, steps: &mut Steps) -> Result<(), AllocError> {
+#[tactic(auto, unfolding(crate::specs::ByteOperators::added_steps))]
+fn plan_added(number: u8, steps: &mut Steps) -> Result<(), AllocError>
+    ensures { OnOk result (Adds steps.old steps.new (added_steps number)) }
+{
     match number {
         0 => Ok(()),
         1 => steps.plain(Instr::Inr(Operand::Of(Register::A))),
@@ -56,7 +66,10 @@ fn plan_added(number: u8, steps: &mut Steps) -> Result<(), AllocError> {
 }
 
 // Carries out an operation with A and a number for which it has no shorter form.
-fn plan_immediate(operation: Operation, number: u8, steps: &mut Steps) -> Result<(), AllocError> {
+#[tactic(auto, unfolding(crate::specs::ByteOperators::immediate_steps))]
+fn plan_immediate(operation: Operation, number: u8, steps: &mut Steps) -> Result<(), AllocError>
+    ensures { OnOk result (Adds steps.old steps.new (immediate_steps operation number)) }
+{
     match (operation, number) {
         (Operation::Add, _) => plan_added(number, steps),
         (Operation::Subtract, _) => plan_added(0_u8.wrapping_sub(number), steps),
@@ -67,13 +80,16 @@ fn plan_immediate(operation: Operation, number: u8, steps: &mut Steps) -> Result
 }
 
 /// An operation with a byte on the left and a number on the right into A.
+#[tactic(auto, unfolding(crate::specs::ByteOperators::with_number_steps))]
 pub(crate) fn plan_with_number(
     operation: Operation,
     value: ExpressionNumber,
     number: u8,
     pushed: u16,
     steps: &mut Steps,
-) -> Result<(), AllocError> {
+) -> Result<(), AllocError>
+    ensures { OnOk result (Adds steps.old steps.new (with_number_steps operation value number pushed)) }
+{
     match (operation, number) {
         (Operation::And, 0) => {
             steps.part(Task::Effects(value), pushed)?;
@@ -91,13 +107,16 @@ pub(crate) fn plan_with_number(
 }
 
 // An operation with a number on the left and a byte on the right into A. A difference is a sum with the complement.
+#[tactic(auto, unfolding(crate::specs::ByteOperators::from_number_steps))]
 fn plan_from_number(
     operation: Operation,
     number: u8,
     value: ExpressionNumber,
     pushed: u16,
     steps: &mut Steps,
-) -> Result<(), AllocError> {
+) -> Result<(), AllocError>
+    ensures { OnOk result (Adds steps.old steps.new (from_number_steps operation number value pushed)) }
+{
     if commutes(operation) {
         return plan_with_number(operation, value, number, pushed, steps);
     }
@@ -107,11 +126,10 @@ fn plan_from_number(
 }
 
 // The form where the right operand is in a register already, if that makes one shorter.
-fn form_from_register(
-    site: &Site<'_>,
-    operation: Operation,
-    operands: Operands,
-) -> Option<ByteForm> {
+#[tactic(auto, unfolding(crate::specs::ByteOperators::form_from_register, crate::specs::ByteOperators::form_after_right))]
+fn form_from_register(site: &Site<'_>, operation: Operation, operands: Operands) -> Option<ByteForm>
+    ensures { result ≡ form_from_register site.now operation operands }
+{
     if !site.is_byte_in_register(operands.right)
         || !site.may_exchange(operands.left, operands.right)
     {
@@ -131,7 +149,10 @@ fn form_from_register(
 }
 
 // The form in which two operands, neither of which is a number, come to an operation.
-fn form_of(site: &Site<'_>, operation: Operation, operands: Operands) -> ByteForm {
+#[tactic(auto, unfolding(crate::specs::ByteOperators::form_of, crate::specs::ByteOperators::form_with_left, crate::specs::ByteOperators::form_without_memory))]
+fn form_of(site: &Site<'_>, operation: Operation, operands: Operands) -> ByteForm
+    ensures { result ≡ form_of site.now operation operands }
+{
     if let Some(form) = form_from_register(site, operation, operands) {
         return form;
     }
@@ -154,26 +175,32 @@ fn form_of(site: &Site<'_>, operation: Operation, operands: Operands) -> ByteFor
 }
 
 // One operand into A, and an operation with the other one, which is in memory.
+#[tactic(auto, unfolding(crate::specs::ByteOperators::with_memory_steps))]
 fn plan_with_memory(
     operation: Operation,
     value: ExpressionNumber,
     other: Reference,
     pushed: u16,
     steps: &mut Steps,
-) -> Result<(), AllocError> {
+) -> Result<(), AllocError>
+    ensures { OnOk result (Adds steps.old steps.new (with_memory_steps operation value other pushed)) }
+{
     steps.part(Task::Byte(value), pushed)?;
     steps.part(Task::Address(other), pushed)?;
     steps.plain(with_memory(operation))
 }
 
 // One operand into E, then the other one, whose code changes A alone, and an operation with E.
+#[tactic(auto, unfolding(crate::specs::ByteOperators::with_e_steps))]
 fn plan_with_e(
     operation: Operation,
     first: ExpressionNumber,
     second: ExpressionNumber,
     pushed: u16,
     steps: &mut Steps,
-) -> Result<(), AllocError> {
+) -> Result<(), AllocError>
+    ensures { OnOk result (Adds steps.old steps.new (with_e_steps operation first second pushed)) }
+{
     steps.part(Task::Byte(first), pushed)?;
     steps.plain(copy(Register::E, Register::A))?;
     steps.part(Task::Byte(second), pushed)?;
@@ -181,12 +208,15 @@ fn plan_with_e(
 }
 
 // The left operand onto the stack, then the right one, and an operation with both.
+#[tactic(auto, unfolding(crate::specs::ByteOperators::with_stack_steps))]
 fn plan_with_stack(
     operation: Operation,
     operands: Operands,
     pushed: u16,
     steps: &mut Steps,
-) -> Result<(), AllocError> {
+) -> Result<(), AllocError>
+    ensures { OnOk result (Adds steps.old steps.new (with_stack_steps operation operands pushed)) }
+{
     steps.part(Task::Byte(operands.left), pushed)?;
     steps.plain(Instr::Push(StackPair::Psw))?;
     steps.part(Task::Byte(operands.right), pushed.wrapping_add(2))?;
@@ -199,13 +229,17 @@ fn plan_with_stack(
 }
 
 /// An operation with the low bytes of two operands into A.
+#[tactic(auto, unfolding(crate::specs::ByteOperators::byte_operation_steps, crate::specs::ByteOperators::in_form_steps))]
 pub(crate) fn plan_byte_operation(
     site: &Site<'_>,
     operation: Operation,
     operands: Operands,
     pushed: u16,
     steps: &mut Steps,
-) -> Result<(), AllocError> {
+) -> Result<(), AllocError>
+    ensures { OnOk result (Adds steps.old steps.new
+        (byte_operation_steps site.now operation operands pushed)) }
+{
     let Operands { left, right } = operands;
     if let Some(number) = site.low_number(right) {
         return plan_with_number(operation, left, number, pushed, steps);
@@ -227,13 +261,16 @@ pub(crate) fn plan_byte_operation(
 }
 
 // The low byte of a product into A.
+#[tactic(auto, unfolding(crate::specs::ByteOperators::product_byte_steps))]
 fn plan_product_byte(
     site: &Site<'_>,
     number: ExpressionNumber,
     operands: Operands,
     pushed: u16,
     steps: &mut Steps,
-) -> Result<(), AllocError> {
+) -> Result<(), AllocError>
+    ensures { OnOk result (Adds steps.old steps.new (product_byte_steps site.now number operands pushed)) }
+{
     if let Some(factor) = site.low_number(operands.right) {
         return plan_byte_product(operands.left, factor, pushed, steps);
     }
@@ -244,13 +281,16 @@ fn plan_product_byte(
 }
 
 // The low byte of a quotient into A.
+#[tactic(auto, unfolding(crate::specs::ByteOperators::quotient_byte_steps))]
 fn plan_quotient_byte(
     site: &Site<'_>,
     number: ExpressionNumber,
     operands: Operands,
     pushed: u16,
     steps: &mut Steps,
-) -> Result<(), AllocError> {
+) -> Result<(), AllocError>
+    ensures { OnOk result (Adds steps.old steps.new (quotient_byte_steps site.now number operands pushed)) }
+{
     match site.power(operands.right) {
         Some(power) => plan_low_byte_shifted_right(site, operands.left, power, pushed, steps),
         None => plan_low_of_word(number, pushed, steps),
@@ -258,12 +298,15 @@ fn plan_quotient_byte(
 }
 
 // The low byte of a remainder into A.
+#[tactic(auto, unfolding(crate::specs::ByteOperators::remainder_byte_steps, crate::specs::ByteOperators::number_of_two))]
 fn plan_remainder_byte(
     site: &Site<'_>,
     operands: Operands,
     pushed: u16,
     steps: &mut Steps,
-) -> Result<(), AllocError> {
+) -> Result<(), AllocError>
+    ensures { OnOk result (Adds steps.old steps.new (remainder_byte_steps site.now operands pushed)) }
+{
     let Operands { left, right } = operands;
     if let (Some(number), Some(_)) = (site.number(right), site.power(right)) {
         let mask = low(number.wrapping_sub(1));
@@ -275,6 +318,7 @@ fn plan_remainder_byte(
 }
 
 /// The low byte of the value of an operator with two operands into A.
+#[tactic(auto, unfolding(crate::specs::ByteOperators::byte_binary_steps))]
 pub(crate) fn plan_byte_binary(
     site: &Site<'_>,
     number: ExpressionNumber,
@@ -282,7 +326,10 @@ pub(crate) fn plan_byte_binary(
     operands: Operands,
     pushed: u16,
     steps: &mut Steps,
-) -> Result<(), AllocError> {
+) -> Result<(), AllocError>
+    ensures { OnOk result (Adds steps.old steps.new
+        (byte_binary_steps site.now number operator operands pushed)) }
+{
     let operation = match operator {
         BinaryOperator::Add => Operation::Add,
         BinaryOperator::Subtract => Operation::Subtract,

@@ -1,6 +1,10 @@
 //! Shifts and rotations of bytes in A.
 
-use crate::bytes::{plan_high_byte, plan_low_of_word};
+ghost use Rattle.std.specs.Prelude.{OnOk, ◌≡◌};
+ghost use Rattle.steps8080.specs.Step.{Adds};
+ghost use Rattle.exprgen8080.specs.ByteShifts.{by_number_steps, byte_routine, byte_shift_steps, byte_shifted_right_steps, count_in_memory_steps, kept_bits, low_byte_shifted_right_steps, middle_byte_steps, operands_steps, right_shift_steps, rotation_steps, shifted_left_steps, zero_steps};
+
+use crate::halves::{plan_high_byte, plan_low_of_word};
 use isa8080::{Instr, Operation, Pair, Register, StackPair};
 use runtime8080::Routine;
 use sites8080::Site;
@@ -19,12 +23,18 @@ pub(crate) struct Shifted {
 }
 
 // The ones that stay of a byte shifted to the right by a count below 8.
-fn kept_bits(count: u16) -> u8 {
+#[tactic(auto, unfolding(crate::specs::ByteShifts::kept_bits))]
+fn kept_bits(count: u16) -> u8
+    ensures { result ≡ kept_bits count }
+{
     if count < 8 { 255_u8 >> count } else { 0 }
 }
 
 /// Shifts A to the right by a count below 8.
-pub(crate) fn plan_right_shift(count: u16, steps: &mut Steps) -> Result<(), AllocError> {
+#[tactic(auto, unfolding(crate::specs::ByteShifts::right_shift_steps, crate::specs::ByteShifts::turned_right_steps))]
+pub(crate) fn plan_right_shift(count: u16, steps: &mut Steps) -> Result<(), AllocError>
+    ensures { OnOk result (Adds steps.old steps.new (right_shift_steps count)) }
+{
     if count == 0 {
         return Ok(());
     }
@@ -40,7 +50,10 @@ pub(crate) fn plan_right_shift(count: u16, steps: &mut Steps) -> Result<(), Allo
 }
 
 // Rotates A to the left by a count below 8.
-fn plan_rotation(count: u16, steps: &mut Steps) -> Result<(), AllocError> {
+#[tactic(auto, unfolding(crate::specs::ByteShifts::rotation_steps))]
+fn plan_rotation(count: u16, steps: &mut Steps) -> Result<(), AllocError>
+    ensures { OnOk result (Adds steps.old steps.new (rotation_steps count)) }
+{
     if count <= 4 {
         repeat(Instr::Rlc, count, steps)
     } else {
@@ -49,18 +62,24 @@ fn plan_rotation(count: u16, steps: &mut Steps) -> Result<(), AllocError> {
 }
 
 // 0 into A, after what an expression does.
-fn plan_zero(value: ExpressionNumber, pushed: u16, steps: &mut Steps) -> Result<(), AllocError> {
+#[tactic(auto, unfolding(crate::specs::ByteShifts::zero_steps))]
+fn plan_zero(value: ExpressionNumber, pushed: u16, steps: &mut Steps) -> Result<(), AllocError>
+    ensures { OnOk result (Adds steps.old steps.new (zero_steps value pushed)) }
+{
     steps.part(Task::Effects(value), pushed)?;
     steps.plain(clear_a())
 }
 
 // The low byte of a value shifted to the left by a count into A.
+#[tactic(auto, unfolding(crate::specs::ByteShifts::shifted_left_steps))]
 fn plan_shifted_left(
     value: ExpressionNumber,
     count: u16,
     pushed: u16,
     steps: &mut Steps,
-) -> Result<(), AllocError> {
+) -> Result<(), AllocError>
+    ensures { OnOk result (Adds steps.old steps.new (shifted_left_steps value count pushed)) }
+{
     if count >= 8 {
         return plan_zero(value, pushed, steps);
     }
@@ -69,12 +88,15 @@ fn plan_shifted_left(
 }
 
 /// A value below 256 shifted to the right by a count into A.
+#[tactic(auto, unfolding(crate::specs::ByteShifts::byte_shifted_right_steps))]
 pub(crate) fn plan_byte_shifted_right(
     value: ExpressionNumber,
     count: u16,
     pushed: u16,
     steps: &mut Steps,
-) -> Result<(), AllocError> {
+) -> Result<(), AllocError>
+    ensures { OnOk result (Adds steps.old steps.new (byte_shifted_right_steps value count pushed)) }
+{
     if count >= 8 {
         return plan_zero(value, pushed, steps);
     }
@@ -83,12 +105,15 @@ pub(crate) fn plan_byte_shifted_right(
 }
 
 // The low byte of a word shifted to the right by a count from 1 to 7 into A.
+#[tactic(auto, unfolding(crate::specs::ByteShifts::middle_byte_steps))]
 fn plan_middle_byte(
     value: ExpressionNumber,
     count: u16,
     pushed: u16,
     steps: &mut Steps,
-) -> Result<(), AllocError> {
+) -> Result<(), AllocError>
+    ensures { OnOk result (Adds steps.old steps.new (middle_byte_steps value count pushed)) }
+{
     steps.part(Task::Word(value), pushed)?;
     if count == 1 {
         return steps.all(&[
@@ -104,13 +129,17 @@ fn plan_middle_byte(
 }
 
 /// The low byte of a value shifted to the right by a count into A.
+#[tactic(auto, unfolding(crate::specs::ByteShifts::low_byte_shifted_right_steps))]
 pub(crate) fn plan_low_byte_shifted_right(
     site: &Site<'_>,
     value: ExpressionNumber,
     count: u16,
     pushed: u16,
     steps: &mut Steps,
-) -> Result<(), AllocError> {
+) -> Result<(), AllocError>
+    ensures { OnOk result (Adds steps.old steps.new
+        (low_byte_shifted_right_steps site.now value count pushed)) }
+{
     if site.fits_byte(value) {
         return plan_byte_shifted_right(value, count, pushed, steps);
     }
@@ -128,13 +157,17 @@ pub(crate) fn plan_low_byte_shifted_right(
 }
 
 // The low byte of a value shifted or rotated by a number into A.
+#[tactic(auto, unfolding(crate::specs::ByteShifts::by_number_steps))]
 fn plan_by_number(
     site: &Site<'_>,
     shifted: Shifted,
     count: u16,
     pushed: u16,
     steps: &mut Steps,
-) -> Result<(), AllocError> {
+) -> Result<(), AllocError>
+    ensures { OnOk result (Adds steps.old steps.new
+        (by_number_steps site.now shifted.function shifted.value count pushed)) }
+{
     match shifted.function {
         ShiftFunction::ShiftLeft => plan_shifted_left(shifted.value, count, pushed, steps),
         ShiftFunction::ShiftRight => {
@@ -152,7 +185,10 @@ fn plan_by_number(
 }
 
 // The routine that shifts or rotates A by the count in E.
-fn byte_routine(function: ShiftFunction) -> Routine {
+#[tactic(auto, unfolding(crate::specs::ByteShifts::byte_routine))]
+fn byte_routine(function: ShiftFunction) -> Routine
+    ensures { result ≡ byte_routine function }
+{
     match function {
         ShiftFunction::ShiftLeft => Routine::ShiftLeftByte,
         ShiftFunction::ShiftRight => Routine::ShiftRightByte,
@@ -162,24 +198,31 @@ fn byte_routine(function: ShiftFunction) -> Routine {
 }
 
 // A BYTE into A, and a count in memory, whose address keeps A, into E.
+#[tactic(auto, unfolding(crate::specs::ByteShifts::count_in_memory_steps))]
 fn plan_count_in_memory(
     value: ExpressionNumber,
     count: Reference,
     pushed: u16,
     steps: &mut Steps,
-) -> Result<(), AllocError> {
+) -> Result<(), AllocError>
+    ensures { OnOk result (Adds steps.old steps.new (count_in_memory_steps value count pushed)) }
+{
     steps.part(Task::Byte(value), pushed)?;
     steps.part(Task::Address(count), pushed)?;
     steps.plain(load(Register::E))
 }
 
 // A BYTE into A, and a count into E.
+#[tactic(auto, unfolding(crate::specs::ByteShifts::operands_steps))]
 fn plan_operands(
     site: &Site<'_>,
     shifted: Shifted,
     pushed: u16,
     steps: &mut Steps,
-) -> Result<(), AllocError> {
+) -> Result<(), AllocError>
+    ensures { OnOk result (Adds steps.old steps.new
+        (operands_steps site.now shifted.value shifted.count pushed)) }
+{
     if let Some(count) = site.operand_in_memory(shifted.count) {
         return plan_count_in_memory(shifted.value, count, pushed, steps);
     }
@@ -196,13 +239,16 @@ fn plan_operands(
 }
 
 /// The low byte of a shift or a rotation into A.
+#[tactic(auto, unfolding(crate::specs::ByteShifts::byte_shift_steps))]
 pub(crate) fn plan_byte_shift(
     site: &Site<'_>,
     number: ExpressionNumber,
     shifted: Shifted,
     pushed: u16,
     steps: &mut Steps,
-) -> Result<(), AllocError> {
+) -> Result<(), AllocError>
+    ensures { OnOk result (Adds steps.old steps.new (byte_shift_steps site.now number shifted pushed)) }
+{
     if let Some(count) = site.number(shifted.count) {
         return plan_by_number(site, shifted, count, pushed, steps);
     }

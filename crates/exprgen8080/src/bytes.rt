@@ -1,29 +1,28 @@
 //! Low bytes of values in A.
 
+ghost use Rattle.std.specs.Prelude.{OnOk};
+ghost use Rattle.steps8080.specs.Step.{Adds};
+ghost use Rattle.exprgen8080.specs.Bytes.{byte_form_steps, byte_function_steps, byte_of_two_steps, byte_steps, byte_unary_steps, called_byte_steps, embedded_steps, known_byte_steps, low_of_value_steps};
+
 use crate::byte_operators::{Operands, plan_byte_binary};
 use crate::byte_shifts::{Shifted, plan_byte_shift};
 use crate::calls::plan_call;
+use crate::halves::{plan_byte_number, plan_high_byte, plan_low_of_word};
 use asm8080::WordForm;
 use isa8080::{Instr, Operand, Pair, Register};
 use operands8080::plan_byte_in_memory;
 use sites8080::Site;
 use std::alloc::AllocError;
-use steps8080::{Steps, Task, clear_a, copy, high, low, set};
+use steps8080::{Steps, Task, copy, low};
 use treecode::{ExpressionForm, ExpressionNumber, Place, Range, Target};
 use trees::{ScalarType, UnaryOperator};
 use typed_trees::UnaryFunction;
 
-/// A number into A.
-pub(crate) fn plan_byte_number(number: u8, steps: &mut Steps) -> Result<(), AllocError> {
-    if number == 0 {
-        steps.plain(clear_a())
-    } else {
-        steps.plain(set(Register::A, number))
-    }
-}
-
 // The low byte of a known value into A.
-fn plan_known_byte(place: Place, steps: &mut Steps) -> Result<(), AllocError> {
+#[tactic(auto, unfolding(crate::specs::Bytes::known_byte_steps))]
+fn plan_known_byte(place: Place, steps: &mut Steps) -> Result<(), AllocError>
+    ensures { OnOk result (Adds steps.old steps.new (known_byte_steps place)) }
+{
     match place.number() {
         Some(number) => plan_byte_number(low(number), steps),
         None => {
@@ -33,44 +32,16 @@ fn plan_known_byte(place: Place, steps: &mut Steps) -> Result<(), AllocError> {
     }
 }
 
-/// The low byte of the value of an ADDRESS expression into A, by way of HL.
-pub(crate) fn plan_low_of_word(
-    number: ExpressionNumber,
-    pushed: u16,
-    steps: &mut Steps,
-) -> Result<(), AllocError> {
-    steps.part(Task::Word(number), pushed)?;
-    steps.plain(copy(Register::A, Register::L))
-}
-
-/// The high byte of the value of an expression into A, 0 of a BYTE.
-pub(crate) fn plan_high_byte(
-    site: &Site<'_>,
-    number: ExpressionNumber,
-    pushed: u16,
-    steps: &mut Steps,
-) -> Result<(), AllocError> {
-    if let Some(number) = site.number(number) {
-        return plan_byte_number(high(number), steps);
-    }
-    if site.fits_byte(number) {
-        steps.part(Task::Effects(number), pushed)?;
-        return steps.plain(clear_a());
-    }
-    if let Some(reference) = site.high_byte_in_memory(number) {
-        return plan_byte_in_memory(site, &reference, pushed, steps);
-    }
-    steps.part(Task::Word(number), pushed)?;
-    steps.plain(copy(Register::A, Register::H))
-}
-
 // NOT or `-` of a byte, in A.
+#[tactic(auto, unfolding(crate::specs::Bytes::byte_unary_steps))]
 fn plan_byte_unary(
     operator: UnaryOperator,
     operand: ExpressionNumber,
     pushed: u16,
     steps: &mut Steps,
-) -> Result<(), AllocError> {
+) -> Result<(), AllocError>
+    ensures { OnOk result (Adds steps.old steps.new (byte_unary_steps operator operand pushed)) }
+{
     steps.part(Task::Byte(operand), pushed)?;
     steps.plain(Instr::Cma)?;
     match operator {
@@ -80,13 +51,16 @@ fn plan_byte_unary(
 }
 
 /// The value of an assignment into A or HL, by its type, and to its target.
+#[tactic(auto, unfolding(crate::specs::Bytes::embedded_steps, crate::specs::Calls::value_task))]
 pub(crate) fn plan_embedded(
     target: Target,
     value: ExpressionNumber,
     is_wanted: bool,
     pushed: u16,
     steps: &mut Steps,
-) -> Result<(), AllocError> {
+) -> Result<(), AllocError>
+    ensures { OnOk result (Adds steps.old steps.new (embedded_steps target value is_wanted pushed)) }
+{
     let task = match target.source() {
         ScalarType::Byte => Task::Byte(value),
         ScalarType::Address => Task::Word(value),
@@ -96,7 +70,10 @@ pub(crate) fn plan_embedded(
 }
 
 // The low byte of a value of a type that is in A or HL by that type, into A.
-fn plan_low_of_value(scalar: ScalarType, steps: &mut Steps) -> Result<(), AllocError> {
+#[tactic(auto, unfolding(crate::specs::Bytes::low_of_value_steps))]
+fn plan_low_of_value(scalar: ScalarType, steps: &mut Steps) -> Result<(), AllocError>
+    ensures { OnOk result (Adds steps.old steps.new (low_of_value_steps scalar)) }
+{
     match scalar {
         ScalarType::Byte => Ok(()),
         ScalarType::Address => steps.plain(copy(Register::A, Register::L)),
@@ -104,6 +81,7 @@ fn plan_low_of_value(scalar: ScalarType, steps: &mut Steps) -> Result<(), AllocE
 }
 
 // The low byte of the value of a call into A.
+#[tactic(auto, unfolding(crate::specs::Bytes::called_byte_steps))]
 fn plan_called_byte(
     site: &Site<'_>,
     number: ExpressionNumber,
@@ -111,19 +89,25 @@ fn plan_called_byte(
     arguments: Range,
     pushed: u16,
     steps: &mut Steps,
-) -> Result<(), AllocError> {
+) -> Result<(), AllocError>
+    ensures { OnOk result (Adds steps.old steps.new
+        (called_byte_steps site.now number procedure arguments pushed)) }
+{
     plan_call(site, procedure, arguments, pushed, steps)?;
     plan_low_of_value(site.scalar(number), steps)
 }
 
 // LOW, HIGH or DOUBLE of a value, its low byte in A.
+#[tactic(auto, unfolding(crate::specs::Bytes::byte_function_steps))]
 fn plan_byte_function(
     site: &Site<'_>,
     function: UnaryFunction,
     operand: ExpressionNumber,
     pushed: u16,
     steps: &mut Steps,
-) -> Result<(), AllocError> {
+) -> Result<(), AllocError>
+    ensures { OnOk result (Adds steps.old steps.new (byte_function_steps site.now function operand pushed)) }
+{
     match function {
         UnaryFunction::Low | UnaryFunction::Double => steps.part(Task::Byte(operand), pushed),
         UnaryFunction::High => plan_high_byte(site, operand, pushed, steps),
@@ -131,13 +115,16 @@ fn plan_byte_function(
 }
 
 // The low byte of the value of an operator with two operands, a shift or a rotation into A. No other form comes here.
+#[tactic(auto, unfolding(crate::specs::Bytes::byte_of_two_steps))]
 fn plan_byte_of_two(
     site: &Site<'_>,
     number: ExpressionNumber,
     form: ExpressionForm,
     pushed: u16,
     steps: &mut Steps,
-) -> Result<(), AllocError> {
+) -> Result<(), AllocError>
+    ensures { OnOk result (Adds steps.old steps.new (byte_of_two_steps site.now number form pushed)) }
+{
     match form {
         ExpressionForm::Binary {
             operands: _,
@@ -165,13 +152,16 @@ fn plan_byte_of_two(
 }
 
 // The low byte of the value of an expression that is neither known nor in memory into A.
+#[tactic(auto, unfolding(crate::specs::Bytes::byte_form_steps))]
 fn plan_byte_form(
     site: &Site<'_>,
     number: ExpressionNumber,
     form: ExpressionForm,
     pushed: u16,
     steps: &mut Steps,
-) -> Result<(), AllocError> {
+) -> Result<(), AllocError>
+    ensures { OnOk result (Adds steps.old steps.new (byte_form_steps site.now number form pushed)) }
+{
     match form {
         ExpressionForm::Conversion(inner) => steps.part(Task::Byte(inner), pushed),
         ExpressionForm::Function { function, operand } => {
@@ -200,12 +190,15 @@ fn plan_byte_form(
 }
 
 /// The low byte of the value of an expression into A, whatever its type.
+#[tactic(auto, unfolding(crate::specs::Bytes::byte_steps))]
 pub(crate) fn plan_byte(
     site: &Site<'_>,
     number: ExpressionNumber,
     pushed: u16,
     steps: &mut Steps,
-) -> Result<(), AllocError> {
+) -> Result<(), AllocError>
+    ensures { OnOk result (Adds steps.old steps.new (byte_steps site.now number pushed)) }
+{
     if let Some(place) = site.known(number) {
         return plan_known_byte(place, steps);
     }

@@ -1,5 +1,9 @@
 //! Calls of procedures.
 
+ghost use Rattle.std.specs.Prelude.{OnOk};
+ghost use Rattle.steps8080.specs.Step.{Adds};
+ghost use Rattle.exprgen8080.specs.Calls.{call_steps, last_argument_steps, pushed_argument_steps};
+
 use isa8080::{Instr, StackPair};
 use sites8080::Site;
 use std::alloc::AllocError;
@@ -8,12 +12,15 @@ use treecode::{ExpressionNumber, Range};
 use trees::ScalarType;
 
 // An argument into A or HL, by its type.
+#[tactic(auto, unfolding(crate::specs::Calls::last_argument_steps, crate::specs::Calls::value_task))]
 fn plan_last_argument(
     site: &Site<'_>,
     argument: ExpressionNumber,
     pushed: u16,
     steps: &mut Steps,
-) -> Result<(), AllocError> {
+) -> Result<(), AllocError>
+    ensures { OnOk result (Adds steps.old steps.new (last_argument_steps site.now argument pushed)) }
+{
     match site.scalar(argument) {
         ScalarType::Byte => steps.part(Task::Byte(argument), pushed),
         ScalarType::Address => steps.part(Task::Word(argument), pushed),
@@ -21,12 +28,15 @@ fn plan_last_argument(
 }
 
 // An argument onto the stack.
+#[tactic(auto, unfolding(crate::specs::Calls::pushed_argument_steps, crate::specs::Calls::push_of))]
 fn plan_pushed_argument(
     site: &Site<'_>,
     argument: ExpressionNumber,
     pushed: u16,
     steps: &mut Steps,
-) -> Result<(), AllocError> {
+) -> Result<(), AllocError>
+    ensures { OnOk result (Adds steps.old steps.new (pushed_argument_steps site.now argument pushed)) }
+{
     plan_last_argument(site, argument, pushed, steps)?;
     match site.scalar(argument) {
         ScalarType::Byte => steps.plain(Instr::Push(StackPair::Psw)),
@@ -36,13 +46,16 @@ fn plan_pushed_argument(
 
 /// The call of a procedure by its number in the module. All arguments but the last one are pushed, the last one stays in
 /// A or HL; the result comes in A or HL.
+#[tactic(auto, unfolding(crate::specs::Calls::call_steps))]
 pub(crate) fn plan_call(
     site: &Site<'_>,
     procedure: u32,
     arguments: Range,
     pushed: u16,
     steps: &mut Steps,
-) -> Result<(), AllocError> {
+) -> Result<(), AllocError>
+    ensures { OnOk result (Adds steps.old steps.new (call_steps site.now procedure arguments pushed)) }
+{
     let last = arguments.count.saturating_sub(1);
     let mut depth = pushed;
     for index in 0..arguments.count {

@@ -1,5 +1,9 @@
 //! Expressions whose value is not wanted.
 
+ghost use Rattle.std.specs.Prelude.{OnOk};
+ghost use Rattle.steps8080.specs.Step.{Adds};
+ghost use Rattle.exprgen8080.specs.Effects.{both_effects_steps, effects_steps, form_effects_steps, reference_effects_steps, subscript_effects_steps};
+
 use crate::bytes::plan_embedded;
 use crate::calls::plan_call;
 use isa8080::Instr;
@@ -9,11 +13,14 @@ use steps8080::{Steps, Task};
 use treecode::{ExpressionForm, ExpressionNumber, Reference, Subscript};
 
 // What a subscript, if there is one, does.
+#[tactic(auto, unfolding(crate::specs::Effects::subscript_effects_steps))]
 fn plan_subscript_effects(
     subscript: Option<Subscript>,
     pushed: u16,
     steps: &mut Steps,
-) -> Result<(), AllocError> {
+) -> Result<(), AllocError>
+    ensures { OnOk result (Adds steps.old steps.new (subscript_effects_steps subscript pushed)) }
+{
     match subscript {
         Some(subscript) => steps.part(Task::Effects(subscript.index), pushed),
         None => Ok(()),
@@ -21,33 +28,42 @@ fn plan_subscript_effects(
 }
 
 // What the subscripts of an object or a part of it do.
+#[tactic(auto, unfolding(crate::specs::Effects::reference_effects_steps))]
 fn plan_reference_effects(
     reference: &Reference,
     pushed: u16,
     steps: &mut Steps,
-) -> Result<(), AllocError> {
+) -> Result<(), AllocError>
+    ensures { OnOk result (Adds steps.old steps.new (reference_effects_steps reference.now pushed)) }
+{
     plan_subscript_effects(reference.subscript, pushed, steps)?;
     plan_subscript_effects(reference.member_subscript, pushed, steps)
 }
 
 // What two expressions do.
+#[tactic(auto, unfolding(crate::specs::Effects::both_effects_steps))]
 fn plan_both_effects(
     first: ExpressionNumber,
     second: ExpressionNumber,
     pushed: u16,
     steps: &mut Steps,
-) -> Result<(), AllocError> {
+) -> Result<(), AllocError>
+    ensures { OnOk result (Adds steps.old steps.new (both_effects_steps first second pushed)) }
+{
     steps.part(Task::Effects(first), pushed)?;
     steps.part(Task::Effects(second), pushed)
 }
 
 // What an expression of a form does.
+#[tactic(auto, unfolding(crate::specs::Effects::form_effects_steps))]
 fn plan_form_effects(
     site: &Site<'_>,
     form: ExpressionForm,
     pushed: u16,
     steps: &mut Steps,
-) -> Result<(), AllocError> {
+) -> Result<(), AllocError>
+    ensures { OnOk result (Adds steps.old steps.new (form_effects_steps site.now form pushed)) }
+{
     match form {
         ExpressionForm::Number(_) | ExpressionForm::List(_) => Ok(()),
         ExpressionForm::Value(reference) | ExpressionForm::Location(reference) => {
@@ -74,12 +90,15 @@ fn plan_form_effects(
 }
 
 /// What an expression does beside its value.
+#[tactic(auto, unfolding(crate::specs::Effects::effects_steps))]
 pub(crate) fn plan_effects(
     site: &Site<'_>,
     number: ExpressionNumber,
     pushed: u16,
     steps: &mut Steps,
-) -> Result<(), AllocError> {
+) -> Result<(), AllocError>
+    ensures { OnOk result (Adds steps.old steps.new (effects_steps site.now number pushed)) }
+{
     match site.expression(number) {
         Some(expression) => {
             if expression.traits.is_quiet {

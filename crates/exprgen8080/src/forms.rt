@@ -1,5 +1,9 @@
 //! Which steps carry out a task.
 
+ghost use Rattle.std.specs.Prelude.{OnOk};
+ghost use Rattle.steps8080.specs.Step.{AddsWithLabels};
+ghost use Rattle.exprgen8080.specs.Forms.{task_labels, task_steps};
+
 use crate::bytes::plan_byte;
 use crate::calls::plan_call;
 use crate::effects::plan_effects;
@@ -11,7 +15,11 @@ use std::alloc::AllocError;
 use steps8080::{Part, Steps, Task};
 
 /// The steps that carry out a task. What is known of the registers at the site is used for the first step alone.
-pub fn plan_task(site: &Site<'_>, part: Part, steps: &mut Steps) -> Result<(), AllocError> {
+#[tactic(auto, unfolding(crate::specs::Forms::task_steps, crate::specs::Forms::task_labels, crate::specs::Forms::steps_of, crate::specs::Forms::labels_of), using(crate::proofs::Parts::none_taken))]
+pub fn plan_task(site: &Site<'_>, part: Part, steps: &mut Steps) -> Result<(), AllocError>
+    ensures { OnOk result (AddsWithLabels steps.old steps.new
+        (task_labels site.now part) (task_steps site.now part)) }
+{
     let pushed = part.pushed;
     match part.task {
         Task::Byte(number) => plan_byte(site, number, pushed, steps),

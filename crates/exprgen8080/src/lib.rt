@@ -8,6 +8,7 @@ mod calls;
 mod effects;
 mod emission;
 mod forms;
+mod halves;
 mod word_operators;
 mod word_shifts;
 mod words;

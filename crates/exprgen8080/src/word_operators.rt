@@ -1,7 +1,11 @@
 //! Operators whose value comes into HL.
 
+ghost use Rattle.std.specs.Prelude.{OnOk, ◌≡◌};
+ghost use Rattle.steps8080.specs.Step.{Adds};
+ghost use Rattle.exprgen8080.specs.WordOperators.{difference_steps, division_steps, half_steps, high_half_steps, logic_steps, logic_with_byte_steps, logic_with_number_steps, logic_with_simple_steps, product_word_steps, quotient_steps, remainder_steps, simple_operand, sum_steps, taken_from_number_steps, with_pair_steps, with_simple, with_word_steps, word_binary_steps};
+
 use crate::byte_operators::{Operands, plan_byte_operation, plan_with_number};
-use crate::bytes::plan_high_byte;
+use crate::halves::plan_high_byte;
 use crate::word_shifts::plan_word_shifted_right;
 use asm8080::WordForm;
 use isa8080::{Instr, Operation, Pair, Register};
@@ -14,12 +18,15 @@ use treecode::{ExpressionNumber, Place};
 use trees::BinaryOperator;
 
 // A sum into HL.
+#[tactic(auto, unfolding(crate::specs::WordOperators::sum_steps))]
 fn plan_sum(
     site: &Site<'_>,
     operands: Operands,
     pushed: u16,
     steps: &mut Steps,
-) -> Result<(), AllocError> {
+) -> Result<(), AllocError>
+    ensures { OnOk result (Adds steps.old steps.new (sum_steps site.now operands pushed)) }
+{
     let Operands { left, right } = operands;
     if let Some(place) = site.known(right) {
         steps.part(Task::Word(left), pushed)?;
@@ -34,7 +41,10 @@ fn plan_sum(
 }
 
 // Takes HL from a number, into HL.
-fn plan_taken_from_number(number: u16, steps: &mut Steps) -> Result<(), AllocError> {
+#[tactic(auto, unfolding(crate::specs::WordOperators::taken_from_number_steps))]
+fn plan_taken_from_number(number: u16, steps: &mut Steps) -> Result<(), AllocError>
+    ensures { OnOk result (Adds steps.old steps.new (taken_from_number_steps number)) }
+{
     if low(number) == 0 {
         steps.plain(clear_a())?;
     } else {
@@ -50,12 +60,15 @@ fn plan_taken_from_number(number: u16, steps: &mut Steps) -> Result<(), AllocErr
 }
 
 // Carries out an operation with HL and a word in memory, which is on the left, into HL.
+#[tactic(auto, unfolding(crate::specs::WordOperators::with_word_steps))]
 fn plan_with_word(
     place: Place,
     on_low: Operation,
     on_high: Operation,
     steps: &mut Steps,
-) -> Result<(), AllocError> {
+) -> Result<(), AllocError>
+    ensures { OnOk result (Adds steps.old steps.new (with_word_steps place on_low on_high)) }
+{
     steps.word(WordForm::LoadA, place)?;
     steps.all(&[
         with_register(on_low, Register::L),
@@ -69,12 +82,15 @@ fn plan_with_word(
 }
 
 // Carries out an operation with HL and DE, of which the left operand is in one, into HL.
+#[tactic(auto, unfolding(crate::specs::WordOperators::with_pair_steps))]
 fn plan_with_pair(
     order: PairOrder,
     on_low: Operation,
     on_high: Operation,
     steps: &mut Steps,
-) -> Result<(), AllocError> {
+) -> Result<(), AllocError>
+    ensures { OnOk result (Adds steps.old steps.new (with_pair_steps order on_low on_high)) }
+{
     match order {
         PairOrder::LeftInHl => steps.all(&[
             copy(Register::A, Register::L),
@@ -96,12 +112,15 @@ fn plan_with_pair(
 }
 
 // A difference into HL.
+#[tactic(auto, unfolding(crate::specs::WordOperators::difference_steps, crate::specs::WordOperators::left_word, crate::specs::WordOperators::paired_steps))]
 fn plan_difference(
     site: &Site<'_>,
     operands: Operands,
     pushed: u16,
     steps: &mut Steps,
-) -> Result<(), AllocError> {
+) -> Result<(), AllocError>
+    ensures { OnOk result (Adds steps.old steps.new (difference_steps site.now operands pushed)) }
+{
     let Operands { left, right } = operands;
     if let Some(number) = site.number(right) {
         steps.part(Task::Word(left), pushed)?;
@@ -122,12 +141,15 @@ fn plan_difference(
 }
 
 // Carries out an operation with a byte of HL and a number.
+#[tactic(auto, unfolding(crate::specs::WordOperators::half_steps, crate::specs::WordOperators::half_through_a_steps))]
 fn plan_half(
     operation: Operation,
     register: Register,
     number: u8,
     steps: &mut Steps,
-) -> Result<(), AllocError> {
+) -> Result<(), AllocError>
+    ensures { OnOk result (Adds steps.old steps.new (half_steps operation register number)) }
+{
     match (operation, number) {
         (Operation::And, 255) | (Operation::Or | Operation::ExclusiveOr, 0) => Ok(()),
         (Operation::And, 0) | (Operation::Or, 255) => steps.plain(set(register, number)),
@@ -145,13 +167,16 @@ fn plan_half(
 }
 
 // The high byte of a value AND a number as the high byte of HL, whose low byte is 0.
+#[tactic(auto, unfolding(crate::specs::WordOperators::high_half_steps))]
 fn plan_high_half(
     site: &Site<'_>,
     value: ExpressionNumber,
     number: u8,
     pushed: u16,
     steps: &mut Steps,
-) -> Result<(), AllocError> {
+) -> Result<(), AllocError>
+    ensures { OnOk result (Adds steps.old steps.new (high_half_steps site.now value number pushed)) }
+{
     plan_high_byte(site, value, pushed, steps)?;
     if number != 255 {
         steps.plain(Instr::AccumulateImmediate(Operation::And, number))?;
@@ -160,6 +185,7 @@ fn plan_high_half(
 }
 
 // AND, OR or XOR of a value and a number into HL.
+#[tactic(auto, unfolding(crate::specs::WordOperators::logic_with_number_steps, crate::specs::WordOperators::and_with_number_steps, crate::specs::WordOperators::both_halves_steps))]
 fn plan_logic_with_number(
     site: &Site<'_>,
     operation: Operation,
@@ -167,7 +193,10 @@ fn plan_logic_with_number(
     number: u16,
     pushed: u16,
     steps: &mut Steps,
-) -> Result<(), AllocError> {
+) -> Result<(), AllocError>
+    ensures { OnOk result (Adds steps.old steps.new
+        (logic_with_number_steps site.now operation value number pushed)) }
+{
     if operation == Operation::And && number < 256 {
         plan_with_number(operation, value, low(number), pushed, steps)?;
         return plan_extension(steps);
@@ -181,13 +210,16 @@ fn plan_logic_with_number(
 }
 
 // OR or XOR of a value and a byte whose code changes A alone into HL.
+#[tactic(auto, unfolding(crate::specs::WordOperators::logic_with_byte_steps))]
 fn plan_logic_with_byte(
     operation: Operation,
     value: ExpressionNumber,
     byte: ExpressionNumber,
     pushed: u16,
     steps: &mut Steps,
-) -> Result<(), AllocError> {
+) -> Result<(), AllocError>
+    ensures { OnOk result (Adds steps.old steps.new (logic_with_byte_steps operation value byte pushed)) }
+{
     steps.part(Task::Word(value), pushed)?;
     steps.part(Task::Byte(byte), pushed)?;
     steps.all(&[
@@ -206,7 +238,10 @@ enum Simple {
 }
 
 // An operand whose code leaves HL alone, if it is one.
-fn simple_operand(site: &Site<'_>, number: ExpressionNumber) -> Option<Simple> {
+#[tactic(auto, unfolding(crate::specs::WordOperators::simple_operand))]
+fn simple_operand(site: &Site<'_>, number: ExpressionNumber) -> Option<Simple>
+    ensures { result ≡ simple_operand site.now number }
+{
     if site.fits_byte(number) && site.is_free(number) {
         return Some(Simple::Byte(number));
     }
@@ -217,13 +252,17 @@ fn simple_operand(site: &Site<'_>, number: ExpressionNumber) -> Option<Simple> {
 }
 
 // AND, OR or XOR of a value and a simple operand into HL.
+#[tactic(auto, unfolding(crate::specs::WordOperators::logic_with_simple_steps))]
 fn plan_logic_with_simple(
     operation: Operation,
     value: ExpressionNumber,
     operand: Simple,
     pushed: u16,
     steps: &mut Steps,
-) -> Result<(), AllocError> {
+) -> Result<(), AllocError>
+    ensures { OnOk result (Adds steps.old steps.new
+        (logic_with_simple_steps operation value operand pushed)) }
+{
     match operand {
         Simple::Byte(byte) => plan_logic_with_byte(operation, value, byte, pushed, steps),
         Simple::Word(place) => {
@@ -234,7 +273,10 @@ fn plan_logic_with_simple(
 }
 
 // The operand of AND, OR or XOR that comes first, and the other one, which is simple.
-fn with_simple(site: &Site<'_>, operands: Operands) -> Option<(ExpressionNumber, Simple)> {
+#[tactic(auto, unfolding(crate::specs::WordOperators::with_simple, crate::specs::WordOperators::first_and_simple, crate::specs::WordOperators::exchanged_operand))]
+fn with_simple(site: &Site<'_>, operands: Operands) -> Option<(ExpressionNumber, Simple)>
+    ensures { result ≡ with_simple site.now operands }
+{
     let Operands { left, right } = operands;
     let may_exchange = site.may_exchange(left, right);
     let exchanged = if may_exchange {
@@ -251,13 +293,16 @@ fn with_simple(site: &Site<'_>, operands: Operands) -> Option<(ExpressionNumber,
 }
 
 // AND, OR or XOR into HL.
+#[tactic(auto, unfolding(crate::specs::WordOperators::logic_steps, crate::specs::WordOperators::computed_logic_steps, crate::specs::WordOperators::is_of_bytes, crate::specs::WordOperators::paired_steps))]
 fn plan_logic(
     site: &Site<'_>,
     operation: Operation,
     operands: Operands,
     pushed: u16,
     steps: &mut Steps,
-) -> Result<(), AllocError> {
+) -> Result<(), AllocError>
+    ensures { OnOk result (Adds steps.old steps.new (logic_steps site.now operation operands pushed)) }
+{
     let Operands { left, right } = operands;
     if let Some(number) = site.number(right) {
         return plan_logic_with_number(site, operation, left, number, pushed, steps);
@@ -277,12 +322,15 @@ fn plan_logic(
 }
 
 // A product into HL. The routine is faster where DE is below 256.
+#[tactic(auto, unfolding(crate::specs::WordOperators::product_word_steps, crate::specs::WordOperators::product_order))]
 fn plan_product_word(
     site: &Site<'_>,
     operands: Operands,
     pushed: u16,
     steps: &mut Steps,
-) -> Result<(), AllocError> {
+) -> Result<(), AllocError>
+    ensures { OnOk result (Adds steps.old steps.new (product_word_steps site.now operands pushed)) }
+{
     let Operands { left, right } = operands;
     if let Some(number) = site.number(right) {
         return plan_product(left, number, pushed, steps);
@@ -300,24 +348,30 @@ fn plan_product_word(
 }
 
 // Divides one operand by the other one: the quotient into HL, the remainder into DE.
+#[tactic(auto, unfolding(crate::specs::WordOperators::division_steps))]
 fn plan_division(
     site: &Site<'_>,
     operands: Operands,
     pushed: u16,
     steps: &mut Steps,
-) -> Result<(), AllocError> {
+) -> Result<(), AllocError>
+    ensures { OnOk result (Adds steps.old steps.new (division_steps site.now operands pushed)) }
+{
     let Operands { left, right } = operands;
     let _ = plan_pair(site, left, right, true, pushed, steps)?;
     steps.push(Step::CallRoutine(Routine::Divide))
 }
 
 // A quotient into HL.
+#[tactic(auto, unfolding(crate::specs::WordOperators::quotient_steps))]
 fn plan_quotient(
     site: &Site<'_>,
     operands: Operands,
     pushed: u16,
     steps: &mut Steps,
-) -> Result<(), AllocError> {
+) -> Result<(), AllocError>
+    ensures { OnOk result (Adds steps.old steps.new (quotient_steps site.now operands pushed)) }
+{
     match site.power(operands.right) {
         Some(power) => plan_word_shifted_right(site, operands.left, power, pushed, steps),
         None => plan_division(site, operands, pushed, steps),
@@ -325,12 +379,15 @@ fn plan_quotient(
 }
 
 // A remainder into HL.
+#[tactic(auto, unfolding(crate::specs::WordOperators::remainder_steps, crate::specs::ByteOperators::number_of_two))]
 fn plan_remainder(
     site: &Site<'_>,
     operands: Operands,
     pushed: u16,
     steps: &mut Steps,
-) -> Result<(), AllocError> {
+) -> Result<(), AllocError>
+    ensures { OnOk result (Adds steps.old steps.new (remainder_steps site.now operands pushed)) }
+{
     let Operands { left, right } = operands;
     if let (Some(number), Some(_)) = (site.number(right), site.power(right)) {
         let mask = number.wrapping_sub(1);
@@ -341,13 +398,16 @@ fn plan_remainder(
 }
 
 /// The value of an operator with two ADDRESS operands into HL.
+#[tactic(auto, unfolding(crate::specs::WordOperators::word_binary_steps))]
 pub(crate) fn plan_word_binary(
     site: &Site<'_>,
     operator: BinaryOperator,
     operands: Operands,
     pushed: u16,
     steps: &mut Steps,
-) -> Result<(), AllocError> {
+) -> Result<(), AllocError>
+    ensures { OnOk result (Adds steps.old steps.new (word_binary_steps site.now operator operands pushed)) }
+{
     match operator {
         BinaryOperator::Add => plan_sum(site, operands, pushed, steps),
         BinaryOperator::Subtract => plan_difference(site, operands, pushed, steps),

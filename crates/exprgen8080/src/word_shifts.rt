@@ -1,7 +1,11 @@
 //! Shifts of words in HL.
 
+ghost use Rattle.std.specs.Prelude.{OnOk, ◌≡◌};
+ghost use Rattle.steps8080.specs.Step.{Adds};
+ghost use Rattle.exprgen8080.specs.WordShifts.{computed_count_steps, half_steps, quarter_steps, shifted_left_steps, shifted_right_little_steps, word_routine, word_shift_steps, word_shifted_right_steps, zero_steps};
+
 use crate::byte_shifts::{Shifted, plan_byte_shifted_right, plan_right_shift};
-use crate::bytes::plan_high_byte;
+use crate::halves::plan_high_byte;
 use asm8080::WordForm;
 use isa8080::{Instr, Operation, Pair, Register, StackPair};
 use runtime8080::Routine;
@@ -12,18 +16,24 @@ use treecode::{ExpressionNumber, Place};
 use typed_trees::ShiftFunction;
 
 // 0 into HL, after what an expression does.
-fn plan_zero(value: ExpressionNumber, pushed: u16, steps: &mut Steps) -> Result<(), AllocError> {
+#[tactic(auto, unfolding(crate::specs::WordShifts::zero_steps))]
+fn plan_zero(value: ExpressionNumber, pushed: u16, steps: &mut Steps) -> Result<(), AllocError>
+    ensures { OnOk result (Adds steps.old steps.new (zero_steps value pushed)) }
+{
     steps.part(Task::Effects(value), pushed)?;
     steps.word(WordForm::LoadPair(Pair::Hl), Place::Number(0))
 }
 
 // A word shifted to the left by a number into HL.
+#[tactic(auto, unfolding(crate::specs::WordShifts::shifted_left_steps))]
 fn plan_shifted_left(
     value: ExpressionNumber,
     count: u16,
     pushed: u16,
     steps: &mut Steps,
-) -> Result<(), AllocError> {
+) -> Result<(), AllocError>
+    ensures { OnOk result (Adds steps.old steps.new (shifted_left_steps value count pushed)) }
+{
     if count >= 16 {
         return plan_zero(value, pushed, steps);
     }
@@ -38,7 +48,10 @@ fn plan_shifted_left(
 }
 
 // Shifts HL to the right by 1, through A.
-fn plan_half(steps: &mut Steps) -> Result<(), AllocError> {
+#[tactic(auto, unfolding(crate::specs::WordShifts::half_steps))]
+fn plan_half(steps: &mut Steps) -> Result<(), AllocError>
+    ensures { OnOk result (Adds steps.old steps.new half_steps) }
+{
     steps.all(&[
         with_register(Operation::Or, Register::A),
         copy(Register::A, Register::H),
@@ -51,7 +64,10 @@ fn plan_half(steps: &mut Steps) -> Result<(), AllocError> {
 }
 
 // Shifts HL to the right by 2, through A: the two low bits of H come beside the six high ones of L, and turn to the top.
-fn plan_quarter(steps: &mut Steps) -> Result<(), AllocError> {
+#[tactic(auto, unfolding(crate::specs::WordShifts::quarter_steps))]
+fn plan_quarter(steps: &mut Steps) -> Result<(), AllocError>
+    ensures { OnOk result (Adds steps.old steps.new quarter_steps) }
+{
     let mask = Instr::AccumulateImmediate(Operation::And, 0xfc);
     steps.all(&[
         copy(Register::A, Register::L),
@@ -70,12 +86,15 @@ fn plan_quarter(steps: &mut Steps) -> Result<(), AllocError> {
 }
 
 // A word shifted to the right by a count below 8 into HL.
+#[tactic(auto, unfolding(crate::specs::WordShifts::shifted_right_little_steps))]
 fn plan_shifted_right_little(
     value: ExpressionNumber,
     count: u16,
     pushed: u16,
     steps: &mut Steps,
-) -> Result<(), AllocError> {
+) -> Result<(), AllocError>
+    ensures { OnOk result (Adds steps.old steps.new (shifted_right_little_steps value count pushed)) }
+{
     steps.part(Task::Word(value), pushed)?;
     match count {
         0 => Ok(()),
@@ -89,13 +108,16 @@ fn plan_shifted_right_little(
 }
 
 /// The value of an expression, as an ADDRESS, shifted to the right by a number into HL.
+#[tactic(auto, unfolding(crate::specs::WordShifts::word_shifted_right_steps))]
 pub(crate) fn plan_word_shifted_right(
     site: &Site<'_>,
     value: ExpressionNumber,
     count: u16,
     pushed: u16,
     steps: &mut Steps,
-) -> Result<(), AllocError> {
+) -> Result<(), AllocError>
+    ensures { OnOk result (Adds steps.old steps.new (word_shifted_right_steps site.now value count pushed)) }
+{
     if count == 0 {
         return steps.part(Task::Word(value), pushed);
     }
@@ -115,7 +137,10 @@ pub(crate) fn plan_word_shifted_right(
 }
 
 // The routine that shifts HL by the count in A. Only BYTE values are rotated.
-fn word_routine(function: ShiftFunction) -> Routine {
+#[tactic(auto, unfolding(crate::specs::WordShifts::word_routine))]
+fn word_routine(function: ShiftFunction) -> Routine
+    ensures { result ≡ word_routine function }
+{
     match function {
         ShiftFunction::ShiftLeft | ShiftFunction::RotateLeft => Routine::ShiftLeftAddress,
         ShiftFunction::ShiftRight | ShiftFunction::RotateRight => Routine::ShiftRightAddress,
@@ -123,12 +148,15 @@ fn word_routine(function: ShiftFunction) -> Routine {
 }
 
 // A word shifted by a count that is not known into HL.
+#[tactic(auto, unfolding(crate::specs::WordShifts::computed_count_steps, crate::specs::WordShifts::count_beside_word_steps))]
 fn plan_computed_count(
     site: &Site<'_>,
     shifted: Shifted,
     pushed: u16,
     steps: &mut Steps,
-) -> Result<(), AllocError> {
+) -> Result<(), AllocError>
+    ensures { OnOk result (Adds steps.old steps.new (computed_count_steps site.now shifted pushed)) }
+{
     steps.part(Task::Word(shifted.value), pushed)?;
     if site.is_free(shifted.count) {
         steps.part(Task::Byte(shifted.count), pushed)?;
@@ -141,12 +169,15 @@ fn plan_computed_count(
 }
 
 /// A shift of an ADDRESS into HL.
+#[tactic(auto, unfolding(crate::specs::WordShifts::word_shift_steps, crate::specs::WordShifts::word_by_number_steps))]
 pub(crate) fn plan_word_shift(
     site: &Site<'_>,
     shifted: Shifted,
     pushed: u16,
     steps: &mut Steps,
-) -> Result<(), AllocError> {
+) -> Result<(), AllocError>
+    ensures { OnOk result (Adds steps.old steps.new (word_shift_steps site.now shifted pushed)) }
+{
     let Some(count) = site.number(shifted.count) else {
         return plan_computed_count(site, shifted, pushed, steps);
     };

@@ -1,5 +1,9 @@
 //! Values in HL.
 
+ghost use Rattle.std.specs.Prelude.{OnOk};
+ghost use Rattle.steps8080.specs.Step.{Adds};
+ghost use Rattle.exprgen8080.specs.Words.{extended_byte_steps, word_form_steps, word_function_steps, word_of_two_steps, word_steps, word_unary_steps};
+
 use crate::byte_operators::Operands;
 use crate::byte_shifts::Shifted;
 use crate::bytes::plan_embedded;
@@ -16,7 +20,10 @@ use trees::{ScalarType, UnaryOperator};
 use typed_trees::UnaryFunction;
 
 // NOT or `-` of the word in HL.
-fn plan_word_unary(operator: UnaryOperator, steps: &mut Steps) -> Result<(), AllocError> {
+#[tactic(auto, unfolding(crate::specs::Words::word_unary_steps))]
+fn plan_word_unary(operator: UnaryOperator, steps: &mut Steps) -> Result<(), AllocError>
+    ensures { OnOk result (Adds steps.old steps.new (word_unary_steps operator)) }
+{
     match operator {
         UnaryOperator::Not => steps.all(&[
             copy(Register::A, Register::L),
@@ -38,12 +45,15 @@ fn plan_word_unary(operator: UnaryOperator, steps: &mut Steps) -> Result<(), All
 }
 
 // The value of a BYTE expression into HL.
+#[tactic(auto, unfolding(crate::specs::Words::extended_byte_steps))]
 fn plan_extended_byte(
     site: &Site<'_>,
     number: ExpressionNumber,
     pushed: u16,
     steps: &mut Steps,
-) -> Result<(), AllocError> {
+) -> Result<(), AllocError>
+    ensures { OnOk result (Adds steps.old steps.new (extended_byte_steps site.now number pushed)) }
+{
     if let Some(reference) = site.memory(number) {
         return plan_extended_byte_in_memory(site, &reference, pushed, steps);
     }
@@ -52,12 +62,15 @@ fn plan_extended_byte(
 }
 
 // LOW, HIGH or DOUBLE of a value, an ADDRESS, into HL.
+#[tactic(auto, unfolding(crate::specs::Words::word_function_steps))]
 fn plan_word_function(
     function: UnaryFunction,
     operand: ExpressionNumber,
     pushed: u16,
     steps: &mut Steps,
-) -> Result<(), AllocError> {
+) -> Result<(), AllocError>
+    ensures { OnOk result (Adds steps.old steps.new (word_function_steps function operand pushed)) }
+{
     match function {
         UnaryFunction::Double => steps.part(Task::Word(operand), pushed),
         // These two give a BYTE.
@@ -66,12 +79,15 @@ fn plan_word_function(
 }
 
 // The value of an operator with two ADDRESS operands or a shift of an ADDRESS into HL. No other form comes here.
+#[tactic(auto, unfolding(crate::specs::Words::word_of_two_steps))]
 fn plan_word_of_two(
     site: &Site<'_>,
     form: ExpressionForm,
     pushed: u16,
     steps: &mut Steps,
-) -> Result<(), AllocError> {
+) -> Result<(), AllocError>
+    ensures { OnOk result (Adds steps.old steps.new (word_of_two_steps site.now form pushed)) }
+{
     match form {
         ExpressionForm::Binary {
             operands: _,
@@ -96,12 +112,15 @@ fn plan_word_of_two(
 }
 
 // The value of an ADDRESS expression that is not known into HL.
+#[tactic(auto, unfolding(crate::specs::Words::word_form_steps))]
 fn plan_word_form(
     site: &Site<'_>,
     form: ExpressionForm,
     pushed: u16,
     steps: &mut Steps,
-) -> Result<(), AllocError> {
+) -> Result<(), AllocError>
+    ensures { OnOk result (Adds steps.old steps.new (word_form_steps site.now form pushed)) }
+{
     match form {
         ExpressionForm::Value(reference) => plan_word_in_memory(site, &reference, pushed, steps),
         ExpressionForm::Location(reference) => steps.part(Task::Address(reference), pushed),
@@ -128,12 +147,15 @@ fn plan_word_form(
 }
 
 /// The value of an expression into HL, a BYTE with zeros added.
+#[tactic(auto, unfolding(crate::specs::Words::word_steps, crate::specs::Words::computed_word_steps))]
 pub(crate) fn plan_word(
     site: &Site<'_>,
     number: ExpressionNumber,
     pushed: u16,
     steps: &mut Steps,
-) -> Result<(), AllocError> {
+) -> Result<(), AllocError>
+    ensures { OnOk result (Adds steps.old steps.new (word_steps site.now number pushed)) }
+{
     if let Some(place) = site.known(number) {
         return plan_location_address(site, Location::Static(place), pushed, steps);
     }

@@ -1,0 +1,13 @@
+-- Planners that take no label, as such that may take some.
+use Rattle.std.proofs.Common.{List, ap}
+use Rattle.steps8080.specs.declared.step.Step.{Step}
+use Rattle.steps8080.specs.declared.step.Steps.{Steps}
+use Rattle.steps8080.specs.Step.{Adds, AddsWithLabels, label_after}
+
+pub none_taken : (before after : Steps) (list : List Step)
+    → Adds before after list
+    → AddsWithLabels before after 0 (λ first. list)
+none_taken before after list adds = record {
+  added = adds.added;
+  labels = ap (λ label. label_after label 0) adds.labels;
+}

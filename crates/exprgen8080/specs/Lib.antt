@@ -1,0 +1,10 @@
+pub mod Halves
+pub mod ByteShifts
+pub mod ByteOperators
+pub mod Calls
+pub mod Bytes
+pub mod WordShifts
+pub mod WordOperators
+pub mod Words
+pub mod Effects
+pub mod Forms
