@@ -48,7 +48,7 @@ variable_picked :
     {script : List (List ℕ)} {budget more : ℕ} {from : State} {Good : Unit {0} → SourceState → State → Type 0}
     (address byte : ℕ) (s : SourceState) (declared constant : Bool)
     → (declared ≡ true → constant ≡ false
-        → Does script budget more from (Gave tt (record s { memory = slice_set s.memory address byte })) Good)
+    → Does script budget more from (Gave tt (record s { memory = slice_set s.memory address byte })) Good)
     → Does script budget more from
     (if declared
     then (if constant then Stopped (Outside Constant) s
@@ -63,7 +63,7 @@ pub write_does :
     {script : List (List ℕ)} {budget more : ℕ} {from : State} {Good : Unit {0} → SourceState → State → Type 0}
     (program : Program) (address byte : ℕ) (s : SourceState)
     → (IsVariable program address
-        → Does script budget more from (Gave tt (record s { memory = slice_set s.memory address byte })) Good)
+    → Does script budget more from (Gave tt (record s { memory = slice_set s.memory address byte })) Good)
     → Does script budget more from (write_byte program (InMemory address) byte s) Good
 write_does program address byte s does =
     variable_picked address byte s (is_declared program address) (is_constant program address)
@@ -74,8 +74,8 @@ pub frame_write_does :
     {script : List (List ℕ)} {budget more : ℕ} {from : State} {Good : Unit {0} → SourceState → State → Type 0}
     (program : Program) (object offset : ℕ) (is_inside : Bool) (byte : ℕ) (s : SourceState)
     → (is_inside ≡ true
-        → Does script budget more from
-        (Gave tt (record s { frame = slice_set s.frame object (slice_set (frame_bytes s.frame object) offset byte) })) Good)
+    → Does script budget more from
+    (Gave tt (record s { frame = slice_set s.frame object (slice_set (frame_bytes s.frame object) offset byte) })) Good)
     → Does script budget more from (write_byte program (InTheFrame object offset is_inside) byte s) Good
 frame_write_does program object offset is_inside byte s does = picked_does UndeclaredByte s is_inside does
 
@@ -84,16 +84,16 @@ pub read_word_does :
     {script : List (List ℕ)} {budget more : ℕ} {from : State} {Good : ℕ → SourceState → State → Type 0}
     (program : Program) (address : ℕ) (s : SourceState)
     → (is_declared program address ≡ true → is_declared program ((address + 1) % MEMORY_SIZE) ≡ true
-        → Does script budget more from
-        (Gave (byte_at s.memory address + 256 * byte_at s.memory ((address + 1) % MEMORY_SIZE)) s) Good)
+    → Does script budget more from
+    (Gave (byte_at s.memory address + 256 * byte_at s.memory ((address + 1) % MEMORY_SIZE)) s) Good)
     → Does script budget more from (read_scalar program Address (InMemory address) s) Good
 read_word_does {script = script} {budget = budget} {more = more} {from = from} {Good = Good} program address s does =
     both (is_declared program address) (is_declared program ((address + 1) % MEMORY_SIZE)) does
   where
     both : (one two : Bool)
         → (one ≡ true → two ≡ true
-            → Does script budget more from
-            (Gave (byte_at s.memory address + 256 * byte_at s.memory ((address + 1) % MEMORY_SIZE)) s) Good)
+        → Does script budget more from
+        (Gave (byte_at s.memory address + 256 * byte_at s.memory ((address + 1) % MEMORY_SIZE)) s) Good)
         → Does script budget more from
         (then_do (if one then Gave (byte_at s.memory address) s else Stopped (Outside UndeclaredByte) s)
         (λ low t. then_do
@@ -108,10 +108,10 @@ pub write_word_does :
     {script : List (List ℕ)} {budget more : ℕ} {from : State} {Good : Unit {0} → SourceState → State → Type 0}
     (program : Program) (address number : ℕ) (s : SourceState)
     → (IsVariable program address → IsVariable program ((address + 1) % MEMORY_SIZE)
-        → Does script budget more from
-        (Gave tt (record s {
-          memory = slice_set (slice_set s.memory address (number % 256)) ((address + 1) % MEMORY_SIZE) (number / 256);
-        })) Good)
+    → Does script budget more from
+    (Gave tt (record s {
+      memory = slice_set (slice_set s.memory address (number % 256)) ((address + 1) % MEMORY_SIZE) (number / 256);
+    })) Good)
     → Does script budget more from (write_scalar program Address (InMemory address) number s) Good
 write_word_does {script = script} {budget = budget} {more = more} {from = from} {Good = Good} program address number s does =
     both (is_declared program address) (is_constant program address)
@@ -120,10 +120,10 @@ write_word_does {script = script} {budget = budget} {more = more} {from = from} 
   where
     both : (one const two none : Bool)
         → (one ≡ true → const ≡ false → two ≡ true → none ≡ false
-            → Does script budget more from
-            (Gave (tt {0}) (record s {
-              memory = slice_set (slice_set s.memory address (number % 256)) ((address + 1) % MEMORY_SIZE) (number / 256);
-            })) Good)
+        → Does script budget more from
+        (Gave (tt {0}) (record s {
+          memory = slice_set (slice_set s.memory address (number % 256)) ((address + 1) % MEMORY_SIZE) (number / 256);
+        })) Good)
         → Does script budget more from
         (then_do
         (if one

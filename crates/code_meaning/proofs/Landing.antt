@@ -120,7 +120,7 @@ pub then_does :
     {Middle : A → SourceState → State → Type 0} {Good : B → SourceState → State → Type 0}
     → Does script budget 0 from outcome Middle
     → ((found : A) (t : SourceState) (end : State) → Middle found t end → t.budget ≤ budget
-        → Does script t.budget other end (go found t) Good)
+    → Does script t.budget other end (go found t) Good)
     → Does script budget other from (then_do outcome go) Good
 then_does {A = A} {B = B} {script = script} {budget = budget} {other = other} {from = from} {outcome = Gave found t} {go = go} {Middle = Middle} {Good = Good} one rest =
     let first : Lands script budget 0 from t.budget (Middle found t) = one.told in

@@ -43,7 +43,7 @@ keeps_put Own base memory address value mine kept = record {
 variable_shared :
     (program : Program) (image source memory : List ℕ) (address value : ℕ)
     → ((other : ℕ) → IsVariable program other → program.placement.code.start ≤ other
-        → other < program.placement.code.start + program.placement.code.len → ⊥)
+    → other < program.placement.code.start + program.placement.code.len → ⊥)
     → IsVariable program address
     → address < MEMORY_SIZE
     → value < 256
@@ -68,7 +68,7 @@ variable_shared program image source memory address value free variable inside s
 frame_kept :
     (activation : Activation) (frame : List (List ℕ)) (memory : List ℕ) (address value : ℕ)
     → ((object offset : ℕ) → offset < activation.size object
-        → activation.level + activation.distance object + offset ≢ address)
+    → activation.level + activation.distance object + offset ≢ address)
     → FrameLies activation frame memory
     → FrameLies activation frame (slice_set memory address value)
 frame_kept activation frame memory address value elsewhere lies = record {

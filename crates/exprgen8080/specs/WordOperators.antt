@@ -13,7 +13,7 @@ use Rattle.trees.specs.declared.expression.BinaryOperator.TheVariants as operato
 use Rattle.treecode.specs.declared.expression.ExpressionNumber.{ExpressionNumber}
 use Rattle.treecode.specs.declared.place.Place.{Place}
 use Rattle.treecode.specs.declared.place.Place.TheVariants.{Number}
-use Rattle.treecode.specs.Queries.{place_after}
+use Rattle.treecode.specs.Homes.{place_after}
 use Rattle.steps8080.specs.declared.step.Step.{Step}
 use Rattle.steps8080.specs.declared.step.Step.TheVariants.{CallRoutine, Plain, Word}
 use Rattle.steps8080.specs.declared.step.Task.TheVariants as tasks
