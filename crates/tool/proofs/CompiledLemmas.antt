@@ -6,7 +6,10 @@ use Rattle.std.proofs.lemmas.Bool.{cases_lt}
 use Rattle.std.proofs.lemmas.List.{get_or-map, length-map}
 use Rattle.typed_trees.specs.TypedTrees.{TypedModule}
 use Rattle.typed_trees.specs.Storable.{IsStorable}
+use Rattle.typed_trees.specs.Frames.{FramesFit}
+use Rattle.typed_trees.specs.Globals.{ListsGlobals}
 use Rattle.typed_trees.specs.Jumps.{JumpsAreSound}
+use Rattle.typed_trees.specs.WellTyped.{IsWellTyped}
 use Rattle.object_modules.specs.Module.{length_of}
 use Rattle.object_modules.specs.declared.segment.Segment.TheVariants as segments
 use Rattle.layout.specs.Storage.{Storage, storage_with}
@@ -30,13 +33,15 @@ use Rattle.tool.specs.Sources.{AreWithoutFault, HasCause, HasLongCode, IsInOrder
 use Rattle.tool.specs.internal.Compiling.{AreCompiled, HasCompileCause, HasGenerationCause, HasSourceCause, IsCompiled, module_in}
 
 pub is_compiled : (plan : Plan) (text : List ℕ) (one : Compiled) → IsSourceOf text (module_in one) → layout_view one.source.storage ≡ storage_with (module_in one) → IsStorable (module_in one) → JumpsAreSound (module_in one)
+    → IsWellTyped (module_in one) → ListsGlobals (module_in one) → FramesFit (module_in one)
     → (layout_view one.source.storage).constant_size ≤ length_of one.object segments.Code → one.is_served ≡ is_some (outputs_of (module_in one))
     → one.code.items ≡ module_code plan (module_in one) → length one.code.items ≤ MOST_CODE → IsCompiled plan text one
-is_compiled plan text one source storage storable jumps holds served code fits = record {
+is_compiled plan text one source storage storable jumps types globals frames holds served code fits = record {
   source = source;
   storage = storage;
   storable = storable;
   jumps = jumps;
+  types = (types, globals, frames);
   constants = subst (λ (s : Storage). s.constant_size ≤ length_of one.object segments.Code) storage holds;
   served = served;
   code = code;
