@@ -119,27 +119,6 @@ generation_cause (Program fault) place text plan is cause = absurd cause
 generation_cause (Link fault) place text plan is cause = absurd cause
 generation_cause (Locate fault) place text plan is cause = absurd cause
 
--- the causes of a source that stands alone
-pub source_alone : (fault : ToolFault) (place : ℕ) (text : List ℕ) → HasSourceCause place text fault → IsRefusedAlone text fault
-source_alone (Source file fault) place text cause = cause.1
-source_alone TooManySources place text cause = absurd cause
-source_alone (CodeTooLong file) place text cause = absurd cause
-source_alone (Code file fault) place text cause = absurd cause
-source_alone (ConstantsMissing file) place text cause = absurd cause
-source_alone (Program fault) place text cause = absurd cause
-source_alone (Link fault) place text cause = absurd cause
-source_alone (Locate fault) place text cause = absurd cause
-
-pub generation_alone : (fault : ToolFault) (place : ℕ) (text : List ℕ) → IsReadable text → HasGenerationCause place fault → IsRefusedAlone text fault
-generation_alone (Code file fault) place text is cause = is
-generation_alone (ConstantsMissing file) place text is cause = is
-generation_alone (Source file fault) place text is cause = absurd cause
-generation_alone TooManySources place text is cause = absurd cause
-generation_alone (CodeTooLong file) place text is cause = absurd cause
-generation_alone (Program fault) place text is cause = absurd cause
-generation_alone (Link fault) place text is cause = absurd cause
-generation_alone (Locate fault) place text is cause = absurd cause
-
 -- the fault of a source alone is one of the sources
 pub cause_of_one : (fault : ToolFault) (file : ℕ) (texts : List (List ℕ)) (plan : Plan) → file < length texts → HasCompileCause fault file (text_of texts file) plan → HasCause fault texts plan
 cause_of_one TooManySources file texts plan below cause = absurd cause
