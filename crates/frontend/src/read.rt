@@ -6,9 +6,12 @@ ghost use Rattle.words.specs.declared.limits.TheConstants.{LONGEST_SOURCE};
 ghost use Rattle.words.specs.Spelling.{lexemes_of};
 ghost use Rattle.grammar.specs.Derivation.{Derives};
 ghost use Rattle.trees.specs.Views.{module_tree};
+ghost use Rattle.typed_trees.specs.Frames.{FramesFit};
+ghost use Rattle.typed_trees.specs.Globals.{ListsGlobals};
 ghost use Rattle.typed_trees.specs.Jumps.{JumpsAreSound};
 ghost use Rattle.typed_trees.specs.Storable.{IsStorable};
 ghost use Rattle.typed_trees.specs.Views.{module_view};
+ghost use Rattle.typed_trees.specs.WellTyped.{IsWellTyped};
 ghost use Rattle.layout.specs.Storage.{storage_with};
 ghost use Rattle.layout.specs.Views.{layout_view};
 ghost use Rattle.frontend.specs.Reading.{HasTyping, IsSourceOf, IsText};
@@ -94,6 +97,9 @@ pub fn read_source(alloc: Global, text: &[u8]) -> Result<SourceModule, Failure<R
         (λ read. layout_view read.storage ≡ storage_with (module_view read.typed)) }
     ensures storable { IfOk result (λ read. IsStorable (module_view read.typed)) }
     ensures jumps { IfOk result (λ read. JumpsAreSound (module_view read.typed)) }
+    ensures types { IfOk result (λ read. IsWellTyped (module_view read.typed)) }
+    ensures globals { IfOk result (λ read. ListsGlobals (module_view read.typed)) }
+    ensures frames { IfOk result (λ read. FramesFit (module_view read.typed)) }
     ensures refused { IfFault result (λ fault. HasReadCause fault text.now) }
     ensures too_long { LONGEST_SOURCE < length text.now → result ≡ Err (Failure.Fault ReadFault.TooLong) }
 {
@@ -112,6 +118,9 @@ fn type_text(alloc: Global, text: &[u8]) -> Result<Typed, Failure<ReadFault>>
     ensures typing { IfOk result (λ typed. HasTyping text.now (module_view typed)) }
     ensures storable { IfOk result (λ typed. IsStorable (module_view typed)) }
     ensures jumps { IfOk result (λ typed. JumpsAreSound (module_view typed)) }
+    ensures types { IfOk result (λ typed. IsWellTyped (module_view typed)) }
+    ensures globals { IfOk result (λ typed. ListsGlobals (module_view typed)) }
+    ensures frames { IfOk result (λ typed. FramesFit (module_view typed)) }
     ensures refused { IfFault result (λ fault. HasReadCause fault text.now) }
 {
     let tree = parse_text(alloc, text)?;

@@ -6,7 +6,10 @@ use Rattle.std.proofs.lemmas.Bool.{cases_lt}
 use Rattle.std.proofs.lemmas.List.{get_or-map, length-map}
 use Rattle.typed_trees.specs.TypedTrees.{TypedModule}
 use Rattle.typed_trees.specs.Storable.{IsStorable}
+use Rattle.typed_trees.specs.Frames.{FramesFit}
+use Rattle.typed_trees.specs.Globals.{ListsGlobals}
 use Rattle.typed_trees.specs.Jumps.{JumpsAreSound}
+use Rattle.typed_trees.specs.WellTyped.{IsWellTyped}
 use Rattle.object_modules.specs.Module.{length_of}
 use Rattle.object_modules.specs.declared.segment.Segment.TheVariants as segments
 use Rattle.layout.specs.Storage.{Storage, storage_with}
@@ -30,13 +33,15 @@ use Rattle.tool.specs.Sources.{AreWithoutFault, HasCause, HasLongCode, IsInOrder
 use Rattle.tool.specs.internal.Compiling.{AreCompiled, HasCompileCause, HasGenerationCause, HasSourceCause, IsCompiled, module_in}
 
 pub is_compiled : (plan : Plan) (text : List ℕ) (one : Compiled) → IsSourceOf text (module_in one) → layout_view one.source.storage ≡ storage_with (module_in one) → IsStorable (module_in one) → JumpsAreSound (module_in one)
+    → IsWellTyped (module_in one) → ListsGlobals (module_in one) → FramesFit (module_in one)
     → (layout_view one.source.storage).constant_size ≤ length_of one.object segments.Code → one.is_served ≡ is_some (outputs_of (module_in one))
     → one.code.items ≡ module_code plan (module_in one) → length one.code.items ≤ MOST_CODE → IsCompiled plan text one
-is_compiled plan text one source storage storable jumps holds served code fits = record {
+is_compiled plan text one source storage storable jumps types globals frames holds served code fits = record {
   source = source;
   storage = storage;
   storable = storable;
   jumps = jumps;
+  types = (types, globals, frames);
   constants = subst (λ (s : Storage). s.constant_size ≤ length_of one.object segments.Code) storage holds;
   served = served;
   code = code;
@@ -113,27 +118,6 @@ generation_cause (CodeTooLong file) place text plan is cause = absurd cause
 generation_cause (Program fault) place text plan is cause = absurd cause
 generation_cause (Link fault) place text plan is cause = absurd cause
 generation_cause (Locate fault) place text plan is cause = absurd cause
-
--- the causes of a source that stands alone
-pub source_alone : (fault : ToolFault) (place : ℕ) (text : List ℕ) → HasSourceCause place text fault → IsRefusedAlone text fault
-source_alone (Source file fault) place text cause = cause.1
-source_alone TooManySources place text cause = absurd cause
-source_alone (CodeTooLong file) place text cause = absurd cause
-source_alone (Code file fault) place text cause = absurd cause
-source_alone (ConstantsMissing file) place text cause = absurd cause
-source_alone (Program fault) place text cause = absurd cause
-source_alone (Link fault) place text cause = absurd cause
-source_alone (Locate fault) place text cause = absurd cause
-
-pub generation_alone : (fault : ToolFault) (place : ℕ) (text : List ℕ) → IsReadable text → HasGenerationCause place fault → IsRefusedAlone text fault
-generation_alone (Code file fault) place text is cause = is
-generation_alone (ConstantsMissing file) place text is cause = is
-generation_alone (Source file fault) place text is cause = absurd cause
-generation_alone TooManySources place text is cause = absurd cause
-generation_alone (CodeTooLong file) place text is cause = absurd cause
-generation_alone (Program fault) place text is cause = absurd cause
-generation_alone (Link fault) place text is cause = absurd cause
-generation_alone (Locate fault) place text is cause = absurd cause
 
 -- the fault of a source alone is one of the sources
 pub cause_of_one : (fault : ToolFault) (file : ℕ) (texts : List (List ℕ)) (plan : Plan) → file < length texts → HasCompileCause fault file (text_of texts file) plan → HasCause fault texts plan

@@ -30,7 +30,7 @@ use Rattle.tool.specs.declared.compiled.Compiled.{Compiled}
 use Rattle.tool.specs.declared.fault.ToolFault.{ToolFault}
 use Rattle.tool.specs.declared.fault.ToolFault.TheVariants.{TooManySources, Source, CodeTooLong, Code, ConstantsMissing, Program, Link, Locate}
 use Rattle.tool.specs.Code.{module_code, program_code}
-use Rattle.tool.specs.Construction.{Construction, IsConstruction, code_lengths}
+use Rattle.tool.specs.Construction.{Construction, IsConstruction, IsTyped, code_lengths}
 use Rattle.tool.specs.Image.{IsImageOfCode}
 use Rattle.tool.specs.Refusals.{IsRefusal}
 use Rattle.tool.specs.Sources.{AreWithoutFault, HasCause, IsInOrder, IsServed, IsWithoutFault, sources_before}
@@ -115,6 +115,12 @@ module _ (plan : Plan) where
   jumps_each (text ∷ texts) [] are = absurd are
   jumps_each (text ∷ texts) (one ∷ others) are = (are.0.jumps, jumps_each texts others are.1)
 
+  types_each : (texts : List (List ℕ)) (compiled : List Compiled) → AreCompiled plan texts compiled → AllByRecursion IsTyped (modules_in compiled)
+  types_each [] [] are = tt
+  types_each [] (one ∷ others) are = absurd are
+  types_each (text ∷ texts) [] are = absurd are
+  types_each (text ∷ texts) (one ∷ others) are = (are.0.types, types_each texts others are.1)
+
   pub have_storage : (texts : List (List ℕ)) (compiled : List Compiled) (modules : List Typed) (lengths : List ℕ) → AreCompiled plan texts compiled → modules ≡ map typed_in compiled → lengths ≡ map code_length_in compiled
       → HaveStorage (map module_view modules) lengths
   have_storage texts compiled modules lengths are is its =
@@ -128,6 +134,10 @@ module _ (plan : Plan) where
   pub jumps_all : (texts : List (List ℕ)) (compiled : List Compiled) (modules : List Typed) → AreCompiled plan texts compiled → modules ≡ map typed_in compiled → All JumpsAreSound (map module_view modules)
   jumps_all texts compiled modules are is =
       subst (λ ms. All JumpsAreSound (map module_view ms)) (sym is) (All-from_recursion JumpsAreSound (modules_in compiled) (jumps_each texts compiled are))
+
+  pub types_all : (texts : List (List ℕ)) (compiled : List Compiled) (modules : List Typed) → AreCompiled plan texts compiled → modules ≡ map typed_in compiled → All IsTyped (map module_view modules)
+  types_all texts compiled modules are is =
+      subst (λ ms. All IsTyped (map module_view ms)) (sym is) (All-from_recursion IsTyped (modules_in compiled) (types_each texts compiled are))
 
   -- where all modules are served, each source is
   served_one : (outputs : Option (List Output)) → (found : List Output) × (outputs ≡ Some found) → is_some outputs ≡ true
@@ -202,14 +212,16 @@ module _ (plan : Plan) where
   image_cause (Program fault) modules lengths placed is of_image = absurd of_image
 
   -- a program that was placed, with an image that is of its code where all of its modules are served
-  pub is_construction : (modules : List TypedModule) (lengths : List ℕ) (placed : Placed) (objects : List ObjectModule) (image : Absolute) → IsPlacedBy modules lengths plan placed → lengths ≡ code_lengths objects → All JumpsAreSound modules
+  pub is_construction : (modules : List TypedModule) (lengths : List ℕ) (placed : Placed) (objects : List ObjectModule) (image : Absolute) → IsPlacedBy modules lengths plan placed → lengths ≡ code_lengths objects → length lengths ≡ length modules → All JumpsAreSound modules → All IsTyped modules
       → (All IsServed modules → IsImageOfCode plan (program_code plan modules) image) → IsConstruction (construction_with placed plan objects image)
-  is_construction modules lengths placed objects image is its jumps served = record {
+  is_construction modules lengths placed objects image is its count jumps types served = record {
     headline = λ all.
         program_agrees (program_modules placed.program) _ plan.stack_size plan image (subst IsJoined (sym is.program) is.joined) all
         (subst (λ ms. IsImageOfCode plan (program_code plan ms) image) (sym is.program) (served (subst (All IsServed) is.program all)));
     joined = subst IsJoined (sym is.program) is.joined;
     jumps = subst (All JumpsAreSound) (sym is.program) jumps;
+    types = subst (All IsTyped) (sym is.program) types;
+    objects = sym (length_mapped (λ (object : ObjectModule). length_of object segments.Code) objects) ∙ sym (ap length its) ∙ count ∙ sym (ap length is.program);
     may_lie = rw (is.program, sym its) is.may_lie;
     lawful = rw is.program is.lawful;
     as_planned = rw (is.program, sym its) is.as_planned;

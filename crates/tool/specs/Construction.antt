@@ -1,6 +1,10 @@
 -- What a contract sees of a built program, and what holds of it.
-use Rattle.std.specs.Prelude.{◌≡◌, ℕ, List, All, None, map}
+use Rattle.std.specs.Prelude.{◌≡◌, ℕ, List, All, None, length, map}
+use Rattle.typed_trees.specs.Frames.{FramesFit}
+use Rattle.typed_trees.specs.Globals.{ListsGlobals}
 use Rattle.typed_trees.specs.Jumps.{JumpsAreSound}
+use Rattle.typed_trees.specs.TypedTrees.{TypedModule}
+use Rattle.typed_trees.specs.WellTyped.{IsWellTyped}
 use Rattle.layout.specs.Joined.{IsJoined}
 use Rattle.layout.specs.Lawful.{IsLawful}
 use Rattle.layout.specs.Placement.{Placement, pieces_of}
@@ -31,15 +35,22 @@ pub record Construction : Type 0 where
 abbrev pub code_lengths : List ObjectModule → List ℕ
 code_lengths objects = map (λ (object : ObjectModule). length_of object Code) objects
 
+-- a module that is well typed, lists what it shares with other modules, and whose frames have the bytes of their variables
+abbrev pub IsTyped : TypedModule → Type 0
+IsTyped typed = IsWellTyped typed × ListsGlobals typed × FramesFit typed
+
 -- where all modules are served, the image does what the program says, with the stack of the plan; the modules make a
--- program, whose jumps go to labels that are known, whose plan is not refused for the code segments of the object
--- modules, and which lies lawfully where the plan puts it; the table is of its bytes there
+-- program, which is well typed, whose jumps go to labels that are known, whose plan is not refused for the code segments
+-- of the object modules, of which there is one for each module, and which lies lawfully where the plan puts it; the table
+-- is of its bytes there
 pub record IsConstruction (built : Construction) : Type 0 where
   pub headline :
       All IsServed (program_modules built.program)
       → DoesWhatItSays (program_modules built.program) built.placement built.plan.stack_size built.image
   pub joined : IsJoined (program_modules built.program)
   pub jumps : All JumpsAreSound (program_modules built.program)
+  pub types : All IsTyped (program_modules built.program)
+  pub objects : length built.objects ≡ length (program_modules built.program)
   pub may_lie :
       placing_refusal (plan_view built.plan) (program_modules built.program) (code_lengths built.objects) ≡ None
   pub lawful : IsLawful (program_modules built.program) built.placement

@@ -74,11 +74,11 @@ HasCause (Program fault) texts plan = HasProgramRefusal fault texts plan
 HasCause (Link fault) texts plan = AreOfProgram texts
 HasCause (Locate fault) texts plan = AreOfProgram texts
 
--- the cause that a text alone is refused: it can't be read, or it is the source of a module that has no object module
+-- the cause that a text alone, source 0, is refused: it can't be read, or it is the source of a module that has no object module
 abbrev pub IsRefusedAlone : (text : List ℕ) → ToolFault → Type 0
-IsRefusedAlone text (Source file fault) = HasReadCause fault text
-IsRefusedAlone text (Code file fault) = IsReadable text
-IsRefusedAlone text (ConstantsMissing file) = IsReadable text
+IsRefusedAlone text (Source file fault) = (file ≡ 0) × HasReadCause fault text
+IsRefusedAlone text (Code file fault) = (file ≡ 0) × IsReadable text
+IsRefusedAlone text (ConstantsMissing file) = (file ≡ 0) × IsReadable text
 IsRefusedAlone text fault = ⊥
 
 -- a text alone has no fault: it is the source of a module whose code, where it is served, is not too long

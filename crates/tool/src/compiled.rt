@@ -3,9 +3,12 @@
 ghost use Rattle.std.specs.Prelude.{◌≡◌, ◌≤◌, ◌∷◌, ◌++◌, [], length, map, flat_map, All, IfOk, OnOk};
 ghost use Rattle.std.specs.List.{list_all};
 ghost use Rattle.failure.specs.Failure.{IfFault};
+ghost use Rattle.typed_trees.specs.Frames.{FramesFit};
+ghost use Rattle.typed_trees.specs.Globals.{ListsGlobals};
 ghost use Rattle.typed_trees.specs.Jumps.{JumpsAreSound};
 ghost use Rattle.typed_trees.specs.Storable.{IsStorable};
 ghost use Rattle.typed_trees.specs.Views.{module_view};
+ghost use Rattle.typed_trees.specs.WellTyped.{IsWellTyped};
 ghost use Rattle.layout.specs.Storage.{storage_with};
 ghost use Rattle.layout.specs.Views.{layout_view};
 ghost use Rattle.frontend.specs.Reading.{IsSourceOf};
@@ -73,6 +76,9 @@ fn read(alloc: Global, file: usize, text: &[u8]) -> Result<SourceModule, Failure
         (λ read. layout_view read.storage ≡ storage_with (module_view read.typed)) }
     ensures storable { IfOk result (λ read. IsStorable (module_view read.typed)) }
     ensures jumps { IfOk result (λ read. JumpsAreSound (module_view read.typed)) }
+    ensures types { IfOk result (λ read. IsWellTyped (module_view read.typed)) }
+    ensures globals { IfOk result (λ read. ListsGlobals (module_view read.typed)) }
+    ensures frames { IfOk result (λ read. FramesFit (module_view read.typed)) }
     ensures refused { IfFault result (HasSourceCause file text.now) }
 {
     match read_source(alloc, text) {

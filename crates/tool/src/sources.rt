@@ -10,7 +10,7 @@ ghost use Rattle.layout.specs.Views.{layout_view};
 ghost use Rattle.placing.specs.Segments.{HaveStorage};
 ghost use Rattle.program_sources.specs.Programs.{IsProgramOf, program_modules, text_of, texts_of};
 ghost use Rattle.tool.specs.Code.{program_code};
-ghost use Rattle.tool.specs.Construction.{IsConstruction, code_lengths};
+ghost use Rattle.tool.specs.Construction.{IsConstruction, IsTyped, code_lengths};
 ghost use Rattle.tool.specs.Headline.{DoesWhatItSays};
 ghost use Rattle.tool.specs.Sources.{HasCause, IsInOrder, IsServed};
 ghost use Rattle.tool.specs.Refusals.{IsRefusedBy};
@@ -78,6 +78,7 @@ fn build_program(
     requires count { length parts.lengths.items ≡ length parts.modules.items }
     requires storage { HaveStorage (map module_view parts.modules.items) parts.lengths.items }
     requires jumps { All JumpsAreSound (map module_view parts.modules.items) }
+    requires types { All IsTyped (map module_view parts.modules.items) }
     requires code { parts.code.items ≡ program_code plan.now (map module_view parts.modules.items) }
     requires served { All IsServed (map module_view parts.modules.items) → is_served ≡ true }
     ensures program { IfOk result (IsBuiltFrom (map module_view parts.modules.items) plan.now) }

@@ -6,8 +6,11 @@ ghost use Rattle.trees.specs.Views.{block_declarations, block_statements, declar
 ghost use Rattle.names.specs.internal.Parts.{case_tree, do_tree, if_tree, iterate_tree, procedure_parts, while_tree};
 ghost use Rattle.typed_trees.specs.Views.{else_view, list_view, module_view, procedure_view, statement_view, statements_view};
 ghost use Rattle.typing.specs.Statements.{list_of, places_from};
+ghost use Rattle.typed_trees.specs.Frames.{FramesFit};
+ghost use Rattle.typed_trees.specs.Globals.{ListsGlobals};
 ghost use Rattle.typed_trees.specs.Jumps.{JumpsAreSound};
 ghost use Rattle.typed_trees.specs.Storable.{IsStorable};
+ghost use Rattle.typed_trees.specs.WellTyped.{IsWellTyped};
 ghost use Rattle.typing.specs.Untyped.{GivesBack};
 ghost use Rattle.typing.specs.Typing.{alone, cases, declaration, declarations, else_part, entered, kind, left, main_procedure, module_with, statements, typing_of};
 ghost use Rattle.typing.specs.Results.{Answers, Gives, Leaves};
@@ -425,6 +428,9 @@ pub fn check(alloc: Global, parsed: Module) -> Result<Typed, Failure<Fault>>
     ensures given_back { IfOk result (λ typed. GivesBack (module_tree parsed) (module_view typed)) }
     ensures jumps { IfOk result (λ typed. JumpsAreSound (module_view typed)) }
     ensures storable { IfOk result (λ typed. IsStorable (module_view typed)) }
+    ensures types { IfOk result (λ typed. IsWellTyped (module_view typed)) }
+    ensures globals { IfOk result (λ typed. ListsGlobals (module_view typed)) }
+    ensures frames { IfOk result (λ typed. FramesFit (module_view typed)) }
 {
     typed(alloc, &parsed)
 }

@@ -20,7 +20,7 @@ use Rattle.tool.specs.declared.compiled.Compiled.{Compiled}
 use Rattle.tool.specs.declared.fault.ToolFault.{ToolFault}
 use Rattle.tool.specs.declared.fault.ToolFault.TheVariants.{Source, CodeTooLong, Code, ConstantsMissing, Program, Link, Locate}
 use Rattle.tool.specs.Code.{module_code}
-use Rattle.tool.specs.Construction.{Construction}
+use Rattle.tool.specs.Construction.{Construction, IsTyped}
 use Rattle.tool.specs.Sources.{HasLongCode, IsReadable}
 
 -- the module of a source that is compiled
@@ -34,6 +34,7 @@ pub record IsCompiled (plan : Plan) (text : List ℕ) (compiled : Compiled) : Ty
   pub storage : layout_view compiled.source.storage ≡ storage_with (module_in compiled)
   pub storable : IsStorable (module_in compiled)
   pub jumps : JumpsAreSound (module_in compiled)
+  pub types : IsTyped (module_in compiled)
   pub constants : constant_bytes (module_in compiled) ≤ length_of compiled.object segments.Code
   pub served : compiled.is_served ≡ is_some (outputs_of (module_in compiled))
   pub code : compiled.code.items ≡ module_code plan (module_in compiled)

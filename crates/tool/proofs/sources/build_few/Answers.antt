@@ -7,7 +7,7 @@ use Rattle.tool.specs.declared.compiled.Compiled.{Compiled}
 use Rattle.tool.specs.declared.fault.ToolFault.{ToolFault}
 use Rattle.tool.specs.Sources.{AreWithoutFault, HasCause, IsInOrder}
 use Rattle.tool.specs.internal.Compiling.{HasBuildCause}
-use Rattle.tool.proofs.SourcesLemmas.{build_cause, build_order, code_fits, count_fits, have_storage, jumps_all, lengths_fit, program_built, served_all, storages_fit}
+use Rattle.tool.proofs.SourcesLemmas.{build_cause, build_order, code_fits, count_fits, have_storage, jumps_all, lengths_fit, program_built, served_all, storages_fit, types_all}
 use Rattle.tool.proofs.sources.build_few.Goals as goal
 
 pub build_program-requires-clause-storages : goal.build_program-requires-clause-storages
@@ -31,6 +31,10 @@ build_program-requires-clause-storage c =
 pub build_program-requires-clause-jumps : goal.build_program-requires-clause-jumps
 build_program-requires-clause-jumps c =
     jumps_all c.args.plan.now (texts_of c.args.sources.now) c.in_ok-compiled.compiled.items c.in_ok-parts.parts.modules.items c.in_ok-compiled.ensures.compiled c.in_ok-parts.ensures.modules
+
+pub build_program-requires-clause-types : goal.build_program-requires-clause-types
+build_program-requires-clause-types c =
+    types_all c.args.plan.now (texts_of c.args.sources.now) c.in_ok-compiled.compiled.items c.in_ok-parts.parts.modules.items c.in_ok-compiled.ensures.compiled c.in_ok-parts.ensures.modules
 
 pub build_program-requires-clause-code : goal.build_program-requires-clause-code
 build_program-requires-clause-code c =

@@ -9,5 +9,5 @@ pub new-requires : goal.new-requires
 new-requires c =
     is_construction c.args.plan.now (map module_view c.args.parts.modules.items) c.args.parts.lengths.items c.in-Ok.placed c.args.parts.objects.items c.in_ok-image.image
     (subst (λ (lengths : List ℕ). IsPlacedBy (map module_view c.args.parts.modules.items) lengths c.args.plan.now c.in-Ok.placed) c.as_slice-2.ensures.value c.in-Ok.ensures.placed)
-    c.requires.lengths c.requires.jumps
+    c.requires.lengths c.requires.count c.requires.jumps c.requires.types
     (λ all. subst (λ (bytes : List ℕ). IsImageOfCode c.args.plan.now bytes c.in_ok-image.image) c.requires.code (c.in_ok-image.ensures.served (c.requires.served all)))

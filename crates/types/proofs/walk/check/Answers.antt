@@ -1,6 +1,9 @@
 use Rattle.trees.specs.Views.{module_tree}
+use Rattle.typed_trees.specs.Frames.{FramesFit}
+use Rattle.typed_trees.specs.Globals.{ListsGlobals}
 use Rattle.typed_trees.specs.Jumps.{JumpsAreSound}
 use Rattle.typed_trees.specs.Storable.{IsStorable}
+use Rattle.typed_trees.specs.WellTyped.{IsWellTyped}
 use Rattle.typed_trees.specs.Views.{module_view}
 use Rattle.typing.specs.Typing.{typing_of}
 use Rattle.typing.specs.Untyped.{GivesBack}
@@ -8,6 +11,7 @@ use Rattle.typing.proofs.JumpsLaw.{jumps_are_sound}
 use Rattle.typing.proofs.StatementsBack.{gives_back}
 use Rattle.typing.proofs.StorableStatements.{is_storable}
 use Rattle.typing.proofs.TypedLaws.{where_typed}
+use Rattle.typing.proofs.TypesOfStatements.{is_well_typed, globals_are_listed, frames_are_summed}
 use Rattle.types.proofs.walk.check.Goals as goal
 
 pub returns-clause-given_back : goal.returns-clause-given_back
@@ -22,3 +26,18 @@ returns-clause-jumps c =
 pub returns-clause-storable : goal.returns-clause-storable
 returns-clause-storable c =
     where_typed module_view c.typed.result (typing_of (module_tree c.args.parsed)) IsStorable c.typed.ensures (is_storable (module_tree c.args.parsed))
+
+pub returns-clause-types : goal.returns-clause-types
+returns-clause-types c =
+    where_typed module_view c.typed.result (typing_of (module_tree c.args.parsed)) IsWellTyped c.typed.ensures
+    (is_well_typed (module_tree c.args.parsed))
+
+pub returns-clause-globals : goal.returns-clause-globals
+returns-clause-globals c =
+    where_typed module_view c.typed.result (typing_of (module_tree c.args.parsed)) ListsGlobals c.typed.ensures
+    (globals_are_listed (module_tree c.args.parsed))
+
+pub returns-clause-frames : goal.returns-clause-frames
+returns-clause-frames c =
+    where_typed module_view c.typed.result (typing_of (module_tree c.args.parsed)) FramesFit c.typed.ensures
+    (frames_are_summed (module_tree c.args.parsed))
