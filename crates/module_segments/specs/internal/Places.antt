@@ -1,0 +1,55 @@
+-- Places and contents of tree code as locations and bytes of a module that has no place in memory yet.
+use Rattle.std.specs.Prelude.{ℕ, ◌<◌, List, [], ◌∷◌, flat_map, replicate, All, None, slice_get}
+use Rattle.std.specs.Option.{option_map_or}
+use Rattle.typed_trees.specs.declared.parts.InitialValue.TheVariants.{LocationValue}
+use Rattle.typed_trees.specs.declared.parts.InitialValue.{InitialValue}
+use Rattle.typed_trees.specs.TypedTrees.{Home, BasedOn, Elsewhere, InFrame, TypedObject, TypedModule}
+use Rattle.layout.specs.declared.slot.Segment.TheVariants as segments
+use Rattle.layout.specs.StartingMemory.{values_in}
+use Rattle.layout.specs.Segments.{Location, SegmentStart, ExternalName, Absolute, After, Places, places_of_bytes, places_of_location}
+use Rattle.treecode.specs.declared.module.Content.{Content}
+use Rattle.treecode.specs.declared.module.Content.TheVariants.{Byte, Word, Gap}
+use Rattle.treecode.specs.declared.module.ExternalName.{ExternalName as External}
+use Rattle.treecode.specs.declared.place.Place.{Place}
+use Rattle.treecode.specs.declared.place.Place.TheVariants as places
+
+-- the EXTERNAL name of an index; an empty one where there is none
+abbrev pub name_at : List External → (index : ℕ) → List ℕ
+name_at names index = option_map_or (λ (external : External). external.name) (slice_get names index) []
+
+-- where a place lies, in a module with these EXTERNAL names
+abbrev pub location_of_place : List External → Place → Location
+location_of_place names (places.Number number) = Absolute number
+location_of_place names (places.Code offset) = After (SegmentStart segments.Code) offset
+location_of_place names (places.Data offset) = After (SegmentStart segments.Data) offset
+location_of_place names (places.External offset index) = After (ExternalName (name_at names index)) offset
+
+-- the bytes of contents
+abbrev pub places_of_content : List External → Content → Places
+places_of_content names (Byte byte) = places_of_bytes (byte ∷ [])
+places_of_content names (Word place) = places_of_location (location_of_place names place)
+places_of_content names (Gap count) = replicate count None
+
+-- and of contents one after another
+abbrev pub places_of_contents : List External → List Content → Places
+places_of_contents names contents = flat_map (places_of_content names) contents
+
+-- an object whose place does not depend on what runs: it is neither BASED nor in a frame
+abbrev pub IsStatic : Home → Type 0
+IsStatic (BasedOn base) = ⊥
+IsStatic (InFrame procedure) = ⊥
+IsStatic home = Unit {0}
+
+-- an object of this module
+abbrev pub IsHere : Home → Type 0
+IsHere Elsewhere = ⊥
+IsHere home = Unit {0}
+
+-- what INITIAL and DATA add to where an object lies is a word
+abbrev pub AddsWord : InitialValue → Type 0
+AddsWord (LocationValue object offset) = offset < 65536
+AddsWord value = Unit {0}
+
+-- in a module, as the code keeps what is added
+abbrev pub AddWords : TypedModule → Type 0
+AddWords typed = All (λ (object : TypedObject). All AddsWord (values_in object.home)) typed.objects
