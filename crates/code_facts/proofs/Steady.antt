@@ -1,0 +1,82 @@
+-- Which bytes are steady in an activation that lies well, and what instructions ask of them there.
+use Rattle.std.proofs.Common.{◌≡◌, ℕ, ◌+◌, ◌<◌, ◌≤◌, inl, inr, Option, Some, None, refl, sym, arith}
+use Rattle.mem80.specs.declared.memory.TheConstants.{MEMORY_SIZE}
+use Rattle.isa8080.specs.State.{word, wrap}
+use Rattle.machine_runs.proofs.Calls.{one_below, two_below}
+use Rattle.treecode.specs.declared.place.Location.{Location}
+use Rattle.treecode.specs.declared.place.Location.TheVariants.{Frame}
+use Rattle.code_meaning.specs.Activations.{Activation, LiesWell}
+use Rattle.code_facts.specs.Asking.{AddressAsks, IsSteadyByte, PushAsks}
+use Rattle.code_facts.specs.Holding.{AddressHolds, Distances, IsSteady, location_at}
+
+-- a byte of an object in the frame
+pub frame_byte_is_steady :
+    (activation : Activation) (object offset : ℕ)
+    → offset < activation.size object
+    → IsSteady activation (activation.level + activation.distance object + offset)
+frame_byte_is_steady activation object offset within =
+    inr (record { object = object; offset = offset; within = within; is_there = refl })
+
+-- and where a variable of tree code begins where the object does, the address of the byte in the frame
+pub frame_location_is_steady :
+    (activation : Activation) (distance : Distances) (variable object offset : ℕ)
+    → LiesWell activation
+    → distance variable ≡ activation.distance object
+    → offset < activation.size object
+    → (location_at activation distance (Frame variable offset)
+    ≡ activation.level + activation.distance object + offset)
+    × IsSteadyByte activation (location_at activation distance (Frame variable offset))
+frame_location_is_steady activation distance variable object offset lies same within =
+    let inside = lies.inside object offset within in
+    let above = lies.above in
+    let stack = lies.placed.stack_in_memory in
+    let small : activation.level + activation.distance object + offset < MEMORY_SIZE
+    = omega (arith, inside, above, stack) in
+    let is : wrap (activation.level + distance variable + offset) ≡ activation.level + activation.distance object + offset
+    = omega (arith, same, small) in
+    let low : wrap (activation.level + distance variable + offset) < MEMORY_SIZE = omega arith in
+    (is, (inr (record { object = object; offset = offset; within = within; is_there = is }), low))
+
+-- no byte below the level that may be pushed is steady
+pub pushed_is_not_steady :
+    (activation : Activation) (top address : ℕ)
+    → LiesWell activation
+    → activation.around.program.placement.stack.start ≤ address
+    → address < top
+    → top ≤ activation.level
+    → IsSteady activation address
+    → ⊥
+pushed_is_not_steady activation top address lies low high below (inl declared) =
+    let above = lies.above in
+    lies.placed.stack_free address declared low (omega (arith, high, below, above))
+pushed_is_not_steady activation top address lies low high below (inr framed) =
+    let is = framed.is_there in omega (arith, is, high, below)
+
+-- so a PUSH may be carried out where there is room for it
+pub push_asks :
+    (activation : Activation) (sp top : ℕ)
+    → LiesWell activation
+    → sp ≡ wrap top
+    → activation.around.program.placement.stack.start + 2 ≤ top
+    → top ≤ activation.level
+    → PushAsks activation sp
+push_asks activation sp top lies pointer room below address steady =
+    let above = lies.above in
+    let stack = lies.placed.stack_in_memory in
+    let limit : top ≤ MEMORY_SIZE = omega (arith, above, stack, below) in
+    let one = one_below sp top pointer limit (omega (arith, room)) in
+    let two = two_below sp top pointer limit (omega (arith, room)) in (
+      λ same. pushed_is_not_steady activation top address lies (omega (arith, same, one, room))
+          (omega (arith, same, one, room)) below steady,
+      λ same. pushed_is_not_steady activation top address lies (omega (arith, same, two, room))
+          (omega (arith, same, two, room)) below steady,
+    )
+
+-- what HL is known to be the address of is steady where the byte at the address in HL is
+pub address_asks :
+    (activation : Activation) (distance : Distances) (held : Option Location) (h l : ℕ)
+    → AddressHolds activation distance held h l
+    → IsSteady activation (word h l)
+    → AddressAsks activation distance held
+address_asks activation distance None h l holds steady = tt
+address_asks activation distance (Some location) h l holds steady = rw (sym holds) steady

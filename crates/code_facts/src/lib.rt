@@ -1,0 +1,2 @@
+//! What is known of the registers along code is true: laws. Nothing here runs.
+#![tactic(auto)]
