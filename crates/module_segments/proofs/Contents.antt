@@ -218,14 +218,20 @@ variables_places names starts locations [] before lie add small =
     sym (append-nil (places_of_contents names before))
 variables_places names starts locations (object ∷ others) before lie add small =
     variables_places names starts locations others (static_object starts object object.home before) lie add.1
-    (omega (arith, small,
-    sum_by-cons (λ (object : TypedObject). bytes_in_data object.home object) object others))
+    (omega (
+      arith,
+      small,
+      sum_by-cons (λ (object : TypedObject). bytes_in_data object.home object) object others,
+    ))
     ∙ ap (λ (first : Places).
     first ++ flat_map (λ (object : TypedObject). places_by_home locations object object.home) others)
     (variable_places names starts locations object object.home before refl lie
     (recursion_from_All AddsWord (values_in object.home) add.0)
-    (omega (arith, small,
-    sum_by-cons (λ (object : TypedObject). bytes_in_data object.home object) object others)))
+    (omega (
+      arith,
+      small,
+      sum_by-cons (λ (object : TypedObject). bytes_in_data object.home object) object others,
+    )))
     ∙ append_assoc (places_of_contents names before) (places_by_home locations object object.home)
     (flat_map (λ (object : TypedObject). places_by_home locations object object.home) others)
 

@@ -140,14 +140,14 @@ next :
     (location_by_home typed locations (length before) object kind)
 next typed storage before others starts locations object
     (InData values) laid whole found is back at lie = record {
-  is_static = λ _. refl;
-  lies =
-      ap (λ (slot : Option Slot). location_of_place (externals_of typed) (place_of_slot slot))
-      (slot_is typed storage (length before) object laid.stored found
-      ∙ ap (slot_of_object typed (length before) object) is)
-      ∙ in_data (externals_of typed) (data_bytes (take (length before) typed.objects)) (size_of_object object)
-      (data_offset typed storage (length before) laid.stored);
-}
+      is_static = λ _. refl;
+      lies =
+          ap (λ (slot : Option Slot). location_of_place (externals_of typed) (place_of_slot slot))
+          (slot_is typed storage (length before) object laid.stored found
+          ∙ ap (slot_of_object typed (length before) object) is)
+          ∙ in_data (externals_of typed) (data_bytes (take (length before) typed.objects)) (size_of_object object)
+          (data_offset typed storage (length before) laid.stored);
+    }
 next typed storage before others starts locations object
     (InConstants values) laid whole found is back at lie =
     record {
