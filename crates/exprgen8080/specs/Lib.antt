@@ -8,3 +8,4 @@ pub mod WordOperators
 pub mod Words
 pub mod Effects
 pub mod Forms
+pub mod Emission

@@ -1,0 +1,121 @@
+-- The code of steps: which items are written for them, and what is known of the registers after these.
+use Rattle.std.specs.Prelude.{◌≡◌, ℕ, Bool, true, false, if◌then◌else◌, List, [], ◌∷◌, ◌++◌, length, Option, Some, None, slice_get, slice_index_or}
+use Rattle.isa8080.specs.declared.instr.Instr.{Instr}
+use Rattle.isa8080.specs.declared.instr.Instr.TheVariants.{Accumulate}
+use Rattle.isa8080.specs.declared.instr.Operand.TheVariants.{Of}
+use Rattle.isa8080.specs.declared.instr.Operation.TheVariants.{Or}
+use Rattle.isa8080.specs.declared.instr.Register.TheVariants.{A}
+use Rattle.asm8080.specs.declared.item.Item.{Item}
+use Rattle.asm8080.specs.declared.item.Item.TheVariants as items
+use Rattle.asm8080.specs.declared.item.WordForm.{WordForm}
+use Rattle.asm8080.specs.declared.item.WordForm.TheVariants.{CallTo}
+use Rattle.runtime8080.specs.declared.routine.Routine.{Routine}
+use Rattle.runtime8080.specs.declared.routine.Routine.TheVariants as routines
+use Rattle.treecode.specs.declared.place.Place.{Place}
+use Rattle.treecode.specs.declared.procedure.ProcedureKind.{ProcedureKind}
+use Rattle.treecode.specs.declared.procedure.ProcedureKind.TheVariants as kinds
+use Rattle.treecode.specs.declared.procedure.TreeProcedure.{TreeProcedure}
+use Rattle.steps8080.specs.declared.facts.Facts.{Facts}
+use Rattle.steps8080.specs.declared.step.LabelNumber.{LabelNumber}
+use Rattle.steps8080.specs.declared.step.Part.{Part}
+use Rattle.steps8080.specs.declared.step.Step.{Step}
+use Rattle.steps8080.specs.declared.step.Step.TheVariants as steps
+use Rattle.steps8080.specs.Facts.{after, after_form, after_word, no_facts, with_facts, without_memory}
+use Rattle.steps8080.specs.Step.{label_after, label_of}
+use Rattle.steps8080.specs.Writer.{external_call_item, jump_item, word_item}
+use Rattle.sites8080.specs.declared.site.Site.{Site}
+use Rattle.exprgen8080.specs.Forms.{task_steps}
+
+-- the routines in the order of their labels
+abbrev pub index_of_routine : Routine → ℕ
+index_of_routine routines.Multiply = 0
+index_of_routine routines.Divide = 1
+index_of_routine routines.ShiftLeftByte = 2
+index_of_routine routines.ShiftRightByte = 3
+index_of_routine routines.ShiftLeftAddress = 4
+index_of_routine routines.ShiftRightAddress = 5
+index_of_routine routines.RotateLeft = 6
+index_of_routine routines.RotateRight = 7
+index_of_routine routines.Move = 8
+
+-- the label of a routine, after those of the procedures of the module
+abbrev pub label_of_routine : Site → Routine → LabelNumber
+label_of_routine site routine =
+    label_of (label_after (length site.tree.now.procedures.items) (index_of_routine routine))
+
+-- whether a table of routines has one
+abbrev pub has_routine : (called : List Bool) → Routine → Bool
+has_routine called routine = slice_index_or called (index_of_routine routine) false
+
+-- the site where this is known of the registers
+abbrev pub knowing : Site → Facts → Site
+knowing site facts = record site { facts = facts }
+
+-- the call of a procedure of a number: of its label, or of the name of one of another module
+abbrev pub items_of_call : (procedure : ℕ) → ProcedureKind → List Item
+items_of_call procedure (kinds.External name) = external_call_item name ∷ []
+items_of_call procedure kind = jump_item CallTo (label_of procedure) ∷ []
+
+abbrev pub call_items : Site → (procedure : ℕ) → List Item
+call_items site procedure = elim (slice_get site.tree.now.procedures.items procedure) [
+  | Some found ↦ items_of_call procedure found.kind
+  | None ↦ []
+]
+
+-- the test of A
+abbrev pub test_of_a : Instr
+test_of_a = Accumulate Or (Of A)
+
+-- the test of A, where the zero flag does not show yet whether it is 0
+abbrev pub test_items : Facts → List Item
+test_items facts = if facts.zero_shows_a then [] else items.Plain test_of_a ∷ []
+
+abbrev pub after_test : Facts → Facts
+after_test facts = if facts.zero_shows_a then facts else after facts test_of_a
+
+mutual
+  -- Steps where this is known of the registers, the items of their code, and what is known after it. The table has
+  -- the routines that are called.
+  pub data AreWritten (site : Site) (called : List Bool) : Facts → List Step → List Item → Facts → Type 0 where
+    NoneWritten : {facts : Facts} → AreWritten site called facts [] [] facts
+    PlainWritten : {facts last : Facts} {i : Instr} {others : List Step} {more : List Item}
+        → AreWritten site called (after facts i) others more last
+        → AreWritten site called facts (steps.Plain i ∷ others) (items.Plain i ∷ more) last
+    WordWritten : {facts last : Facts} {form : WordForm} {place : Place} {others : List Step} {more : List Item}
+        → AreWritten site called (after_word facts form place) others more last
+        → AreWritten site called facts (steps.Word form place ∷ others) (word_item form place ∷ more) last
+    JumpWritten : {facts last : Facts} {form : WordForm} {label : LabelNumber} {others : List Step}
+        {more : List Item}
+        → AreWritten site called (after_form facts form) others more last
+        → AreWritten site called facts (steps.Jump form label ∷ others) (jump_item form label ∷ more) last
+    MarkWritten : {facts last : Facts} {label : LabelNumber} {others : List Step} {more : List Item}
+        → AreWritten site called no_facts others more last
+        → AreWritten site called facts (steps.Mark label ∷ others) (items.Mark label.index ∷ more) last
+    RoutineWritten : {facts last : Facts} {routine : Routine} {others : List Step} {more : List Item}
+        → has_routine called routine ≡ true
+        → AreWritten site called no_facts others more last
+        → AreWritten site called facts (steps.CallRoutine routine ∷ others)
+        (jump_item CallTo (label_of_routine site routine) ∷ more) last
+    CallWritten : {facts last : Facts} {procedure : ℕ} {others : List Step} {more : List Item}
+        → AreWritten site called no_facts others more last
+        → AreWritten site called facts (steps.CallProcedure procedure ∷ others)
+        (call_items site procedure ++ more) last
+    TestWritten : {facts last : Facts} {others : List Step} {more : List Item}
+        → AreWritten site called (after_test facts) others more last
+        → AreWritten site called facts (steps.TestA ∷ others) (test_items facts ++ more) last
+    HoldsWritten : {facts held last : Facts} {others : List Step} {more : List Item}
+        → AreWritten site called (with_facts facts held) others more last
+        → AreWritten site called facts (steps.Holds held ∷ others) more last
+    ChangeWritten : {facts last : Facts} {others : List Step} {more : List Item}
+        → AreWritten site called (without_memory facts) others more last
+        → AreWritten site called facts (steps.MemoryChanged ∷ others) more last
+    PartWritten : {facts middle last : Facts} {part : Part} {others : List Step} {first more : List Item}
+        → IsWritten site called facts part first middle
+        → AreWritten site called middle others more last
+        → AreWritten site called facts (steps.Part part ∷ others) (first ++ more) last
+
+  -- a part, whose steps are planned where this is known, with labels from any number on
+  pub data IsWritten (site : Site) (called : List Bool) : Facts → Part → List Item → Facts → Type 0 where
+    Planned : {facts last : Facts} {part : Part} {label : ℕ} {list : List Item}
+        → AreWritten site called facts (task_steps (knowing site facts) part label) list last
+        → IsWritten site called facts part list last

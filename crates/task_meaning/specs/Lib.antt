@@ -1,0 +1,3 @@
+pub mod Contexts
+pub mod Tasks
+pub mod Steps
