@@ -22,47 +22,47 @@ use Rattle.task_meaning.specs.Contexts.{Context}
 
 -- Steps stand from a place on, where this is known of the registers, up to another place, where that is known. What is
 -- true of their parts is given.
-pub data AreThere
+pub data StepsStand
     (context : Context)
     (PartIs : (before : Facts) → Part → (from : ℕ) → (after : Facts) → (to : ℕ) → Type 0) :
     Facts → (from : ℕ) → List Step → Facts → (to : ℕ) → Type 0 where
-  NoneThere : {facts : Facts} {place : ℕ} → AreThere context PartIs facts place [] facts place
+  NoneThere : {facts : Facts} {place : ℕ} → StepsStand context PartIs facts place [] facts place
   PlainThere : {facts last : Facts} {from to : ℕ} {i : Instr} {others : List Step}
       → IsThere context.activation (items.Plain i ∷ []) from (from + size_of_instruction i)
-      → AreThere context PartIs (after facts i) (from + size_of_instruction i) others last to
-      → AreThere context PartIs facts from (steps.Plain i ∷ others) last to
+      → StepsStand context PartIs (after facts i) (from + size_of_instruction i) others last to
+      → StepsStand context PartIs facts from (steps.Plain i ∷ others) last to
   WordThere : {facts last : Facts} {from to : ℕ} {form : WordForm} {place : Place} {others : List Step}
       → IsThere context.activation (word_item form place ∷ []) from (from + 3)
-      → AreThere context PartIs (after_word facts form place) (from + 3) others last to
-      → AreThere context PartIs facts from (steps.Word form place ∷ others) last to
+      → StepsStand context PartIs (after_word facts form place) (from + 3) others last to
+      → StepsStand context PartIs facts from (steps.Word form place ∷ others) last to
   JumpThere : {facts last : Facts} {from to : ℕ} {form : WordForm} {label : LabelNumber} {others : List Step}
       → IsThere context.activation (jump_item form label ∷ []) from (from + 3)
-      → AreThere context PartIs (after_form facts form) (from + 3) others last to
-      → AreThere context PartIs facts from (steps.Jump form label ∷ others) last to
+      → StepsStand context PartIs (after_form facts form) (from + 3) others last to
+      → StepsStand context PartIs facts from (steps.Jump form label ∷ others) last to
   MarkThere : {facts last : Facts} {from to : ℕ} {label : LabelNumber} {others : List Step}
       → context.activation.layout.place_of label.index ≡ from
-      → AreThere context PartIs no_facts from others last to
-      → AreThere context PartIs facts from (steps.Mark label ∷ others) last to
+      → StepsStand context PartIs no_facts from others last to
+      → StepsStand context PartIs facts from (steps.Mark label ∷ others) last to
   RoutineThere : {facts last : Facts} {from to : ℕ} {routine : Routine} {others : List Step}
       → has_routine context.called routine ≡ true
       → IsThere context.activation (jump_item CallTo (label_of_routine context.site routine) ∷ []) from (from + 3)
-      → AreThere context PartIs no_facts (from + 3) others last to
-      → AreThere context PartIs facts from (steps.CallRoutine routine ∷ others) last to
+      → StepsStand context PartIs no_facts (from + 3) others last to
+      → StepsStand context PartIs facts from (steps.CallRoutine routine ∷ others) last to
   CallThere : {facts last : Facts} {from middle to : ℕ} {procedure : ℕ} {others : List Step}
       → IsThere context.activation (call_items context.site procedure) from middle
-      → AreThere context PartIs no_facts middle others last to
-      → AreThere context PartIs facts from (steps.CallProcedure procedure ∷ others) last to
+      → StepsStand context PartIs no_facts middle others last to
+      → StepsStand context PartIs facts from (steps.CallProcedure procedure ∷ others) last to
   TestThere : {facts last : Facts} {from middle to : ℕ} {others : List Step}
       → IsThere context.activation (test_items facts) from middle
-      → AreThere context PartIs (after_test facts) middle others last to
-      → AreThere context PartIs facts from (steps.TestA ∷ others) last to
+      → StepsStand context PartIs (after_test facts) middle others last to
+      → StepsStand context PartIs facts from (steps.TestA ∷ others) last to
   HoldsThere : {facts held last : Facts} {from to : ℕ} {others : List Step}
-      → AreThere context PartIs (with_facts facts held) from others last to
-      → AreThere context PartIs facts from (steps.Holds held ∷ others) last to
+      → StepsStand context PartIs (with_facts facts held) from others last to
+      → StepsStand context PartIs facts from (steps.Holds held ∷ others) last to
   ChangeThere : {facts last : Facts} {from to : ℕ} {others : List Step}
-      → AreThere context PartIs (without_memory facts) from others last to
-      → AreThere context PartIs facts from (steps.MemoryChanged ∷ others) last to
+      → StepsStand context PartIs (without_memory facts) from others last to
+      → StepsStand context PartIs facts from (steps.MemoryChanged ∷ others) last to
   PartThere : {facts found last : Facts} {from middle to : ℕ} {part : Part} {others : List Step}
       → PartIs facts part from found middle
-      → AreThere context PartIs found middle others last to
-      → AreThere context PartIs facts from (steps.Part part ∷ others) last to
+      → StepsStand context PartIs found middle others last to
+      → StepsStand context PartIs facts from (steps.Part part ∷ others) last to
