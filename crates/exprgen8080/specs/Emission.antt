@@ -116,6 +116,6 @@ mutual
 
   -- a part, whose steps are planned where this is known, with labels from any number on
   pub data IsWritten (site : Site) (called : List Bool) : Facts → Part → List Item → Facts → Type 0 where
-    Planned : {facts last : Facts} {part : Part} {label : ℕ} {list : List Item}
+    Planned : {facts last : Facts} {part : Part} {list : List Item} (label : ℕ)
         → AreWritten site called facts (task_steps (knowing site facts) part label) list last
         → IsWritten site called facts part list last
