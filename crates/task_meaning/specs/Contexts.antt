@@ -1,6 +1,6 @@
 -- What the code of a body stands in: its module as it is typed and as tree code, an activation on the machine, and what
 -- is known of the calls that it makes.
-use Rattle.std.specs.Prelude.{◌≡◌, ◌≢◌, ℕ, suc, ◌+◌, ◌-◌, ◌*◌, ◌/◌, ◌%◌, ◌<◌, ◌≤◌, Bool, true, List, [], ◌∷◌, length, Option, Some, None, slice_get, Unit}
+use Rattle.std.specs.Prelude.{◌≡◌, ℕ, ◌+◌, ◌-◌, ◌*◌, ◌/◌, ◌%◌, ◌<◌, ◌≤◌, Bool, true, List, [], ◌∷◌, length, Option, Some, None, slice_get}
 use Rattle.mem80.specs.Memory.{byte_at}
 use Rattle.trees.specs.declared.declaration.ScalarType.{ScalarType}
 use Rattle.trees.specs.declared.declaration.ScalarType.TheVariants.{Byte, Address}
@@ -19,11 +19,10 @@ use Rattle.treecode.specs.Homes.{frame_number}
 use Rattle.treecode.specs.Lowered.{IsLowered}
 use Rattle.treecode.specs.Nodes.{Nodes, nodes_of}
 use Rattle.treecode.specs.Resolved.{Resolves}
-use Rattle.frames.specs.Plans.{distance_of}
+use Rattle.frames.specs.Frames.{distance_of}
 use Rattle.code_meaning.specs.Activations.{Activation, Arrives, HasRoom, IsReady, IsThere, LiesWell}
 use Rattle.code_meaning.specs.Landing.{Does, at_place}
 use Rattle.code_facts.specs.Holding.{Distances, place_at}
-use Rattle.steps8080.specs.declared.facts.Facts.{Facts}
 use Rattle.sites8080.specs.declared.site.Site.{Site}
 use Rattle.exprgen8080.specs.Emission.{call_items, has_routine, label_of_routine}
 

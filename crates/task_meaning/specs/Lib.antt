@@ -1,3 +1,4 @@
+pub mod Conditions
 pub mod Contexts
 pub mod Tasks
 pub mod Steps

@@ -1,11 +1,9 @@
 -- Steps whose code stands in memory.
 use Rattle.std.specs.Prelude.{◌≡◌, ℕ, ◌+◌, true, List, [], ◌∷◌}
 use Rattle.isa8080.specs.declared.instr.Instr.{Instr}
-use Rattle.asm8080.specs.declared.item.Item.{Item}
 use Rattle.asm8080.specs.declared.item.Item.TheVariants as items
 use Rattle.asm8080.specs.declared.item.WordForm.{WordForm}
 use Rattle.asm8080.specs.declared.item.WordForm.TheVariants.{CallTo}
-use Rattle.asm8080.specs.Items.{size_of_items}
 use Rattle.asm8080.specs.Standing.{size_of_instruction}
 use Rattle.runtime8080.specs.declared.routine.Routine.{Routine}
 use Rattle.treecode.specs.declared.place.Place.{Place}

@@ -1,15 +1,16 @@
 -- What it means that code carries out a task.
-use Rattle.std.specs.Prelude.{◌≡◌, ℕ, ◌+◌, ◌*◌, ◌/◌, ◌%◌, ◌-◌, ◌<◌, ◌≤◌, ◌==◌, Bool, true, false, not, List, Option, Some, None, IsSomeAnd, slice_get}
+use Rattle.std.specs.Prelude.{◌≡◌, ℕ, ◌+◌, ◌*◌, ◌/◌, ◌%◌, ◌<◌, Bool, true, not, List, Option, IsSomeAnd, slice_get}
 use Rattle.trees.specs.declared.declaration.ScalarType.{ScalarType}
 use Rattle.typed_trees.specs.Charge.{height_of, height_of_reference, height_of_target, count_of_arguments, height_of_arguments}
 use Rattle.typed_trees.specs.ExpressionTypes.{type_of}
-use Rattle.typed_trees.specs.TypedTrees.{TypedArguments, TypedExpression, TypedObject, TypedProcedure, TypedReference, PartOf, TypedTarget}
-use Rattle.typed_trees.specs.WellTyped.{IsSeen, Takes, TypesHold, TypesHoldInArguments, TypesHoldInReference, TypesHoldInTarget, types_of}
+use Rattle.typed_trees.specs.TypedTrees.{TypedArguments, TypedExpression, TypedObject, TypedReference, PartOf, TypedTarget}
+use Rattle.typed_trees.specs.WellTyped.{IsSeen, Takes, TypesHold, TypesHoldInArguments, TypesHoldInReference, TypesHoldInTarget}
 use Rattle.meaning.specs.Access.{InMemory, InTheFrame, Place}
 use Rattle.meaning.specs.Meaning.{called_for, callee_in, located, stored, value, values}
-use Rattle.meaning.specs.Outcomes.{Flow, Outcome, State as SourceState, then_do}
+use Rattle.meaning.specs.Outcomes.{Outcome, State as SourceState, then_do}
 use Rattle.meaning.specs.Values.{is_true, values_of}
 use Rattle.isa8080.specs.State.{Registers, State, word, wrap}
+use Rattle.isa8080.specs.Step.{step_of}
 use Rattle.treecode.specs.declared.expression.ExpressionNumber.{ExpressionNumber}
 use Rattle.treecode.specs.declared.lists.Range.{Range}
 use Rattle.treecode.specs.declared.reference.Reference.{Reference}
@@ -24,7 +25,7 @@ use Rattle.steps8080.specs.declared.step.Part.{Part}
 use Rattle.steps8080.specs.declared.step.Task.{Task}
 use Rattle.steps8080.specs.declared.step.Task.TheVariants as tasks
 use Rattle.sites8080.specs.Queries.{is_free, keeps, keeps_of_address}
-use Rattle.statements8080.specs.Branches.{has_one_jump}
+use Rattle.task_meaning.specs.Conditions.{jumps_once}
 use Rattle.task_meaning.specs.Contexts.{Context, InRegister, ResultLies, distances_in, nodes_in}
 
 -- facts hold in the activation of a context
@@ -61,7 +62,7 @@ pub record ChangesAOnly (r : Registers) (memory : List ℕ) (now : Registers) (m
   pub e : now.e ≡ r.e
   pub h : now.h ≡ r.h
   pub l : now.l ≡ r.l
-  pub memory : memory_now ≡ memory
+  pub same_memory : memory_now ≡ memory
 
 -- the low byte of a value is in A; free code changes A alone
 pub record ByteIsGiven
@@ -124,38 +125,29 @@ pub record ResultIsGiven
   pub lies : ResultLies result found now memory_now
   pub known : Know context after now memory_now
 
--- Code that jumps to a label where the lowest bit of a value is 1 (or 0), and else comes to its end; what follows there
--- is given. What is known at its end is known at the label too where the code has one jump alone. A jump to the label
--- is a step beside those that pay for what the value spends.
-abbrev pub Branches :
-    Context → (before : Facts) → (pushed need from to : ℕ) → (after : Facts) → ExpressionNumber → LabelNumber
-    → (sense : Bool) → (meant : SourceState → Outcome ℕ) → Type 0
-Branches context before pushed need from to after condition label sense meant =
-    (top : ℕ) (base : List ℕ) (s : SourceState) (r : Registers) (memory : List ℕ)
-    (go : ℕ → SourceState → Outcome Flow) (Good : Flow → SourceState → State → Type 0)
-    → s.budget < context.number
-    → HasRoom context.activation top pushed need
-    → IsReady context.activation top base s.memory s.frame r memory
-    → Know context before r memory
-    → ((found : ℕ) (t : SourceState) (now : Registers) (memory_now : List ℕ)
-    → is_true found ≡ sense
-    → t.budget ≤ s.budget
-    → IsReady context.activation top base t.memory t.frame now memory_now
-    → (has_one_jump context.site condition ≡ true → Know context after now memory_now)
-    → Does context.activation.around.program.script (t.budget - 1) 0
-    (at_place (context.activation.layout.place_of label.index) now memory_now t.events) (go found t) Good)
-    → ((found : ℕ) (t : SourceState) (now : Registers) (memory_now : List ℕ)
-    → is_true found ≡ not sense
-    → t.budget ≤ s.budget
-    → IsReady context.activation top base t.memory t.frame now memory_now
-    → Know context after now memory_now
-    → Does context.activation.around.program.script t.budget 0 (at_place to now memory_now t.events) (go found t) Good)
-    → Does context.activation.around.program.script s.budget 0 (at_place from r memory s.events)
-    (then_do (meant s) go) Good
+-- Where code that jumps by a condition comes to: where the lowest bit of the value is 1 (or 0), to an instruction whose
+-- step leads to a label, and elsewhere to its end. What is known at its end is known at the label too where the code has
+-- one jump alone. So that step is one beside those that pay for what the value spends.
+pub data Parts
+    (context : Context) (after : Facts) (tree : TypedExpression) (label : LabelNumber) (sense : Bool)
+    (top : ℕ) (base : List ℕ) (to : ℕ) (found : ℕ) (t : SourceState) (end : State) : Type 0 where
+  Goes : (there : State)
+      → is_true found ≡ sense
+      → step_of context.activation.around.program.script end ≡ there
+      → Arrives context.activation top base (context.activation.layout.place_of label.index)
+      (λ (given : ℕ) (now : Registers) (memory_now : List ℕ).
+      jumps_once tree ≡ true → Know context after now memory_now)
+      found t there
+      → Parts context after tree label sense top base to found t end
+  Passes : is_true found ≡ not sense
+      → Arrives context.activation top base to
+      (λ (given : ℕ) (now : Registers) (memory_now : List ℕ). Know context after now memory_now)
+      found t end
+      → Parts context after tree label sense top base to found t end
 
 -- an object that a body can refer to
 abbrev pub IsReferred : Context → TypedReference → Type 0
-IsReferred context (PartOf number subscript member offset member_subscript) =
+IsReferred context (PartOf number first member offset second) =
     IsSomeAnd (slice_get context.typed.objects number)
     (λ (object : TypedObject). IsSeen context.typed context.within object.home)
 
@@ -205,8 +197,14 @@ BranchDoes context before condition label sense pushed from after to =
     (bound : ℕ) (tree : TypedExpression)
     → IsExpression (nodes_in context) context.storage bound condition.index tree
     → TypesHold context.typed context.within tree
-    → Branches context before pushed (2 * height_of tree) from to after condition label sense
-    (value context.later context.activation.around tree)
+    → (top : ℕ) (base : List ℕ) (s : SourceState) (r : Registers) (memory : List ℕ)
+    → s.budget < context.number
+    → HasRoom context.activation top pushed (2 * height_of tree)
+    → IsReady context.activation top base s.memory s.frame r memory
+    → Know context before r memory
+    → Does context.activation.around.program.script s.budget 0 (at_place from r memory s.events)
+    (value context.later context.activation.around tree s)
+    (Parts context after tree label sense top base to)
 
 abbrev pub StoreDoes :
     Context → (before : Facts) → Target → (is_wanted : Bool) → (pushed from : ℕ) → (after : Facts) → (to : ℕ)

@@ -1,0 +1,22 @@
+-- Conditions whose code has one jump.
+use Rattle.std.specs.Prelude.{Bool, true, false}
+use Rattle.trees.specs.declared.expression.BinaryOperator.{BinaryOperator}
+use Rattle.trees.specs.declared.expression.BinaryOperator.TheVariants.{And, Or}
+use Rattle.trees.specs.declared.expression.UnaryOperator.TheVariants.{Not}
+use Rattle.typed_trees.specs.TypedTrees.{TypedExpression, BinaryNode, ConversionNode, FunctionNode, UnaryNode}
+
+-- an operator that is neither AND nor OR
+abbrev pub is_plain : BinaryOperator → Bool
+is_plain And = false
+is_plain Or = false
+is_plain operator = true
+
+-- Whether the code of a condition surely has one jump at most to its label: inside NOT and conversions it is no AND or
+-- OR, and no other operator that code looks through.
+abbrev pub jumps_once : TypedExpression → Bool
+jumps_once (ConversionNode scalar inner) = jumps_once inner
+jumps_once (UnaryNode scalar Not operand) = jumps_once operand
+jumps_once (UnaryNode scalar operator operand) = false
+jumps_once (BinaryNode operands operator left right) = is_plain operator
+jumps_once (FunctionNode function operand) = false
+jumps_once tree = true
