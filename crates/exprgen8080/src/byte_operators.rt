@@ -18,23 +18,23 @@ use trees::BinaryOperator;
 
 /// The operands of an operator.
 #[derive(Clone, Copy)]
-pub(crate) struct Operands {
-    pub(crate) left: ExpressionNumber,
-    pub(crate) right: ExpressionNumber,
+pub struct Operands {
+    pub left: ExpressionNumber,
+    pub right: ExpressionNumber,
 }
 
-// How two operands, neither of which is a number, come to an operation.
+/// How two operands, neither of which is a number, come to an operation.
 #[derive(Clone, Copy)]
-enum ByteForm {
-    // The left one in A, the right one in memory.
+pub enum ByteForm {
+    /// The left one in A, the right one in memory.
     RightInMemory(Reference),
-    // The right one in A, the left one in memory.
+    /// The right one in A, the left one in memory.
     LeftInMemory(Reference),
-    // The right one first, into E, then the left one.
+    /// The right one first, into E, then the left one.
     LeftFree,
-    // The left one first, into E, then the right one.
+    /// The left one first, into E, then the right one.
     RightFree,
-    // The left one first, onto the stack.
+    /// The left one first, onto the stack.
     Pushed,
 }
 

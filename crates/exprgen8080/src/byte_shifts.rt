@@ -16,10 +16,10 @@ use typed_trees::ShiftFunction;
 
 /// A value that is shifted or rotated, and by how much.
 #[derive(Clone, Copy)]
-pub(crate) struct Shifted {
-    pub(crate) function: ShiftFunction,
-    pub(crate) value: ExpressionNumber,
-    pub(crate) count: ExpressionNumber,
+pub struct Shifted {
+    pub function: ShiftFunction,
+    pub value: ExpressionNumber,
+    pub count: ExpressionNumber,
 }
 
 // The ones that stay of a byte shifted to the right by a count below 8.

@@ -13,6 +13,9 @@ mod word_operators;
 mod word_shifts;
 mod words;
 
+pub use byte_operators::{ByteForm, Operands};
+pub use byte_shifts::Shifted;
 pub use emission::{Emission, ROUTINES, emit_expression, routine_label};
 pub use sites8080::{Base, Located, Site, reference_after};
 pub use steps8080::{Externals, Facts, Finished, LabelNumber, Part, Step, Steps, Task, Writer};
+pub use word_operators::Simple;

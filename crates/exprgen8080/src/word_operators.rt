@@ -228,12 +228,12 @@ fn plan_logic_with_byte(
     ])
 }
 
-// An operand whose code leaves HL alone, of AND, OR or XOR.
+/// An operand whose code leaves HL alone, of AND, OR or XOR.
 #[derive(Clone, Copy)]
-enum Simple {
-    // A byte whose code changes A alone.
+pub enum Simple {
+    /// A byte whose code changes A alone.
     Byte(ExpressionNumber),
-    // A word in memory.
+    /// A word in memory.
     Word(Place),
 }
 

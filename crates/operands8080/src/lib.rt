@@ -12,6 +12,6 @@ pub use addresses::{
     plan_word_at_hl,
 };
 pub use loads::{plan_byte_in_memory, plan_extended_byte_in_memory, plan_word_in_memory};
-pub use pairs::{PairOrder, plan_pair, plan_pair_in_order};
+pub use pairs::{Choices, PairForm, PairOrder, plan_pair, plan_pair_in_order};
 pub use products::{plan_byte_product, plan_product};
-pub use stores::plan_store;
+pub use stores::{Goal, Near, plan_store};

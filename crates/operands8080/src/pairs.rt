@@ -18,39 +18,39 @@ pub enum PairOrder {
     RightInHl,
 }
 
-// How two operands come into HL and DE.
+/// How two operands come into HL and DE.
 #[derive(Clone, Copy)]
-enum PairForm {
-    // The left one, then a known word into DE.
+pub enum PairForm {
+    /// The left one, then a known word into DE.
     RightKnown(Place),
-    // The right one, then a known word into DE.
+    /// The right one, then a known word into DE.
     LeftKnown(Place),
-    // The left one, which goes to DE, then the right one.
+    /// The left one, which goes to DE, then the right one.
     RightKeeps,
-    // The right one, which goes to DE, then the left one.
+    /// The right one, which goes to DE, then the left one.
     LeftKeeps,
-    // The left one, then the right one, a byte, through A into DE.
+    /// The left one, then the right one, a byte, through A into DE.
     RightFree,
-    // The right one, then the left one, a byte, through A into DE.
+    /// The right one, then the left one, a byte, through A into DE.
     LeftFree,
-    // The left one, which waits on the stack, then the right one.
+    /// The left one, which waits on the stack, then the right one.
     Pushed,
 }
 
-// What two operands, neither of which is known, allow.
+/// What two operands, neither of which is known, allow.
 #[derive(Clone, Copy)]
-struct Choices {
-    // The right one leaves DE alone.
-    right_keeps: bool,
-    // The left one leaves DE alone, and may come second.
-    left_keeps: bool,
-    // The right one is a byte whose code changes A alone.
-    right_is_free: bool,
-    // The left one is a byte whose code changes A alone, and may come second.
-    left_is_free: bool,
-    // HL holds it.
-    left_is_in_hl: bool,
-    right_is_in_hl: bool,
+pub struct Choices {
+    /// The right one leaves DE alone.
+    pub right_keeps: bool,
+    /// The left one leaves DE alone, and may come second.
+    pub left_keeps: bool,
+    /// The right one is a byte whose code changes A alone.
+    pub right_is_free: bool,
+    /// The left one is a byte whose code changes A alone, and may come second.
+    pub left_is_free: bool,
+    /// HL holds it.
+    pub left_is_in_hl: bool,
+    pub right_is_in_hl: bool,
 }
 
 // Whether an operand is a byte that can be put into A by code that changes A alone.

@@ -12,21 +12,21 @@ use steps8080::{Facts, Step, Steps, Task, copy, plan_extension};
 use treecode::{Keeps, Location, Reference, Target};
 use trees::ScalarType;
 
-// A scalar that is stored in: its type, its place, and where it lies if no computed part has a part in that.
+/// A scalar that is stored in: its type, its place, and where it lies if no computed part has a part in that.
 #[derive(Clone, Copy)]
-struct Goal {
-    to: ScalarType,
-    reference: Reference,
-    location: Option<Location>,
-    keeps: Keeps,
+pub struct Goal {
+    pub to: ScalarType,
+    pub reference: Reference,
+    pub location: Option<Location>,
+    pub keeps: Keeps,
 }
 
-// A variable in the frame that is next to the stack pointer.
+/// A variable in the frame that is next to the stack pointer.
 #[derive(Clone, Copy)]
-enum Near {
-    // It is the first word.
+pub enum Near {
+    /// It is the first word.
     First,
-    // It is the second word.
+    /// It is the second word.
     Second,
 }
 

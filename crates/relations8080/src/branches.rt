@@ -16,36 +16,36 @@ use treecode::{ExpressionForm, ExpressionNumber};
 use trees::{BinaryOperator, UnaryOperator};
 use typed_trees::UnaryFunction;
 
-// A jump to a label where a condition holds (`sense`), or where it does not.
+/// A jump to a label where a condition holds (`sense`), or where it does not.
 #[derive(Clone, Copy)]
-struct Branch {
-    label: LabelNumber,
-    sense: bool,
-    pushed: u16,
+pub struct Branch {
+    pub label: LabelNumber,
+    pub sense: bool,
+    pub pushed: u16,
 }
 
-// AND or OR, by the answer of one operand that makes it the answer of the whole.
+/// AND or OR, by the answer of one operand that makes it the answer of the whole.
 #[derive(Clone, Copy)]
-struct Junction {
-    deciding: bool,
-    left: ExpressionNumber,
-    right: ExpressionNumber,
+pub struct Junction {
+    pub deciding: bool,
+    pub left: ExpressionNumber,
+    pub right: ExpressionNumber,
 }
 
-// How the lowest bit of a condition comes about.
+/// How the lowest bit of a condition comes about.
 #[derive(Clone, Copy)]
-enum Shape {
-    // It is known.
+pub enum Shape {
+    /// It is known.
     Known(bool),
-    // It is that of another value.
+    /// It is that of another value.
     SameAs(ExpressionNumber),
-    // It is not that of another value.
+    /// It is not that of another value.
     Opposite(ExpressionNumber),
-    // It is this whatever the value is.
+    /// It is this whatever the value is.
     Whatever(ExpressionNumber, bool),
-    // Both operands, or one of them, have it; the right one changes nothing when it is evaluated.
+    /// Both operands, or one of them, have it; the right one changes nothing when it is evaluated.
     Joined(Junction),
-    // It is that of the value alone.
+    /// It is that of the value alone.
     Other,
 }
 

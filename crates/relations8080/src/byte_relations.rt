@@ -11,23 +11,23 @@ use std::alloc::AllocError;
 use steps8080::{Step, Steps, Task, copy, with_memory, with_register};
 use treecode::{ExpressionNumber, Reference};
 
-// Two operands, of which the second is to be compared with the first one, which is in A.
+/// Two operands, of which the second is to be compared with the first one, which is in A.
 #[derive(Clone, Copy)]
-struct Sides {
-    first: ExpressionNumber,
-    second: ExpressionNumber,
-    // Whether the first one is the left one.
-    is_in_order: bool,
+pub struct Sides {
+    pub first: ExpressionNumber,
+    pub second: ExpressionNumber,
+    /// Whether the first one is the left one.
+    pub is_in_order: bool,
 }
 
-// The ways in which two operands can be compared.
+/// The ways in which two operands can be compared.
 #[derive(Clone, Copy)]
-enum Form {
-    // The first one comes into A, then the address of the second one into HL.
+pub enum Form {
+    /// The first one comes into A, then the address of the second one into HL.
     WithMemory(Sides, Reference),
-    // The second one comes into E, then the first one into A.
+    /// The second one comes into E, then the first one into A.
     WithE(Sides),
-    // The left one is pushed while the right one is evaluated.
+    /// The left one is pushed while the right one is evaluated.
     Pushed,
 }
 

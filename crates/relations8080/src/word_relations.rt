@@ -17,11 +17,11 @@ use steps8080::{Steps, Task, copy, high, load, low, repeat, with_register};
 use treecode::{ExpressionForm, ExpressionNumber, Place};
 use trees::{BinaryOperator, ScalarType};
 
-// Two registers of a word.
+/// Two registers of a word.
 #[derive(Clone, Copy)]
-struct Word {
-    low: Register,
-    high: Register,
+pub struct Word {
+    pub low: Register,
+    pub high: Register,
 }
 
 const IN_HL: Word = Word {
@@ -34,16 +34,16 @@ const IN_DE: Word = Word {
     high: Register::D,
 };
 
-// An operand that stays in memory, and the one that comes into HL.
+/// An operand that stays in memory, and the one that comes into HL.
 #[derive(Clone, Copy)]
-struct Apart {
-    place: Place,
-    other: ExpressionNumber,
+pub struct Apart {
+    pub place: Place,
+    pub other: ExpressionNumber,
 }
 
 /// Two words that are compared.
 #[derive(Clone, Copy)]
-pub(crate) enum Words {
+pub enum Words {
     /// One is in memory at a place, the other one in HL.
     PlaceAndHl(Place),
     /// One is in DE, the other one in HL.

@@ -30,11 +30,11 @@ pub struct Located {
     pub second: Option<Subscript>,
 }
 
-// A subscript that is computed, and how many bytes of it are known.
+/// A subscript that is computed, and how many bytes of it are known.
 #[derive(Clone, Copy)]
-struct Split {
-    computed: Option<Subscript>,
-    offset: u16,
+pub struct Split {
+    pub computed: Option<Subscript>,
+    pub offset: u16,
 }
 
 impl Base {
