@@ -5,3 +5,7 @@ pub mod TraitsKept
 pub mod Grown
 pub mod KeptValues
 pub mod KnownMeans
+pub mod AddedExpressions
+pub mod Items
+pub mod PutNodes
+pub mod ArgumentLoop

@@ -1,2 +1,6 @@
 pub mod Growth
 pub mod Rising
+pub mod Numbers
+pub mod Adding
+pub mod Walking
+pub mod Beside

@@ -1,5 +1,9 @@
 //! Typed modules as tree code.
 
+ghost use Rattle.std.specs.Prelude.{◌≡◌, ◌%◌};
+ghost use Rattle.layout.specs.Views.{layout_view};
+ghost use Rattle.treecode.specs.Known.{offset_of_list};
+
 use crate::contents::{constants_of, variables_of};
 use crate::globals::{Externals, externals_of, publics_of};
 use crate::homes::add_homes;
@@ -16,8 +20,6 @@ use typed_trees::Typed;
 pub(crate) struct Lowering {
     pub(crate) alloc: Global,
     pub(crate) tree: TreeModule,
-    /// Where each constant list lies, from the start of the code segment.
-    list_offsets: Vec<u16>,
     /// The number of each label in its procedure, by its number in the module.
     labels: Numbers,
     /// How many labels the body has so far.
@@ -46,30 +48,32 @@ fn empty_module(alloc: Global, typed: &Typed) -> TreeModule {
 }
 
 /// An offset modulo the size of memory.
-pub(crate) fn wrapped(offset: u32) -> u16 {
+pub(crate) fn wrapped(offset: u32) -> u16
+    ensures { result ≡ offset % 65536 }
+{
     (offset % 65536) as u16
 }
 
-// Where the constant lists of a module lie, from the start of the code segment.
-fn list_offsets(alloc: Global, storage: &Layout) -> Result<Vec<u16>, AllocError> {
-    let mut offsets = Vec::with_capacity(alloc, storage.lists.len())?;
-    for slot in &storage.lists {
-        offsets.push(wrapped(slot.offset))?;
+/// Where a constant list lies, from the start of the code segment.
+pub(crate) fn list_offset(storage: &Layout, list: u32) -> u16
+    ensures { result ≡ offset_of_list (layout_view storage.now) list }
+{
+    match storage.lists.get(list as usize) {
+        Some(slot) => wrapped(slot.offset),
+        None => 0,
     }
-    Ok(offsets)
 }
 
 impl Lowering {
     // A module of which no body is lowered yet.
-    fn new(alloc: Global, tree: TreeModule, storage: &Layout) -> Result<Lowering, AllocError> {
-        Ok(Lowering {
+    fn new(alloc: Global, tree: TreeModule) -> Lowering {
+        Lowering {
             alloc,
             tree,
-            list_offsets: list_offsets(alloc, storage)?,
             labels: Numbers::new(alloc),
             label_count: 0,
             height: 0,
-        })
+        }
     }
 
     // The tree code.
@@ -77,20 +81,11 @@ impl Lowering {
         let Lowering {
             alloc: _,
             tree,
-            list_offsets: _,
             labels: _,
             label_count: _,
             height: _,
         } = self;
         tree
-    }
-
-    /// Where a constant list lies, from the start of the code segment.
-    pub(crate) fn list_offset(&self, list: u32) -> u16 {
-        match self.list_offsets.get(list as usize) {
-            Some(offset) => *offset,
-            None => 0,
-        }
     }
 
     /// The number in its procedure of a label of the module, whose list has begun.
@@ -158,9 +153,9 @@ fn with_bodies(
     typed: &Typed,
     storage: &Layout,
 ) -> Result<TreeModule, AllocError> {
-    let mut lowering = Lowering::new(alloc, tree, storage)?;
-    lowering.add_bodies(typed.procedures.as_slice())?;
-    lowering.add_main(&typed.main)?;
+    let mut lowering = Lowering::new(alloc, tree);
+    lowering.add_bodies(storage, typed.procedures.as_slice())?;
+    lowering.add_main(storage, &typed.main)?;
     Ok(lowering.finish())
 }
 

@@ -6,6 +6,7 @@ use crate::lists::Range;
 use crate::lowering::Lowering;
 use crate::module::TreeModule;
 use crate::procedure::{Parameter, ProcedureKind, TreeProcedure};
+use layout::Layout;
 use std::alloc::{AllocError, Global};
 use trees::ScalarType;
 use typed_trees::{TypedProcedure, Visibility};
@@ -89,10 +90,10 @@ impl Lowering {
     }
 
     // Adds what stands in a procedure.
-    fn body(&mut self, typed: &TypedProcedure) -> Result<Body, AllocError> {
+    fn body(&mut self, storage: &Layout, typed: &TypedProcedure) -> Result<Body, AllocError> {
         let parameters = self.parameters(typed)?;
         self.begin_body();
-        let list = self.list(&typed.body)?;
+        let list = self.list(storage, &typed.body)?;
         Ok(Body {
             parameters,
             range: list.range,
@@ -103,10 +104,14 @@ impl Lowering {
     }
 
     /// Adds what stands in the procedures of a module, whose headings stand already.
-    pub(crate) fn add_bodies(&mut self, procedures: &[TypedProcedure]) -> Result<(), AllocError> {
+    pub(crate) fn add_bodies(
+        &mut self,
+        storage: &Layout,
+        procedures: &[TypedProcedure],
+    ) -> Result<(), AllocError> {
         let mut number: usize = 0;
         for typed in procedures {
-            let body = self.body(typed)?;
+            let body = self.body(storage, typed)?;
             if let Some(procedure) = self.tree.procedures.get_mut(number) {
                 procedure.complete(body);
             }
@@ -116,8 +121,12 @@ impl Lowering {
     }
 
     /// Adds the statements at the outer level of a module.
-    pub(crate) fn add_main(&mut self, typed: &TypedProcedure) -> Result<(), AllocError> {
-        let body = self.body(typed)?;
+    pub(crate) fn add_main(
+        &mut self,
+        storage: &Layout,
+        typed: &TypedProcedure,
+    ) -> Result<(), AllocError> {
+        let body = self.body(storage, typed)?;
         self.tree.main.complete(body);
         Ok(())
     }

@@ -6,6 +6,7 @@ use crate::lists::Range;
 use crate::lowering::Lowering;
 use crate::reference::Target;
 use crate::statement::{Iteration, Statement, StatementNumber};
+use layout::Layout;
 use operators::holds;
 use std::alloc::AllocError;
 use typed_trees::{
@@ -29,8 +30,12 @@ pub(crate) struct AddedList {
 
 impl Lowering {
     // Adds an expression of the body.
-    fn value(&mut self, expression: &TypedExpression) -> Result<ExpressionNumber, AllocError> {
-        let number = self.expression(expression)?;
+    fn value(
+        &mut self,
+        storage: &Layout,
+        expression: &TypedExpression,
+    ) -> Result<ExpressionNumber, AllocError> {
+        let number = self.expression(storage, expression)?;
         let height = self.tree.traits(number).height;
         self.note_height(height);
         Ok(number)
@@ -39,10 +44,11 @@ impl Lowering {
     // Adds an expression of the body, if there is one.
     fn value_if_any(
         &mut self,
+        storage: &Layout,
         expression: &Option<TypedExpression>,
     ) -> Result<Option<ExpressionNumber>, AllocError> {
         match expression {
-            Some(expression) => Ok(Some(self.value(expression)?)),
+            Some(expression) => Ok(Some(self.value(storage, expression)?)),
             None => Ok(None),
         }
     }
@@ -71,10 +77,10 @@ impl Lowering {
     }
 
     // Adds targets in a row.
-    fn targets(&mut self, targets: &[TypedTarget]) -> Result<Range, AllocError> {
+    fn targets(&mut self, storage: &Layout, targets: &[TypedTarget]) -> Result<Range, AllocError> {
         let mut added = Vec::with_capacity(self.alloc, targets.len())?;
         for target in targets {
-            let target = self.target(target)?;
+            let target = self.target(storage, target)?;
             let height = self.target_height(&target);
             self.note_height(height);
             added.push(target)?;
@@ -83,19 +89,24 @@ impl Lowering {
     }
 
     // Adds an assignment.
-    fn assign(&mut self, assignment: &TypedAssignment) -> Result<AddedStatement, AllocError> {
-        let value = self.value(&assignment.value)?;
-        let targets = self.targets(assignment.targets.as_slice())?;
+    fn assign(
+        &mut self,
+        storage: &Layout,
+        assignment: &TypedAssignment,
+    ) -> Result<AddedStatement, AllocError> {
+        let value = self.value(storage, &assignment.value)?;
+        let targets = self.targets(storage, assignment.targets.as_slice())?;
         self.add(Statement::Assignment { targets, value }, true)
     }
 
     // Adds a call of a procedure without a result.
     fn call(
         &mut self,
+        storage: &Layout,
         procedure: u32,
         arguments: &[TypedExpression],
     ) -> Result<AddedStatement, AllocError> {
-        let arguments = self.arguments(arguments)?;
+        let arguments = self.arguments(storage, arguments)?;
         let height = self.call_height(arguments);
         self.note_height(height);
         let statement = Statement::Call {
@@ -106,10 +117,14 @@ impl Lowering {
     }
 
     // Adds CALL MOVE, a call with three arguments.
-    fn move_bytes(&mut self, moved: &TypedMove) -> Result<AddedStatement, AllocError> {
-        let count = self.value(&moved.count)?;
-        let source = self.value(&moved.source)?;
-        let destination = self.value(&moved.destination)?;
+    fn move_bytes(
+        &mut self,
+        storage: &Layout,
+        moved: &TypedMove,
+    ) -> Result<AddedStatement, AllocError> {
+        let count = self.value(storage, &moved.count)?;
+        let source = self.value(storage, &moved.source)?;
+        let destination = self.value(storage, &moved.destination)?;
         let highest = self
             .tree
             .traits(count)
@@ -128,21 +143,26 @@ impl Lowering {
     // Adds RETURN.
     fn give_back(
         &mut self,
+        storage: &Layout,
         value: &Option<Box<TypedExpression>>,
     ) -> Result<AddedStatement, AllocError> {
         let value = match value {
-            Some(value) => Some(self.value(value)?),
+            Some(value) => Some(self.value(storage, value)?),
             None => None,
         };
         self.add(Statement::Return(value), false)
     }
 
     // Adds the expressions of the head of an iterative DO.
-    fn iteration(&mut self, head: &TypedIteration) -> Result<Iteration, AllocError> {
+    fn iteration(
+        &mut self,
+        storage: &Layout,
+        head: &TypedIteration,
+    ) -> Result<Iteration, AllocError> {
         self.note_height(1);
-        let first = self.value(&head.first)?;
-        let last = self.value(&head.last)?;
-        let step = self.value_if_any(&head.step)?;
+        let first = self.value(storage, &head.first)?;
+        let last = self.value(storage, &head.last)?;
+        let step = self.value_if_any(storage, &head.step)?;
         Ok(Iteration {
             variable: head.variable,
             scalar: head.scalar,
@@ -154,42 +174,46 @@ impl Lowering {
 
     // Adds a statement, after its parts.
     #[cycle(statement)]
-    fn statement(&mut self, statement: &TypedStatement) -> Result<AddedStatement, AllocError> {
+    fn statement(
+        &mut self,
+        storage: &Layout,
+        statement: &TypedStatement,
+    ) -> Result<AddedStatement, AllocError> {
         match statement {
             TypedStatement::Label(label) => {
                 let label = self.label(*label);
                 self.add(Statement::Label(label), true)
             }
             TypedStatement::Null => self.add(Statement::Null, true),
-            TypedStatement::Assignment(assignment) => self.assign(assignment),
+            TypedStatement::Assignment(assignment) => self.assign(storage, assignment),
             TypedStatement::Call {
                 procedure,
                 arguments,
-            } => self.call(*procedure, arguments.as_slice()),
-            TypedStatement::Move(moved) => self.move_bytes(moved),
-            TypedStatement::Return(value) => self.give_back(value),
+            } => self.call(storage, *procedure, arguments.as_slice()),
+            TypedStatement::Move(moved) => self.move_bytes(storage, moved),
+            TypedStatement::Return(value) => self.give_back(storage, value),
             TypedStatement::Halt => self.add(Statement::Halt, false),
             TypedStatement::Goto(label) => {
                 let label = self.label(*label);
                 self.add(Statement::Goto(label), false)
             }
-            TypedStatement::If(branch) => self.choose(branch),
+            TypedStatement::If(branch) => self.choose(storage, branch),
             TypedStatement::Do(body) => {
-                let list = self.list(body)?;
+                let list = self.list(storage, body)?;
                 self.add(Statement::Do(list.range), list.reaches_its_end)
             }
-            TypedStatement::While(turns) => self.repeat(turns),
-            TypedStatement::Iterate(turns) => self.iterate(turns),
-            TypedStatement::Case(choice) => self.choose_case(choice),
+            TypedStatement::While(turns) => self.repeat(storage, turns),
+            TypedStatement::Iterate(turns) => self.iterate(storage, turns),
+            TypedStatement::Case(choice) => self.choose_case(storage, choice),
         }
     }
 
     // Adds IF. Its end can't be reached where no end of its two statements can.
     #[cycle(statement)]
-    fn choose(&mut self, branch: &TypedIf) -> Result<AddedStatement, AllocError> {
-        let condition = self.value(&branch.condition)?;
-        let body = self.statement(&branch.body)?;
-        let otherwise = self.otherwise(&branch.otherwise)?;
+    fn choose(&mut self, storage: &Layout, branch: &TypedIf) -> Result<AddedStatement, AllocError> {
+        let condition = self.value(storage, &branch.condition)?;
+        let body = self.statement(storage, &branch.body)?;
+        let otherwise = self.otherwise(storage, &branch.otherwise)?;
         let reaches_its_end = match otherwise {
             Some(otherwise) => body.reaches_its_end || otherwise.reaches_its_end,
             None => true,
@@ -209,19 +233,24 @@ impl Lowering {
     #[cycle(statement)]
     fn otherwise(
         &mut self,
+        storage: &Layout,
         otherwise: &Option<TypedStatement>,
     ) -> Result<Option<AddedStatement>, AllocError> {
         match otherwise {
-            Some(statement) => Ok(Some(self.statement(statement)?)),
+            Some(statement) => Ok(Some(self.statement(storage, statement)?)),
             None => Ok(None),
         }
     }
 
     // Adds DO WHILE. Its end can't be reached where the condition is known and true.
     #[cycle(statement)]
-    fn repeat(&mut self, turns: &TypedWhile) -> Result<AddedStatement, AllocError> {
-        let condition = self.value(&turns.condition)?;
-        let body = self.list(&turns.body)?;
+    fn repeat(
+        &mut self,
+        storage: &Layout,
+        turns: &TypedWhile,
+    ) -> Result<AddedStatement, AllocError> {
+        let condition = self.value(storage, &turns.condition)?;
+        let body = self.list(storage, &turns.body)?;
         let reaches_its_end = match self.tree.number(condition) {
             Some(number) => !holds(number),
             None => true,
@@ -235,9 +264,13 @@ impl Lowering {
 
     // Adds an iterative DO.
     #[cycle(statement)]
-    fn iterate(&mut self, turns: &TypedIterate) -> Result<AddedStatement, AllocError> {
-        let head = self.iteration(&turns.head)?;
-        let body = self.list(&turns.body)?;
+    fn iterate(
+        &mut self,
+        storage: &Layout,
+        turns: &TypedIterate,
+    ) -> Result<AddedStatement, AllocError> {
+        let head = self.iteration(storage, &turns.head)?;
+        let body = self.list(storage, &turns.body)?;
         let statement = Statement::Iterate {
             head,
             body: body.range,
@@ -247,9 +280,13 @@ impl Lowering {
 
     // Adds DO CASE.
     #[cycle(statement)]
-    fn choose_case(&mut self, choice: &TypedCase) -> Result<AddedStatement, AllocError> {
-        let number = self.value(&choice.choice)?;
-        let body = self.statements(choice.body.as_slice())?;
+    fn choose_case(
+        &mut self,
+        storage: &Layout,
+        choice: &TypedCase,
+    ) -> Result<AddedStatement, AllocError> {
+        let number = self.value(storage, &choice.choice)?;
+        let body = self.statements(storage, choice.body.as_slice())?;
         let statement = Statement::Case {
             choice: number,
             body: body.range,
@@ -259,18 +296,26 @@ impl Lowering {
 
     /// Adds a list of statements, with its labels.
     #[cycle(statement)]
-    pub(crate) fn list(&mut self, list: &TypedList) -> Result<AddedList, AllocError> {
+    pub(crate) fn list(
+        &mut self,
+        storage: &Layout,
+        list: &TypedList,
+    ) -> Result<AddedList, AllocError> {
         self.number_labels(list.first_label, list.places.len())?;
-        self.statements(list.statements.as_slice())
+        self.statements(storage, list.statements.as_slice())
     }
 
     // Adds statements in a row. Their end can be reached where that of the last one can.
     #[cycle(statement)]
-    fn statements(&mut self, statements: &[TypedStatement]) -> Result<AddedList, AllocError> {
+    fn statements(
+        &mut self,
+        storage: &Layout,
+        statements: &[TypedStatement],
+    ) -> Result<AddedList, AllocError> {
         let mut numbers = Vec::with_capacity(self.alloc, statements.len())?;
         let mut reaches_its_end = true;
         for statement in statements {
-            let added = self.statement(statement)?;
+            let added = self.statement(storage, statement)?;
             numbers.push(added.number)?;
             reaches_its_end = added.reaches_its_end;
         }
