@@ -49,7 +49,7 @@ grows_not nodes = record {
 pub leads_nowhere : (nodes : Nodes) → AreSound nodes → Leads nodes nodes
 leads_nowhere nodes sound = record { grows = grows_not nodes; statements = omega arith; homes = refl; sound = sound }
 
-up : (one two three : ℕ) → one ≤ two → two ≤ three → one ≤ three
+pub up : (one two three : ℕ) → one ≤ two → two ≤ three → one ≤ three
 up one two three first second = omega arith
 
 pub leads_on : {one two three : Nodes} → Leads one two → Leads two three → Leads one three

@@ -9,3 +9,6 @@ pub mod AddedExpressions
 pub mod Items
 pub mod PutNodes
 pub mod ArgumentLoop
+pub mod LabelNumbers
+pub mod AddedValues
+pub mod AddedStatements

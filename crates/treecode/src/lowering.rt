@@ -48,6 +48,7 @@ fn empty_module(alloc: Global, typed: &Typed) -> TreeModule {
 }
 
 /// An offset modulo the size of memory.
+#[tactic(auto, using(crate::proofs::AddedStatements::list_added))]
 pub(crate) fn wrapped(offset: u32) -> u16
     ensures { result ≡ offset % 65536 }
 {
