@@ -19,22 +19,11 @@ use Rattle.treecode.specs.Nodes.{Nodes}
 use Rattle.treecode.specs.Traits.{KeepTraits, expression_of, traits_of}
 use Rattle.treecode.specs.internal.Adding.{element_of, expression_in, form_in, numbers_in, part_of, put_arguments, put_expression, reference_in, subscript_in, target_in, with_both, with_item}
 use Rattle.treecode.specs.internal.Growth.{Grows, Holds}
+pub use Rattle.treecode.specs.internal.Sound.{AreSound, Leads}
 use Rattle.treecode.specs.internal.Rising.{ArgumentsAreBelow, NumbersRise, PartsAreBelow, ReferenceIsBelow, SubscriptIsBelow, TargetIsBelow}
 use Rattle.treecode.proofs.Grown.{arguments_stay, expression_stays, form_stays, holds_with_more, reference_stays, subscript_stays, target_stays}
 use Rattle.treecode.proofs.SameMemory.{all_same}
 use Rattle.treecode.proofs.TraitsKept.{numbers_rise, own_scalar, traits_kept}
-
--- nodes keep their traits, and their numbers rise
-pub record AreSound (nodes : Nodes) : Type 0 where
-  pub keeps : KeepTraits nodes
-  pub rises : NumbersRise nodes
-
--- other nodes stand after those that there were, and all are sound
-pub record Leads (before after : Nodes) : Type 0 where
-  pub grows : Grows before after
-  pub statements : length before.statements ≤ length after.statements
-  pub homes : after.homes ≡ before.homes
-  pub sound : AreSound after
 
 pub grows_not : (nodes : Nodes) → Grows nodes nodes
 grows_not nodes = record {

@@ -307,7 +307,7 @@ module _ (storage : Storage) where
       → StatementIs storage walk known around (returned_in storage walk tree) (ReturnStatement tree)
   returned walk known around tree sound knows =
       let added : Noted (AsOptional storage tree) walk (optional_in storage walk tree) (height_of_optional tree)
-            = optional_added storage walk tree sound in
+      = optional_added storage walk tree sound in
       plain walk (optional_in storage walk tree).0 known around (statements.Return (optional_in storage walk tree).1)
       false (ReturnStatement tree) refl knows added.steps refl (λ total holds. IsReturn added.is)
 
@@ -383,7 +383,7 @@ module _ (storage : Storage) where
       → StatementIs storage walk known around (put_while condition.1 made) (WhileStatement test list)
   repeated walk known around test list condition made value is =
       let here : AsExpression storage test (made.0).nodes condition.1
-            = expression_in_stays (condition.0).nodes (made.0).nodes storage is.leads.grows value.is in
+      = expression_in_stays (condition.0).nodes (made.0).nodes storage is.leads.grows value.is in
       put_is walk made.0 known around (statements.While condition.1 (made.1).range)
       (ends_by (number_at (made.0).nodes condition.1)) (WhileStatement test list)
       (leads_on value.steps.leads is.leads) is.knows
@@ -571,8 +571,8 @@ module _ (storage : Storage) where
         let value : _ = value_added storage walk test sound in
         let given : Walk = (value_in storage walk test).0 in
         let body : StatementIs storage given known around (statement_in storage given then_tree) then_tree
-              = statement_added given known around then_tree value.steps.leads.sound knows jumps.0
-                (no_label_around around then_tree stand.0) stand.1 in
+        = statement_added given known around then_tree value.steps.leads.sound knows jumps.0
+        (no_label_around around then_tree stand.0) stand.1 in
         chosen walk known around test then_tree else_tree (value_in storage walk test)
         (statement_in storage given then_tree)
         (else_in storage (statement_in storage given then_tree).0 else_tree) value body
@@ -614,7 +614,7 @@ module _ (storage : Storage) where
         no_items walk known around ends sound knows
     items_added walk known around ends (MoreStatements first others) sound knows jumps stand =
         let one : StatementIs storage walk known around (statement_in storage walk first) first
-              = statement_added walk known around first sound knows jumps.0 stand.0 stand.1 in
+        = statement_added walk known around first sound knows jumps.0 stand.0 stand.1 in
         more_items walk known around ends first others (statement_in storage walk first)
         (items_in storage (statement_in storage walk first).0 (statement_in storage walk first).1.reaches_its_end others)
         one

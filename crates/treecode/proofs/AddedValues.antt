@@ -82,7 +82,7 @@ module _ (storage : Storage) where
   optional_added walk None sound = record { steps = steps_nowhere walk sound; is = IsNoValue }
   optional_added walk (Some tree) sound =
       let added : Noted (AsExpression storage tree) walk (value_in storage walk tree) (height_of tree)
-            = value_added walk tree sound in
+      = value_added walk tree sound in
       record { steps = added.steps; is = IsSomeValue added.is }
 
   -- targets in a row, before they stand in the table
@@ -100,7 +100,7 @@ module _ (storage : Storage) where
   goals_added walk [] sound = record { steps = steps_nowhere walk sound; is = NoGoals }
   goals_added walk (tree ∷ trees) sound =
       let added : Added (AsTarget storage tree) walk.nodes (target_in storage walk.nodes tree)
-            = target_added storage walk.nodes tree sound in
+      = target_added storage walk.nodes tree sound in
       let given : Walk × Target = goal_with walk (target_in storage walk.nodes tree) in
       let step : Steps walk given.0 _ = record {
         leads = added.leads;
@@ -110,7 +110,7 @@ module _ (storage : Storage) where
             (target_height (target_in storage walk.nodes tree).0 storage added.leads.sound.keeps added.is);
       } in
       let rest : Noted (AsGoals trees) given.0 (goals_in storage given.0 trees) (height_of_targets trees)
-            = goals_added given.0 trees added.leads.sound in
+      = goals_added given.0 trees added.leads.sound in
       record {
         steps = steps_on step rest.steps;
         is = MoreGoals (target_stays (given.0).nodes ((goals_in storage given.0 trees).0).nodes storage
@@ -174,10 +174,11 @@ module _ (storage : Storage) where
 
   -- the arguments of a call, with its height
   pub call_added : (walk : Walk) (trees : TypedArguments) → AreSound walk.nodes
-      → Noted (AsArguments storage trees) walk
-      (noted (record walk { nodes = (arguments_in storage walk.nodes trees).0 })
-      (height_of_call (arguments_in storage walk.nodes trees).0 (arguments_in storage walk.nodes trees).1),
-      (arguments_in storage walk.nodes trees).1)
+      → Noted (AsArguments storage trees) walk (
+        noted (record walk { nodes = (arguments_in storage walk.nodes trees).0 })
+            (height_of_call (arguments_in storage walk.nodes trees).0 (arguments_in storage walk.nodes trees).1),
+        (arguments_in storage walk.nodes trees).1,
+      )
       (1 + count_of_arguments trees + height_of_arguments trees)
   call_added walk trees sound = record {
     steps = record {

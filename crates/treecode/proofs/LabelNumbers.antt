@@ -6,7 +6,7 @@ use Rattle.typed_trees.specs.TypedTrees.{TypedStatement, LabelStatement, TypedSt
 use Rattle.treecode.specs.Lowered.{numbers_from}
 use Rattle.treecode.specs.internal.Growth.{Holds}
 use Rattle.treecode.specs.internal.Numbers.{number_in, with_number}
-use Rattle.treecode.specs.internal.Walking.{Walk, numbered}
+use Rattle.treecode.specs.internal.Walking.{Walk, numbered, with_label}
 use Rattle.treecode.proofs.AddedExpressions.{last_found, one_more}
 use Rattle.treecode.proofs.Grown.{holds_with_more}
 
@@ -55,10 +55,10 @@ one_label labels known first count label counted (inr has) =
     elim (same_or_other labels first count label) [
       | inl e ↦ own_label labels known first count label counted e
       | inr e ↦ record {
-          number = has.number;
-          is = e ∙ has.is;
-          at = holds_with_more known (first ∷ []) has.number label has.at;
-        }
+        number = has.number;
+        is = e ∙ has.is;
+        at = holds_with_more known (first ∷ []) has.number label has.at;
+      }
     ]
 
 at_or_after : (first label : ℕ) → first ≤ label → (first ≡ label) ⊎ (suc first ≤ label)
@@ -76,13 +76,8 @@ pub record AreNumbered (walk after : Walk) (known all : List ℕ) (first count :
   pub before : (label : ℕ) → HasNumber walk.labels known label → HasNumber after.labels all label
   pub own : (label : ℕ) → first ≤ label → label < first + count → HasNumber after.labels all label
 
--- a label with one number more
-abbrev next_label : Walk → (first : ℕ) → Walk
-next_label walk first =
-    record walk { labels = with_number walk.labels first walk.label_count; label_count = suc walk.label_count }
-
 label_and_more : (walk after : Walk) (known more : List ℕ) (first count : ℕ) → walk.label_count ≡ length known
-    → AreNumbered (next_label walk first) after (known ++ first ∷ []) ((known ++ first ∷ []) ++ more) (suc first) count
+    → AreNumbered (with_label walk first) after (known ++ first ∷ []) ((known ++ first ∷ []) ++ more) (suc first) count
     → AreNumbered walk after known (known ++ first ∷ more) first (suc count)
 label_and_more walk after known more first count counted rest =
     subst (λ (all : List ℕ). AreNumbered walk after known all first (suc count))
@@ -119,7 +114,7 @@ labels_numbered_from walk known first [] counted =
 labels_numbered_from walk known first (place ∷ places) counted =
     label_and_more walk (numbered walk first (suc (length places))) known (numbers_from (suc first) places) first
     (length places) counted
-    (labels_numbered_from (next_label walk first) (known ++ first ∷ []) (suc first) places
+    (labels_numbered_from (with_label walk first) (known ++ first ∷ []) (suc first) places
     (ap suc counted ∙ sym (one_more known first)))
 
 -- one of a list with another before it
@@ -148,10 +143,10 @@ pub knows_list : (walk : Walk) (known : List ℕ) (around : List LabelsOf) (firs
 knows_list walk known around first places knows = record {
   counted = are.counted;
   found = λ label any.
-    elim (first_or_later (labels_of_list first places) around any) [
-      | inl own ↦ are.own label own.0 own.1
-      | inr other ↦ are.before label (knows.found label other)
-    ];
+      elim (first_or_later (labels_of_list first places) around any) [
+        | inl own ↦ are.own label own.0 own.1
+        | inr other ↦ are.before label (knows.found label other)
+      ];
 }
   where
     are : AreNumbered walk (numbered walk first (length places)) known (known ++ numbers_from first places) first

@@ -12,3 +12,10 @@ pub mod ArgumentLoop
 pub mod LabelNumbers
 pub mod AddedValues
 pub mod AddedStatements
+pub mod NumberTables
+pub mod LabelLoop
+pub mod StatementLoops
+pub mod StatementViews
+pub mod Bodies
+pub mod ModuleBodies
+pub mod PublicLoop

@@ -1,5 +1,5 @@
 -- A node that is added to its table, seen among all tables.
-use Rattle.std.proofs.Common.{◌≡◌, ℕ, Result, Ok, Err, OnOk, List, [], ◌∷◌, ◌++◌, length, sym, ap, ◌∙◌}
+use Rattle.std.proofs.Common.{◌≡◌, ℕ, Bool, true, Result, Ok, Err, OnOk, List, [], ◌∷◌, ◌++◌, length, sym, ap, ◌∙◌}
 use Rattle.trees.specs.declared.declaration.ScalarType.{ScalarType}
 use Rattle.treecode.specs.declared.expression.Expression.{Expression}
 use Rattle.treecode.specs.declared.expression.ExpressionForm.{ExpressionForm}
@@ -8,9 +8,15 @@ use Rattle.treecode.specs.declared.lists.Range.{Range}
 use Rattle.treecode.specs.declared.lowering.Lowering.{Lowering}
 use Rattle.treecode.specs.declared.module.TreeModule.{TreeModule}
 use Rattle.treecode.specs.Nodes.{Nodes, nodes_of}
-use Rattle.treecode.specs.Traits.{expression_of}
+use Rattle.treecode.specs.Traits.{expression_of, height_of_call}
 use Rattle.treecode.specs.internal.Adding.{put_arguments, put_expression}
-use Rattle.treecode.specs.internal.Beside.{beside}
+use Rattle.treecode.specs.declared.reference.Target.{Target}
+use Rattle.treecode.specs.declared.statement.Statement.{Statement}
+use Rattle.treecode.specs.declared.statement.Statement.TheVariants as statements
+use Rattle.treecode.specs.declared.statement.StatementNumber.{StatementNumber}
+use Rattle.treecode.specs.declared.statements.AddedStatement.{AddedStatement}
+use Rattle.treecode.specs.internal.Beside.{Beside, beside, outside, walk_of, walk_with}
+use Rattle.treecode.specs.internal.Walking.{Items, Walk, call_with, noted, put_list, put_statement, put_targets, value_with}
 use Rattle.treecode.proofs.SameTraits.{both}
 
 -- what holds, holds where there is a value
@@ -59,3 +65,92 @@ pub beside_arguments : (lowering : Lowering) (after : TreeModule)
     → beside (record lowering { tree = after }) ≡ beside lowering
 unfolding beside
 beside_arguments lowering after kept = ap (λ (tree : TreeModule). beside (record lowering { tree = tree })) kept
+
+pub beside_statements : (lowering : Lowering) (after : TreeModule)
+    → after ≡ record (lowering.tree) { statements = after.statements }
+    → beside (record lowering { tree = after }) ≡ beside lowering
+unfolding beside
+beside_statements lowering after kept = ap (λ (tree : TreeModule). beside (record lowering { tree = tree })) kept
+
+pub beside_targets : (lowering : Lowering) (after : TreeModule)
+    → after ≡ record (lowering.tree) { targets = after.targets }
+    → beside (record lowering { tree = after }) ≡ beside lowering
+unfolding beside
+beside_targets lowering after kept = ap (λ (tree : TreeModule). beside (record lowering { tree = tree })) kept
+
+pub beside_lists : (lowering : Lowering) (after : TreeModule)
+    → after ≡ record (lowering.tree) { lists = after.lists }
+    → beside (record lowering { tree = after }) ≡ beside lowering
+unfolding beside
+beside_lists lowering after kept = ap (λ (tree : TreeModule). beside (record lowering { tree = tree })) kept
+
+range_is : (range : Range) (first count : ℕ) → range.first ≡ first → range.count ≡ count
+    → record { first = first; count = count } ≡ range
+range_is range first count e f = both (λ (one two : ℕ). record { first = one; count = two }) (sym e) (sym f)
+
+module _ (old : Lowering) (after : TreeModule) where
+  pub statement_put : (statement : Statement) (ends : Bool) (number : StatementNumber)
+      → after ≡ record (old.tree) { statements = after.statements }
+      → number.index ≡ length old.tree.statements.items
+      → after.statements.items ≡ old.tree.statements.items ++ statement ∷ []
+      → put_statement (walk_of old) statement ends
+      ≡ (walk_of (record old { tree = after }), record { number = number; reaches_its_end = ends })
+  statement_put statement ends number kept at added =
+      both (λ (walk : Walk) (index : ℕ). (walk, record { number = record { index = index }; reaches_its_end = ends }))
+      (both walk_with
+      (ap (λ (all : List Statement). record (nodes_of old.tree) { statements = all }) (sym added)
+      ∙ sym (ap nodes_of kept))
+      (sym (beside_statements old after kept)))
+      (sym at)
+
+  pub targets_put : (made : Walk × List Target) (targets : List Target) (range : Range)
+      → made ≡ (walk_of old, targets)
+      → after ≡ record (old.tree) { targets = after.targets }
+      → range.first ≡ length old.tree.targets.items
+      → range.count ≡ length targets
+      → after.targets.items ≡ old.tree.targets.items ++ targets
+      → put_targets made ≡ (walk_of (record old { tree = after }), range)
+  targets_put made targets range is kept first count added =
+      ap put_targets is
+      ∙ both (λ (walk : Walk) (one : Range). (walk, one))
+      (both walk_with
+      (ap (λ (all : List Target). record (nodes_of old.tree) { targets = all }) (sym added)
+      ∙ sym (ap nodes_of kept))
+      (sym (beside_targets old after kept)))
+      (range_is range _ _ first count)
+
+  pub list_put : (made : Walk × Items) (numbers : List StatementNumber) (ends : Bool) (range : Range)
+      → made ≡ (walk_of old, record { numbers = numbers; reaches_its_end = ends })
+      → after ≡ record (old.tree) { lists = after.lists }
+      → range.first ≡ length old.tree.lists.items
+      → range.count ≡ length numbers
+      → after.lists.items ≡ old.tree.lists.items ++ numbers
+      → put_list made
+      ≡ (walk_of (record old { tree = after }), record { range = range; reaches_its_end = ends })
+  list_put made numbers ends range is kept first count added =
+      ap put_list is
+      ∙ both (λ (walk : Walk) (one : Range). (walk, record { range = one; reaches_its_end = ends }))
+      (both walk_with
+      (ap (λ (all : List StatementNumber). record (nodes_of old.tree) { lists = all }) (sym added)
+      ∙ sym (ap nodes_of kept))
+      (sym (beside_lists old after kept)))
+      (range_is range _ _ first count)
+
+-- what stands outside stays
+pub outside_statements : (lowering : Lowering) (after : TreeModule)
+    → after ≡ record (lowering.tree) { statements = after.statements }
+    → outside (record lowering { tree = after }) ≡ outside lowering
+outside_statements lowering after kept =
+    ap (λ (around : Beside). around.outside) (beside_statements lowering after kept)
+
+pub outside_targets : (lowering : Lowering) (after : TreeModule)
+    → after ≡ record (lowering.tree) { targets = after.targets }
+    → outside (record lowering { tree = after }) ≡ outside lowering
+outside_targets lowering after kept =
+    ap (λ (around : Beside). around.outside) (beside_targets lowering after kept)
+
+pub outside_lists : (lowering : Lowering) (after : TreeModule)
+    → after ≡ record (lowering.tree) { lists = after.lists }
+    → outside (record lowering { tree = after }) ≡ outside lowering
+outside_lists lowering after kept =
+    ap (λ (around : Beside). around.outside) (beside_lists lowering after kept)

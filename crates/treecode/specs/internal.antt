@@ -4,3 +4,5 @@ pub mod Numbers
 pub mod Adding
 pub mod Walking
 pub mod Beside
+pub mod Sound
+pub mod Completed

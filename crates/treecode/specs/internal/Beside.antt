@@ -3,7 +3,7 @@ use Rattle.std.specs.Prelude.{ℕ, List, Option}
 use Rattle.treecode.specs.declared.lowering.Lowering.{Lowering}
 use Rattle.treecode.specs.declared.module.ExternalName.{ExternalName}
 use Rattle.treecode.specs.declared.procedure.TreeProcedure.{TreeProcedure}
-use Rattle.treecode.specs.Nodes.{nodes_of}
+use Rattle.treecode.specs.Nodes.{Nodes, nodes_of}
 use Rattle.treecode.specs.internal.Walking.{Walk}
 
 -- what no statement changes
@@ -37,10 +37,13 @@ abbrev pub outside : Lowering → Outside
 outside lowering = (beside lowering).outside
 
 -- the body that is being lowered
-abbrev pub walk_of : Lowering → Walk
-walk_of lowering = record {
-  nodes = nodes_of lowering.tree;
-  labels = (beside lowering).labels;
-  label_count = (beside lowering).label_count;
-  height = (beside lowering).height;
+abbrev pub walk_with : Nodes → Beside → Walk
+walk_with nodes around = record {
+  nodes = nodes;
+  labels = around.labels;
+  label_count = around.label_count;
+  height = around.height;
 }
+
+abbrev pub walk_of : Lowering → Walk
+walk_of lowering = walk_with (nodes_of lowering.tree) (beside lowering)

@@ -29,13 +29,19 @@ pub record Walk : Type 0 where
 abbrev pub label_in : Walk → (label : ℕ) → ℕ
 label_in walk label = unwrap_or (number_in walk.labels label) 0
 
+-- the next number is that of a label
+abbrev pub with_label : Walk → (label : ℕ) → Walk
+with_label walk label =
+    record walk { labels = with_number walk.labels label walk.label_count; label_count = suc walk.label_count }
+
 -- the next numbers are those of so many labels, from a first one on
 abbrev pub numbered : Walk → (first count : ℕ) → Walk
 numbered walk first zero = walk
-numbered walk first (suc count) =
-    numbered
-    (record walk { labels = with_number walk.labels first walk.label_count; label_count = suc walk.label_count })
-    (suc first) count
+numbered walk first (suc count) = numbered (with_label walk first) (suc first) count
+
+-- a body begins
+abbrev pub begun : Walk → Walk
+begun walk = record walk { label_count = 0; height = 0 }
 
 -- something of a height stands in the body
 abbrev pub noted : Walk → (height : ℕ) → Walk
