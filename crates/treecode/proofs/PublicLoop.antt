@@ -1,7 +1,11 @@
 -- The PUBLIC names of a module, one by one.
-use Rattle.std.proofs.Common.{◌≡◌, ℕ, ◌+◌, ◌<◌, ◌≤◌, List, [], ◌∷◌, ◌++◌, length, drop, get_or, filter_map, Option, Some, None, ap, sym, ◌∙◌}
+use Rattle.std.proofs.Common.{◌≡◌, ℕ, ◌+◌, ◌<◌, ◌≤◌, List, [], ◌∷◌, ◌++◌, length, map, drop, get_or, filter_map, Option, Some, None, option_map, slice_get, ap, sym, ◌∙◌}
 use Rattle.std.specs.List.{cons_option}
 use Rattle.std.proofs.lemmas.List.{append_assoc, append-nil}
+use Rattle.std.proofs.lemmas.Option.{slice_get-map}
+use Rattle.typed_trees.specs.declared.module.TypedObject.{TypedObject as Object}
+use Rattle.typed_trees.specs.declared.module.TypedProcedure.{TypedProcedure as Procedure}
+use Rattle.typed_trees.specs.Views.{object_view, procedure_view}
 use Rattle.treecode.proofs.Items.{at_item, at_end}
 
 module _ {A B : Type 0} (of : A → Option B) (made total : List B) (items : List A) (i : ℕ)
@@ -28,3 +32,12 @@ module _ {A B : Type 0} (of : A → Option B) (made total : List B) (items : Lis
   pub all_found : length items ≤ i → made ≡ total
   all_found past =
       sym (append-nil made) ∙ sym (at_end (λ all. made ++ filter_map of all) items i past) ∙ rest
+
+-- objects and procedures of a number, seen from those of the code
+pub object_at : (objects : List Object) (number : ℕ)
+    → slice_get (map object_view objects) number ≡ option_map object_view (slice_get objects number)
+object_at objects number = slice_get-map object_view objects number
+
+pub procedure_at : (procedures : List Procedure) (number : ℕ)
+    → slice_get (map procedure_view procedures) number ≡ option_map procedure_view (slice_get procedures number)
+procedure_at procedures number = slice_get-map procedure_view procedures number

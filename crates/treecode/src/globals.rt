@@ -1,5 +1,10 @@
 //! What is PUBLIC and what is EXTERNAL in a module.
 
+ghost use Rattle.std.specs.Prelude.{◌≡◌, IfOk};
+ghost use Rattle.typed_trees.specs.Views.{module_view, object_view, procedure_view};
+ghost use Rattle.treecode.specs.Contents.{public_item, public_object, public_procedure, publics_of, static_place};
+ghost use Rattle.treecode.specs.Nodes.{nodes_of};
+
 use crate::module::{ExternalName, PublicName, PublicPlace, TreeModule};
 use crate::numbers::Numbers;
 use crate::place::{Home, Place};
@@ -100,50 +105,74 @@ pub(crate) fn externals_of(alloc: Global, typed: &Typed) -> Result<Externals, Al
     Ok(externals)
 }
 
-// What the name of an object stands for in other modules, if it is PUBLIC.
-fn public_object(tree: &TreeModule, number: u32, object: &TypedObject) -> Option<PublicName> {
-    if is_external_object(object) {
-        return None;
-    }
-    let place = match tree.home(number) {
+// Where an object begins in memory.
+fn static_place(home: Home) -> Place
+    ensures { result ≡ static_place home }
+{
+    match home {
         Home::Static(place) => place,
         Home::Based(_) | Home::Frame(_) => Place::Number(0),
-    };
-    Some(PublicName {
-        name: object.name,
-        place: PublicPlace::Object(place),
-    })
+    }
+}
+
+// What the name of an object stands for in other modules, if it is PUBLIC.
+fn public_object(tree: &TreeModule, number: u32, object: &TypedObject) -> Option<PublicName>
+    ensures { result ≡ public_object (nodes_of tree.now).homes number (object_view object.now) }
+{
+    match object.home {
+        TypedHome::External => None,
+        TypedHome::Data(_)
+        | TypedHome::Constant(_)
+        | TypedHome::At(_)
+        | TypedHome::Based(_)
+        | TypedHome::Absent
+        | TypedHome::Frame(_) => Some(PublicName {
+            name: object.name,
+            place: PublicPlace::Object(static_place(tree.home(number))),
+        }),
+    }
 }
 
 // What the name of a procedure stands for in other modules, if it is PUBLIC.
-fn public_procedure(number: u32, procedure: &TypedProcedure) -> Option<PublicName> {
-    if is_external_procedure(procedure) {
-        return None;
+fn public_procedure(number: u32, procedure: &TypedProcedure) -> Option<PublicName>
+    ensures { result ≡ public_procedure number (procedure_view procedure.now) }
+{
+    match procedure.visibility {
+        Visibility::External => None,
+        Visibility::Private | Visibility::Public => Some(PublicName {
+            name: procedure.name,
+            place: PublicPlace::Procedure(number),
+        }),
     }
-    Some(PublicName {
-        name: procedure.name,
-        place: PublicPlace::Procedure(number),
-    })
 }
 
 // What the name of an object or a procedure stands for in other modules, if it is PUBLIC.
-fn public_item(tree: &TreeModule, typed: &Typed, item: GlobalItem) -> Option<PublicName> {
+#[tactic(auto, using(crate::proofs::PublicLoop::object_at, crate::proofs::PublicLoop::procedure_at))]
+fn public_item(tree: &TreeModule, typed: &Typed, item: GlobalItem) -> Option<PublicName>
+    ensures { result ≡ public_item (module_view typed.now) (nodes_of tree.now).homes item }
+{
     match item {
-        GlobalItem::GlobalObject(number) => {
-            public_object(tree, number, typed.objects.get(number as usize)?)
-        }
-        GlobalItem::GlobalProcedure(number) => {
-            public_procedure(number, typed.procedures.get(number as usize)?)
-        }
+        GlobalItem::GlobalObject(number) => match typed.objects.get(number as usize) {
+            Some(object) => public_object(tree, number, object),
+            None => None,
+        },
+        GlobalItem::GlobalProcedure(number) => match typed.procedures.get(number as usize) {
+            Some(procedure) => public_procedure(number, procedure),
+            None => None,
+        },
     }
 }
 
 /// The PUBLIC names of a module, in the order of the text.
+#[tactic(auto, unfolding(crate::specs::Contents::publics_of))]
 pub(crate) fn publics_of(
     alloc: Global,
     tree: &TreeModule,
     typed: &Typed,
-) -> Result<Vec<PublicName>, AllocError> {
+) -> Result<Vec<PublicName>, AllocError>
+    ensures { IfOk result (λ publics. publics.items
+        ≡ publics_of (module_view typed.now) (nodes_of tree.now).homes) }
+{
     let mut publics = Vec::new(alloc);
     for item in &typed.globals {
         if let Some(public) = public_item(tree, typed, *item) {

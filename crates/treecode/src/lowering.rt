@@ -5,7 +5,9 @@ ghost use Rattle.typed_trees.specs.Jumps.{JumpsAreSound};
 ghost use Rattle.typed_trees.specs.Views.{module_view};
 ghost use Rattle.layout.specs.Views.{layout_view};
 ghost use Rattle.treecode.specs.Known.{offset_of_list};
+ghost use Rattle.treecode.specs.Contents.{publics_of};
 ghost use Rattle.treecode.specs.Lowered.{BodiesAreLowered};
+ghost use Rattle.treecode.specs.declared.procedure.ProcedureKind.TheVariants.{Static};
 ghost use Rattle.treecode.specs.internal.Beside.{outside, walk_of};
 ghost use Rattle.treecode.specs.internal.Completed.{BodiesAreAdded};
 ghost use Rattle.treecode.specs.internal.Walking.{begun, label_in, noted, numbered, with_label};
@@ -37,6 +39,9 @@ pub(crate) struct Lowering {
 // A module of which nothing is lowered yet.
 fn empty_module(alloc: Global, typed: &Typed) -> TreeModule
     ensures expressions { result.expressions.items ≡ [] }
+    ensures name { result.name ≡ typed.now.name }
+    ensures main_kind { result.main.kind ≡ Static }
+    ensures main_frame { result.main.frame.items ≡ [] }
 {
     TreeModule {
         name: typed.name,
@@ -193,6 +198,9 @@ fn with_declarations(
     storage: &Layout,
 ) -> Result<TreeModule, AllocError>
     ensures expressions { IfOk result (λ tree. tree.expressions.items ≡ []) }
+    ensures name { IfOk result (λ tree. tree.name ≡ typed.now.name) }
+    ensures main_kind { IfOk result (λ tree. tree.main.kind ≡ Static) }
+    ensures main_frame { IfOk result (λ tree. tree.main.frame.items ≡ []) }
 {
     let mut tree = empty_module(alloc, typed);
     let externals = externals_of(alloc, typed)?;
@@ -228,6 +236,11 @@ fn with_bodies(
 pub fn lower(alloc: Global, typed: &Typed, storage: &Layout) -> Result<TreeModule, AllocError>
     requires jumps { JumpsAreSound (module_view typed.now) }
     ensures bodies { IfOk result (BodiesAreLowered (module_view typed.now) (layout_view storage.now)) }
+    ensures name { IfOk result (λ tree. tree.name ≡ typed.now.name) }
+    ensures main_kind { IfOk result (λ tree. tree.main.kind ≡ Static) }
+    ensures main_frame { IfOk result (λ tree. tree.main.frame.items ≡ []) }
+    ensures publics { IfOk result (λ tree. tree.publics.items
+        ≡ publics_of (module_view typed.now) tree.homes.items) }
 {
     let tree = with_declarations(alloc, typed, storage)?;
     let mut tree = with_bodies(alloc, tree, typed, storage)?;
