@@ -19,3 +19,4 @@ pub mod StatementViews
 pub mod Bodies
 pub mod ModuleBodies
 pub mod PublicLoop
+pub mod GatheredLaws

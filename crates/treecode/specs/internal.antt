@@ -6,3 +6,4 @@ pub mod Walking
 pub mod Beside
 pub mod Sound
 pub mod Completed
+pub mod Gathered

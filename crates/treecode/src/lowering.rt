@@ -6,6 +6,7 @@ ghost use Rattle.typed_trees.specs.Views.{module_view};
 ghost use Rattle.layout.specs.Views.{layout_view};
 ghost use Rattle.treecode.specs.Known.{offset_of_list};
 ghost use Rattle.treecode.specs.Contents.{publics_of};
+ghost use Rattle.treecode.specs.Homes.{externals_of};
 ghost use Rattle.treecode.specs.Lowered.{BodiesAreLowered};
 ghost use Rattle.treecode.specs.declared.procedure.ProcedureKind.TheVariants.{Static};
 ghost use Rattle.treecode.specs.internal.Beside.{outside, walk_of};
@@ -201,6 +202,7 @@ fn with_declarations(
     ensures name { IfOk result (λ tree. tree.name ≡ typed.now.name) }
     ensures main_kind { IfOk result (λ tree. tree.main.kind ≡ Static) }
     ensures main_frame { IfOk result (λ tree. tree.main.frame.items ≡ []) }
+    ensures externals { IfOk result (λ tree. tree.externals.items ≡ externals_of (module_view typed.now)) }
 {
     let mut tree = empty_module(alloc, typed);
     let externals = externals_of(alloc, typed)?;
@@ -239,6 +241,7 @@ pub fn lower(alloc: Global, typed: &Typed, storage: &Layout) -> Result<TreeModul
     ensures name { IfOk result (λ tree. tree.name ≡ typed.now.name) }
     ensures main_kind { IfOk result (λ tree. tree.main.kind ≡ Static) }
     ensures main_frame { IfOk result (λ tree. tree.main.frame.items ≡ []) }
+    ensures externals { IfOk result (λ tree. tree.externals.items ≡ externals_of (module_view typed.now)) }
     ensures publics { IfOk result (λ tree. tree.publics.items
         ≡ publics_of (module_view typed.now) tree.homes.items) }
 {
