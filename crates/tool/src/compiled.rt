@@ -94,6 +94,7 @@ fn object_of(
     file: usize,
     source: &SourceModule,
 ) -> Result<ObjectModule, Failure<ToolFault>>
+    requires jumps { JumpsAreSound (module_view source.now.typed) }
     ensures holds { IfOk result
         (λ object. (layout_view source.now.storage).constant_size ≤ length_of object segments.Code) }
     ensures refused { IfFault result (HasGenerationCause file) }

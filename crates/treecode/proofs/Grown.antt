@@ -37,7 +37,7 @@ module _ (before after : Nodes) (storage : Storage) (grows : Grows before after)
         IsNode (omega arith) (grows.expressions number expression at) scalar (form_stays number
         (omega arith) form)
 
-    form_stays : {bound : ℕ} {form : ExpressionForm} {tree : TypedExpression} (greater : ℕ) → bound ≤ greater
+    pub form_stays : {bound : ℕ} {form : ExpressionForm} {tree : TypedExpression} (greater : ℕ) → bound ≤ greater
         → IsForm before storage bound form tree → IsForm after storage greater form tree
     form_stays greater up IsNumber = IsNumber
     form_stays greater up (IsValue reference) = IsValue (reference_stays greater up reference)
@@ -117,7 +117,7 @@ module _ (before after : Nodes) (storage : Storage) (grows : Grows before after)
           IsStatementNode (omega arith) (grows.statements number statement at)
           (statement_form_stays number (omega arith) form)
 
-      statement_form_stays : {bound : ℕ} {form : Statement} {tree : TypedStatement} (greater : ℕ)
+      pub statement_form_stays : {bound : ℕ} {form : Statement} {tree : TypedStatement} (greater : ℕ)
           → bound ≤ greater
           → IsStatementForm before storage labels bound form tree
           → IsStatementForm after storage labels greater form tree
@@ -143,7 +143,7 @@ module _ (before after : Nodes) (storage : Storage) (grows : Grows before after)
       statement_form_stays greater up (IsCase choice statements) =
           IsCase (expression_in_stays choice) (statements_stay greater up statements)
 
-      else_stays : {bound : ℕ} {number : Option StatementNumber} {tree : TypedElse} (greater : ℕ)
+      pub else_stays : {bound : ℕ} {number : Option StatementNumber} {tree : TypedElse} (greater : ℕ)
           → bound ≤ greater
           → IsElse before storage labels bound number tree → IsElse after storage labels greater number tree
       else_stays greater up IsNoElse = IsNoElse

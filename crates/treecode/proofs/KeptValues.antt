@@ -127,7 +127,7 @@ module _ (nodes : Nodes) (storage : Storage) (keeps : KeepTraits nodes) where
     height_kept (IsNode {number = number} {tree = tree} {expression = expression} below at scalar form) =
         height_of_node nodes number expression keeps at ∙ form_height form
 
-    form_height : {bound : ℕ} {form : ExpressionForm} {tree : TypedExpression}
+    pub form_height : {bound : ℕ} {form : ExpressionForm} {tree : TypedExpression}
         → IsForm nodes storage bound form tree
         → height_of_form nodes form ≡ min (height_of tree) 65535
     form_height IsNumber = refl
@@ -155,7 +155,7 @@ module _ (nodes : Nodes) (storage : Storage) (keeps : KeepTraits nodes) where
     index_height IsAbsent = refl
     index_height (IsIndex index) = height_kept index
 
-    target_height : {bound : ℕ} {target : Target} {tree : TypedTarget}
+    pub target_height : {bound : ℕ} {target : Target} {tree : TypedTarget}
         → IsTarget nodes storage bound target tree
         → height_of_target nodes target ≡ min (height_of_goal tree) 65535
     target_height (IsStored reference) = reference_height reference

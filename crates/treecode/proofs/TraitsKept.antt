@@ -47,7 +47,7 @@ parts_stay : (nodes : Nodes) (added : Expression) (bound : ℕ) (form : Expressi
 parts_stay nodes added bound (forms.Number number) parts = parts
 parts_stay nodes added bound form parts = parts
 
-own_scalar : (nodes : Nodes) (scalar : ScalarType) (form : ExpressionForm)
+pub own_scalar : (nodes : Nodes) (scalar : ScalarType) (form : ExpressionForm)
     → (traits_of nodes scalar form).scalar ≡ scalar
 unfolding traits_of
 own_scalar nodes scalar form = refl

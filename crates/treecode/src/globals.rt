@@ -1,10 +1,16 @@
 //! What is PUBLIC and what is EXTERNAL in a module.
 
-use crate::module::{ExternalName, PublicName, PublicPlace, TreeModule};
+ghost use Rattle.std.specs.Prelude.{◌≡◌, IfOk};
+ghost use Rattle.typed_trees.specs.Views.{module_view, object_view, procedure_view};
+ghost use Rattle.treecode.specs.Contents.{public_item, public_object, public_procedure, publics_of, static_place};
+ghost use Rattle.treecode.specs.Homes.{external_object, external_procedure};
+ghost use Rattle.treecode.specs.Nodes.{nodes_of};
+ghost use Rattle.treecode.specs.internal.Gathered.{all_gathered, gathered_view, none_gathered};
+
+use crate::module::{ExternalName, PublicName, PublicPlace, TreeModule, next_index};
 use crate::numbers::Numbers;
 use crate::place::{Home, Place};
 use std::alloc::{AllocError, Global};
-use trees::Name;
 use typed_trees::{GlobalItem, Home as TypedHome, Typed, TypedObject, TypedProcedure, Visibility};
 
 /// The EXTERNAL names of a module in the order of the text, and the index among them of each EXTERNAL object and
@@ -16,30 +22,42 @@ pub(crate) struct Externals {
     pub(crate) procedures: Numbers,
 }
 
-// Whether an object is EXTERNAL.
-fn is_external_object(object: &TypedObject) -> bool {
+// The name of an object, if it is EXTERNAL.
+fn external_object(object: &TypedObject) -> Option<ExternalName>
+    ensures { result ≡ external_object (object_view object.now).home (object_view object.now).name }
+{
     match object.home {
-        TypedHome::External => true,
+        TypedHome::External => Some(ExternalName { name: object.name }),
         TypedHome::Data(_)
         | TypedHome::Constant(_)
         | TypedHome::At(_)
         | TypedHome::Based(_)
         | TypedHome::Absent
-        | TypedHome::Frame(_) => false,
+        | TypedHome::Frame(_) => None,
     }
 }
 
-// Whether a procedure is EXTERNAL.
-fn is_external_procedure(procedure: &TypedProcedure) -> bool {
+// The name of a procedure, if it is EXTERNAL.
+fn external_procedure(procedure: &TypedProcedure) -> Option<ExternalName>
+    ensures { result ≡ external_procedure procedure.now.visibility procedure.now.name }
+{
     match procedure.visibility {
-        Visibility::External => true,
-        Visibility::Private | Visibility::Public => false,
+        Visibility::External => Some(ExternalName {
+            name: procedure.name,
+        }),
+        Visibility::Private | Visibility::Public => None,
     }
 }
 
 impl Externals {
+    ghost use Rattle.std.specs.Prelude.{◌≡◌, OnOk};
+    ghost use Rattle.typed_trees.specs.Views.{module_view};
+    ghost use Rattle.treecode.specs.internal.Gathered.{gathered_view, none_gathered, with_external, with_external_object, with_external_procedure};
+
     // No names.
-    fn new(alloc: Global) -> Externals {
+    fn new(alloc: Global) -> Externals
+        ensures { gathered_view result ≡ none_gathered }
+    {
         Externals {
             names: Vec::new(alloc),
             objects: Numbers::new(alloc),
@@ -47,44 +65,45 @@ impl Externals {
         }
     }
 
-    // Adds a name, and gives its index.
-    fn add(&mut self, name: Name) -> Result<u32, AllocError> {
-        match u32::try_from(self.names.len()) {
-            Ok(index) => {
-                self.names.push(ExternalName { name })?;
-                Ok(index)
-            }
-            Err(_) => Err(AllocError),
-        }
-    }
-
-    // Adds an object, if it is EXTERNAL.
-    fn add_object(&mut self, number: u32, object: &TypedObject) -> Result<(), AllocError> {
-        if is_external_object(object) {
-            let index = self.add(object.name)?;
+    // Adds the name of an object, if it is EXTERNAL.
+    fn add_object(&mut self, number: u32, name: Option<ExternalName>) -> Result<(), AllocError>
+        ensures { OnOk result (gathered_view self.new
+            ≡ with_external_object (gathered_view self.old) number name) }
+    {
+        if let Some(name) = name {
+            let index = next_index(self.names.len())?;
+            self.names.push(name)?;
             self.objects.insert(number, index)?;
         }
         Ok(())
     }
 
-    // Adds a procedure, if it is EXTERNAL.
-    fn add_procedure(&mut self, number: u32, procedure: &TypedProcedure) -> Result<(), AllocError> {
-        if is_external_procedure(procedure) {
-            let index = self.add(procedure.name)?;
+    // Adds the name of a procedure, if it is EXTERNAL.
+    fn add_procedure(&mut self, number: u32, name: Option<ExternalName>) -> Result<(), AllocError>
+        ensures { OnOk result (gathered_view self.new
+            ≡ with_external_procedure (gathered_view self.old) number name) }
+    {
+        if let Some(name) = name {
+            let index = next_index(self.names.len())?;
+            self.names.push(name)?;
             self.procedures.insert(number, index)?;
         }
         Ok(())
     }
 
     // Adds an object or a procedure, if it is EXTERNAL.
-    fn add_item(&mut self, typed: &Typed, item: GlobalItem) -> Result<(), AllocError> {
+    #[tactic(auto, using(crate::proofs::PublicLoop::object_at, crate::proofs::PublicLoop::procedure_at))]
+    fn add_item(&mut self, typed: &Typed, item: GlobalItem) -> Result<(), AllocError>
+        ensures { OnOk result (gathered_view self.new
+            ≡ with_external (module_view typed.now) (gathered_view self.old) item) }
+    {
         match item {
             GlobalItem::GlobalObject(number) => match typed.objects.get(number as usize) {
-                Some(object) => self.add_object(number, object),
+                Some(object) => self.add_object(number, external_object(object)),
                 None => Ok(()),
             },
             GlobalItem::GlobalProcedure(number) => match typed.procedures.get(number as usize) {
-                Some(procedure) => self.add_procedure(number, procedure),
+                Some(procedure) => self.add_procedure(number, external_procedure(procedure)),
                 None => Ok(()),
             },
         }
@@ -92,7 +111,11 @@ impl Externals {
 }
 
 /// The EXTERNAL names of a module.
-pub(crate) fn externals_of(alloc: Global, typed: &Typed) -> Result<Externals, AllocError> {
+#[tactic(auto, using(crate::proofs::GatheredLaws::item_gathered, crate::proofs::GatheredLaws::items_gathered))]
+pub(crate) fn externals_of(alloc: Global, typed: &Typed) -> Result<Externals, AllocError>
+    ensures { IfOk result (λ externals. gathered_view externals
+        ≡ all_gathered (module_view typed.now) none_gathered typed.now.globals.items) }
+{
     let mut externals = Externals::new(alloc);
     for item in &typed.globals {
         externals.add_item(typed, *item)?;
@@ -100,50 +123,74 @@ pub(crate) fn externals_of(alloc: Global, typed: &Typed) -> Result<Externals, Al
     Ok(externals)
 }
 
-// What the name of an object stands for in other modules, if it is PUBLIC.
-fn public_object(tree: &TreeModule, number: u32, object: &TypedObject) -> Option<PublicName> {
-    if is_external_object(object) {
-        return None;
-    }
-    let place = match tree.home(number) {
+// Where an object begins in memory.
+fn static_place(home: Home) -> Place
+    ensures { result ≡ static_place home }
+{
+    match home {
         Home::Static(place) => place,
         Home::Based(_) | Home::Frame(_) => Place::Number(0),
-    };
-    Some(PublicName {
-        name: object.name,
-        place: PublicPlace::Object(place),
-    })
+    }
+}
+
+// What the name of an object stands for in other modules, if it is PUBLIC.
+fn public_object(tree: &TreeModule, number: u32, object: &TypedObject) -> Option<PublicName>
+    ensures { result ≡ public_object (nodes_of tree.now).homes number (object_view object.now) }
+{
+    match object.home {
+        TypedHome::External => None,
+        TypedHome::Data(_)
+        | TypedHome::Constant(_)
+        | TypedHome::At(_)
+        | TypedHome::Based(_)
+        | TypedHome::Absent
+        | TypedHome::Frame(_) => Some(PublicName {
+            name: object.name,
+            place: PublicPlace::Object(static_place(tree.home(number))),
+        }),
+    }
 }
 
 // What the name of a procedure stands for in other modules, if it is PUBLIC.
-fn public_procedure(number: u32, procedure: &TypedProcedure) -> Option<PublicName> {
-    if is_external_procedure(procedure) {
-        return None;
+fn public_procedure(number: u32, procedure: &TypedProcedure) -> Option<PublicName>
+    ensures { result ≡ public_procedure number (procedure_view procedure.now) }
+{
+    match procedure.visibility {
+        Visibility::External => None,
+        Visibility::Private | Visibility::Public => Some(PublicName {
+            name: procedure.name,
+            place: PublicPlace::Procedure(number),
+        }),
     }
-    Some(PublicName {
-        name: procedure.name,
-        place: PublicPlace::Procedure(number),
-    })
 }
 
 // What the name of an object or a procedure stands for in other modules, if it is PUBLIC.
-fn public_item(tree: &TreeModule, typed: &Typed, item: GlobalItem) -> Option<PublicName> {
+#[tactic(auto, using(crate::proofs::PublicLoop::object_at, crate::proofs::PublicLoop::procedure_at))]
+fn public_item(tree: &TreeModule, typed: &Typed, item: GlobalItem) -> Option<PublicName>
+    ensures { result ≡ public_item (module_view typed.now) (nodes_of tree.now).homes item }
+{
     match item {
-        GlobalItem::GlobalObject(number) => {
-            public_object(tree, number, typed.objects.get(number as usize)?)
-        }
-        GlobalItem::GlobalProcedure(number) => {
-            public_procedure(number, typed.procedures.get(number as usize)?)
-        }
+        GlobalItem::GlobalObject(number) => match typed.objects.get(number as usize) {
+            Some(object) => public_object(tree, number, object),
+            None => None,
+        },
+        GlobalItem::GlobalProcedure(number) => match typed.procedures.get(number as usize) {
+            Some(procedure) => public_procedure(number, procedure),
+            None => None,
+        },
     }
 }
 
 /// The PUBLIC names of a module, in the order of the text.
+#[tactic(auto, unfolding(crate::specs::Contents::publics_of))]
 pub(crate) fn publics_of(
     alloc: Global,
     tree: &TreeModule,
     typed: &Typed,
-) -> Result<Vec<PublicName>, AllocError> {
+) -> Result<Vec<PublicName>, AllocError>
+    ensures { IfOk result (λ publics. publics.items
+        ≡ publics_of (module_view typed.now) (nodes_of tree.now).homes) }
+{
     let mut publics = Vec::new(alloc);
     for item in &typed.globals {
         if let Some(public) = public_item(tree, typed, *item) {

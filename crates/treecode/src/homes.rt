@@ -1,5 +1,8 @@
 //! Where the objects of a module begin.
 
+ghost use Rattle.std.specs.Prelude.{◌≡◌, Some, OnOk};
+ghost use Rattle.treecode.specs.Homes.{home_after, location_of, place_of_slot};
+
 use crate::globals::Externals;
 use crate::lowering::wrapped;
 use crate::module::TreeModule;
@@ -11,7 +14,9 @@ use std::alloc::{AllocError, Global};
 use typed_trees::{AtAddress, Home as TypedHome, Typed, TypedObject, TypedProcedure};
 
 // The place of a slot.
-fn place_of_slot(slot: Slot) -> Place {
+fn place_of_slot(slot: Slot) -> Place
+    ensures { result ≡ place_of_slot (Some slot) }
+{
     match slot.segment {
         Segment::Code => Place::Code(wrapped(slot.offset)),
         Segment::Data => Place::Data(wrapped(slot.offset)),
@@ -19,7 +24,9 @@ fn place_of_slot(slot: Slot) -> Place {
 }
 
 // The home of an object so many bytes further on. A BASED object has no place of its own.
-fn home_after(home: Home, distance: u16) -> Home {
+fn home_after(home: Home, distance: u16) -> Home
+    ensures { result ≡ home_after home distance }
+{
     match home {
         Home::Static(place) => Home::Static(place.after(distance)),
         Home::Based(_) | Home::Frame(_) => Home::Static(Place::Number(distance)),
@@ -27,7 +34,9 @@ fn home_after(home: Home, distance: u16) -> Home {
 }
 
 /// Where a scalar lies that is not BASED, by its home.
-pub(crate) fn location_of(home: Home) -> Location {
+pub(crate) fn location_of(home: Home) -> Location
+    ensures { result ≡ location_of home }
+{
     match home {
         Home::Static(place) => Location::Static(place),
         Home::Frame(variable) => Location::Frame {
@@ -69,12 +78,16 @@ fn frame_variable(object: &TypedObject, parameter: Option<u32>) -> FrameVariable
 }
 
 impl TreeModule {
+    ghost use Rattle.std.specs.Prelude.{◌≡◌};
+
     // Adds a variable to the frame of a procedure, and gives its number there.
     fn add_frame_variable(
         &mut self,
         procedure: u32,
         variable: FrameVariable,
-    ) -> Result<u16, AllocError> {
+    ) -> Result<u16, AllocError>
+        ensures kept { self.new ≡ record self.old { procedures = self.new.procedures } }
+    {
         match self.procedures.get_mut(procedure as usize) {
             Some(procedure) => {
                 let number = u16::try_from(procedure.frame.len()).unwrap_or(u16::MAX);
@@ -110,7 +123,9 @@ fn home_of(
     number: u32,
     slot: Option<Slot>,
     parameter: Option<u32>,
-) -> Result<Home, AllocError> {
+) -> Result<Home, AllocError>
+    ensures kept { tree.new ≡ record tree.old { procedures = tree.new.procedures } }
+{
     match &object.home {
         TypedHome::Data(_) | TypedHome::Constant(_) => match slot {
             Some(slot) => Ok(Home::Static(place_of_slot(slot))),
@@ -142,7 +157,10 @@ pub(crate) fn add_homes(
     externals: &Externals,
     typed: &Typed,
     storage: &Layout,
-) -> Result<(), AllocError> {
+) -> Result<(), AllocError>
+    ensures kept { OnOk result
+        (tree.new ≡ record tree.old { homes = tree.new.homes; procedures = tree.new.procedures }) }
+{
     let parameters = parameters_of(alloc, typed.procedures.as_slice())?;
     let mut number: u32 = 0;
     for object in &typed.objects {

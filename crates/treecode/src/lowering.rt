@@ -1,5 +1,18 @@
 //! Typed modules as tree code.
 
+ghost use Rattle.std.specs.Prelude.{◌≡◌, ◌+◌, ◌%◌, [], IfOk, OnOk};
+ghost use Rattle.typed_trees.specs.Jumps.{JumpsAreSound};
+ghost use Rattle.typed_trees.specs.Views.{module_view};
+ghost use Rattle.layout.specs.Views.{layout_view};
+ghost use Rattle.treecode.specs.Known.{offset_of_list};
+ghost use Rattle.treecode.specs.Contents.{publics_of};
+ghost use Rattle.treecode.specs.Homes.{externals_of};
+ghost use Rattle.treecode.specs.Lowered.{BodiesAreLowered};
+ghost use Rattle.treecode.specs.declared.procedure.ProcedureKind.TheVariants.{Static};
+ghost use Rattle.treecode.specs.internal.Beside.{outside, walk_of};
+ghost use Rattle.treecode.specs.internal.Completed.{BodiesAreAdded};
+ghost use Rattle.treecode.specs.internal.Walking.{begun, label_in, noted, numbered, with_label};
+
 use crate::contents::{constants_of, variables_of};
 use crate::globals::{Externals, externals_of, publics_of};
 use crate::homes::add_homes;
@@ -16,8 +29,6 @@ use typed_trees::Typed;
 pub(crate) struct Lowering {
     pub(crate) alloc: Global,
     pub(crate) tree: TreeModule,
-    /// Where each constant list lies, from the start of the code segment.
-    list_offsets: Vec<u16>,
     /// The number of each label in its procedure, by its number in the module.
     labels: Numbers,
     /// How many labels the body has so far.
@@ -27,7 +38,12 @@ pub(crate) struct Lowering {
 }
 
 // A module of which nothing is lowered yet.
-fn empty_module(alloc: Global, typed: &Typed) -> TreeModule {
+fn empty_module(alloc: Global, typed: &Typed) -> TreeModule
+    ensures expressions { result.expressions.items ≡ [] }
+    ensures name { result.name ≡ typed.now.name }
+    ensures main_kind { result.main.kind ≡ Static }
+    ensures main_frame { result.main.frame.items ≡ [] }
+{
     TreeModule {
         name: typed.name,
         homes: Vec::new(alloc),
@@ -46,38 +62,43 @@ fn empty_module(alloc: Global, typed: &Typed) -> TreeModule {
 }
 
 /// An offset modulo the size of memory.
-pub(crate) fn wrapped(offset: u32) -> u16 {
+pub(crate) fn wrapped(offset: u32) -> u16
+    ensures { result ≡ offset % 65536 }
+{
     (offset % 65536) as u16
 }
 
-// Where the constant lists of a module lie, from the start of the code segment.
-fn list_offsets(alloc: Global, storage: &Layout) -> Result<Vec<u16>, AllocError> {
-    let mut offsets = Vec::with_capacity(alloc, storage.lists.len())?;
-    for slot in &storage.lists {
-        offsets.push(wrapped(slot.offset))?;
+/// Where a constant list lies, from the start of the code segment.
+pub(crate) fn list_offset(storage: &Layout, list: u32) -> u16
+    ensures { result ≡ offset_of_list (layout_view storage.now) list }
+{
+    match storage.lists.get(list as usize) {
+        Some(slot) => wrapped(slot.offset),
+        None => 0,
     }
-    Ok(offsets)
 }
 
 impl Lowering {
     // A module of which no body is lowered yet.
-    fn new(alloc: Global, tree: TreeModule, storage: &Layout) -> Result<Lowering, AllocError> {
-        Ok(Lowering {
+    fn new(alloc: Global, tree: TreeModule) -> Lowering
+        ensures { result.tree ≡ tree }
+    {
+        Lowering {
             alloc,
             tree,
-            list_offsets: list_offsets(alloc, storage)?,
             labels: Numbers::new(alloc),
             label_count: 0,
             height: 0,
-        })
+        }
     }
 
     // The tree code.
-    fn finish(self) -> TreeModule {
+    fn finish(self) -> TreeModule
+        ensures { result ≡ self.tree }
+    {
         let Lowering {
             alloc: _,
             tree,
-            list_offsets: _,
             labels: _,
             label_count: _,
             height: _,
@@ -85,49 +106,88 @@ impl Lowering {
         tree
     }
 
-    /// Where a constant list lies, from the start of the code segment.
-    pub(crate) fn list_offset(&self, list: u32) -> u16 {
-        match self.list_offsets.get(list as usize) {
-            Some(offset) => *offset,
-            None => 0,
-        }
-    }
-
     /// The number in its procedure of a label of the module, whose list has begun.
-    pub(crate) fn label(&self, label: u32) -> u32 {
+    #[tactic(auto, unfolding(crate::specs::internal::Beside::beside))]
+    pub(crate) fn label(&self, label: u32) -> u32
+        ensures { result ≡ label_in (walk_of self.now) label }
+    {
         self.labels.get(label).unwrap_or(0)
     }
 
+    // Gives the next number of the procedure to a label of the module.
+    #[tactic(auto, unfolding(crate::specs::internal::Beside::beside))]
+    fn number_label(&mut self, label: u32) -> Result<(), AllocError>
+        ensures kept { OnOk result (outside self.new ≡ outside self.old) }
+        ensures ok { OnOk result (walk_of self.new ≡ with_label (walk_of self.old) label) }
+    {
+        self.labels.insert(label, self.label_count)?;
+        match self.label_count.checked_add(1) {
+            Some(count) => {
+                self.label_count = count;
+                Ok(())
+            }
+            None => Err(AllocError),
+        }
+    }
+
     /// Gives the next numbers of the procedure to so many labels of the module, from a first one on.
-    pub(crate) fn number_labels(&mut self, first: u32, count: usize) -> Result<(), AllocError> {
-        let mut label = first;
-        for _ in 0..count {
-            self.labels.insert(label, self.label_count)?;
-            self.label_count = self.label_count.saturating_add(1);
-            label = label.saturating_add(1);
+    pub(crate) fn number_labels(&mut self, first: u32, count: usize) -> Result<(), AllocError>
+        ensures kept { OnOk result (outside self.new ≡ outside self.old) }
+        ensures ok { OnOk result (walk_of self.new ≡ numbered (walk_of self.old) first count) }
+    {
+        for index in 0..count {
+            let label = label_after(first, index)?;
+            self.number_label(label)?;
         }
         Ok(())
     }
 
     /// Something in the body has this height.
-    pub(crate) fn note_height(&mut self, height: u16) {
+    #[tactic(auto, unfolding(crate::specs::internal::Beside::beside))]
+    pub(crate) fn note_height(&mut self, height: u16)
+        ensures kept { outside self.new ≡ outside self.old }
+        ensures ok { walk_of self.new ≡ noted (walk_of self.old) height }
+    {
         self.height = self.height.max(height as u32);
     }
 
     /// A body begins, in which there is nothing yet.
-    pub(crate) fn begin_body(&mut self) {
+    #[tactic(auto, unfolding(crate::specs::internal::Beside::beside))]
+    pub(crate) fn begin_body(&mut self)
+        ensures kept { outside self.new ≡ outside self.old }
+        ensures ok { walk_of self.new ≡ begun (walk_of self.old) }
+    {
         self.label_count = 0;
         self.height = 0;
     }
 
     /// How many labels the body has so far.
-    pub(crate) fn label_count(&self) -> u32 {
+    #[tactic(auto, unfolding(crate::specs::internal::Beside::beside))]
+    pub(crate) fn label_count(&self) -> u32
+        ensures { result ≡ (walk_of self.now).label_count }
+    {
         self.label_count
     }
 
     /// The greatest height of an expression, a target or a call in the body so far.
-    pub(crate) fn height(&self) -> u32 {
+    #[tactic(auto, unfolding(crate::specs::internal::Beside::beside))]
+    pub(crate) fn height(&self) -> u32
+        ensures { result ≡ (walk_of self.now).height }
+    {
         self.height
+    }
+}
+
+// A label so many after a first one. One past the greatest number of 32 bits is out of memory.
+fn label_after(first: u32, index: usize) -> Result<u32, AllocError>
+    ensures { IfOk result (λ label. label ≡ first + index) }
+{
+    match u32::try_from(index) {
+        Ok(index) => match first.checked_add(index) {
+            Some(label) => Ok(label),
+            None => Err(AllocError),
+        },
+        Err(_) => Err(AllocError),
     }
 }
 
@@ -137,7 +197,13 @@ fn with_declarations(
     alloc: Global,
     typed: &Typed,
     storage: &Layout,
-) -> Result<TreeModule, AllocError> {
+) -> Result<TreeModule, AllocError>
+    ensures expressions { IfOk result (λ tree. tree.expressions.items ≡ []) }
+    ensures name { IfOk result (λ tree. tree.name ≡ typed.now.name) }
+    ensures main_kind { IfOk result (λ tree. tree.main.kind ≡ Static) }
+    ensures main_frame { IfOk result (λ tree. tree.main.frame.items ≡ []) }
+    ensures externals { IfOk result (λ tree. tree.externals.items ≡ externals_of (module_view typed.now)) }
+{
     let mut tree = empty_module(alloc, typed);
     let externals = externals_of(alloc, typed)?;
     add_headings(alloc, &mut tree, &externals, typed.procedures.as_slice())?;
@@ -157,15 +223,28 @@ fn with_bodies(
     tree: TreeModule,
     typed: &Typed,
     storage: &Layout,
-) -> Result<TreeModule, AllocError> {
-    let mut lowering = Lowering::new(alloc, tree, storage)?;
-    lowering.add_bodies(typed.procedures.as_slice())?;
-    lowering.add_main(&typed.main)?;
+) -> Result<TreeModule, AllocError>
+    requires expressions { tree.expressions.items ≡ [] }
+    requires jumps { JumpsAreSound (module_view typed.now) }
+    ensures { IfOk result (BodiesAreAdded (module_view typed.now) (layout_view storage.now) tree) }
+{
+    let mut lowering = Lowering::new(alloc, tree);
+    lowering.add_bodies(storage, typed.procedures.as_slice())?;
+    lowering.add_main(storage, &typed.main)?;
     Ok(lowering.finish())
 }
 
 /// A typed module as tree code, with its objects where its storage has them.
-pub fn lower(alloc: Global, typed: &Typed, storage: &Layout) -> Result<TreeModule, AllocError> {
+pub fn lower(alloc: Global, typed: &Typed, storage: &Layout) -> Result<TreeModule, AllocError>
+    requires jumps { JumpsAreSound (module_view typed.now) }
+    ensures bodies { IfOk result (BodiesAreLowered (module_view typed.now) (layout_view storage.now)) }
+    ensures name { IfOk result (λ tree. tree.name ≡ typed.now.name) }
+    ensures main_kind { IfOk result (λ tree. tree.main.kind ≡ Static) }
+    ensures main_frame { IfOk result (λ tree. tree.main.frame.items ≡ []) }
+    ensures externals { IfOk result (λ tree. tree.externals.items ≡ externals_of (module_view typed.now)) }
+    ensures publics { IfOk result (λ tree. tree.publics.items
+        ≡ publics_of (module_view typed.now) tree.homes.items) }
+{
     let tree = with_declarations(alloc, typed, storage)?;
     let mut tree = with_bodies(alloc, tree, typed, storage)?;
     tree.constants = constants_of(alloc, &tree, typed)?;

@@ -222,8 +222,8 @@ impl TreeModule {
     }
 }
 
-// The index that follows so many entries. A table of more than 4,294,967,295 entries is out of memory.
-fn next_index(count: usize) -> Result<u32, AllocError>
+/// The index that follows so many entries. A table of more than 4,294,967,295 entries is out of memory.
+pub(crate) fn next_index(count: usize) -> Result<u32, AllocError>
     ensures { IfOk result (λ index. index ≡ count) }
 {
     match u32::try_from(count) {

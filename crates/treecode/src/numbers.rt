@@ -9,30 +9,57 @@ pub(crate) struct Numbers {
 }
 
 impl Numbers {
+    ghost use Rattle.std.specs.Prelude.{◌≡◌, [], Some, OnOk, slice_set};
+    ghost use Rattle.treecode.specs.internal.Numbers.{number_in, reaching, with_number};
+
     /// None is known.
-    pub(crate) fn new(alloc: Global) -> Numbers {
+    pub(crate) fn new(alloc: Global) -> Numbers
+        ensures { result.entries.items ≡ [] }
+    {
         Numbers {
             entries: Vec::new(alloc),
         }
     }
 
     /// The number by another one, if it is known.
-    pub(crate) fn get(&self, index: u32) -> Option<u32> {
+    pub(crate) fn get(&self, index: u32) -> Option<u32>
+        ensures { result ≡ number_in self.now.entries.items index }
+    {
         match self.entries.get(index as usize) {
             Some(entry) => *entry,
             None => None,
         }
     }
 
-    /// The number by another one is known from now on.
-    pub(crate) fn insert(&mut self, index: u32, number: u32) -> Result<(), AllocError> {
+    // Adds entries of which no number is known, so that there is one by a number.
+    #[tactic(auto, using(crate::proofs::NumberTables::reached, crate::proofs::NumberTables::reached_before))]
+    fn reach(&mut self, index: u32) -> Result<(), AllocError>
+        ensures { OnOk result (self.new.entries.items ≡ reaching self.old.entries.items index) }
+    {
         let index = index as usize;
         if index >= self.entries.len() {
             self.entries.resize(index + 1, None)?;
         }
-        if let Some(entry) = self.entries.get_mut(index) {
+        Ok(())
+    }
+
+    // Puts a number into an entry.
+    fn put(&mut self, index: u32, number: u32)
+        ensures { self.new.entries.items ≡ slice_set self.old.entries.items index (Some number) }
+    {
+        if let Some(entry) = self.entries.get_mut(index as usize) {
             *entry = Some(number);
         }
+    }
+
+    /// The number by another one is known from now on.
+    #[tactic(auto, using(crate::proofs::NumberTables::number_put))]
+    pub(crate) fn insert(&mut self, index: u32, number: u32) -> Result<(), AllocError>
+        ensures { OnOk result (self.new.entries.items
+            ≡ with_number self.old.entries.items index number) }
+    {
+        self.reach(index)?;
+        self.put(index, number);
         Ok(())
     }
 }

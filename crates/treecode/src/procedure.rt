@@ -53,8 +53,14 @@ pub struct TreeProcedure {
 }
 
 impl TreeProcedure {
+    ghost use Rattle.std.specs.Prelude.{◌≡◌, []};
+
     /// A procedure without parameters and statements.
-    pub fn new(alloc: Global, kind: ProcedureKind, scalar: Option<ScalarType>) -> TreeProcedure {
+    pub fn new(alloc: Global, kind: ProcedureKind, scalar: Option<ScalarType>) -> TreeProcedure
+        ensures kind { result.kind ≡ kind }
+        ensures scalar { result.result ≡ scalar }
+        ensures frame { result.frame.items ≡ [] }
+    {
         TreeProcedure {
             kind,
             result: scalar,

@@ -1,11 +1,22 @@
 //! Typed procedures as tree code.
 
+ghost use Rattle.std.specs.Prelude.{◌≡◌, map, zip, length, IfOk, OnOk};
+ghost use Rattle.typed_trees.specs.Jumps.{BodyIsSound};
+ghost use Rattle.typed_trees.specs.Views.{list_view, procedure_view};
+ghost use Rattle.layout.specs.Views.{layout_view};
+ghost use Rattle.treecode.specs.Homes.{parameter_at};
+ghost use Rattle.treecode.specs.Nodes.{nodes_of};
+ghost use Rattle.treecode.specs.internal.Beside.{outside, walk_of};
+ghost use Rattle.treecode.specs.internal.Completed.{AreComplete, BodiesAreSound, IsBody, MainIsComplete, completed, with_body, with_main};
+ghost use Rattle.treecode.specs.internal.Sound.{AreSound};
+
 use crate::globals::Externals;
 use crate::homes::location_of;
 use crate::lists::Range;
 use crate::lowering::Lowering;
 use crate::module::TreeModule;
 use crate::procedure::{Parameter, ProcedureKind, TreeProcedure};
+use layout::Layout;
 use std::alloc::{AllocError, Global};
 use trees::ScalarType;
 use typed_trees::{TypedProcedure, Visibility};
@@ -27,7 +38,9 @@ pub(crate) fn add_headings(
     tree: &mut TreeModule,
     externals: &Externals,
     procedures: &[TypedProcedure],
-) -> Result<(), AllocError> {
+) -> Result<(), AllocError>
+    ensures kept { OnOk result (tree.new ≡ record tree.old { procedures = tree.new.procedures }) }
+{
     let mut number: u32 = 0;
     for typed in procedures {
         let kind = kind_of(externals, number, typed);
@@ -39,19 +52,37 @@ pub(crate) fn add_headings(
     Ok(())
 }
 
+// A parameter, whose object has a number.
+fn parameter_at(tree: &TreeModule, scalar: ScalarType, object: u32) -> Parameter
+    ensures { result ≡ parameter_at (nodes_of tree.now).homes (scalar, object) }
+{
+    Parameter {
+        scalar,
+        location: location_of(tree.home(object)),
+    }
+}
+
 // The parameters of a procedure, each with the home of its object.
+#[tactic(auto, using(std::proofs::lemmas::List::append_assoc))]
 fn parameters_of(
     alloc: Global,
     tree: &TreeModule,
     scalars: &[ScalarType],
     objects: &[u32],
-) -> Result<Vec<Parameter>, AllocError> {
+) -> Result<Vec<Parameter>, AllocError>
+    ensures { IfOk result (λ parameters. parameters.items
+        ≡ map (parameter_at (nodes_of tree.now).homes) (zip scalars.now objects.now)) }
+{
     let mut parameters = Vec::with_capacity(alloc, scalars.len())?;
-    for (scalar, object) in scalars.iter().zip(objects) {
-        parameters.push(Parameter {
-            scalar: *scalar,
-            location: location_of(tree.home(*object)),
-        })?;
+    let mut types = scalars;
+    let mut places = objects;
+    while let [scalar, more_types @ ..] = types {
+        let [object, more_places @ ..] = places else {
+            break;
+        };
+        parameters.push(parameter_at(tree, *scalar, *object))?;
+        types = more_types;
+        places = more_places;
     }
     Ok(parameters)
 }
@@ -68,7 +99,9 @@ struct Body {
 
 impl TreeProcedure {
     // Puts what stands in it under its heading.
-    fn complete(&mut self, body: Body) {
+    fn complete(&mut self, body: Body)
+        ensures { self.new ≡ completed self.old body }
+    {
         self.parameters = body.parameters;
         self.body = body.range;
         self.reaches_its_end = body.reaches_its_end;
@@ -79,7 +112,11 @@ impl TreeProcedure {
 
 impl Lowering {
     // The parameters of a procedure.
-    fn parameters(&self, typed: &TypedProcedure) -> Result<Vec<Parameter>, AllocError> {
+    fn parameters(&self, typed: &TypedProcedure) -> Result<Vec<Parameter>, AllocError>
+        ensures { IfOk result (λ parameters. parameters.items
+            ≡ map (parameter_at (nodes_of self.now.tree).homes)
+            (zip typed.now.parameter_types.items typed.now.parameters.items)) }
+    {
         parameters_of(
             self.alloc,
             &self.tree,
@@ -89,10 +126,14 @@ impl Lowering {
     }
 
     // Adds what stands in a procedure.
-    fn body(&mut self, typed: &TypedProcedure) -> Result<Body, AllocError> {
+    fn body(&mut self, storage: &Layout, typed: &TypedProcedure) -> Result<Body, AllocError>
+        ensures kept { OnOk result (outside self.new ≡ outside self.old) }
+        ensures ok { IfOk result (λ body. IsBody (layout_view storage.now) (walk_of self.old)
+            (walk_of self.new) body (procedure_view typed.now)) }
+    {
         let parameters = self.parameters(typed)?;
         self.begin_body();
-        let list = self.list(&typed.body)?;
+        let list = self.list(storage, &typed.body)?;
         Ok(Body {
             parameters,
             range: list.range,
@@ -102,23 +143,58 @@ impl Lowering {
         })
     }
 
+    // Puts what stands in a procedure under its heading.
+    #[tactic(auto, unfolding(crate::specs::internal::Beside::beside))]
+    fn put_body(&mut self, number: usize, body: Body)
+        ensures walk { walk_of self.new ≡ walk_of self.old }
+        ensures outside { outside self.new ≡ with_body (outside self.old) number body }
+    {
+        if let Some(procedure) = self.tree.procedures.get_mut(number) {
+            procedure.complete(body);
+        }
+    }
+
     /// Adds what stands in the procedures of a module, whose headings stand already.
-    pub(crate) fn add_bodies(&mut self, procedures: &[TypedProcedure]) -> Result<(), AllocError> {
-        let mut number: usize = 0;
-        for typed in procedures {
-            let body = self.body(typed)?;
-            if let Some(procedure) = self.tree.procedures.get_mut(number) {
-                procedure.complete(body);
-            }
-            number = number.saturating_add(1);
+    pub(crate) fn add_bodies(
+        &mut self,
+        storage: &Layout,
+        procedures: &[TypedProcedure],
+    ) -> Result<(), AllocError>
+        requires sound { AreSound (nodes_of self.old.tree) }
+        requires jumps { BodiesAreSound (map procedure_view procedures.now) }
+        ensures { OnOk result (AreComplete (layout_view storage.now) (walk_of self.old)
+            (walk_of self.new) (outside self.old) (outside self.new) (map procedure_view procedures.now)
+            (length procedures.now)) }
+    {
+        for (number, typed) in procedures.iter().enumerate() {
+            let body = self.body(storage, typed)?;
+            self.put_body(number, body);
         }
         Ok(())
     }
 
-    /// Adds the statements at the outer level of a module.
-    pub(crate) fn add_main(&mut self, typed: &TypedProcedure) -> Result<(), AllocError> {
-        let body = self.body(typed)?;
+    // Puts what stands at the outer level into the main program.
+    #[tactic(auto, unfolding(crate::specs::internal::Beside::beside))]
+    fn put_main(&mut self, body: Body)
+        ensures walk { walk_of self.new ≡ walk_of self.old }
+        ensures outside { outside self.new ≡ with_main (outside self.old) body }
+    {
         self.tree.main.complete(body);
+    }
+
+    /// Adds the statements at the outer level of a module.
+    pub(crate) fn add_main(
+        &mut self,
+        storage: &Layout,
+        typed: &TypedProcedure,
+    ) -> Result<(), AllocError>
+        requires sound { AreSound (nodes_of self.old.tree) }
+        requires jumps { BodyIsSound (list_view typed.now.body) }
+        ensures { OnOk result (MainIsComplete (layout_view storage.now) (walk_of self.old)
+            (walk_of self.new) (outside self.old) (outside self.new) (procedure_view typed.now)) }
+    {
+        let body = self.body(storage, typed)?;
+        self.put_main(body);
         Ok(())
     }
 }

@@ -1,11 +1,23 @@
 //! Typed statements as tree code.
 
+ghost use Rattle.std.specs.Prelude.{◌≡◌, map, option_map, IfOk, OnOk};
+ghost use Rattle.typed_trees.specs.TypedTrees.{CaseStatement, IfStatement, IterateStatement, MoveStatement, WhileStatement};
+ghost use Rattle.typed_trees.specs.Views.{arguments_view, else_view, expression_view, iteration_view, list_view, statement_view, statements_view, target_view};
+ghost use Rattle.layout.specs.Views.{layout_view};
+ghost use Rattle.treecode.specs.Lowered.{ends_by};
+ghost use Rattle.treecode.specs.Nodes.{nodes_of};
+ghost use Rattle.treecode.specs.Traits.{height_of_call, height_of_target, number_at};
+ghost use Rattle.treecode.specs.internal.Adding.{target_in};
+ghost use Rattle.treecode.specs.internal.Beside.{outside, walk_of};
+ghost use Rattle.treecode.specs.internal.Walking.{assigned_in, call_in, else_in, goal_with, goals_in, iteration_in, list_in, moved_in, optional_in, put_statement, returned_in, statement_in, statements_in, targets_in, value_in};
+
 use crate::expression::ExpressionNumber;
 use crate::heights::{height_of_call, height_of_target};
 use crate::lists::Range;
 use crate::lowering::Lowering;
 use crate::reference::Target;
 use crate::statement::{Iteration, Statement, StatementNumber};
+use layout::Layout;
 use operators::holds;
 use std::alloc::AllocError;
 use typed_trees::{
@@ -29,8 +41,16 @@ pub(crate) struct AddedList {
 
 impl Lowering {
     // Adds an expression of the body.
-    fn value(&mut self, expression: &TypedExpression) -> Result<ExpressionNumber, AllocError> {
-        let number = self.expression(expression)?;
+    fn value(
+        &mut self,
+        storage: &Layout,
+        expression: &TypedExpression,
+    ) -> Result<ExpressionNumber, AllocError>
+        ensures kept { OnOk result (outside self.new ≡ outside self.old) }
+        ensures ok { IfOk result (λ added. value_in (layout_view storage.now) (walk_of self.old) (expression_view expression.now)
+            ≡ (walk_of self.new, added)) }
+    {
+        let number = self.expression(storage, expression)?;
         let height = self.tree.traits(number).height;
         self.note_height(height);
         Ok(number)
@@ -39,20 +59,30 @@ impl Lowering {
     // Adds an expression of the body, if there is one.
     fn value_if_any(
         &mut self,
+        storage: &Layout,
         expression: &Option<TypedExpression>,
-    ) -> Result<Option<ExpressionNumber>, AllocError> {
+    ) -> Result<Option<ExpressionNumber>, AllocError>
+        ensures kept { OnOk result (outside self.new ≡ outside self.old) }
+        ensures ok { IfOk result (λ added. optional_in (layout_view storage.now) (walk_of self.old) (option_map expression_view expression.now)
+            ≡ (walk_of self.new, added)) }
+    {
         match expression {
-            Some(expression) => Ok(Some(self.value(expression)?)),
+            Some(expression) => Ok(Some(self.value(storage, expression)?)),
             None => Ok(None),
         }
     }
 
     // Adds a statement after its parts.
+    #[tactic(auto, using(crate::proofs::PutNodes::outside_statements))]
     fn add(
         &mut self,
         statement: Statement,
         reaches_its_end: bool,
-    ) -> Result<AddedStatement, AllocError> {
+    ) -> Result<AddedStatement, AllocError>
+        ensures kept { OnOk result (outside self.new ≡ outside self.old) }
+        ensures ok { IfOk result (λ added. put_statement (walk_of self.old) statement reaches_its_end
+            ≡ (walk_of self.new, added)) }
+    {
         let number = self.tree.add_statement(statement)?;
         Ok(AddedStatement {
             number,
@@ -61,41 +91,88 @@ impl Lowering {
     }
 
     // The height of a target that is added.
-    fn target_height(&self, target: &Target) -> u16 {
+    fn target_height(&self, target: &Target) -> u16
+        ensures { result ≡ height_of_target (nodes_of self.now.tree) target.now }
+    {
         height_of_target(&self.tree, target)
     }
 
     // The height of a call with arguments that are added.
-    fn call_height(&self, arguments: Range) -> u16 {
+    fn call_height(&self, arguments: Range) -> u16
+        ensures { result ≡ height_of_call (nodes_of self.now.tree) arguments }
+    {
         height_of_call(&self.tree, arguments)
     }
 
-    // Adds targets in a row.
-    fn targets(&mut self, targets: &[TypedTarget]) -> Result<Range, AllocError> {
+    // Adds the parts of a target.
+    fn goal(&mut self, storage: &Layout, target: &TypedTarget) -> Result<Target, AllocError>
+        ensures kept { OnOk result (outside self.new ≡ outside self.old) }
+        ensures ok { IfOk result (λ added. goal_with (walk_of self.old)
+            (target_in (layout_view storage.now) (nodes_of self.old.tree) (target_view target.now))
+            ≡ (walk_of self.new, added)) }
+    {
+        let target = self.target(storage, target)?;
+        let height = self.target_height(&target);
+        self.note_height(height);
+        Ok(target)
+    }
+
+    // Adds the parts of targets in a row.
+    fn goals(
+        &mut self,
+        storage: &Layout,
+        targets: &[TypedTarget],
+    ) -> Result<Vec<Target>, AllocError>
+        ensures kept { OnOk result (outside self.new ≡ outside self.old) }
+        ensures ok { IfOk result (λ added. goals_in (layout_view storage.now) (walk_of self.old) (map target_view targets.now)
+            ≡ (walk_of self.new, added.items)) }
+    {
         let mut added = Vec::with_capacity(self.alloc, targets.len())?;
         for target in targets {
-            let target = self.target(target)?;
-            let height = self.target_height(&target);
-            self.note_height(height);
+            let target = self.goal(storage, target)?;
             added.push(target)?;
         }
+        Ok(added)
+    }
+
+    // Adds targets in a row.
+    #[tactic(auto, using(crate::proofs::PutNodes::outside_targets))]
+    fn targets(&mut self, storage: &Layout, targets: &[TypedTarget]) -> Result<Range, AllocError>
+        ensures kept { OnOk result (outside self.new ≡ outside self.old) }
+        ensures ok { IfOk result (λ added. targets_in (layout_view storage.now) (walk_of self.old) (map target_view targets.now)
+            ≡ (walk_of self.new, added)) }
+    {
+        let added = self.goals(storage, targets)?;
         self.tree.add_targets(added.as_slice())
     }
 
     // Adds an assignment.
-    fn assign(&mut self, assignment: &TypedAssignment) -> Result<AddedStatement, AllocError> {
-        let value = self.value(&assignment.value)?;
-        let targets = self.targets(assignment.targets.as_slice())?;
+    fn assign(
+        &mut self,
+        storage: &Layout,
+        assignment: &TypedAssignment,
+    ) -> Result<AddedStatement, AllocError>
+        ensures kept { OnOk result (outside self.new ≡ outside self.old) }
+        ensures ok { IfOk result (λ added. assigned_in (layout_view storage.now) (walk_of self.old) (map target_view assignment.now.targets.items) (expression_view assignment.now.value)
+            ≡ (walk_of self.new, added)) }
+    {
+        let value = self.value(storage, &assignment.value)?;
+        let targets = self.targets(storage, assignment.targets.as_slice())?;
         self.add(Statement::Assignment { targets, value }, true)
     }
 
     // Adds a call of a procedure without a result.
     fn call(
         &mut self,
+        storage: &Layout,
         procedure: u32,
         arguments: &[TypedExpression],
-    ) -> Result<AddedStatement, AllocError> {
-        let arguments = self.arguments(arguments)?;
+    ) -> Result<AddedStatement, AllocError>
+        ensures kept { OnOk result (outside self.new ≡ outside self.old) }
+        ensures ok { IfOk result (λ added. call_in (layout_view storage.now) (walk_of self.old) procedure (arguments_view arguments.now)
+            ≡ (walk_of self.new, added)) }
+    {
+        let arguments = self.arguments(storage, arguments)?;
         let height = self.call_height(arguments);
         self.note_height(height);
         let statement = Statement::Call {
@@ -106,10 +183,18 @@ impl Lowering {
     }
 
     // Adds CALL MOVE, a call with three arguments.
-    fn move_bytes(&mut self, moved: &TypedMove) -> Result<AddedStatement, AllocError> {
-        let count = self.value(&moved.count)?;
-        let source = self.value(&moved.source)?;
-        let destination = self.value(&moved.destination)?;
+    fn move_bytes(
+        &mut self,
+        storage: &Layout,
+        moved: &TypedMove,
+    ) -> Result<AddedStatement, AllocError>
+        ensures kept { OnOk result (outside self.new ≡ outside self.old) }
+        ensures ok { IfOk result (λ added. moved_in (layout_view storage.now) (walk_of self.old) (expression_view moved.now.count) (expression_view moved.now.source) (expression_view moved.now.destination)
+            ≡ (walk_of self.new, added)) }
+    {
+        let count = self.value(storage, &moved.count)?;
+        let source = self.value(storage, &moved.source)?;
+        let destination = self.value(storage, &moved.destination)?;
         let highest = self
             .tree
             .traits(count)
@@ -128,21 +213,34 @@ impl Lowering {
     // Adds RETURN.
     fn give_back(
         &mut self,
+        storage: &Layout,
         value: &Option<Box<TypedExpression>>,
-    ) -> Result<AddedStatement, AllocError> {
+    ) -> Result<AddedStatement, AllocError>
+        ensures kept { OnOk result (outside self.new ≡ outside self.old) }
+        ensures ok { IfOk result (λ added. returned_in (layout_view storage.now) (walk_of self.old) (option_map (λ held. expression_view held.value) value.now)
+            ≡ (walk_of self.new, added)) }
+    {
         let value = match value {
-            Some(value) => Some(self.value(value)?),
+            Some(value) => Some(self.value(storage, value)?),
             None => None,
         };
         self.add(Statement::Return(value), false)
     }
 
     // Adds the expressions of the head of an iterative DO.
-    fn iteration(&mut self, head: &TypedIteration) -> Result<Iteration, AllocError> {
+    fn iteration(
+        &mut self,
+        storage: &Layout,
+        head: &TypedIteration,
+    ) -> Result<Iteration, AllocError>
+        ensures kept { OnOk result (outside self.new ≡ outside self.old) }
+        ensures ok { IfOk result (λ added. iteration_in (layout_view storage.now) (walk_of self.old) (iteration_view head.now)
+            ≡ (walk_of self.new, added)) }
+    {
         self.note_height(1);
-        let first = self.value(&head.first)?;
-        let last = self.value(&head.last)?;
-        let step = self.value_if_any(&head.step)?;
+        let first = self.value(storage, &head.first)?;
+        let last = self.value(storage, &head.last)?;
+        let step = self.value_if_any(storage, &head.step)?;
         Ok(Iteration {
             variable: head.variable,
             scalar: head.scalar,
@@ -154,42 +252,55 @@ impl Lowering {
 
     // Adds a statement, after its parts.
     #[cycle(statement)]
-    fn statement(&mut self, statement: &TypedStatement) -> Result<AddedStatement, AllocError> {
+    #[tactic(auto, using(typed_trees::specs::declared::statement::TypedStatement::the_lemmas, typed_trees::proofs::Views::statement_rows_are))]
+    fn statement(
+        &mut self,
+        storage: &Layout,
+        statement: &TypedStatement,
+    ) -> Result<AddedStatement, AllocError>
+        ensures kept { OnOk result (outside self.new ≡ outside self.old) }
+        ensures ok { IfOk result (λ added. statement_in (layout_view storage.now) (walk_of self.old) (statement_view statement.now)
+            ≡ (walk_of self.new, added)) }
+    {
         match statement {
             TypedStatement::Label(label) => {
                 let label = self.label(*label);
                 self.add(Statement::Label(label), true)
             }
             TypedStatement::Null => self.add(Statement::Null, true),
-            TypedStatement::Assignment(assignment) => self.assign(assignment),
+            TypedStatement::Assignment(assignment) => self.assign(storage, assignment),
             TypedStatement::Call {
                 procedure,
                 arguments,
-            } => self.call(*procedure, arguments.as_slice()),
-            TypedStatement::Move(moved) => self.move_bytes(moved),
-            TypedStatement::Return(value) => self.give_back(value),
+            } => self.call(storage, *procedure, arguments.as_slice()),
+            TypedStatement::Move(moved) => self.move_bytes(storage, moved),
+            TypedStatement::Return(value) => self.give_back(storage, value),
             TypedStatement::Halt => self.add(Statement::Halt, false),
             TypedStatement::Goto(label) => {
                 let label = self.label(*label);
                 self.add(Statement::Goto(label), false)
             }
-            TypedStatement::If(branch) => self.choose(branch),
+            TypedStatement::If(branch) => self.choose(storage, branch),
             TypedStatement::Do(body) => {
-                let list = self.list(body)?;
+                let list = self.list(storage, body)?;
                 self.add(Statement::Do(list.range), list.reaches_its_end)
             }
-            TypedStatement::While(turns) => self.repeat(turns),
-            TypedStatement::Iterate(turns) => self.iterate(turns),
-            TypedStatement::Case(choice) => self.choose_case(choice),
+            TypedStatement::While(turns) => self.repeat(storage, turns),
+            TypedStatement::Iterate(turns) => self.iterate(storage, turns),
+            TypedStatement::Case(choice) => self.choose_case(storage, choice),
         }
     }
 
     // Adds IF. Its end can't be reached where no end of its two statements can.
     #[cycle(statement)]
-    fn choose(&mut self, branch: &TypedIf) -> Result<AddedStatement, AllocError> {
-        let condition = self.value(&branch.condition)?;
-        let body = self.statement(&branch.body)?;
-        let otherwise = self.otherwise(&branch.otherwise)?;
+    fn choose(&mut self, storage: &Layout, branch: &TypedIf) -> Result<AddedStatement, AllocError>
+        ensures kept { OnOk result (outside self.new ≡ outside self.old) }
+        ensures ok { IfOk result (λ added. statement_in (layout_view storage.now) (walk_of self.old) (IfStatement (expression_view branch.now.condition) (statement_view branch.now.body) (else_view branch.now.otherwise))
+            ≡ (walk_of self.new, added)) }
+    {
+        let condition = self.value(storage, &branch.condition)?;
+        let body = self.statement(storage, &branch.body)?;
+        let otherwise = self.otherwise(storage, &branch.otherwise)?;
         let reaches_its_end = match otherwise {
             Some(otherwise) => body.reaches_its_end || otherwise.reaches_its_end,
             None => true,
@@ -209,23 +320,39 @@ impl Lowering {
     #[cycle(statement)]
     fn otherwise(
         &mut self,
+        storage: &Layout,
         otherwise: &Option<TypedStatement>,
-    ) -> Result<Option<AddedStatement>, AllocError> {
+    ) -> Result<Option<AddedStatement>, AllocError>
+        ensures kept { OnOk result (outside self.new ≡ outside self.old) }
+        ensures ok { IfOk result (λ added. else_in (layout_view storage.now) (walk_of self.old) (else_view otherwise.now)
+            ≡ (walk_of self.new, added)) }
+    {
         match otherwise {
-            Some(statement) => Ok(Some(self.statement(statement)?)),
+            Some(statement) => Ok(Some(self.statement(storage, statement)?)),
             None => Ok(None),
+        }
+    }
+
+    // Whether a loop with a condition can end: not where the condition is known and true.
+    fn ends(&self, condition: ExpressionNumber) -> bool
+        ensures { result ≡ ends_by (number_at (nodes_of self.now.tree) condition) }
+    {
+        match self.tree.number(condition) {
+            Some(number) => !holds(number),
+            None => true,
         }
     }
 
     // Adds DO WHILE. Its end can't be reached where the condition is known and true.
     #[cycle(statement)]
-    fn repeat(&mut self, turns: &TypedWhile) -> Result<AddedStatement, AllocError> {
-        let condition = self.value(&turns.condition)?;
-        let body = self.list(&turns.body)?;
-        let reaches_its_end = match self.tree.number(condition) {
-            Some(number) => !holds(number),
-            None => true,
-        };
+    fn repeat(&mut self, storage: &Layout, turns: &TypedWhile) -> Result<AddedStatement, AllocError>
+        ensures kept { OnOk result (outside self.new ≡ outside self.old) }
+        ensures ok { IfOk result (λ added. statement_in (layout_view storage.now) (walk_of self.old) (WhileStatement (expression_view turns.now.condition) (list_view turns.now.body))
+            ≡ (walk_of self.new, added)) }
+    {
+        let condition = self.value(storage, &turns.condition)?;
+        let body = self.list(storage, &turns.body)?;
+        let reaches_its_end = self.ends(condition);
         let statement = Statement::While {
             condition,
             body: body.range,
@@ -235,9 +362,17 @@ impl Lowering {
 
     // Adds an iterative DO.
     #[cycle(statement)]
-    fn iterate(&mut self, turns: &TypedIterate) -> Result<AddedStatement, AllocError> {
-        let head = self.iteration(&turns.head)?;
-        let body = self.list(&turns.body)?;
+    fn iterate(
+        &mut self,
+        storage: &Layout,
+        turns: &TypedIterate,
+    ) -> Result<AddedStatement, AllocError>
+        ensures kept { OnOk result (outside self.new ≡ outside self.old) }
+        ensures ok { IfOk result (λ added. statement_in (layout_view storage.now) (walk_of self.old) (IterateStatement (iteration_view turns.now.head) (list_view turns.now.body))
+            ≡ (walk_of self.new, added)) }
+    {
+        let head = self.iteration(storage, &turns.head)?;
+        let body = self.list(storage, &turns.body)?;
         let statement = Statement::Iterate {
             head,
             body: body.range,
@@ -247,9 +382,17 @@ impl Lowering {
 
     // Adds DO CASE.
     #[cycle(statement)]
-    fn choose_case(&mut self, choice: &TypedCase) -> Result<AddedStatement, AllocError> {
-        let number = self.value(&choice.choice)?;
-        let body = self.statements(choice.body.as_slice())?;
+    fn choose_case(
+        &mut self,
+        storage: &Layout,
+        choice: &TypedCase,
+    ) -> Result<AddedStatement, AllocError>
+        ensures kept { OnOk result (outside self.new ≡ outside self.old) }
+        ensures ok { IfOk result (λ added. statement_in (layout_view storage.now) (walk_of self.old) (CaseStatement (expression_view choice.now.choice) (statements_view choice.now.body.items))
+            ≡ (walk_of self.new, added)) }
+    {
+        let number = self.value(storage, &choice.choice)?;
+        let body = self.statements(storage, choice.body.as_slice())?;
         let statement = Statement::Case {
             choice: number,
             body: body.range,
@@ -259,18 +402,34 @@ impl Lowering {
 
     /// Adds a list of statements, with its labels.
     #[cycle(statement)]
-    pub(crate) fn list(&mut self, list: &TypedList) -> Result<AddedList, AllocError> {
+    pub(crate) fn list(
+        &mut self,
+        storage: &Layout,
+        list: &TypedList,
+    ) -> Result<AddedList, AllocError>
+        ensures kept { OnOk result (outside self.new ≡ outside self.old) }
+        ensures ok { IfOk result (λ added. list_in (layout_view storage.now) (walk_of self.old) (list_view list.now)
+            ≡ (walk_of self.new, added)) }
+    {
         self.number_labels(list.first_label, list.places.len())?;
-        self.statements(list.statements.as_slice())
+        self.statements(storage, list.statements.as_slice())
     }
 
     // Adds statements in a row. Their end can be reached where that of the last one can.
     #[cycle(statement)]
-    fn statements(&mut self, statements: &[TypedStatement]) -> Result<AddedList, AllocError> {
+    fn statements(
+        &mut self,
+        storage: &Layout,
+        statements: &[TypedStatement],
+    ) -> Result<AddedList, AllocError>
+        ensures kept { OnOk result (outside self.new ≡ outside self.old) }
+        ensures ok { IfOk result (λ added. statements_in (layout_view storage.now) (walk_of self.old) (statements_view statements.now)
+            ≡ (walk_of self.new, added)) }
+    {
         let mut numbers = Vec::with_capacity(self.alloc, statements.len())?;
         let mut reaches_its_end = true;
         for statement in statements {
-            let added = self.statement(statement)?;
+            let added = self.statement(storage, statement)?;
             numbers.push(added.number)?;
             reaches_its_end = added.reaches_its_end;
         }

@@ -1,0 +1,44 @@
+-- The arguments of a call, one by one.
+use Rattle.std.proofs.Common.{◌≡◌, ℕ, ◌+◌, ◌<◌, ◌≤◌, List, [], ◌∷◌, ◌++◌, length, drop, get_or, ap, sym, ◌∙◌}
+use Rattle.std.proofs.lemmas.List.{append_assoc, append-nil}
+use Rattle.typed_trees.specs.declared.expression.TypedExpression.{TypedExpression}
+use Rattle.typed_trees.specs.Views.{arguments_view, expression_view}
+use Rattle.layout.specs.Storage.{Storage}
+use Rattle.treecode.specs.declared.expression.ExpressionNumber.{ExpressionNumber}
+use Rattle.treecode.specs.Nodes.{Nodes}
+use Rattle.treecode.specs.internal.Adding.{expression_in, numbers_in, with_both, with_item}
+use Rattle.treecode.proofs.Items.{at_item, at_end}
+
+-- numbers after others
+abbrev pub after_numbers : List ExpressionNumber → List ExpressionNumber → List ExpressionNumber
+after_numbers before more = before ++ more
+
+module _ (storage : Storage) (nodes : Nodes) (numbers : List ExpressionNumber)
+    (total : Nodes × List ExpressionNumber) (arguments : List TypedExpression) (i : ℕ)
+    (rest : with_item (after_numbers numbers) (numbers_in storage nodes (arguments_view (drop i arguments))) ≡ total) where
+  pub argument_added : (argument : TypedExpression) (now : Nodes) (number : ExpressionNumber)
+      (pushed : List ExpressionNumber)
+      → i < length arguments → argument ≡ get_or arguments i argument
+      → expression_in storage nodes (expression_view argument) ≡ (now, number)
+      → pushed ≡ numbers ++ number ∷ []
+      → with_item (after_numbers pushed)
+      (numbers_in storage now (arguments_view (drop (i + 1) arguments))) ≡ total
+  argument_added argument now number pushed within is given push =
+      ap (λ (all : List ExpressionNumber). with_item (after_numbers all) left) push
+      ∙ ap (λ (more : List ExpressionNumber). (left.0, more)) (append_assoc numbers (number ∷ []) left.1)
+      ∙ sym (ap (λ (made : Nodes × ExpressionNumber). with_item (after_numbers numbers)
+      (with_both (λ one more. one ∷ more) made
+      (λ (given : Nodes). numbers_in storage given (arguments_view (drop (i + 1) arguments))))) given)
+      ∙ sym (at_item (λ all. with_item (after_numbers numbers) (numbers_in storage nodes (arguments_view all)))
+      arguments i argument within is)
+      ∙ rest
+    where
+      left : Nodes × List ExpressionNumber
+      left = numbers_in storage now (arguments_view (drop (i + 1) arguments))
+
+  pub arguments_all_added : length arguments ≤ i → (nodes, numbers) ≡ total
+  arguments_all_added past =
+      ap (λ (all : List ExpressionNumber). (nodes, all)) (sym (append-nil numbers))
+      ∙ sym (at_end (λ all. with_item (after_numbers numbers) (numbers_in storage nodes (arguments_view all)))
+      arguments i past)
+      ∙ rest

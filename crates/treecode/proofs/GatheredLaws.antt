@@ -1,0 +1,98 @@
+-- The EXTERNAL names that are gathered are those of the module, and each is found by its number.
+use Rattle.std.proofs.Common.{◌≡◌, ◌⊎◌, ℕ, suc, ◌+◌, ◌<◌, ◌≤◌, Bool, true, false, List, [], ◌∷◌, ◌++◌, length, drop, get_or, Option, Some, None, is_some, filter_map, ◌==◌, ◌≢◌, cond, inl, inr, refl, sym, ap, ◌∙◌}
+use Rattle.std.specs.List.{cons_option}
+use Rattle.std.proofs.lemmas.Bool.Decides.{eqb_tells}
+use Rattle.std.proofs.lemmas.List.{append_assoc, append-nil}
+use Rattle.typed_trees.specs.declared.parts.GlobalItem.{GlobalItem}
+use Rattle.typed_trees.specs.declared.parts.GlobalItem.TheVariants.{GlobalObject, GlobalProcedure}
+use Rattle.typed_trees.specs.TypedTrees.{TypedModule}
+use Rattle.treecode.specs.declared.module.ExternalName.{ExternalName}
+use Rattle.treecode.specs.Homes.{external_from, external_name, external_number, externals_of, is_global_object, is_global_procedure, latest}
+use Rattle.treecode.specs.internal.Gathered.{Gathered, all_gathered, none_gathered, with_external, with_external_object, with_external_procedure}
+use Rattle.treecode.specs.internal.Numbers.{number_in, with_number}
+use Rattle.treecode.proofs.AddedExpressions.{one_more}
+use Rattle.treecode.proofs.Items.{at_item, at_end}
+use Rattle.treecode.proofs.LabelNumbers.{same_number, same_or_other}
+
+-- one item more, or none
+pub item_gathered : (typed : TypedModule) (now next total : Gathered) (items : List GlobalItem) (i : ℕ)
+    (item : GlobalItem)
+    → all_gathered typed now (drop i items) ≡ total
+    → i < length items → item ≡ get_or items i item
+    → next ≡ with_external typed now item
+    → all_gathered typed next (drop (i + 1) items) ≡ total
+item_gathered typed now next total items i item rest within is made =
+    ap (λ (one : Gathered). all_gathered typed one (drop (i + 1) items)) made
+    ∙ sym (at_item (λ all. all_gathered typed now all) items i item within is)
+    ∙ rest
+
+pub items_gathered : (typed : TypedModule) (now total : Gathered) (items : List GlobalItem) (i : ℕ)
+    → all_gathered typed now (drop i items) ≡ total → length items ≤ i → now ≡ total
+items_gathered typed now total items i rest past =
+    sym (at_end (λ all. all_gathered typed now all) items i past) ∙ rest
+
+-- a name, if there is one
+abbrev named : Option ExternalName → List ExternalName
+named None = []
+named (Some name) = name ∷ []
+
+named_first : (name : Option ExternalName) (rest : List ExternalName) → named name ++ rest ≡ cons_option name rest
+named_first None rest = refl
+named_first (Some name) rest = refl
+
+object_names : (before : Gathered) (number : ℕ) (name : Option ExternalName)
+    → (with_external_object before number name).names ≡ before.names ++ named name
+object_names before number None = sym (append-nil before.names)
+object_names before number (Some name) = refl
+
+procedure_names : (before : Gathered) (number : ℕ) (name : Option ExternalName)
+    → (with_external_procedure before number name).names ≡ before.names ++ named name
+procedure_names before number None = sym (append-nil before.names)
+procedure_names before number (Some name) = refl
+
+item_names : (typed : TypedModule) (before : Gathered) (item : GlobalItem)
+    → (with_external typed before item).names ≡ before.names ++ named (external_name typed item)
+item_names typed before (GlobalObject number) =
+    object_names before number (external_name typed (GlobalObject number))
+item_names typed before (GlobalProcedure number) =
+    procedure_names before number (external_name typed (GlobalProcedure number))
+
+names_from : (typed : TypedModule) (before : Gathered) (items : List GlobalItem)
+    → (all_gathered typed before items).names ≡ before.names ++ filter_map (external_name typed) items
+names_from typed before [] = sym (append-nil before.names)
+names_from typed before (item ∷ others) =
+    names_from typed (with_external typed before item) others
+    ∙ ap (λ (names : List ExternalName). names ++ filter_map (external_name typed) others)
+    (item_names typed before item)
+    ∙ append_assoc before.names (named (external_name typed item)) (filter_map (external_name typed) others)
+    ∙ ap (λ (names : List ExternalName). before.names ++ names)
+    (named_first (external_name typed item) (filter_map (external_name typed) others))
+
+-- the names that are gathered are those of the module
+pub names_gathered : (typed : TypedModule)
+    → (all_gathered typed none_gathered typed.globals).names ≡ externals_of typed
+names_gathered typed = names_from typed none_gathered typed.globals
+
+latest_group : (one two three : Option ℕ) → latest (latest one two) three ≡ latest one (latest two three)
+latest_group one two None = refl
+latest_group one two (Some three) = refl
+
+-- what is found with one number more
+found_with : (entries : List (Option ℕ)) (index number other : ℕ)
+    → number_in (with_number entries index number) other
+    ≡ latest (number_in entries other) (cond (index == other) (Some number) None)
+found_with entries index number other = by_test (eqb_tells index other)
+  where
+    by_test : ((index == other) ≡ true) × (index ≡ other) ⊎ ((index == other) ≡ false) × (index ≢ other)
+        → number_in (with_number entries index number) other
+        ≡ latest (number_in entries other) (cond (index == other) (Some number) None)
+    by_test (inl same) =
+        ap (λ (one : ℕ). number_in (with_number entries index number) one) (sym same.1)
+        ∙ same_number entries index number
+        ∙ sym (ap (λ (test : Bool). latest (number_in entries other) (cond test (Some number) None)) same.0)
+    by_test (inr differs) =
+        elim (same_or_other entries index number other) [
+          | inl same ↦ absurd (differs.1 same)
+          | inr found ↦ found
+              ∙ sym (ap (λ (test : Bool). latest (number_in entries other) (cond test (Some number) None)) differs.0)
+        ]

@@ -1,0 +1,9 @@
+use Rattle.std.proofs.Common.{◌≡◌, drop}
+use Rattle.typed_trees.specs.Views.{module_view}
+use Rattle.treecode.specs.internal.Gathered.{all_gathered, gathered_view, none_gathered}
+use Rattle.treecode.proofs.globals.externals_of.Given as goal
+
+abbrev pub invariant-loop-item : goal.invariant-loop-item
+invariant-loop-item l =
+    all_gathered (module_view l.typed) (gathered_view l.externals) (drop l.item-index l.typed.globals.items)
+    ≡ all_gathered (module_view l.typed) none_gathered l.typed.globals.items

@@ -1,0 +1,11 @@
+use Rattle.std.proofs.Common.{◌≡◌, ◌++◌, drop, filter_map}
+use Rattle.typed_trees.specs.Views.{module_view}
+use Rattle.treecode.specs.Contents.{public_item}
+use Rattle.treecode.specs.Nodes.{nodes_of}
+use Rattle.treecode.proofs.globals.publics_of.Given as goal
+
+abbrev pub invariant-loop-item : goal.invariant-loop-item
+invariant-loop-item l =
+    l.publics.items
+    ++ filter_map (public_item (module_view l.typed) (nodes_of l.tree).homes) (drop l.item-index l.typed.globals.items)
+    ≡ filter_map (public_item (module_view l.typed) (nodes_of l.tree).homes) l.typed.globals.items

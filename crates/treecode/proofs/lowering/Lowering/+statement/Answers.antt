@@ -1,0 +1,97 @@
+use Rattle.std.proofs.Common.{◌≡◌, List, rules, ap, sym, ◌∙◌, true, arith}
+use Rattle.typed_trees.specs.TypedTrees.{CaseStatement, DoStatement, IterateStatement, WhileStatement}
+use Rattle.typed_trees.specs.Views.{expression_view, iteration_view, list_view, statement_view, statements_view}
+use Rattle.layout.specs.Views.{layout_view}
+use Rattle.treecode.specs.declared.statement.StatementNumber.{StatementNumber}
+use Rattle.treecode.specs.internal.Beside.{walk_of}
+use Rattle.treecode.specs.internal.Walking.{items_in, statements_in}
+use Rattle.treecode.proofs.PutNodes.{list_put, outside_lists}
+use Rattle.treecode.proofs.StatementLoops.{items_all_added}
+use Rattle.treecode.proofs.StatementViews.{case_returned, case_view, do_returned, do_view, iterate_returned, iterate_view, view_returned, while_returned, while_view}
+use Rattle.treecode.proofs.lowering.Lowering.+statement.Goals as goal
+
+pub choose_case-returns-clause-ok : goal.choose_case-returns-clause-ok
+choose_case-returns-clause-ok t c =
+    case_returned c.add.result (layout_view c.args.storage.now) (walk_of c.args.self.now) _
+    (expression_view c.args.choice.now.choice) (statements_view c.args.choice.now.body.items)
+    (walk_of c.value.new.self) c.in_ok-number.number (walk_of c.statements.new.self) c.in_ok-body.body
+    c.in_ok-number.ensures.ok
+    (ap (λ all. statements_in (layout_view c.args.storage.now) (walk_of c.value.new.self) (statements_view all))
+    (sym c.as_slice.ensures.value)
+    ∙ c.in_ok-body.ensures.ok)
+    c.add.ensures.ok
+
+pub iterate-returns-clause-ok : goal.iterate-returns-clause-ok
+iterate-returns-clause-ok t c =
+    iterate_returned c.add.result (layout_view c.args.storage.now) (walk_of c.args.self.now) _
+    (iteration_view c.args.turns.now.head) (list_view c.args.turns.now.body)
+    (walk_of c.iteration.new.self) c.in_ok-head.head (walk_of c.list.new.self) c.in_ok-body.body
+    c.in_ok-head.ensures.ok c.in_ok-body.ensures.ok c.add.ensures.ok
+
+pub repeat-returns-clause-ok : goal.repeat-returns-clause-ok
+repeat-returns-clause-ok t c =
+    while_returned c.add.result (layout_view c.args.storage.now) (walk_of c.args.self.now) _
+    (expression_view c.args.turns.now.condition) (list_view c.args.turns.now.body)
+    (walk_of c.value.new.self) c.in_ok-condition.condition (walk_of c.list.new.self) c.in_ok-body.body
+    c.ends-reaches_its_end.result c.in_ok-condition.ensures.ok c.in_ok-body.ensures.ok
+    c.ends-reaches_its_end.ensures c.add.ensures.ok
+
+pub statement-returns-in_ok-list-in-Do-clause-ok : goal.statement-returns-in_ok-list-in-Do-clause-ok
+statement-returns-in_ok-list-in-Do-clause-ok t c =
+    let held : c.deref-in-Do.result.now ≡ c.in-Do.body.value = search (rules, c.deref-in-Do.ensures) in
+    do_returned c.add-in-Do.result (layout_view c.args.storage.now) (walk_of c.args.self.now)
+    (walk_of c.add-in-Do.new.self) c.args.statement.now
+    (list_view c.deref-in-Do.result.now) (walk_of c.list.new.self) c.in_ok-list-in-Do.list
+    (ap statement_view c.in-Do.is ∙ do_view c.in-Do.body ∙ ap (λ list. DoStatement (list_view list)) (sym held))
+    c.in_ok-list-in-Do.ensures.ok c.add-in-Do.ensures.ok
+
+pub statement-returns-in-While-clause-ok : goal.statement-returns-in-While-clause-ok
+statement-returns-in-While-clause-ok t c =
+    let held : c.deref-in-While.result.now ≡ c.in-While.turns.value = search (rules, c.deref-in-While.ensures) in
+    view_returned c.repeat.result (layout_view c.args.storage.now) (walk_of c.args.self.now)
+    (walk_of c.repeat.new.self) c.args.statement.now
+    (WhileStatement (expression_view c.deref-in-While.result.now.condition)
+    (list_view c.deref-in-While.result.now.body))
+    (ap statement_view c.in-While.is ∙ while_view c.in-While.turns
+    ∙ ap (λ one. WhileStatement (expression_view one.condition) (list_view one.body)) (sym held))
+    c.repeat.ensures.ok
+
+pub statement-returns-in-Iterate-clause-ok : goal.statement-returns-in-Iterate-clause-ok
+statement-returns-in-Iterate-clause-ok t c =
+    let held : c.deref-in-Iterate.result.now ≡ c.in-Iterate.turns.value = search (rules, c.deref-in-Iterate.ensures) in
+    view_returned c.iterate.result (layout_view c.args.storage.now) (walk_of c.args.self.now)
+    (walk_of c.iterate.new.self) c.args.statement.now
+    (IterateStatement (iteration_view c.deref-in-Iterate.result.now.head)
+    (list_view c.deref-in-Iterate.result.now.body))
+    (ap statement_view c.in-Iterate.is ∙ iterate_view c.in-Iterate.turns
+    ∙ ap (λ one. IterateStatement (iteration_view one.head) (list_view one.body)) (sym held))
+    c.iterate.ensures.ok
+
+pub statement-returns-in-Case-clause-ok : goal.statement-returns-in-Case-clause-ok
+statement-returns-in-Case-clause-ok t c =
+    let held : c.deref-in-Case.result.now ≡ c.in-Case.choice.value = search (rules, c.deref-in-Case.ensures) in
+    view_returned c.choose_case.result (layout_view c.args.storage.now) (walk_of c.args.self.now)
+    (walk_of c.choose_case.new.self) c.args.statement.now
+    (CaseStatement (expression_view c.deref-in-Case.result.now.choice)
+    (statements_view c.deref-in-Case.result.now.body.items))
+    (ap statement_view c.in-Case.is ∙ case_view c.in-Case.choice
+    ∙ ap (λ one. CaseStatement (expression_view one.choice) (statements_view one.body.items)) (sym held))
+    c.choose_case.ensures.ok
+
+pub statements-returns-clause-kept : goal.statements-returns-clause-kept
+statements-returns-clause-kept t c =
+    outside_lists c.loop-statement.self c.add_list.new.self c.add_list.ensures.kept ∙ (c.loop-statement.invariant).0
+
+pub statements-returns-clause-ok : goal.statements-returns-clause-ok
+statements-returns-clause-ok t c =
+    list_put c.loop-statement.self c.add_list.new.self
+    (items_in (layout_view c.args.storage.now) (walk_of c.args.self.now) true (statements_view c.args.statements.now))
+    c.as_slice.result.now c.loop-statement.reaches_its_end c.in_ok-range.range
+    (sym
+    (items_all_added (layout_view c.args.storage.now) (walk_of c.loop-statement.self) c.loop-statement.reaches_its_end
+    c.loop-statement.numbers.items _ c.args.statements.now c.loop-statement.statement-index
+    (c.loop-statement.invariant).1 (omega arith))
+    ∙ ap (λ (all : List StatementNumber).
+    (walk_of c.loop-statement.self, record { numbers = all; reaches_its_end = c.loop-statement.reaches_its_end }))
+    (sym c.as_slice.ensures.value))
+    c.add_list.ensures.kept c.in_ok-range.ensures.ok.0 c.in_ok-range.ensures.ok.1 c.in_ok-range.ensures.ok.2

@@ -1,0 +1,18 @@
+-- Nodes that are sound, and nodes that stand after others.
+use Rattle.std.specs.Prelude.{◌≡◌, ℕ, ◌≤◌, length}
+use Rattle.treecode.specs.Nodes.{Nodes}
+use Rattle.treecode.specs.Traits.{KeepTraits}
+use Rattle.treecode.specs.internal.Growth.{Grows}
+use Rattle.treecode.specs.internal.Rising.{NumbersRise}
+
+-- nodes keep their traits, and their numbers rise
+pub record AreSound (nodes : Nodes) : Type 0 where
+  pub keeps : KeepTraits nodes
+  pub rises : NumbersRise nodes
+
+-- other nodes stand after those that there were, and all are sound
+pub record Leads (before after : Nodes) : Type 0 where
+  pub grows : Grows before after
+  pub statements : length before.statements ≤ length after.statements
+  pub homes : after.homes ≡ before.homes
+  pub sound : AreSound after
