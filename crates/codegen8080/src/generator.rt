@@ -2,7 +2,7 @@
 
 use crate::statements::plan_statement;
 use asm8080::WordForm;
-use exprgen8080::{Emission, Facts, LabelNumber, Part, Step, Task};
+use exprgen8080::{Emission, Facts, LabelNumber, Part, Site, Step, Task};
 use isa8080::{Instr, Operand, Pair, Register};
 use statements8080::{Body, Plan, Planned};
 use std::alloc::{AllocError, Global};
@@ -50,6 +50,15 @@ fn is_of(fact: Option<Location>, location: Location) -> bool {
     }
 }
 
+/// Where the code of a body stands, with nothing known.
+pub(crate) fn site_of<'a>(body: &Body<'a>) -> Site<'a> {
+    Site {
+        tree: body.tree,
+        frame: body.frame,
+        facts: Facts::none(),
+    }
+}
+
 // Facts, none where the code does not come there.
 fn or_none(facts: Option<Facts>) -> Facts {
     match facts {
@@ -87,6 +96,11 @@ impl Generator {
         }
     }
 
+    // A step of the code of expressions.
+    fn add(&mut self, body: &Body<'_>, step: Step) -> Result<(), AllocError> {
+        self.emission.add(&site_of(body), step)
+    }
+
     // The place of a label to which code comes with these facts.
     fn mark(
         &mut self,
@@ -94,7 +108,7 @@ impl Generator {
         label: LabelNumber,
         facts: Option<Facts>,
     ) -> Result<(), AllocError> {
-        self.emission.step(body.tree, Step::Mark(label))?;
+        self.add(body, Step::Mark(label))?;
         self.emission.facts = or_none(facts);
         self.goes_on = facts.is_some();
         Ok(())
@@ -103,8 +117,7 @@ impl Generator {
     // A jump to a label, where the code goes on.
     fn jump_on(&mut self, body: &Body<'_>, label: LabelNumber) -> Result<(), AllocError> {
         if self.goes_on {
-            self.emission
-                .step(body.tree, Step::Jump(WordForm::Jump, label))?;
+            self.add(body, Step::Jump(WordForm::Jump, label))?;
         }
         Ok(())
     }
@@ -125,7 +138,7 @@ impl Generator {
 
     // The code of a part.
     fn part(&mut self, body: &Body<'_>, part: Part) -> Result<(), AllocError> {
-        self.emission.emit(body.tree, body.frame, part)
+        self.emission.emit(&site_of(body), part)
     }
 
     // The address of a reference comes into HL.
@@ -141,12 +154,12 @@ impl Generator {
 
     // What holds here beside what is known already.
     fn holds(&mut self, body: &Body<'_>, facts: Facts) -> Result<(), AllocError> {
-        self.emission.step(body.tree, Step::Holds(facts))
+        self.add(body, Step::Holds(facts))
     }
 
     // An instruction.
     fn plain(&mut self, body: &Body<'_>, instruction: Instr) -> Result<(), AllocError> {
-        self.emission.step(body.tree, Step::Plain(instruction))
+        self.add(body, Step::Plain(instruction))
     }
 
     // The BYTE at a location comes into A.
@@ -159,9 +172,7 @@ impl Generator {
         if let Location::Static(place) = location
             && !is_of(self.emission.facts.address_in_hl, location)
         {
-            return self
-                .emission
-                .step(body.tree, Step::Word(WordForm::LoadA, place));
+            return self.add(body, Step::Word(WordForm::LoadA, place));
         }
         self.point_to(body, reference)?;
         self.plain(body, Instr::Mov(Register::A, Operand::M))
@@ -169,7 +180,7 @@ impl Generator {
 
     // A BYTE that lies at a location comes into A.
     fn load_byte(&mut self, body: &Body<'_>, reference: Reference) -> Result<(), AllocError> {
-        let site = self.emission.site(body.tree, body.frame);
+        let site = self.emission.site(&site_of(body));
         let Some(location) = site.location_of(&reference) else {
             return Ok(());
         };
@@ -188,7 +199,7 @@ impl Generator {
 
     // An ADDRESS in memory comes into HL.
     fn load_word(&mut self, body: &Body<'_>, reference: Reference) -> Result<(), AllocError> {
-        let site = self.emission.site(body.tree, body.frame);
+        let site = self.emission.site(&site_of(body));
         let Some(location) = site.location_of(&reference) else {
             return Ok(());
         };
@@ -196,9 +207,7 @@ impl Generator {
             return Ok(());
         }
         match location {
-            Location::Static(place) => self
-                .emission
-                .step(body.tree, Step::Word(WordForm::LoadHl, place))?,
+            Location::Static(place) => self.add(body, Step::Word(WordForm::LoadHl, place))?,
             Location::Frame { .. } => self.frame_word(body, reference)?,
         }
         self.holds(
@@ -217,14 +226,6 @@ impl Generator {
         self.plain(body, Instr::Inx(Pair::Hl))?;
         self.plain(body, Instr::Mov(Register::H, Operand::M))?;
         self.plain(body, Instr::Mov(Register::L, Operand::Of(Register::A)))
-    }
-
-    // A step of the code of expressions.
-    fn code(&mut self, body: &Body<'_>, step: Step) -> Result<(), AllocError> {
-        match step {
-            Step::Part(part) => self.part(body, part),
-            step => self.emission.step(body.tree, step),
-        }
     }
 
     // Code that a label jumps back to.
@@ -247,7 +248,7 @@ impl Generator {
         waiting: Option<Facts>,
     ) -> Result<Option<Facts>, AllocError> {
         match step {
-            Planned::Code(step) => self.code(body, step)?,
+            Planned::Code(step) => self.add(body, step)?,
             Planned::LoadByte(reference) => self.load_byte(body, reference)?,
             Planned::LoadWord(reference) => self.load_word(body, reference)?,
             Planned::JumpOn(label) => self.jump_on(body, label)?,
@@ -279,7 +280,7 @@ impl Generator {
         let Some(statement) = body.tree.statement(number) else {
             return Ok(());
         };
-        let site = self.emission.site(body.tree, body.frame);
+        let site = self.emission.site(&site_of(body));
         let first = self.emission.steps.labels(0);
         self.plan.take_labels_from(first);
         plan_statement(body, &site, &mut self.plan, statement)?;

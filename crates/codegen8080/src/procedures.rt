@@ -1,6 +1,6 @@
 //! Procedures: how they take their arguments and how they return.
 
-use crate::generator::Generator;
+use crate::generator::{Generator, site_of};
 use asm8080::WordForm;
 use exprgen8080::{Facts, LabelNumber, Step};
 use frames::{FramePlan, plan as frame_plan};
@@ -291,7 +291,7 @@ fn put_own(
 ) -> Result<(), AllocError> {
     let frame = frame_plan(alloc, procedure)?;
     let body = body_of(generator, tree, procedure, &frame);
-    generator.emission.step(tree, Step::Mark(entry))?;
+    generator.emission.add(&site_of(&body), Step::Mark(entry))?;
     put_entry(generator, &body)?;
     generator.list(&body, procedure.body, u32::MAX)?;
     if procedure.reaches_its_end {
@@ -331,14 +331,13 @@ pub(crate) fn put_main(
 ) -> Result<(), AllocError> {
     let frame = FramePlan::empty(alloc);
     let body = body_of(generator, tree, &tree.main, &frame);
-    generator.emission.step(tree, Step::Mark(entry))?;
+    generator.emission.add(&site_of(&body), Step::Mark(entry))?;
     generator
         .emission
         .writer
         .stack_end(WordForm::LoadPair(Pair::Sp))?;
     generator.list(&body, tree.main.body, u32::MAX)?;
-    if tree.main.reaches_its_end {
-        generator.emission.step(tree, Step::Plain(Instr::Hlt))?;
-    }
-    Ok(())
+    generator
+        .emission
+        .add(&site_of(&body), Step::Plain(Instr::Hlt))
 }

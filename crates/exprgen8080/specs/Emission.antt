@@ -14,6 +14,7 @@ use Rattle.runtime8080.specs.declared.routine.Routine.TheVariants as routines
 use Rattle.treecode.specs.declared.place.Place.{Place}
 use Rattle.treecode.specs.declared.procedure.ProcedureKind.{ProcedureKind}
 use Rattle.treecode.specs.declared.procedure.ProcedureKind.TheVariants as kinds
+use Rattle.treecode.specs.declared.module.TreeModule.{TreeModule}
 use Rattle.treecode.specs.declared.procedure.TreeProcedure.{TreeProcedure}
 use Rattle.steps8080.specs.declared.facts.Facts.{Facts}
 use Rattle.steps8080.specs.declared.step.LabelNumber.{LabelNumber}
@@ -38,10 +39,16 @@ index_of_routine routines.RotateLeft = 6
 index_of_routine routines.RotateRight = 7
 index_of_routine routines.Move = 8
 
--- the label of a routine, after those of the procedures of the module
+-- the label of a routine of an index, after those of the procedures of the module
+abbrev pub module_routine_label : TreeModule → (index : ℕ) → LabelNumber
+module_routine_label tree index = label_of (label_after (length tree.procedures.items) index)
+
+abbrev pub module_label_of_routine : TreeModule → Routine → LabelNumber
+module_label_of_routine tree routine = module_routine_label tree (index_of_routine routine)
+
+-- the label of a routine in the module of a site
 abbrev pub label_of_routine : Site → Routine → LabelNumber
-label_of_routine site routine =
-    label_of (label_after (length site.tree.now.procedures.items) (index_of_routine routine))
+label_of_routine site routine = module_label_of_routine site.tree.now routine
 
 -- whether a table of routines has one
 abbrev pub has_routine : (called : List Bool) → Routine → Bool
@@ -56,11 +63,14 @@ abbrev pub items_of_call : (procedure : ℕ) → ProcedureKind → List Item
 items_of_call procedure (kinds.External name) = external_call_item name ∷ []
 items_of_call procedure kind = jump_item CallTo (label_of procedure) ∷ []
 
-abbrev pub call_items : Site → (procedure : ℕ) → List Item
-call_items site procedure = elim (slice_get site.tree.now.procedures.items procedure) [
+abbrev pub module_call_items : TreeModule → (procedure : ℕ) → List Item
+module_call_items tree procedure = elim (slice_get tree.procedures.items procedure) [
   | Some found ↦ items_of_call procedure found.kind
   | None ↦ []
 ]
+
+abbrev pub call_items : Site → (procedure : ℕ) → List Item
+call_items site procedure = module_call_items site.tree.now procedure
 
 -- the test of A
 abbrev pub test_of_a : Instr

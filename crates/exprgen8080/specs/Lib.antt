@@ -9,3 +9,4 @@ pub mod Words
 pub mod Effects
 pub mod Forms
 pub mod Emission
+pub mod Emitted

@@ -1,8 +1,15 @@
 //! Planned code as it is written.
 
+ghost use Rattle.std.specs.Prelude.{◌≡◌, ◌∷◌, ◌<◌, [], true, false, slice_index_or, IfOk, OnOk};
+ghost use Rattle.asm8080.specs.declared.item.Item.TheVariants.{Plain, Mark};
+ghost use Rattle.asm8080.specs.declared.item.WordForm.TheVariants.{CallTo};
+ghost use Rattle.steps8080.specs.Facts.{after, after_form, after_word, no_facts};
+ghost use Rattle.steps8080.specs.Writer.{jump_item, word_item};
+ghost use Rattle.exprgen8080.specs.Emission.{after_test, has_routine, index_of_routine, knowing, module_call_items, module_label_of_routine, module_routine_label, test_items};
+ghost use Rattle.exprgen8080.specs.Emitted.{AddsItems, Emits, EmitsSteps, HasAll, IsAlone, IsEmpty, after_step, step_items};
+
 use crate::forms::plan_task;
 use asm8080::WordForm;
-use frames::FramePlan;
 use isa8080::{Instr, Operand, Operation, Register};
 use runtime8080::Routine;
 use sites8080::Site;
@@ -24,7 +31,9 @@ pub const ROUTINES: [Routine; 9] = [
 ];
 
 // The place of a routine among them.
-fn routine_index(routine: Routine) -> u32 {
+fn routine_index(routine: Routine) -> u32
+    ensures { result ≡ index_of_routine routine }
+{
     match routine {
         Routine::Multiply => 0,
         Routine::Divide => 1,
@@ -49,7 +58,9 @@ pub struct Emission {
 
 impl Emission {
     /// No code of a module. The first labels are those of its procedures and of the routines.
-    pub fn new(alloc: Global, tree: &TreeModule) -> Result<Emission, AllocError> {
+    pub fn new(alloc: Global, tree: &TreeModule) -> Result<Emission, AllocError>
+        ensures { IfOk result (λ emission. IsEmpty tree.now emission) }
+    {
         let procedures = u32::try_from(tree.procedures.len()).unwrap_or(u32::MAX);
         Ok(Emission {
             writer: Writer::new(alloc, tree.externals.len())?,
@@ -60,7 +71,10 @@ impl Emission {
     }
 
     /// The code, and of each routine whether the code calls it.
-    pub fn into_code(self) -> (Writer, Vec<bool>) {
+    pub fn into_code(self) -> (Writer, Vec<bool>)
+        ensures writer { result.0 ≡ self.writer }
+        ensures called { result.1 ≡ self.is_called }
+    {
         let Emission {
             writer,
             steps: _,
@@ -70,61 +84,95 @@ impl Emission {
         (writer, is_called)
     }
 
-    /// Where code stands at its end.
-    pub fn site<'a>(&self, tree: &'a TreeModule, frame: &'a FramePlan) -> Site<'a> {
+    /// Where code stands at its end, in a body with this site.
+    pub fn site<'a>(&self, site: &Site<'a>) -> Site<'a>
+        ensures { result ≡ knowing site.now self.now.facts }
+    {
         Site {
-            tree,
-            frame,
+            tree: site.tree,
+            frame: site.frame,
             facts: self.facts,
         }
     }
 
     // Adds an instruction.
-    fn plain(&mut self, instruction: Instr) -> Result<(), AllocError> {
+    fn plain(&mut self, instruction: Instr) -> Result<(), AllocError>
+        ensures { OnOk result (AddsItems self.old self.new
+            (Plain instruction ∷ []) (after self.old.facts instruction)) }
+    {
         self.facts = self.facts.after(instruction);
         self.writer.plain(instruction)
     }
 
     // Adds an instruction with a word.
-    fn word(&mut self, form: WordForm, place: Place) -> Result<(), AllocError> {
+    fn word(&mut self, form: WordForm, place: Place) -> Result<(), AllocError>
+        ensures { OnOk result (AddsItems self.old self.new
+            (word_item form place ∷ []) (after_word self.old.facts form place)) }
+    {
         self.facts = self.facts.after_word(form, place);
         self.writer.word(form, place)
     }
 
     // Adds a jump, or another instruction with the place of a label.
-    fn jump(&mut self, form: WordForm, label: LabelNumber) -> Result<(), AllocError> {
+    fn jump(&mut self, form: WordForm, label: LabelNumber) -> Result<(), AllocError>
+        ensures { OnOk result (AddsItems self.old self.new
+            (jump_item form label ∷ []) (after_form self.old.facts form)) }
+    {
         self.facts = self.facts.after_form(form);
         self.writer.jump(form, label)
     }
 
     // Gives a label its place here, to which code may jump from anywhere.
-    fn mark(&mut self, label: LabelNumber) -> Result<(), AllocError> {
+    fn mark(&mut self, label: LabelNumber) -> Result<(), AllocError>
+        ensures { OnOk result (AddsItems self.old self.new (Mark label.index ∷ []) no_facts) }
+    {
         self.facts = Facts::none();
         self.writer.mark(label)
     }
 
     // Adds a test of A, where the zero flag does not show yet whether it is 0.
-    fn test_a(&mut self) -> Result<(), AllocError> {
+    fn test_a(&mut self) -> Result<(), AllocError>
+        ensures { OnOk result (AddsItems self.old self.new
+            (test_items self.old.facts) (after_test self.old.facts)) }
+    {
         if self.facts.zero_shows_a {
             return Ok(());
         }
         self.plain(Instr::Accumulate(Operation::Or, Operand::Of(Register::A)))
     }
 
-    // Adds a call of a routine.
-    fn call_routine(&mut self, tree: &TreeModule, routine: Routine) -> Result<(), AllocError> {
-        let index = routine_index(routine);
-        if let Some(is_called) = self.is_called.get_mut(index as usize) {
-            *is_called = true;
+    // Notes that the code calls a routine, by its place among them.
+    #[tactic(auto, using(crate::proofs::Emitting::note_kept))]
+    fn note(&mut self, index: usize) -> Result<(), AllocError>
+        ensures noted { OnOk result (slice_index_or self.new.is_called.items index false ≡ true) }
+        ensures kept { OnOk result (HasAll self.old.is_called.items self.new.is_called.items) }
+        ensures called { self.new ≡ record self.old { is_called = self.new.is_called } }
+    {
+        if index >= self.is_called.len() {
+            return Err(AllocError);
         }
-        let label = routine_label(tree, index);
-        self.writer.jump(WordForm::CallTo, label)?;
-        self.facts = Facts::none();
+        self.is_called[index] = true;
         Ok(())
     }
 
-    // Adds a call of a procedure.
-    fn call_procedure(&mut self, tree: &TreeModule, procedure: u32) -> Result<(), AllocError> {
+    // Adds a call of a routine.
+    fn call_routine(&mut self, tree: &TreeModule, routine: Routine) -> Result<(), AllocError>
+        ensures items { OnOk result (AddsItems self.old self.new
+            (jump_item CallTo (module_label_of_routine tree.now routine) ∷ []) no_facts) }
+        ensures noted { OnOk result (has_routine self.new.is_called.items routine ≡ true) }
+    {
+        let index = routine_index(routine);
+        self.note(index as usize)?;
+        self.facts = Facts::none();
+        self.writer
+            .jump(WordForm::CallTo, routine_label(tree, index))
+    }
+
+    // Adds a call of a procedure. Fails where there is none of that number: there is one in what `lower` gives.
+    fn call_procedure(&mut self, tree: &TreeModule, procedure: u32) -> Result<(), AllocError>
+        ensures { OnOk result (AddsItems self.old self.new
+            (module_call_items tree.now procedure) no_facts) }
+    {
         self.facts = Facts::none();
         match tree.procedures.get(procedure as usize) {
             Some(callee) => match callee.kind {
@@ -133,12 +181,16 @@ impl Emission {
                     .writer
                     .jump(WordForm::CallTo, LabelNumber { index: procedure }),
             },
-            None => Ok(()),
+            None => Err(AllocError),
         }
     }
 
-    /// Adds the code of a step that is no part.
-    pub fn step(&mut self, tree: &TreeModule, step: Step) -> Result<(), AllocError> {
+    // Adds the code of a step that is no part. A part is refused.
+    fn step(&mut self, tree: &TreeModule, step: Step) -> Result<(), AllocError>
+        ensures items { OnOk result (AddsItems self.old self.new
+            (step_items tree.now self.old.facts step) (after_step self.old.facts step)) }
+        ensures alone { OnOk result (IsAlone self.new.is_called.items step) }
+    {
         match step {
             Step::Plain(instruction) => self.plain(instruction),
             Step::Word(form, place) => self.word(form, place),
@@ -155,43 +207,68 @@ impl Emission {
                 self.facts = self.facts.without_memory();
                 Ok(())
             }
-            Step::Part(_) => Ok(()),
+            Step::Part(_) => Err(AllocError),
         }
     }
 
-    /// Adds the code of a part. A part of it that does not rank below it is left out: there is none in what `lower` gives.
-    pub fn emit(
-        &mut self,
-        tree: &TreeModule,
-        frame: &FramePlan,
-        part: Part,
-    ) -> Result<(), AllocError> {
-        let rank = self.site(tree, frame).rank(part.task);
-        self.emit_ranked(tree, frame, part, rank)
+    /// Adds the code of a step, in a body with this site. What is known of the registers is not taken from there.
+    #[tactic(auto, using(crate::proofs::Emitting::emits_step, crate::proofs::Emitting::emits_part))]
+    pub fn add(&mut self, site: &Site<'_>, step: Step) -> Result<(), AllocError>
+        ensures { OnOk result (EmitsSteps site.now (step ∷ []) self.old self.new) }
+    {
+        match step {
+            Step::Part(part) => self.emit(site, part),
+            step => self.step(site.tree, step),
+        }
+    }
+
+    /// Adds the code of a part. Fails where a part of it does not rank below it: there is none in what `lower` gives.
+    pub fn emit(&mut self, site: &Site<'_>, part: Part) -> Result<(), AllocError>
+        ensures { OnOk result (Emits site.now part self.old self.new) }
+    {
+        let rank = self.site(site).rank(part.task);
+        self.emit_ranked(site, part, rank)
+    }
+
+    // The rank of a part, which is to be below another one. Fails where it is not.
+    fn rank_below(&self, site: &Site<'_>, part: Part, rank: u64) -> Result<u64, AllocError>
+        ensures { IfOk result (λ below. below < rank) }
+    {
+        let below = self.site(site).rank(part.task);
+        if below < rank {
+            Ok(below)
+        } else {
+            Err(AllocError)
+        }
+    }
+
+    // Adds the code of a step. A part is to rank below this.
+    #[cycle(parts)]
+    #[tactic(auto, using(crate::proofs::Emitting::emits_step, crate::proofs::Emitting::emits_part))]
+    fn add_below(&mut self, site: &Site<'_>, step: Step, rank: u64) -> Result<(), AllocError>
+        ensures { OnOk result (EmitsSteps site.now (step ∷ []) self.old self.new) }
+    {
+        match step {
+            Step::Part(part) => {
+                let below = self.rank_below(site, part, rank)?;
+                self.emit_ranked(site, part, below)
+            }
+            step => self.step(site.tree, step),
+        }
     }
 
     // Adds the code of a part of this rank.
-    fn emit_ranked(
-        &mut self,
-        tree: &TreeModule,
-        frame: &FramePlan,
-        part: Part,
-        rank: u64,
-    ) -> Result<(), AllocError> {
+    #[cycle(parts)]
+    fn emit_ranked(&mut self, site: &Site<'_>, part: Part, rank: u64) -> Result<(), AllocError>
+        ensures { OnOk result (Emits site.now part self.old self.new) }
+    {
         let start = self.steps.count();
-        let site = self.site(tree, frame);
-        plan_task(&site, part, &mut self.steps)?;
+        let here = self.site(site);
+        plan_task(&here, part, &mut self.steps)?;
         let end = self.steps.count();
         for index in start..end {
-            match self.steps.get(index) {
-                Some(Step::Part(next)) => {
-                    let below = self.site(tree, frame).rank(next.task);
-                    if below < rank {
-                        self.emit_ranked(tree, frame, next, below)?;
-                    }
-                }
-                Some(step) => self.step(tree, step)?,
-                None => {}
+            if let Some(step) = self.steps.get(index) {
+                self.add_below(site, step, rank)?;
             }
         }
         self.steps.truncate(start);
@@ -199,21 +276,21 @@ impl Emission {
     }
 }
 
-/// Takes code over and hands it back with the code of one expression or location of the tree code added: the value comes into A or HL,
-/// or its address into HL, or it is stored, or code jumps by it, as the task of the part says. A refusal drops the code.
-pub fn emit_expression(
-    code: Emission,
-    tree: &TreeModule,
-    frame: &FramePlan,
-    part: Part,
-) -> Result<Emission, AllocError> {
+/// Takes code over and hands it back with the code of one expression or location of the tree code added, in a body with this
+/// site: the value comes into A or HL, or its address into HL, or it is stored, or code jumps by it, as the task of the part
+/// says. A refusal drops the code.
+pub fn emit_expression(code: Emission, site: &Site<'_>, part: Part) -> Result<Emission, AllocError>
+    ensures { IfOk result (λ after. Emits site.now part code after) }
+{
     let mut code = code;
-    code.emit(tree, frame, part)?;
+    code.emit(site, part)?;
     Ok(code)
 }
 
 /// The label of a routine, by its place among `ROUTINES`.
-pub fn routine_label(tree: &TreeModule, index: u32) -> LabelNumber {
+pub fn routine_label(tree: &TreeModule, index: u32) -> LabelNumber
+    ensures { result ≡ module_routine_label tree.now index }
+{
     let procedures = u32::try_from(tree.procedures.len()).unwrap_or(u32::MAX);
     LabelNumber {
         index: procedures.saturating_add(index),

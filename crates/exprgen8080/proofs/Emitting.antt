@@ -1,0 +1,315 @@
+-- The code of steps as it is written step by step.
+use Rattle.std.proofs.Common.{◌≡◌, ℕ, ◌+◌, ◌≤◌, ◌<◌, zero, suc, Bool, true, false, set, slice_index_or, List, [], ◌∷◌, ◌++◌, length, Option, Some, None, slice_get, Result, Ok, Err, OnOk, drop, take, refl, sym, ap, subst, ◌∙◌, arith, append_assoc, append-nil}
+use Rattle.std.proofs.lemmas.List.{drop_at, drop_all, drop_more, take_at}
+use Rattle.std.proofs.lemmas.Option.{get_or_from_slice_get, slice_get_within}
+use Rattle.asm8080.specs.declared.item.Item.{Item}
+use Rattle.runtime8080.specs.declared.routine.Routine.{Routine}
+use Rattle.steps8080.specs.declared.facts.Facts.{Facts}
+use Rattle.steps8080.specs.declared.step.Part.{Part}
+use Rattle.steps8080.specs.declared.step.Step.{Step}
+use Rattle.steps8080.specs.declared.step.Step.TheVariants as steps
+use Rattle.steps8080.specs.Step.{AddsWithLabels, label_after}
+use Rattle.steps8080.specs.Writer.{Writes}
+use Rattle.steps8080.proofs.Numbered.{writes_nothing, writes_then}
+use Rattle.sites8080.specs.declared.site.Site.{Site}
+use Rattle.exprgen8080.specs.declared.emission.Emission.{Emission}
+use Rattle.exprgen8080.specs.Emission.{AreWritten, IsWritten, NoneWritten, PlainWritten, WordWritten, JumpWritten, MarkWritten, RoutineWritten, CallWritten, TestWritten, HoldsWritten, ChangeWritten, PartWritten, Planned, call_items, index_of_routine, knowing, test_items}
+use Rattle.exprgen8080.specs.Emitted.{AddsItems, Emits, EmitsSteps, HasAll, IsAlone, after_step, step_items}
+use Rattle.exprgen8080.specs.Forms.{task_labels, task_steps}
+
+-- a table has all that it has
+pub has_itself : (called : List Bool) → HasAll called called
+has_itself called = λ routine given. given
+
+kept_at : (called : List Bool) (index number : ℕ) → slice_index_or called number false ≡ true
+    → slice_index_or (set called index true) number false ≡ true
+kept_at [] index number given = let bad : false ≡ true = given in cc
+kept_at (first ∷ others) zero zero given = refl
+kept_at (first ∷ others) zero (suc number) given = given
+kept_at (first ∷ others) (suc index) zero given = given
+kept_at (first ∷ others) (suc index) (suc number) given = kept_at others index number given
+
+-- a table in which one more routine is noted
+pub note_kept : (before after : List Bool) (index : ℕ) → after ≡ set before index true → HasAll before after
+note_kept before after index same = subst (λ to. HasAll before to) (sym same)
+    (λ routine given. kept_at before index (index_of_routine routine) given)
+
+module _ {site : Site} {called wider : List Bool} (more : HasAll called wider) where
+  mutual
+    -- what is written where some routines are called is written where more are
+    pub are_kept : {facts last : Facts} {list : List Step} {items : List Item}
+        → AreWritten site called facts list items last → AreWritten site wider facts list items last
+    are_kept NoneWritten = NoneWritten
+    are_kept (PlainWritten others) = PlainWritten (are_kept others)
+    are_kept (WordWritten others) = WordWritten (are_kept others)
+    are_kept (JumpWritten others) = JumpWritten (are_kept others)
+    are_kept (MarkWritten others) = MarkWritten (are_kept others)
+    are_kept (RoutineWritten {routine = routine} is_called others) =
+        RoutineWritten (more routine is_called) (are_kept others)
+    are_kept (CallWritten others) = CallWritten (are_kept others)
+    are_kept (TestWritten others) = TestWritten (are_kept others)
+    are_kept (HoldsWritten others) = HoldsWritten (are_kept others)
+    are_kept (ChangeWritten others) = ChangeWritten (are_kept others)
+    are_kept (PartWritten first others) = PartWritten (is_kept first) (are_kept others)
+
+    pub is_kept : {facts last : Facts} {part : Part} {items : List Item}
+        → IsWritten site called facts part items last → IsWritten site wider facts part items last
+    is_kept (Planned label steps) = Planned label (are_kept steps)
+
+-- a step that is no part is written, and others after it
+pub step_written : (site : Site) (called : List Bool) (facts last : Facts) (step : Step)
+    (others : List Step) (more : List Item)
+    → IsAlone called step
+    → AreWritten site called (after_step facts step) others more last
+    → AreWritten site called facts (step ∷ others) (step_items site.tree.now facts step ++ more) last
+step_written site called facts last (steps.Plain i) others more alone written = PlainWritten written
+step_written site called facts last (steps.Word form place) others more alone written = WordWritten written
+step_written site called facts last (steps.Jump form label) others more alone written = JumpWritten written
+step_written site called facts last (steps.Mark label) others more alone written = MarkWritten written
+step_written site called facts last (steps.CallRoutine routine) others more alone written =
+    RoutineWritten alone written
+step_written site called facts last (steps.CallProcedure procedure) others more alone written =
+    CallWritten written
+step_written site called facts last steps.TestA others more alone written = TestWritten written
+step_written site called facts last (steps.Holds held) others more alone written = HoldsWritten written
+step_written site called facts last steps.MemoryChanged others more alone written = ChangeWritten written
+step_written site called facts last (steps.Part part) others more alone written = absurd alone
+
+-- a step is alone where more routines are called
+pub alone_kept : (called wider : List Bool) (step : Step) → HasAll called wider
+    → IsAlone called step → IsAlone wider step
+alone_kept called wider (steps.CallRoutine routine) more alone = more routine alone
+alone_kept called wider (steps.Part part) more alone = alone
+alone_kept called wider (steps.Plain i) more alone = alone
+alone_kept called wider (steps.Word form place) more alone = alone
+alone_kept called wider (steps.Jump form label) more alone = alone
+alone_kept called wider (steps.Mark label) more alone = alone
+alone_kept called wider (steps.CallProcedure procedure) more alone = alone
+alone_kept called wider steps.TestA more alone = alone
+alone_kept called wider (steps.Holds held) more alone = alone
+alone_kept called wider steps.MemoryChanged more alone = alone
+
+-- steps are written one after another
+pub are_appended : {site : Site} {called : List Bool} {facts middle last : Facts}
+    {list others : List Step} {items more : List Item}
+    → AreWritten site called facts list items middle → AreWritten site called middle others more last
+    → AreWritten site called facts (list ++ others) (items ++ more) last
+are_appended NoneWritten then = then
+are_appended (PlainWritten first) then = PlainWritten (are_appended first then)
+are_appended (WordWritten first) then = WordWritten (are_appended first then)
+are_appended (JumpWritten first) then = JumpWritten (are_appended first then)
+are_appended (MarkWritten first) then = MarkWritten (are_appended first then)
+are_appended (RoutineWritten is_called first) then = RoutineWritten is_called (are_appended first then)
+are_appended {site = site} {called = called} {facts = facts} {last = last} {others = others} {more = more}
+    (CallWritten {procedure = procedure} {others = list} {more = items} first) then =
+    subst (λ all. AreWritten site called facts (steps.CallProcedure procedure ∷ (list ++ others)) all last)
+    (sym (append_assoc (call_items site procedure) items more))
+    (CallWritten (are_appended first then))
+are_appended {site = site} {called = called} {facts = facts} {last = last} {others = others} {more = more}
+    (TestWritten {others = list} {more = items} first) then =
+    subst (λ all. AreWritten site called facts (steps.TestA ∷ (list ++ others)) all last)
+    (sym (append_assoc (test_items facts) items more))
+    (TestWritten (are_appended first then))
+are_appended (HoldsWritten first) then = HoldsWritten (are_appended first then)
+are_appended (ChangeWritten first) then = ChangeWritten (are_appended first then)
+are_appended {site = site} {called = called} {facts = facts} {last = last} {others = others} {more = more}
+    (PartWritten {part = part} {others = list} {first = here} {more = items} is first) then =
+    subst (λ all. AreWritten site called facts (steps.Part part ∷ (list ++ others)) all last)
+    (sym (append_assoc here items more))
+    (PartWritten is (are_appended first then))
+
+-- no step is added
+pub emits_nothing : (site : Site) (emission : Emission) → EmitsSteps site [] emission emission
+emits_nothing site emission = record {
+  list = [];
+  writes = writes_nothing emission.writer;
+  written = NoneWritten;
+  called = has_itself emission.is_called.items;
+  steps = refl;
+  labels = omega arith;
+}
+
+-- the code of steps is added one after another
+pub emits_then : (site : Site) (first second : List Step) (before between after : Emission)
+    → EmitsSteps site first before between → EmitsSteps site second between after
+    → EmitsSteps site (first ++ second) before after
+emits_then site first second before between after here next = record {
+  list = here.list ++ next.list;
+  writes = writes_then before.writer between.writer after.writer here.list next.list here.writes next.writes;
+  written = are_appended (are_kept next.called here.written) next.written;
+  called = λ routine given. next.called routine (here.called routine given);
+  steps = next.steps ∙ here.steps;
+  labels = omega (arith, here.labels, next.labels);
+}
+
+-- a step that is no part
+pub emits_step : (site : Site) (step : Step) (before after : Emission)
+    → AddsItems before after (step_items site.tree.now before.facts step) (after_step before.facts step)
+    → IsAlone after.is_called.items step
+    → EmitsSteps site (step ∷ []) before after
+emits_step site step before after adds alone =
+    let called : List Bool = after.is_called.items in
+    let list : List Item = step_items site.tree.now before.facts step in
+    record {
+      list = list;
+      writes = adds.writes;
+      written = subst (λ known. AreWritten site called before.facts (step ∷ []) list known) (sym adds.facts)
+          (subst (λ all. AreWritten site called before.facts (step ∷ []) all (after_step before.facts step))
+          (append-nil list)
+          (step_written site called before.facts (after_step before.facts step) step [] [] alone NoneWritten));
+      called = adds.called;
+      steps = ap (λ at. at.list.items) adds.steps;
+      labels = subst (λ to. label_after before.steps.labels 0 ≤ label_after to 0)
+          (sym (ap (λ at. at.labels) adds.steps)) (omega arith);
+    }
+
+-- a part
+pub emits_part : (site : Site) (part : Part) (before after : Emission)
+    → Emits site part before after
+    → EmitsSteps site (steps.Part part ∷ []) before after
+emits_part site part before after emits = record {
+  list = emits.list;
+  writes = emits.writes;
+  written =
+      subst (λ all. AreWritten site after.is_called.items before.facts (steps.Part part ∷ []) all after.facts)
+      (append-nil emits.list) (PartWritten emits.written NoneWritten);
+  called = emits.called;
+  steps = emits.steps;
+  labels = emits.labels;
+}
+
+-- The steps of a part are being written, those up to an end; those from an index on are left.
+pub record IsWriting (site : Site) (part : Part) (before now : Emission) (index end : ℕ) : Type 0 where
+  pub list : List Item
+  pub writes : Writes before.writer now.writer list
+  pub left : (called : List Bool) (more : List Item) (last : Facts) → HasAll now.is_called.items called
+      → AreWritten site called now.facts (drop index now.steps.list.items) more last
+      → IsWritten site called before.facts part (list ++ more) last
+  pub called : HasAll before.is_called.items now.is_called.items
+  pub begins : take (length before.steps.list.items) now.steps.list.items ≡ before.steps.list.items
+  pub count : length now.steps.list.items ≡ end
+  pub labels : label_after before.steps.labels 0 ≤ label_after now.steps.labels 0
+
+-- what is left where an index is within
+pub left_is : {A : Type 0} (list : List A) (index : ℕ) (found : A) → slice_get list index ≡ Some found
+    → drop index list ≡ found ∷ drop (index + 1) list
+left_is list index found is =
+    drop_more list index found (slice_get_within list index found is)
+    ∙ ap (λ at. at ∷ drop (index + 1) list) (get_or_from_slice_get list index found found is)
+
+module _ (site : Site) (part : Part) (before now : Emission) where
+  -- all steps of a part are left
+  pub writing_begins : (planned : Emission) (end : ℕ)
+      → planned ≡ record before { steps = planned.steps }
+      → AddsWithLabels before.steps planned.steps
+      (task_labels (knowing site before.facts) part) (task_steps (knowing site before.facts) part)
+      → length planned.steps.list.items ≡ end
+      → IsWriting site part before planned (length before.steps.list.items) end
+  writing_begins planned end same adds count =
+      let first : List Step = before.steps.list.items in
+      let label : ℕ = before.steps.labels in
+      let list : List Step = task_steps (knowing site before.facts) part label in
+      let facts : planned.facts ≡ before.facts = ap (λ (at : Emission). at.facts) same in
+      let is_left : drop (length first) planned.steps.list.items ≡ list =
+      ap (drop (length first)) adds.added ∙ drop_at first list (length first) refl in
+      record {
+        list = [];
+        writes = subst (λ (to : Emission). Writes before.writer to.writer []) (sym same)
+            (writes_nothing before.writer);
+        left = λ called more last wider written.
+            Planned label (subst (λ known. AreWritten site called known list more last) facts
+            (subst (λ left. AreWritten site called planned.facts left more last) is_left written));
+        called = subst (λ (to : Emission). HasAll before.is_called.items to.is_called.items) (sym same)
+            (has_itself before.is_called.items);
+        begins = ap (take (length first)) adds.added ∙ take_at first list (length first) refl;
+        count = count;
+        labels = subst (λ to. label_after label 0 ≤ to) (sym adds.labels) (omega arith);
+      }
+
+  module _ (next : Emission) (index end : ℕ) (so_far : IsWriting site part before now index end) where
+    -- a step is written
+    pub step_passed : (step : Step)
+        → slice_get now.steps.list.items index ≡ Some step
+        → EmitsSteps site (step ∷ []) now next
+        → IsWriting site part before next (index + 1) end
+    step_passed step is emits =
+        let steps_now : List Step = now.steps.list.items in
+        let list : List Item = emits.list in
+        record {
+          list = so_far.list ++ list;
+          writes = writes_then before.writer now.writer next.writer so_far.list list so_far.writes emits.writes;
+          left = λ called more last wider written.
+              let others : AreWritten site called next.facts (drop (index + 1) steps_now) more last =
+              subst (λ at. AreWritten site called next.facts (drop (index + 1) at) more last) emits.steps written in
+              subst (λ all. IsWritten site called before.facts part all last)
+              (sym (append_assoc so_far.list list more))
+              (so_far.left called (list ++ more) last (λ routine given. wider routine (emits.called routine given))
+              (subst (λ left. AreWritten site called now.facts left (list ++ more) last)
+              (sym (left_is steps_now index step is))
+              (are_appended (are_kept wider emits.written) others)));
+          called = λ routine given. emits.called routine (so_far.called routine given);
+          begins = ap (take (length before.steps.list.items)) emits.steps ∙ so_far.begins;
+          count = ap length emits.steps ∙ so_far.count;
+          labels = omega (arith, so_far.labels, emits.labels);
+        }
+
+  -- all steps are written
+  pub writing_ends : (after : Emission) (index end : ℕ)
+      → IsWriting site part before now index end
+      → end ≤ index
+      → after ≡ record now { steps = after.steps }
+      → after.steps.list.items ≡ take (length before.steps.list.items) now.steps.list.items
+      → after.steps.labels ≡ now.steps.labels
+      → Emits site part before after
+  writing_ends after index end so_far done same list labels =
+      let none : drop index now.steps.list.items ≡ [] =
+      drop_all index now.steps.list.items (omega (arith, so_far.count, done)) in
+      let written : IsWritten site now.is_called.items before.facts part so_far.list now.facts =
+      subst (λ all. IsWritten site now.is_called.items before.facts part all now.facts)
+      (append-nil so_far.list)
+      (so_far.left now.is_called.items [] now.facts (has_itself now.is_called.items)
+      (subst (λ left. AreWritten site now.is_called.items now.facts left [] now.facts) (sym none) NoneWritten)) in
+      record {
+        list = so_far.list;
+        writes = subst (λ (to : Emission). Writes before.writer to.writer so_far.list) (sym same) so_far.writes;
+        written =
+            subst (λ (to : Emission). IsWritten site to.is_called.items before.facts part so_far.list to.facts)
+            (sym same) written;
+        called = subst (λ (to : Emission). HasAll before.is_called.items to.is_called.items) (sym same)
+            so_far.called;
+        steps = list ∙ so_far.begins;
+        labels = subst (λ to. label_after before.steps.labels 0 ≤ label_after to 0) (sym labels) so_far.labels;
+      }
+
+-- past the end nothing is left
+pub none_is : {A : Type 0} (list : List A) (index : ℕ) → slice_get list index ≡ None
+    → drop index list ≡ drop (index + 1) list
+none_is list index none = past list index none ∙ ap (λ at. drop at list) (next index)
+  where
+    next : (n : ℕ) → suc n ≡ n + 1
+    next n = omega arith
+
+    past : {A : Type 0} (list : List A) (index : ℕ) → slice_get list index ≡ None
+        → drop index list ≡ drop (suc index) list
+    past [] zero none = refl
+    past [] (suc index) none = refl
+    past (first ∷ others) zero none = let bad : Some first ≡ None = none in cc
+    past (first ∷ others) (suc index) none = past others index none
+
+-- no step is left
+pub none_passed : (site : Site) (part : Part) (before now : Emission) (index end : ℕ)
+    → IsWriting site part before now index end
+    → slice_get now.steps.list.items index ≡ None
+    → IsWriting site part before now (index + 1) end
+none_passed site part before now index end so_far none = record {
+  list = so_far.list;
+  writes = so_far.writes;
+  left = λ called more last wider written.
+      so_far.left called more last wider
+      (subst (λ left. AreWritten site called now.facts left more last)
+      (sym (none_is now.steps.list.items index none)) written);
+  called = so_far.called;
+  begins = so_far.begins;
+  count = so_far.count;
+  labels = so_far.labels;
+}
