@@ -7,7 +7,6 @@ use Rattle.std.proofs.Math.Seq.{take-add, take-append-add}
 use Rattle.std.specs.List.{flat_map}
 use Rattle.ports.specs.declared.event.Event.{Event}
 use Rattle.std.specs.Io.KnownBytes.{Appends}
-use Rattle.std.proofs.KnownBytes.{Appends-trans}
 use Rattle.report.specs.Report.{line_of, report_of}
 use Rattle.writing.specs.Writing.{AppendsBeginning}
 use Rattle.writing.proofs.WritingLemmas.{beginning_after}
@@ -18,17 +17,19 @@ pub lines_more : (events next : List Event) (i n : ℕ) → next ≡ take n (dro
 lines_more events next i n e = sym (flat_map-append line_of (take i events) next)
     ∙ ap (λ l. flat_map line_of (take i events ++ l)) e ∙ ap (flat_map line_of) (sym (take-add i n events))
 
-regroup : (all a b c last end : List ℕ) → all ≡ (a ++ b) ++ c → (all ++ last) ++ end ≡ a ++ (b ++ (c ++ (last ++ end)))
-regroup all a b c last end e = ap (λ l. (l ++ last) ++ end) e ∙ simp append_assoc
-
--- all that is printed: the first lines, the next ones and the rest
-pub report_parts : (events next : List Event) (last : List ℕ) (i n : ℕ) → next ≡ take n (drop i events)
-    → report_of events last ≡ flat_map line_of (take i events) ++ (flat_map line_of next ++ (flat_map line_of (drop (i + n) events) ++ (last ++ 10 ∷ [])))
-report_parts events next last i n e =
+-- the lines of all events: those of the first ones, of the next ones and of the rest
+pub lines_parts : (events next : List Event) (i n : ℕ) → next ≡ take n (drop i events)
+    → flat_map line_of events ≡ flat_map line_of (take i events) ++ (flat_map line_of next ++ flat_map line_of (drop (i + n) events))
+lines_parts events next i n e =
     let split : flat_map line_of events ≡ flat_map line_of (take (i + n) events) ++ flat_map line_of (drop (i + n) events) =
     ap (flat_map line_of) (sym (take-append-drop (i + n) events)) ∙ flat_map-append line_of (take (i + n) events) (drop (i + n) events) in
-    let parts = split ∙ ap (λ l. l ++ flat_map line_of (drop (i + n) events)) (sym (lines_more events next i n e)) in
-    regroup (flat_map line_of events) (flat_map line_of (take i events)) (flat_map line_of next) (flat_map line_of (drop (i + n) events)) last (10 ∷ []) parts
+    split ∙ ap (λ l. l ++ flat_map line_of (drop (i + n) events)) (sym (lines_more events next i n e))
+    ∙ append_assoc (flat_map line_of (take i events)) (flat_map line_of next) (flat_map line_of (drop (i + n) events))
+
+-- the lines of all events were written
+pub all_written : (a b : Option (List ℕ)) (events : List Event) (i : ℕ) → length events ≤ i → Appends a b (flat_map line_of (take i events))
+    → Appends a b (flat_map line_of events)
+all_written a b events i all p = rw take_all at p
 
 -- a text after a write that follows its first a bytes
 pub text_more : (xs ys post : List ℕ) (a n : ℕ) → a ≤ length xs → n ≤ length ys → take (a + n) (take a xs ++ (ys ++ post)) ≡ take a xs ++ take n ys
@@ -48,18 +49,30 @@ text_with_line events d xs ys post i a n in_range fits within before line =
     ap (flat_map line_of) (take_more events i d in_range) ∙ flat_map-append line_of (take i events) (event ∷ []) in
     text_more xs ys post a n fits within ∙ ap₂ (λ l r. l ++ r) before (line ∙ sym one) ∙ sym split
 
--- the last line was begun
-pub last_begun : (a b c : Option (List ℕ)) (events : List Event) (last : List ℕ) (i : ℕ) → length events ≤ i → Appends a b (flat_map line_of (take i events))
-    → AppendsBeginning b c last → AppendsBeginning a c (report_of events last)
-last_begun a b c events last i all p q =
-    let lines : Appends a b (flat_map line_of events) = rw take_all at p in
-    beginning_after a b c _ last _ (10 ∷ []) (append_assoc (flat_map line_of events) last (10 ∷ [])) lines q
+module _ (a b c : Option (List ℕ)) where
+  -- a text was written but for its end, of which there is a beginning
+  pub then_begun : (first second : List ℕ) → Appends a b first → AppendsBeginning b c second → AppendsBeginning a c (first ++ second)
+  then_begun first second p q =
+      beginning_after a b c first second (first ++ second) [] (ap (λ l. first ++ l) (sym (append-nil second))) p q
 
--- the last line was written, but for its end
-pub last_unended : (a b c d : Option (List ℕ)) (events : List Event) (last : List ℕ) (i : ℕ) → length events ≤ i → Appends a b (flat_map line_of (take i events))
-    → Appends b c last → (end : List ℕ) → end ≡ 10 ∷ [] → {E : Type 0} (r : Result (Unit {0}) E) → OnErr r (AppendsBeginning c d end)
-    → OnErr r (AppendsBeginning a d (report_of events last))
-last_unended a b c d events last i all p q end e (Ok x) h = tt
-last_unended a b c d events last i all p q end e (Err x) h =
-    let lines : Appends a b (flat_map line_of events) = rw take_all at p in
-    beginning_after a c d _ end _ [] (ap (λ l. (flat_map line_of events ++ last) ++ l) (sym e ∙ sym (append-nil end))) (Appends-trans a b c _ _ lines q) h
+  -- the first part of a text was begun
+  pub first_begun : (first second : List ℕ) → AppendsBeginning a b first → AppendsBeginning a b (first ++ second)
+  first_begun first second (sent, begins, appended) =
+      (sent, (begins.0 ++ second, ap (λ l. l ++ second) begins.1 ∙ append_assoc sent begins.0 second), appended)
+
+  pub then_begun_result : (first second : List ℕ) → Appends a b first → {E : Type 0} (r : Result (Unit {0}) E) → OnErr r (AppendsBeginning b c second)
+      → OnErr r (AppendsBeginning a c (first ++ second))
+  then_begun_result first second p (Ok x) h = tt
+  then_begun_result first second p (Err x) h = then_begun first second p h
+
+-- the lines of a report were begun
+pub begun_report : (a b : Option (List ℕ)) (events : List Event) (last : List ℕ) → AppendsBeginning a b (flat_map line_of events)
+    → AppendsBeginning a b (report_of events last)
+begun_report a b events last p = first_begun a b b _ (10 ∷ []) (first_begun a b b (flat_map line_of events) last p)
+
+-- the lines of a report were written, and then its last line, or a beginning of it
+pub ended_report : (a b c : Option (List ℕ)) (events : List Event) (last : List ℕ) → Appends a b (flat_map line_of events)
+    → {E : Type 0} (r : Result (Unit {0}) E) → OnErr r (AppendsBeginning b c (last ++ 10 ∷ []))
+    → OnErr r (AppendsBeginning a c (report_of events last))
+ended_report a b c events last p r h =
+    rw (append_assoc (flat_map line_of events) last (10 ∷ [])) (then_begun_result a b c (flat_map line_of events) (last ++ 10 ∷ []) p r h)

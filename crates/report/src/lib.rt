@@ -1,7 +1,7 @@
 //! What a run prints: its events, and how it ended.
 #![tactic(auto)]
 
-ghost use Rattle.std.specs.Prelude.{◌≡◌, ℕ, ◌*◌, ◌/◌, ◌%◌, ◌<◌, ◌≤◌, length, take, OnOk, OnErr};
+ghost use Rattle.std.specs.Prelude.{◌≡◌, ℕ, ◌*◌, ◌/◌, ◌%◌, ◌<◌, ◌≤◌, ◌∷◌, ◌++◌, [], length, take, OnOk, OnErr};
 ghost use Rattle.std.specs.List.{flat_map};
 ghost use Rattle.std.specs.Io.KnownBytes.{Appends};
 ghost use Rattle.report.specs.Report.{digit_of, line_of, report_of};
@@ -81,8 +81,35 @@ fn write_group<W: Write>(events: &[Event], out: &mut W) -> Result<(), Failure<Wr
     write_bytes(out, &text[..end])
 }
 
-/// Writes a line for each event, `IN pp vv` or `OUT pp vv` with port and value in two upper-case hexadecimal digits,
-/// and then the line `last`. After a failure the writer has a beginning of that text.
+/// Writes a line for each event, `IN pp vv` or `OUT pp vv` with port and value in two upper-case hexadecimal digits.
+/// After a failure the writer has a beginning of that text.
+pub fn write_events<W: Write>(events: &[Event], out: &mut W) -> Result<(), Failure<WriteFault>>
+    ensures ok { OnOk result
+        (Appends (W.contents out.old) (W.contents out.new) (flat_map line_of events.now)) }
+    ensures err { OnErr result
+        (AppendsBeginning (W.contents out.old) (W.contents out.new) (flat_map line_of events.now)) }
+{
+    let mut at = 0;
+    while at < events.len() {
+        let count = GROUP.min(events.len() - at);
+        write_group(&events[at..at + count], out)?;
+        at += count;
+    }
+    Ok(())
+}
+
+/// Writes a line, the text `last` with a line feed. After a failure the writer has a beginning of that.
+pub fn write_line<W: Write>(last: &str, out: &mut W) -> Result<(), Failure<WriteFault>>
+    ensures ok { OnOk result
+        (Appends (W.contents out.old) (W.contents out.new) (last.now ++ 10 ∷ [])) }
+    ensures err { OnErr result
+        (AppendsBeginning (W.contents out.old) (W.contents out.new) (last.now ++ 10 ∷ [])) }
+{
+    write_bytes(out, last.as_bytes())?;
+    write_bytes(out, b"\n")
+}
+
+/// Writes a line for each event, and then the line `last`. After a failure the writer has a beginning of that text.
 pub fn report<W: Write>(
     events: &[Event],
     last: &str,
@@ -93,12 +120,6 @@ pub fn report<W: Write>(
     ensures err { OnErr result
         (AppendsBeginning (W.contents out.old) (W.contents out.new) (report_of events.now last.now)) }
 {
-    let mut at = 0;
-    while at < events.len() {
-        let count = GROUP.min(events.len() - at);
-        write_group(&events[at..at + count], out)?;
-        at += count;
-    }
-    write_bytes(out, last.as_bytes())?;
-    write_bytes(out, b"\n")
+    write_events(events, out)?;
+    write_line(last, out)
 }

@@ -5,11 +5,13 @@ pub use Rattle.failure.specs.Failure
 pub use Rattle.frontend.specs.Reading
 pub use Rattle.frontend.specs.Causes
 pub use Rattle.program_sources.specs.Programs
+pub use Rattle.printed_runs.specs.Printing
 pub mod Code
 pub mod Image
 pub mod Headline
 pub mod Construction
 pub mod Execution
+pub mod Printed
 pub mod Sources
 pub mod Refusals
 pub mod Faults

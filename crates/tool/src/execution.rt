@@ -1,16 +1,42 @@
 //! Runs of built programs.
 
-ghost use Rattle.std.specs.Prelude.{◌≡◌, All};
+ghost use Rattle.std.specs.Prelude.{◌≡◌, All, IfOk, OnErr};
 ghost use Rattle.meaning.specs.Run.{NeverOutside};
 ghost use Rattle.cpu8080.specs.Runs.{IsRun};
+ghost use Rattle.printed_runs.specs.Printing.{BeginsRun, PrintsRun};
 ghost use Rattle.program_sources.specs.Programs.{program_modules};
 ghost use Rattle.tool.specs.Execution.{IsFaithful, source_of, started};
+ghost use Rattle.tool.specs.Headline.{Agrees};
+ghost use Rattle.tool.specs.Image.{machine_run};
+ghost use Rattle.tool.specs.Printed.{PrintsEnded};
 ghost use Rattle.tool.specs.Sources.{IsServed};
 
 use crate::built::Built;
 use cpu8080::{End, Machine};
+use failure::Failure;
 use mem80::Memory;
-use ports::Ports;
+use ports::{Ports, Script};
+use printed_runs::print_machine;
+use std::io::Write;
+use writing::WriteFault;
+
+// A machine at its start: with the image of a program loaded into a memory, and these ports.
+pub(crate) fn machine_of<P: Ports>(built: &Built, memory: Memory, ports: P) -> Machine<P>
+    ensures started { result ≡
+        started built.now.image memory (P.script ports) (P.events ports) (P.failures ports) }
+    ensures agrees { let source = source_of built.now memory (P.script ports) (P.events ports) in
+        All IsServed (program_modules built.now.program) → NeverOutside source
+        → Agrees source (machine_run built.now.image memory (P.script ports) (P.events ports)) }
+{
+    let image = built.image();
+    // A look at a byte says that a memory has all of its bytes, and the ports say that their script holds bytes, which
+    // the headline asks for.
+    let _ = memory.get(0);
+    ports.hold_bytes();
+    let mut memory = memory;
+    image.load(&mut memory);
+    Machine::new(memory, ports, image.start())
+}
 
 /// Loads the image of a program into a memory, and runs it on an 8080 with these ports for at most so many steps. Where
 /// all modules are outputs of numbers and the program never goes outside, the events are a beginning of those of its
@@ -24,14 +50,33 @@ pub fn execute<P: Ports>(built: &Built, memory: Memory, ports: P, limit: u64) ->
         All IsServed (program_modules built.now.program)
         → NeverOutside source → IsFaithful source result.0 result.1 }
 {
-    let image = built.image();
-    // A look at a byte says that a memory has all of its bytes, and the ports say that their script holds bytes, which
-    // the headline asks for.
-    let _ = memory.get(0);
-    ports.hold_bytes();
-    let mut memory = memory;
-    image.load(&mut memory);
-    let mut machine = Machine::new(memory, ports, image.start());
+    let mut machine = machine_of(built, memory, ports);
     let end = machine.run(limit);
     (end, machine)
+}
+
+/// Loads the image of a program into a memory, and runs it on an 8080 with this script for at most so many steps. It
+/// writes a line for each event, those of some steps at a time while it runs, and then the word that the run ends with.
+/// After a failure the writer has a beginning of that text. Where all modules are outputs of numbers and the program never
+/// goes outside, what is written of a machine that halted is just what a source that ended does.
+pub fn print_run<W: Write>(
+    built: &Built,
+    memory: Memory,
+    script: Script,
+    limit: u64,
+    out: &mut W,
+) -> Result<End, Failure<WriteFault>>
+    ensures ok { IfOk result (λ end. PrintsRun limit
+        (started built.now.image memory script.script script.events script.failures)
+        end (W.contents out.old) (W.contents out.new)) }
+    ensures err { OnErr result (BeginsRun limit
+        (started built.now.image memory script.script script.events script.failures)
+        (W.contents out.old) (W.contents out.new)) }
+    ensures faithful { let source = source_of built.now memory script.script script.events in
+        All IsServed (program_modules built.now.program) → NeverOutside source
+        → IfOk result (λ end. end ≡ End.Halted
+        → PrintsEnded source (W.contents out.old) (W.contents out.new)) }
+{
+    let mut machine = machine_of(built, memory, script);
+    print_machine(&mut machine, limit, out)
 }

@@ -11,7 +11,7 @@ mod sources;
 
 pub use built::Built;
 pub use compiled::compile;
-pub use execution::execute;
+pub use execution::{execute, print_run};
 pub use fault::ToolFault;
 pub use frontend::ReadFault;
 pub use program_sources::{MOST_SOURCES, Plan, Source};

@@ -1,33 +1,11 @@
-use Rattle.std.proofs.Common.{take, subst, refl, arith}
-use Rattle.std.specs.List.{flat_map}
-use Rattle.std.specs.Io.KnownBytes.{Appends}
-use Rattle.std.proofs.KnownBytes.{Appends-trans}
-use Rattle.std.proofs.lemmas.Grind.{common_steps}
-use Rattle.report.specs.Report.{line_of}
-use Rattle.writing.proofs.WritingLemmas.{beginning_after, on_err}
-use Rattle.report.proofs.ReportLemmas.{last_begun, last_unended, lines_more, report_parts}
+use Rattle.writing.proofs.WritingLemmas.{on_err}
+use Rattle.report.proofs.ReportLemmas.{begun_report, ended_report}
 use Rattle.report.proofs.report.Goals as goal
 
-pub returns-in_err-write_group-clause-err : goal.returns-in_err-write_group-clause-err
-returns-in_err-write_group-clause-err g c =
-    let events = c.args.events.now in
-    on_err c.from_residual.result _ (beginning_after _ _ _ (flat_map line_of (take c.loop-at.at events)) _ _ _
-    (report_parts events _ c.args.last.now c.loop-at.at c.min-count.result (grind (arith, common_steps))) c.loop-at.invariant.written c.in_err-write_group.ensures.err)
-
-pub loop-at-preserved : goal.loop-at-preserved
-loop-at-preserved g c =
-    let events = c.args.events.now in
-    record {
-      fits = omega arith;
-      written = subst (Appends _ _) (lines_more events _ c.loop-at.at c.min-count.result (grind (arith, common_steps)))
-          (Appends-trans _ _ _ _ _ c.loop-at.invariant.written c.in_ok-write_group.ensures.ok);
-    }
-
-pub returns-in_err-write_bytes-clause-err : goal.returns-in_err-write_bytes-clause-err
-returns-in_err-write_bytes-clause-err g c =
-    on_err c.from_residual-in_err-write_bytes.result _ (last_begun _ _ _ c.args.events.now c.args.last.now c.loop-at.at (omega arith)
-    c.loop-at.invariant.written (rw c.as_bytes.ensures.value at c.in_err-write_bytes.ensures.err))
+pub returns-in_err-write_events-clause-err : goal.returns-in_err-write_events-clause-err
+returns-in_err-write_events-clause-err g c =
+    on_err c.from_residual.result _ (begun_report _ _ c.args.events.now c.args.last.now c.in_err-write_events.ensures.err)
 
 pub returns-clause-err : goal.returns-clause-err
-returns-clause-err g c = last_unended _ _ _ _ c.args.events.now c.args.last.now c.loop-at.at (omega arith)
-    c.loop-at.invariant.written (rw c.as_bytes.ensures.value at c.in_ok-write_bytes.ensures.ok) _ refl c.write_bytes-2.result c.write_bytes-2.ensures.err
+returns-clause-err g c =
+    ended_report _ _ _ c.args.events.now c.args.last.now c.in_ok-write_events.ensures.ok c.write_line.result c.write_line.ensures.err

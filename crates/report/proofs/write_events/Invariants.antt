@@ -2,7 +2,7 @@ use Rattle.std.proofs.Common.{length, take, ◌≤◌, ◌-◌}
 use Rattle.std.specs.List.{flat_map}
 use Rattle.std.specs.Io.KnownBytes.{Appends}
 use Rattle.report.specs.Report.{line_of}
-use Rattle.report.proofs.report.Given as goal
+use Rattle.report.proofs.write_events.Given as goal
 
 abbrev pub invariant-loop-at : goal.invariant-loop-at
 invariant-loop-at g l = record {
