@@ -1,0 +1,9 @@
+pub mod Lists
+pub mod Bytes
+pub mod Addresses
+pub mod Following
+pub mod Modules
+pub mod Meanings
+pub mod Among
+pub mod Objects
+pub mod Starting

@@ -1,0 +1,2 @@
+-- Object modules with the names of the modules of a program.
+pub mod Names

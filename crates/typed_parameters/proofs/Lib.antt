@@ -1,0 +1,8 @@
+pub mod Grown
+pub mod OwnBlock
+pub mod Parameters
+pub mod Items
+pub mod Elements
+pub mod Opening
+pub mod Closing
+pub mod Walks
