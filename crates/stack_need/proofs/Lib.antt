@@ -1,0 +1,5 @@
+mod Elements
+mod Bodies
+mod Within
+mod WithinStatements
+mod WithinRuns

@@ -1,0 +1,2 @@
+//! How much of the stack a PL/M-80 program needs.
+#![tactic(auto)]
