@@ -1,5 +1,6 @@
 mod Elements
 mod Bodies
+mod Needs
 mod Within
 mod WithinStatements
 mod WithinRuns

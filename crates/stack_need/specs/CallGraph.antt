@@ -1,6 +1,6 @@
 -- The call graph of a program, whose bodies are numbered: 0 is that of the main module, and those of the
 -- procedures follow, module by module, in the order of their texts.
-use Rattle.std.specs.Prelude.{◌≡◌, ℕ, zero, suc, ◌+◌, List, [], ◌∷◌, ◌++◌, Contains, find, filter_map, length, map, option_map, slice_get, Option}
+use Rattle.std.specs.Prelude.{◌≡◌, ℕ, ◌+◌, List, [], ◌∷◌, ◌++◌, Contains, find, filter_map, length, map, option_map, slice_get, slice_index, Option}
 use Rattle.std.specs.Option.{option_and_then, option_map_or}
 use Rattle.typed_trees.specs.Charge.{charge_of}
 use Rattle.typed_trees.specs.TypedTrees.{TypedProcedure, TypedModule}
@@ -13,15 +13,14 @@ pub record Body : Type 0 where
   pub charge : ℕ
   pub callees : List ℕ
 
--- how many procedures the first so many modules have
-abbrev pub procedures_before : (count : ℕ) → List TypedModule → ℕ
-procedures_before zero modules = 0
-procedures_before (suc count) [] = 0
-procedures_before (suc count) (typed ∷ others) = length typed.procedures + procedures_before count others
+-- the number of the first body of each module, from the next one on
+abbrev pub first_numbers : (next : ℕ) → List TypedModule → List ℕ
+first_numbers next [] = []
+first_numbers next (typed ∷ others) = next ∷ first_numbers (next + length typed.procedures) others
 
 -- the number of a procedure's body
 abbrev pub number_of_body : List TypedModule → InProgram → ℕ
-number_of_body modules at = suc (procedures_before at.number_of_module modules + at.number)
+number_of_body modules at = slice_index (first_numbers 1 modules) at.number_of_module + at.number
 
 -- what a procedure of a module stands for where it is called
 abbrev pub procedure_called : List TypedModule → (number_of_module procedure : ℕ) → Option InProgram
@@ -81,8 +80,8 @@ abbrev pub charges_of_chain : List Body → (from : ℕ) → (others : List ℕ)
 charges_of_chain graph from [] = charge_in graph from
 charges_of_chain graph from (callee ∷ others) = charge_in graph from + charges_of_chain graph callee others
 
--- there is a chain from a body to itself
+-- some chain ends with a body that calls its first one
 abbrev pub HasCycle : List Body → Type 0
 HasCycle graph =
-    (from : ℕ) × ((callee : ℕ) × ((others : List ℕ)
-    × (IsChain graph from (callee ∷ others) × (end_of_chain callee others ≡ from))))
+    (from : ℕ) × ((others : List ℕ)
+    × (IsChain graph from others × Contains (callees_of graph (end_of_chain from others)) from))
