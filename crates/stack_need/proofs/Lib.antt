@@ -1,6 +1,9 @@
 mod Elements
 mod Bodies
 mod Needs
+mod Reversed
+mod Marks
+mod Searching
 mod Within
 mod WithinStatements
 mod WithinRuns

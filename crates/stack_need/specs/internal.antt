@@ -1,2 +1,5 @@
 pub mod Within
 pub mod Needs
+pub mod Path
+pub mod Search
+pub mod Searching

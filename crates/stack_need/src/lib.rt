@@ -1,2 +1,6 @@
 //! How much of the stack a PL/M-80 program needs.
 #![tactic(auto)]
+
+mod body;
+mod path;
+mod search;
