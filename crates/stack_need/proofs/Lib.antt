@@ -4,6 +4,8 @@ mod Needs
 mod Reversed
 mod Marks
 mod Searching
+mod Turns
+mod AllBodies
 mod Within
 mod WithinStatements
 mod WithinRuns

@@ -14,7 +14,7 @@ in_either item others one (place, within, is) = by place within is
     by zero within is = inl is
     by (suc place) within is = inr (place, omega (arith, within), is)
 
-nothing_in_none : {A : Type 0} (one : A) → Contains [] one → ⊥
+pub nothing_in_none : {A : Type 0} (one : A) → Contains [] one → ⊥
 nothing_in_none one found = omega (arith, found.1)
 
 module _ (graph : List Body) where

@@ -2,5 +2,6 @@
 #![tactic(auto)]
 
 mod body;
+mod calls;
 mod path;
 mod search;

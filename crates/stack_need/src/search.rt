@@ -1,7 +1,8 @@
 //! The search for the needs of bodies.
 
-ghost use Rattle.std.specs.Prelude.{◌≡◌, slice_set};
-ghost use Rattle.stack_need.specs.internal.Search.{mark_of};
+ghost use Rattle.std.specs.Prelude.{◌≡◌, map, slice_set, IfOk};
+ghost use Rattle.stack_need.specs.internal.Search.{body_view, mark_of};
+ghost use Rattle.stack_need.specs.internal.Searching.{Answers};
 
 use crate::body::Body;
 use crate::path::{Path, Visit};
@@ -185,4 +186,20 @@ impl<'a> Search<'a> {
         }
         Ok(None)
     }
+}
+
+/// The need of the first body, or None where the graph has a cycle.
+pub(crate) fn need_in(alloc: Global, graph: &[Body]) -> Result<Option<u32>, AllocError>
+    ensures { IfOk result (λ found. Answers (map body_view graph.now) found) }
+{
+    let mut search = Search::new(alloc, graph)?;
+    let Some(need) = search.need_of(0)? else {
+        return Ok(None);
+    };
+    for body in 0..graph.len() {
+        let Some(_) = search.need_of(body)? else {
+            return Ok(None);
+        };
+    }
+    Ok(Some(need))
 }

@@ -67,3 +67,12 @@ GoesTo graph root before s Cyclic = HasCycle graph
 unfoldable pub Finds : List Body → (root : ℕ) → Option ℕ → Searched → Type 0
 Finds graph root None s = HasCycle graph
 Finds graph root (Some need) s = HasNeed graph root need × (IsTrueOf graph s × (s.path ≡ []))
+
+-- what searches for the needs of all bodies come to
+unfoldable pub Answers : List Body → Option ℕ → Type 0
+Answers graph None = HasCycle graph
+Answers graph (Some need) = HasNeed graph 0 need × (HasCycle graph → ⊥)
+
+-- the first so many bodies have needs
+abbrev pub HaveNeeds : List Body → (count : ℕ) → Type 0
+HaveNeeds graph count = (body : ℕ) → body < count → (need : ℕ) × HasNeed graph body need
