@@ -1,5 +1,5 @@
 -- The body of a procedure stands in the graph under its number.
-use Rattle.std.proofs.Common.{◌≡◌, ℕ, zero, suc, ◌+◌, ◌<◌, List, [], ◌∷◌, ◌++◌, length, map, slice_get, slice_index, Option, Some, None, option_map, arith, refl, ap, sym, subst, ◌∙◌}
+use Rattle.std.proofs.Common.{◌≡◌, ℕ, zero, suc, ◌+◌, List, [], ◌∷◌, ◌++◌, length, map, slice_get, slice_index, Option, Some, None, option_map, arith, refl, ap, sym, subst, ◌∙◌}
 use Rattle.std.specs.Option.{option_and_then}
 use Rattle.typed_trees.specs.TypedTrees.{TypedProcedure, TypedModule}
 use Rattle.layout.specs.Joined.{InProgram}
@@ -28,21 +28,29 @@ module _ (all : List TypedModule) where
       let same : first ≡ typed = cc in
       let two' : slice_get first.procedures number ≡ Some procedure = subst (λ (some : TypedModule). slice_get some.procedures number ≡ Some procedure) (sym same) two in
       let at_number : 0 + number ≡ number = omega arith in
-      let at_count : count ≡ count + 0 = omega arith in
-      (0, (omega arith,
-      ap (slice_get (bodies_from all count (first ∷ others))) at_number
-      ∙ in_first (body_of all count) first.procedures (bodies_from all (count + 1) others) number procedure two'
-      ∙ ap (λ place. Some (body_of all place procedure)) at_count))
+      let at_count : count ≡ count + 0 = omega arith in (
+        0,
+        (
+          omega arith,
+          ap (slice_get (bodies_from all count (first ∷ others))) at_number
+              ∙ in_first (body_of all count) first.procedures (bodies_from all (count + 1) others) number procedure two'
+              ∙ ap (λ place. Some (body_of all place procedure)) at_count,
+        ),
+      )
   stands_from (first ∷ others) count next (suc at) number typed procedure one two =
       let rest = stands_from others (count + 1) (next + length first.procedures) at number typed procedure one two in
       let at_number : length first.procedures + rest.0 + number ≡ length first.procedures + (rest.0 + number) = omega arith in
       let at_count : count + 1 + at ≡ count + suc at = omega arith in
-      let at_place : next + length first.procedures + rest.0 ≡ next + (length first.procedures + rest.0) = omega arith in
-      (length first.procedures + rest.0, (rest.1.0 ∙ at_place,
-      ap (slice_get (bodies_from all count (first ∷ others))) at_number
-      ∙ in_second (body_of all count) first.procedures (bodies_from all (count + 1) others) (rest.0 + number)
-      ∙ rest.1.1
-      ∙ ap (λ place. Some (body_of all place procedure)) at_count))
+      let at_place : next + length first.procedures + rest.0 ≡ next + (length first.procedures + rest.0) = omega arith in (
+        length first.procedures + rest.0,
+        (
+          rest.1.0 ∙ at_place,
+          ap (slice_get (bodies_from all count (first ∷ others))) at_number
+              ∙ in_second (body_of all count) first.procedures (bodies_from all (count + 1) others) (rest.0 + number)
+              ∙ rest.1.1
+              ∙ ap (λ place. Some (body_of all place procedure)) at_count,
+        ),
+      )
 
   pub stands : (at : InProgram) (found : TypedModule × TypedProcedure) → procedure_at all at ≡ Some found → slice_get (call_graph all) (number_of_body all at) ≡ Some (body_of all at.number_of_module found.1)
   unfolding call_graph

@@ -1,4 +1,6 @@
 mod Elements
+mod Items
+mod Graph
 mod Bodies
 mod Needs
 mod Reversed
@@ -9,3 +11,4 @@ mod AllBodies
 mod Within
 mod WithinStatements
 mod WithinRuns
+mod Told

@@ -1,6 +1,5 @@
 -- What is known of bodies, and what is left to do.
-use Rattle.std.proofs.Common.{◌≡◌, ℕ, zero, suc, ◌+◌, ◌-◌, ◌<◌, ◌≤◌, Bool, true, false, List, [], ◌∷◌, length, slice_get, slice_set, Option, Some, None, replicate, arith, refl, ap, sym, subst, ◌∙◌, ◌⊎◌, inl, inr}
-use Rattle.std.specs.Option.{option_map_or}
+use Rattle.std.proofs.Common.{◌≡◌, ℕ, zero, suc, ◌+◌, ◌≤◌, List, [], ◌∷◌, length, slice_set, replicate, arith, refl, ap, ◌⊎◌, inl, inr}
 use Rattle.stack_need.specs.declared.search.Mark.{Mark}
 use Rattle.stack_need.specs.declared.search.Mark.TheVariants.{New, Open, Done}
 use Rattle.stack_need.specs.CallGraph.{Body, callees_of}

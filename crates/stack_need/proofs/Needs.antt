@@ -2,8 +2,8 @@
 use Rattle.std.proofs.Common.{◌≡◌, ℕ, zero, suc, ◌+◌, ◌<◌, ◌≤◌, Bool, true, false, List, [], ◌∷◌, ◌++◌, length, map, max, min, slice_get, slice_index_or, nat_le, option_map, leb-true, leb-false, Option, Some, None, Contains, arith, refl, ap, sym, subst, ◌∙◌, ◌⊎◌, inl, inr}
 use Rattle.std.specs.Option.{option_map_or}
 use Rattle.std.proofs.lemmas.Option.{slice_get-map}
-use Rattle.stack_need.specs.CallGraph.{Body, HasCycle, IsChain, callees_of, charge_in, charges_of_chain, end_of_chain}
-use Rattle.stack_need.specs.internal.Needs.{NeedOf, of_body, GreatestOf, of_none, of_more, HasNeed, capped}
+use Rattle.stack_need.specs.CallGraph.{Body, IsChain, callees_of, charge_in, charges_of_chain, end_of_chain}
+use Rattle.stack_need.specs.internal.Needs.{NeedOf, of_body, GreatestOf, of_none, of_more, capped}
 use Rattle.stack_need.proofs.Elements.{at_head, in_tail}
 
 -- an element is the first or one of the others
@@ -128,10 +128,13 @@ module _ (graph : List Body) where
     pub from_stopped : (body need : ℕ) → NeedOf stopped body need → (before : ℕ) × (NeedOf graph body before × IsBeforeStop before need)
     from_stopped body need (of_body _ _ greatest all is) =
         let rest = from_stopped_among (callees_of stopped body) greatest all in
-        let charge = stopped_charge body in
-        (charge_in graph body + rest.0,
-        (of_body body (charge_in graph body + rest.0) rest.0 (subst (λ bodies. GreatestOf graph bodies rest.0) (same_callees body) rest.1.0) refl,
-        omega (arith, is, charge, rest.1.1)))
+        let charge = stopped_charge body in (
+          charge_in graph body + rest.0,
+          (
+            of_body body (charge_in graph body + rest.0) rest.0 (subst (λ bodies. GreatestOf graph bodies rest.0) (same_callees body) rest.1.0) refl,
+            omega (arith, is, charge, rest.1.1),
+          ),
+        )
 
     from_stopped_among : (bodies : List ℕ) (greatest : ℕ) → GreatestOf stopped bodies greatest → (before : ℕ) × (GreatestOf graph bodies before × IsBeforeStop before greatest)
     from_stopped_among _ greatest (of_none _ is) = (greatest, (of_none greatest is, refl))

@@ -1,5 +1,5 @@
 -- A step of a search: what holds along it, and what it comes to.
-use Rattle.std.proofs.Common.{◌≡◌, ℕ, zero, suc, ◌+◌, ◌-◌, ◌<◌, ◌≤◌, Bool, true, false, List, [], ◌∷◌, ◌++◌, length, take, max, min, slice_get, slice_set, Option, Some, None, Contains, arith, refl, ap, sym, subst, ◌∙◌, ◌⊎◌, inl, inr}
+use Rattle.std.proofs.Common.{◌≡◌, ℕ, zero, suc, ◌+◌, ◌<◌, ◌≤◌, List, [], ◌∷◌, ◌++◌, length, take, max, slice_get, slice_set, Option, Some, None, Contains, arith, refl, ap, sym, subst, ◌∙◌, inl, inr}
 use Rattle.std.specs.List.{AllByRecursion}
 use Rattle.std.proofs.lemmas.List.{length-set}
 use Rattle.stack_need.specs.declared.path.Visit.{Visit}
@@ -7,9 +7,9 @@ use Rattle.stack_need.specs.declared.search.Mark.{Mark}
 use Rattle.stack_need.specs.declared.search.Mark.TheVariants.{New, Open, Done}
 use Rattle.stack_need.specs.declared.search.Progress.{Progress}
 use Rattle.stack_need.specs.CallGraph.{Body, HasCycle, IsChain, callees_of, charge_in, end_of_chain}
-use Rattle.stack_need.specs.internal.Needs.{NeedOf, of_body, GreatestOf, of_none, of_more, HasGreatest, HasNeed}
+use Rattle.stack_need.specs.internal.Needs.{NeedOf, of_body, GreatestOf, of_none, of_more, HasNeed}
 use Rattle.stack_need.specs.internal.Search.{Searched, begun, called, finished, mark_of, need_shown, passed, stepped, stepped_to}
-use Rattle.stack_need.specs.internal.Searching.{GoesTo, HasPassed, IsOnPath, IsTrueOf, Leads, Searches, left, unfinished, waiting}
+use Rattle.stack_need.specs.internal.Searching.{GoesTo, HasPassed, IsOnPath, IsTrueOf, Leads, Searches, left, waiting}
 use Rattle.stack_need.proofs.Elements.{at_head, in_tail}
 use Rattle.stack_need.proofs.Marks.{done_is_not_open, known, mark_set, opened}
 use Rattle.stack_need.proofs.Needs.{chain_more, end_more}
@@ -46,17 +46,23 @@ module _ (graph : List Body) where
   passes : (visit : Visit) (callee need : ℕ) → slice_get (callees_of graph visit.body) visit.next ≡ Some callee → HasPassed graph visit → HasNeed graph callee need → HasPassed graph (passed visit need)
   passes visit callee need is before one =
       let more : take visit.next (callees_of graph visit.body) ++ callee ∷ [] ≡ take (visit.next + 1) (callees_of graph visit.body) =
-      sym (one_more (callees_of graph visit.body) visit.next callee is) ∙ ap (λ count. take count (callees_of graph visit.body)) (let same : suc visit.next ≡ visit.next + 1 = omega arith in same) in
-      (max before.0 one.0,
-      (subst (λ bodies. GreatestOf graph bodies (max before.0 one.0)) more (greatest_more (take visit.next (callees_of graph visit.body)) before.0 callee one.0 before.1.0 one.1.0),
-      omega (arith, before.1.1, one.1.1)))
+      sym (one_more (callees_of graph visit.body) visit.next callee is) ∙ ap (λ count. take count (callees_of graph visit.body)) (let same : suc visit.next ≡ visit.next + 1 = omega arith in same) in (
+        max before.0 one.0,
+        (
+          subst (λ bodies. GreatestOf graph bodies (max before.0 one.0)) more (greatest_more (take visit.next (callees_of graph visit.body)) before.0 callee one.0 before.1.0 one.1.0),
+          omega (arith, before.1.1, one.1.1),
+        ),
+      )
 
   has_need : (visit : Visit) → slice_get (callees_of graph visit.body) visit.next ≡ None → HasPassed graph visit → HasNeed graph visit.body (need_shown graph visit)
-  has_need visit is before =
-      (charge_in graph visit.body + before.0,
-      (of_body visit.body (charge_in graph visit.body + before.0) before.0
-      (subst (λ bodies. GreatestOf graph bodies before.0) (past_list (callees_of graph visit.body) visit.next is) before.1.0) refl,
-      omega (arith, before.1.1)))
+  has_need visit is before = (
+    charge_in graph visit.body + before.0,
+    (
+      of_body visit.body (charge_in graph visit.body + before.0) before.0
+          (subst (λ bodies. GreatestOf graph bodies before.0) (past_list (callees_of graph visit.body) visit.next is) before.1.0) refl,
+      omega (arith, before.1.1),
+    ),
+  )
 
   -- a chain from a body on the path to the last one on it
   chain_to_last : (root body : ℕ) (visit : Visit) (others : List Visit) → Leads graph root (visit ∷ others) → IsOnPath body (visit ∷ others)
@@ -128,26 +134,28 @@ module _ (graph : List Body) where
   pub begins : (root callee : ℕ) (visit : Visit) (s : Searched) → mark_of s.marks callee ≡ New → slice_get (callees_of graph visit.body) visit.next ≡ Some callee → Searches graph root (record s { path = visit ∷ s.path })
       → GoesTo graph root (left graph (record s { path = visit ∷ s.path })) (begun callee (record s { path = visit ∷ s.path })) Progress.Going
   begins root callee visit s new is before =
-      let less : waiting graph s.marks ≡ 2 + length (callees_of graph callee) + waiting graph (slice_set s.marks callee Open) = opened graph s.marks callee before.marks.size new in
-      (record {
-        marks = open_set callee (record s { path = visit ∷ s.path }) before.marks;
-        leads = (is, before.leads);
-        passed = ((0, (of_none 0 refl, omega arith)), before.passed);
-      },
-      omega (arith, less))
+      let less : waiting graph s.marks ≡ 2 + length (callees_of graph callee) + waiting graph (slice_set s.marks callee Open) = opened graph s.marks callee before.marks.size new in (
+        record {
+          marks = open_set callee (record s { path = visit ∷ s.path }) before.marks;
+          leads = (is, before.leads);
+          passed = ((0, (of_none 0 refl, omega arith)), before.passed);
+        },
+        omega (arith, less),
+      )
 
   goes_on : (root callee : ℕ) (mark : Mark) (visit : Visit) (s : Searched) → mark_of s.marks callee ≡ mark → slice_get (callees_of graph visit.body) visit.next ≡ Some callee → Searches graph root (record s { path = visit ∷ s.path })
       → GoesTo graph root (left graph (record s { path = visit ∷ s.path })) (called mark visit callee s).0 (called mark visit callee s).1
   goes_on root callee New visit s mark is before = begins root callee visit s mark is before
   goes_on root callee Open visit s mark is before = cycle_found root callee visit s.path is before.leads (before.marks.is_open callee mark)
   goes_on root callee (Done need) visit s mark is before =
-      let within : visit.next < length (callees_of graph visit.body) = within_list (callees_of graph visit.body) visit.next callee is in
-      (record {
-        marks = record { size = before.marks.size; done = before.marks.done; is_open = before.marks.is_open };
-        leads = leads_still root need visit s.path before.leads;
-        passed = (passes visit callee need is before.passed.0 (before.marks.done callee need mark), before.passed.1);
-      },
-      omega (arith, within))
+      let within : visit.next < length (callees_of graph visit.body) = within_list (callees_of graph visit.body) visit.next callee is in (
+        record {
+          marks = record { size = before.marks.size; done = before.marks.done; is_open = before.marks.is_open };
+          leads = leads_still root need visit s.path before.leads;
+          passed = (passes visit callee need is before.passed.0 (before.marks.done callee need mark), before.passed.1);
+        },
+        omega (arith, within),
+      )
 
   -- a visit ends
   ends : (root : ℕ) (visit : Visit) (marks : List Mark) (path : List Visit) → slice_get (callees_of graph visit.body) visit.next ≡ None → Searches graph root (record { marks = marks; path = visit ∷ path })
@@ -157,13 +165,14 @@ module _ (graph : List Body) where
       (subst (λ body. HasNeed graph body (need_shown graph visit)) before.leads need, (done_set visit (record { marks = marks; path = [] }) (need_shown graph visit) need before.marks, refl))
   ends root visit marks (after ∷ others) is before =
       let need : HasNeed graph visit.body (need_shown graph visit) = has_need visit is before.passed.0 in
-      let less : waiting graph (slice_set marks visit.body (Done (need_shown graph visit))) ≤ waiting graph marks = known graph marks visit.body (need_shown graph visit) in
-      (record {
-        marks = done_set visit (record { marks = marks; path = after ∷ others }) (need_shown graph visit) need before.marks;
-        leads = before.leads.1;
-        passed = before.passed.1;
-      },
-      omega (arith, less))
+      let less : waiting graph (slice_set marks visit.body (Done (need_shown graph visit))) ≤ waiting graph marks = known graph marks visit.body (need_shown graph visit) in (
+        record {
+          marks = done_set visit (record { marks = marks; path = after ∷ others }) (need_shown graph visit) need before.marks;
+          leads = before.leads.1;
+          passed = before.passed.1;
+        },
+        omega (arith, less),
+      )
 
   pub steps : (root : ℕ) (visit : Visit) (s : Searched) → Searches graph root (record s { path = visit ∷ s.path })
       → GoesTo graph root (left graph (record s { path = visit ∷ s.path })) (stepped graph visit s).0 (stepped graph visit s).1

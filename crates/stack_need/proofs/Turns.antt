@@ -1,10 +1,10 @@
 -- The turns of the loop of a search.
-use Rattle.std.proofs.Common.{◌≡◌, ℕ, ◌<◌, List, [], ◌∷◌, Option, Some, None, refl, ap, sym, subst, ◌∙◌}
+use Rattle.std.proofs.Common.{◌≡◌, ℕ, List, [], ◌∷◌, Some, None, ap, sym, subst, ◌∙◌}
 use Rattle.stack_need.specs.declared.path.Visit.{Visit}
 use Rattle.stack_need.specs.declared.search.Mark.{Mark}
 use Rattle.stack_need.specs.declared.search.Mark.TheVariants.{Done}
 use Rattle.stack_need.specs.declared.search.Progress.{Progress}
-use Rattle.stack_need.specs.declared.search.Progress.TheVariants.{Going, Finished, Cyclic}
+use Rattle.stack_need.specs.declared.search.Progress.TheVariants.{Finished, Cyclic}
 use Rattle.stack_need.specs.CallGraph.{Body, HasCycle}
 use Rattle.stack_need.specs.internal.Needs.{HasNeed}
 use Rattle.stack_need.specs.internal.Search.{Searched, begun, mark_of, stepped}

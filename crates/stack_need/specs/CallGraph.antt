@@ -1,6 +1,6 @@
 -- The call graph of a program, whose bodies are numbered: 0 is that of the main module, and those of the
 -- procedures follow, module by module, in the order of their texts.
-use Rattle.std.specs.Prelude.{◌≡◌, ℕ, ◌+◌, List, [], ◌∷◌, ◌++◌, Contains, find, filter_map, length, map, option_map, slice_get, slice_index, Option}
+use Rattle.std.specs.Prelude.{ℕ, ◌+◌, List, [], ◌∷◌, ◌++◌, Contains, find, filter_map, length, map, option_map, slice_get, slice_index, Option}
 use Rattle.std.specs.Option.{option_and_then, option_map_or}
 use Rattle.typed_trees.specs.Charge.{charge_of}
 use Rattle.typed_trees.specs.TypedTrees.{TypedProcedure, TypedModule}

@@ -112,10 +112,7 @@ fn call_calls(
 
 // Adds the calls in arguments.
 #[cycle(expression)]
-fn arguments_calls(
-    calls: &mut Vec<u32>,
-    arguments: &[TypedExpression],
-) -> Result<(), AllocError>
+fn arguments_calls(calls: &mut Vec<u32>, arguments: &[TypedExpression]) -> Result<(), AllocError>
     ensures { OnOk result (calls.new.items
         ≡ calls.old.items ++ calls_in_arguments (arguments_view arguments.now)) }
 {
@@ -244,10 +241,7 @@ fn if_calls(calls: &mut Vec<u32>, branch: &TypedIf) -> Result<(), AllocError>
 
 // Adds the calls in the statement after ELSE.
 #[cycle(statement)]
-fn else_calls(
-    calls: &mut Vec<u32>,
-    otherwise: &Option<TypedStatement>,
-) -> Result<(), AllocError>
+fn else_calls(calls: &mut Vec<u32>, otherwise: &Option<TypedStatement>) -> Result<(), AllocError>
     ensures { OnOk result (calls.new.items ≡ calls.old.items ++ calls_in_else (else_view otherwise.now)) }
 {
     match otherwise {
@@ -266,10 +260,7 @@ fn list_calls(calls: &mut Vec<u32>, list: &TypedList) -> Result<(), AllocError>
 
 // Adds the calls in statements.
 #[cycle(statement)]
-fn statements_calls(
-    calls: &mut Vec<u32>,
-    statements: &[TypedStatement],
-) -> Result<(), AllocError>
+fn statements_calls(calls: &mut Vec<u32>, statements: &[TypedStatement]) -> Result<(), AllocError>
     ensures { OnOk result (calls.new.items
         ≡ calls.old.items ++ calls_in_statements (statements_view statements.now)) }
 {

@@ -2,6 +2,10 @@
 #![tactic(auto)]
 
 mod body;
+mod call_graph;
 mod calls;
 mod path;
 mod search;
+mod stack_need;
+
+pub use stack_need::need;

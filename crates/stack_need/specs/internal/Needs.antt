@@ -1,6 +1,6 @@
 -- The need of a body: its charge, and the greatest need of what is called in it.
-use Rattle.std.specs.Prelude.{◌≡◌, ℕ, ◌+◌, List, [], ◌∷◌, map, max, min}
-use Rattle.stack_need.specs.CallGraph.{Body, HasCycle, callees_of, charge_in}
+use Rattle.std.specs.Prelude.{◌≡◌, ℕ, ◌+◌, List, [], ◌∷◌, max, min}
+use Rattle.stack_need.specs.CallGraph.{Body, callees_of, charge_in}
 
 mutual
   pub data NeedOf (graph : List Body) : (body need : ℕ) → Type 0 where

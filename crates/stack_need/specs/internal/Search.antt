@@ -1,5 +1,5 @@
 -- A search through the bodies of a call graph, step by step.
-use Rattle.std.specs.Prelude.{◌≡◌, ℕ, ◌+◌, List, [], ◌∷◌, map, max, min, slice_get, slice_set, Option, Some, None, if◌then◌else◌}
+use Rattle.std.specs.Prelude.{ℕ, ◌+◌, List, ◌∷◌, map, max, min, slice_get, slice_set, Option, Some, None, if◌then◌else◌}
 use Rattle.std.specs.Option.{option_map_or}
 use Rattle.stack_need.specs.declared.body.Body.{Body as CodeBody}
 use Rattle.stack_need.specs.declared.path.Visit.{Visit}
@@ -56,9 +56,10 @@ need_shown graph visit = min (charge_in graph visit.body + visit.greatest) 42949
 
 -- a step, where a visit has no further call
 abbrev pub finished : List Body → Visit → Searched → Searched × Progress
-finished graph visit s =
-    (record s { marks = slice_set s.marks visit.body (Done (need_shown graph visit)) },
-    progress_after (need_shown graph visit) s.path)
+finished graph visit s = (
+  record s { marks = slice_set s.marks visit.body (Done (need_shown graph visit)) },
+  progress_after (need_shown graph visit) s.path,
+)
 
 -- a step with the last visit, which was taken from the path
 abbrev pub stepped_to : Option ℕ → List Body → Visit → Searched → Searched × Progress

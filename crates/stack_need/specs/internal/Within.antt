@@ -1,11 +1,10 @@
 -- What room is enough along a run.
-use Rattle.std.specs.Prelude.{◌≡◌, ℕ, ◌≤◌, List, Option, Some}
+use Rattle.std.specs.Prelude.{◌≡◌, ℕ, ◌≤◌, List, Some}
 use Rattle.std.specs.List.{AllByRecursion}
 use Rattle.typed_trees.specs.TypedTrees.{TypedStatements, TypedList}
 use Rattle.layout.specs.Joined.{InProgram}
-use Rattle.meaning.specs.declared.reason.Reason.{Reason}
 use Rattle.meaning.specs.declared.reason.Reason.TheVariants.{Divide, Byte as UndeclaredByte, Constant, Stack}
-use Rattle.meaning.specs.Outcomes.{State, Stop, Ended, More, Outside, Outcome, Gave, Stopped, Flow}
+use Rattle.meaning.specs.Outcomes.{State, Stop, Ended, More, Outside, Outcome, Gave, Stopped}
 use Rattle.meaning.specs.Access.{Surroundings}
 use Rattle.meaning.specs.Meaning.{Later, Turn, WhileTurn, IterateTurn, callee_in}
 use Rattle.stack_need.specs.Calls.{calls_in, calls_in_iteration, calls_in_list, calls_in_statements}
