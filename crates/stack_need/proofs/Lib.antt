@@ -1,0 +1,14 @@
+mod Elements
+mod Items
+mod Graph
+mod Bodies
+mod Needs
+mod Reversed
+mod Marks
+mod Searching
+mod Turns
+mod AllBodies
+mod Within
+mod WithinStatements
+mod WithinRuns
+mod Told

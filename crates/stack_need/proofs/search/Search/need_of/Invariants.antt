@@ -1,0 +1,14 @@
+use Rattle.std.proofs.Common.{◌≡◌}
+use Rattle.stack_need.specs.internal.Search.{graph_view, search_view}
+use Rattle.stack_need.specs.internal.Searching.{Searches, left}
+use Rattle.stack_need.proofs.search.Search.need_of.Given as goal
+
+abbrev pub invariant-loop-visit : goal.invariant-loop-visit
+invariant-loop-visit l = record {
+  graph : graph_view l.self ≡ graph_view l.fn.self;
+  searches : Searches (graph_view l.self) l.root (search_view l.self);
+}
+
+-- each step leaves less to do
+abbrev pub decreases-loop-visit : goal.decreases-loop-visit
+decreases-loop-visit l = left (graph_view l.self) (search_view l.self)

@@ -1,0 +1,14 @@
+use Rattle.std.proofs.Common.{◌≡◌, map, []}
+use Rattle.stack_need.specs.internal.Needs.{HasNeed}
+use Rattle.stack_need.specs.internal.Search.{body_view, graph_view, search_view}
+use Rattle.stack_need.specs.internal.Searching.{HaveNeeds, IsTrueOf}
+use Rattle.stack_need.proofs.search.need_in.Given as goal
+
+abbrev pub invariant-loop-body : goal.invariant-loop-body
+invariant-loop-body l = record {
+  graph : graph_view l.search ≡ map body_view l.graph;
+  known : IsTrueOf (graph_view l.search) (search_view l.search);
+  path : (search_view l.search).path ≡ [];
+  need : HasNeed (map body_view l.graph) 0 l.need;
+  needs : HaveNeeds (map body_view l.graph) l.body;
+}

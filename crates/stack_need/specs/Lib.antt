@@ -1,0 +1,4 @@
+pub mod Calls
+pub mod CallGraph
+pub mod StackNeed
+pub mod internal
