@@ -1,23 +1,31 @@
 -- What the code of a body stands in: its module as it is typed and as tree code, an activation on the machine, and what
 -- is known of the calls that it makes.
-use Rattle.std.specs.Prelude.{◌≡◌, ℕ, ◌+◌, ◌-◌, ◌*◌, ◌/◌, ◌%◌, ◌<◌, ◌≤◌, Bool, true, List, [], ◌∷◌, length, Option, Some, None, slice_get}
+use Rattle.std.specs.Prelude.{◌≡◌, ℕ, ◌+◌, ◌-◌, ◌*◌, ◌/◌, ◌%◌, ◌<◌, ◌≤◌, Bool, true, List, [], ◌∷◌, length, Option, Some, None, slice_get, All}
+use Rattle.mem80.specs.declared.memory.TheConstants.{MEMORY_SIZE}
 use Rattle.mem80.specs.Memory.{byte_at}
 use Rattle.trees.specs.declared.declaration.ScalarType.{ScalarType}
 use Rattle.trees.specs.declared.declaration.ScalarType.TheVariants.{Byte, Address}
 use Rattle.typed_trees.specs.Sizes.{size_of_object}
-use Rattle.typed_trees.specs.TypedTrees.{InFrame, TypedModule, TypedObject, TypedProcedure}
+use Rattle.typed_trees.specs.TypedTrees.{BasedOn, InFrame, TypedModule, TypedObject, TypedProcedure}
 use Rattle.typed_trees.specs.WellTyped.{IsWellTyped, Within, WithinProcedure}
 use Rattle.layout.specs.Storage.{Storage}
-use Rattle.meaning.specs.Outcomes.{State as SourceState}
+use Rattle.ports.specs.Input.{IsScript}
+use Rattle.meaning.specs.Access.{Surroundings, is_declared}
+use Rattle.meaning.specs.Outcomes.{State as SourceState, Gave}
 use Rattle.meaning.specs.Meaning.{Later, callee_in, called_for}
+use Rattle.meaning.specs.Values.{values_of}
 use Rattle.isa8080.specs.State.{Registers}
 use Rattle.asm8080.specs.declared.item.Item.{Item}
 use Rattle.asm8080.specs.Items.{Layout, Stands}
 use Rattle.runtime8080.specs.declared.routine.Routine.{Routine}
 use Rattle.runtime8080.specs.Routines.{IsRoutine}
+use Rattle.treecode.specs.declared.expression.Expression.{Expression}
+use Rattle.treecode.specs.declared.expression.ExpressionForm.TheVariants as forms
+use Rattle.treecode.specs.declared.place.Home.TheVariants.{Static}
+use Rattle.treecode.specs.declared.place.Place.{Place}
 use Rattle.treecode.specs.Homes.{frame_number}
 use Rattle.treecode.specs.Lowered.{IsLowered}
-use Rattle.treecode.specs.Nodes.{Nodes, nodes_of}
+use Rattle.treecode.specs.Nodes.{Nodes, home_at, nodes_of}
 use Rattle.treecode.specs.Resolved.{Resolves}
 use Rattle.frames.specs.Frames.{distance_of}
 use Rattle.code_meaning.specs.Activations.{Activation, Arrives, HasRoom, IsReady, IsThere, LiesWell}
@@ -92,12 +100,41 @@ CallsDo context =
     (called_for context.later (callee_in context.activation.around procedure) values context.activation.around s)
     (Arrives context.activation (top + bytes_pushed values) base (from + 3) (ResultLies heading.result))
 
+-- Bytes of a state of the source that its program may look at are bytes.
+pub record SourceFits (around : Surroundings) (s : SourceState) : Type 0 where
+  pub memory : (address : ℕ) → is_declared around.program address ≡ true → byte_at s.memory address < 256
+  pub frame : All (λ bytes. All (λ byte. byte < 256) bytes) s.frame
+
+-- values of types, one by one
+abbrev pub AreOfTypes : List ScalarType → (values : List ℕ) → Type 0
+AreOfTypes [] [] = Unit {0}
+AreOfTypes (scalar ∷ scalars) (value ∷ values) = (value < values_of scalar) × AreOfTypes scalars values
+AreOfTypes scalars values = ⊥
+
+-- what a call gives is of the type of its result
+abbrev pub IsOfResult : Option ScalarType → (value : ℕ) → Type 0
+IsOfResult None value = Unit {0}
+IsOfResult (Some scalar) value = value < values_of scalar
+
+-- Calls with arguments of the types of parameters give values of the types of results, and leave bytes in declared
+-- memory and frames.
+abbrev pub CallsFit : Context → Type 0
+CallsFit context =
+    (procedure found : ℕ) (heading : TypedProcedure) (values : List ℕ) (s t : SourceState)
+    → slice_get context.typed.procedures procedure ≡ Some heading
+    → AreOfTypes heading.parameter_types values
+    → SourceFits context.activation.around s
+    → called_for context.later (callee_in context.activation.around procedure) values context.activation.around s
+    ≡ Gave found t
+    → IsOfResult heading.result found × SourceFits context.activation.around t
+
 -- a routine stands at a place
 pub record RoutineIsAt (activation : Activation) (routine : Routine) (entry : ℕ) : Type 0 where
   pub layout : Layout
   pub items : List Item
   pub to : ℕ
   pub stands : Stands layout activation.image items entry to
+  pub has_bytes : entry < to
   pub low : activation.around.program.placement.code.start ≤ entry
   pub high : to ≤ activation.around.program.placement.code.start + activation.around.program.placement.code.len
   pub is_routine : IsRoutine routine items
@@ -113,10 +150,25 @@ FrameIsPlanned context =
     ≡ distances_in context (frame_number context.typed procedure object))
     × (context.activation.size object ≡ size_of_object found)
 
+-- numbers in tree code have the width of a word
+abbrev pub NumbersAreWords : Nodes → Type 0
+NumbersAreWords nodes =
+    (index number : ℕ) (found : Expression)
+    → slice_get nodes.expressions index ≡ Some found
+    → found.form ≡ forms.Number number
+    → number < 65536
+
+-- what an object is BASED on stands before it in the table
+abbrev pub BasesStandBefore : TypedModule → Type 0
+BasesStandBefore typed =
+    (object base : ℕ) (found : TypedObject)
+    → slice_get typed.objects object ≡ Some found → found.home ≡ BasedOn base → base < object
+
 -- What is true of where the code of a body stands.
 pub record IsSound (context : Context) : Type 0 where
   pub lowered : IsLowered context.typed context.storage context.site.tree.now
   pub types : IsWellTyped context.typed
+  pub numbers : NumbersAreWords (nodes_in context)
   pub is_module :
       slice_get context.activation.around.program.modules context.activation.around.number_of_module
       ≡ Some context.typed
@@ -125,8 +177,14 @@ pub record IsSound (context : Context) : Type 0 where
       Resolves context.activation.around context.site.tree.now.homes.items context.storage
       (place_at context.activation.layout)
   pub frame : FrameIsPlanned context
+  pub bases : BasesStandBefore context.typed
+  pub words :
+      (object : ℕ) (place : Place) → home_at context.site.tree.now.homes.items object ≡ Static place
+      → place_at context.activation.layout place < MEMORY_SIZE
   pub routines :
       (routine : Routine) → has_routine context.called routine ≡ true
       → RoutineIsAt context.activation routine
       (context.activation.layout.place_of (label_of_routine context.site routine).index)
   pub calls : CallsDo context
+  pub calls_fit : CallsFit context
+  pub script : IsScript context.activation.around.program.script

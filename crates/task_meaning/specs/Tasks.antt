@@ -95,6 +95,15 @@ pub record NothingIsGiven
     (r : Registers) (memory : List ℕ) (found : A) (now : Registers) (memory_now : List ℕ) : Type 0 where
   pub known : Know context after now memory_now
 
+-- the effects of an expression are carried out; A and DE are left alone where the tree says so
+pub record EffectsAreGiven
+    (context : Context) (after : Facts) (number : ExpressionNumber)
+    (r : Registers) (memory : List ℕ) (found : ℕ) (now : Registers) (memory_now : List ℕ) : Type 0 where
+  pub known : Know context after now memory_now
+  pub a : Left (keeps context.site number).a r.a now.a
+  pub d : Left (keeps context.site number).de r.d now.d
+  pub e : Left (keeps context.site number).de r.e now.e
+
 -- the address of a place on the machine
 abbrev pub address_on_machine : Activation → Place → ℕ
 address_on_machine activation (InMemory address) = address
@@ -178,7 +187,7 @@ EffectsDo context before number pushed from after to =
     → TypesHold context.typed context.within tree
     → Carries context before pushed (2 * height_of tree) 0 from to Nothing
     (value context.later context.activation.around tree)
-    (NothingIsGiven context after)
+    (EffectsAreGiven context after number)
 
 abbrev pub AddressDoes : Context → (before : Facts) → Reference → (pushed from : ℕ) → (after : Facts) → (to : ℕ) → Type 0
 AddressDoes context before reference pushed from after to =

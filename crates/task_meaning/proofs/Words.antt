@@ -1,0 +1,540 @@
+-- The code of words does what the expressions mean, where the forms that are still open do.
+use Rattle.std.proofs.Common.{◌≡◌, ℕ, ◌+◌, ◌-◌, ◌*◌, ◌/◌, ◌%◌, ◌<◌, ◌≤◌, max, Bool, true, false, List, [], ◌∷◌, ◌++◌, Option, Some, None, refl, sym, ap, ◌∙◌, subst, arith}
+use Rattle.std.proofs.lemmas.List.{append_assoc}
+use Rattle.trees.specs.declared.declaration.ScalarType.{ScalarType}
+use Rattle.trees.specs.declared.declaration.ScalarType.TheVariants.{Address, Byte}
+use Rattle.trees.specs.declared.expression.BinaryOperator.{BinaryOperator}
+use Rattle.trees.specs.declared.expression.BinaryOperator.TheVariants as operators
+use Rattle.typed_trees.specs.declared.parts.ShiftFunction.{ShiftFunction}
+use Rattle.typed_trees.specs.declared.parts.ShiftFunction.TheVariants.{RotateLeft, RotateRight, ShiftLeft, ShiftRight}
+use Rattle.typed_trees.specs.declared.parts.UnaryFunction.TheVariants.{Low, High, Double}
+use Rattle.typed_trees.specs.Charge.{height_of}
+use Rattle.typed_trees.specs.ExpressionTypes.{type_of}
+use Rattle.typed_trees.specs.TypedTrees.{TypedExpression}
+use Rattle.typed_trees.specs.WellTyped.{TypesHold}
+use Rattle.meaning.specs.Meaning.{value}
+use Rattle.meaning.specs.Outcomes.{State as SourceState, Outcome, Gave, Stopped, then_do}
+use Rattle.meaning.specs.Values.{as_type, shifted, values_of}
+use Rattle.isa8080.specs.State.{Registers, State}
+use Rattle.runtime8080.specs.declared.routine.Routine.TheVariants as routines
+use Rattle.treecode.specs.declared.expression.Expression.{Expression}
+use Rattle.treecode.specs.declared.expression.ExpressionForm.{ExpressionForm}
+use Rattle.treecode.specs.declared.expression.ExpressionForm.TheVariants as forms
+use Rattle.treecode.specs.declared.expression.ExpressionNumber.{ExpressionNumber}
+use Rattle.treecode.specs.declared.lists.Range.{Range}
+use Rattle.treecode.specs.declared.place.Location.TheVariants.{Static}
+use Rattle.treecode.specs.declared.place.Place.{Place}
+use Rattle.treecode.specs.declared.place.Place.TheVariants.{Number}
+use Rattle.treecode.specs.declared.reference.Reference.{Reference}
+use Rattle.treecode.specs.declared.reference.Target.{Target}
+use Rattle.treecode.specs.Lowered.{IsExpression, IsForm, IsNumber, IsValue, IsLocation, IsConstantList, IsConversion, IsEmbedded, IsUnary, IsBinary, IsCallOf, IsFunction, IsShift, IsInput}
+use Rattle.treecode.specs.Traits.{keeps_none, keeps_of_form, keeps_of, keeps_of_extended, keeps_of_shift, same_low_byte, traits_at, known_of, no_traits, number_at, traits_of}
+use Rattle.treecode.specs.declared.traits.Traits.{Traits}
+use Rattle.std.specs.Option.{option_map_or}
+use Rattle.sites8080.specs.Site.{expression}
+use Rattle.code_meaning.specs.Landing.{Does, at_place}
+use Rattle.code_meaning.specs.Activations.{Arrives, HasRoom}
+use Rattle.code_facts.specs.Holding.{place_at}
+use Rattle.steps8080.specs.declared.facts.Facts.{Facts}
+use Rattle.steps8080.specs.declared.step.Step.{Step}
+use Rattle.steps8080.specs.declared.step.Step.TheVariants.{CallRoutine, Plain}
+use Rattle.steps8080.specs.declared.step.Task.TheVariants as tasks
+use Rattle.steps8080.specs.Step.{extension_steps, part as part_of}
+use Rattle.sites8080.specs.declared.site.Site.{Site}
+use Rattle.sites8080.specs.Queries.{keeps, known, memory as memory_of, number as number_of}
+use Rattle.sites8080.specs.Widths.{power}
+use Rattle.operands8080.specs.Addresses.{location_address_steps}
+use Rattle.operands8080.specs.Loads.{extended_byte_in_memory_steps}
+use Rattle.operands8080.specs.Pairs.{pair_steps}
+use Rattle.exprgen8080.specs.declared.byte_operators.Operands.{Operands}
+use Rattle.exprgen8080.specs.Emission.{knowing}
+use Rattle.exprgen8080.specs.ByteOperators.{number_of_two}
+use Rattle.exprgen8080.specs.WordOperators.{division_steps, quotient_steps, remainder_steps, word_binary_steps}
+use Rattle.exprgen8080.specs.WordShifts.{computed_count_steps, word_by_number_steps, word_shift_steps, word_shifted_right_steps}
+use Rattle.exprgen8080.specs.Words.{computed_word_steps, extended_byte_steps, word_form_steps, word_function_steps, word_of_two_steps, word_steps}
+use Rattle.task_meaning.specs.Contexts.{Context, IsSound, nodes_in}
+use Rattle.task_meaning.specs.Steps.{StepsStand, PartThere}
+use Rattle.task_meaning.specs.Tasks.{PartDoes, WordDoes, WordIsGiven}
+use Rattle.task_meaning.proofs.Addresses.{location_address_goes}
+use Rattle.task_meaning.proofs.Nodes.{NodeOf, node_of}
+use Rattle.task_meaning.proofs.Rules.{GoesOn}
+use Rattle.task_meaning.proofs.KnownOperands.{bytes_differ, known_is, known_small, number_known, word_fits}
+use Rattle.task_meaning.proofs.Ranges.{wide}
+use Rattle.task_meaning.proofs.Values.{HasWord, KeepsThem, word_ends, word_given, word_then}
+use Rattle.task_meaning.proofs.Pairs.{IsOperand}
+use Rattle.task_meaning.proofs.WordArithmetic.{has_word}
+use Rattle.task_meaning.proofs.KeptInside.{IsKeptBy, byte_inside_kept, kept_same}
+use Rattle.treecode.specs.declared.traits.Keeps.{Keeps}
+use Rattle.treecode.specs.Nodes.{Nodes}
+use Rattle.task_meaning.proofs.WordSums.{TwoWords, keeps_at_site, one_high, second_known, sum_does, two_high}
+use Rattle.task_meaning.proofs.LeftShifts.{left_does}
+use Rattle.task_meaning.proofs.WordForms.{extended_does, unary_does}
+use Rattle.task_meaning.proofs.WordRoutines.{absurd_type, computed_shift_does, quotient_does, remainder_does}
+use Rattle.task_meaning.proofs.WordBinaries.{LeftWordDoes, difference_does, is_number_at, product_does}
+
+-- the value of a tree comes into HL
+abbrev pub IsCarriedOut :
+    Context → (facts : Facts) → (number : ExpressionNumber) → TypedExpression → ScalarType → (pushed from : ℕ) → (last : Facts)
+    → (to : ℕ) → Type 0
+IsCarriedOut context facts number tree scalar pushed from last to =
+    (top need : ℕ) (base : List ℕ) (s : SourceState) (r : Registers) (memory : List ℕ)
+    → s.budget < context.number
+    → HasRoom context.activation top pushed need
+    → 2 * height_of tree ≤ need
+    → GoesOn context facts top base s.memory s.frame r memory
+    → Does context.activation.around.program.script s.budget 0 (at_place from r memory s.events)
+    (value context.later context.activation.around tree s)
+    (Arrives context.activation top base to (WordIsGiven context last number scalar r memory))
+
+-- forms whose code is followed elsewhere
+pub data IsOther (site : Site) : ExpressionForm → Type 0 where
+  OtherValue : {reference : Reference} → IsOther site (forms.Value reference)
+  OtherLocation : {reference : Reference} → IsOther site (forms.Location reference)
+  OtherEmbedded : {target : Target} {inner : ExpressionNumber} → IsOther site (forms.Assignment target inner)
+  OtherCall : {procedure : ℕ} {range : Range} → IsOther site (forms.Call procedure range)
+  OtherAnd : {left right : ExpressionNumber} → IsOther site (forms.Binary Address operators.And left right)
+  OtherOr : {left right : ExpressionNumber} → IsOther site (forms.Binary Address operators.Or left right)
+  OtherXor : {left right : ExpressionNumber} → IsOther site (forms.Binary Address operators.Xor left right)
+  OtherQuotient : {left right : ExpressionNumber} {count : ℕ} → power site right ≡ Some count
+      → IsOther site (forms.Binary Address operators.Divide left right)
+  OtherRemainder : {left right : ExpressionNumber} {n : ℕ} → number_of_two site right ≡ Some n
+      → IsOther site (forms.Binary Address operators.Modulo left right)
+  OtherShift : {value count : ExpressionNumber} {n : ℕ} → number_of site count ≡ Some n
+      → IsOther site (forms.Shift ShiftRight value count)
+
+-- what is asked of them
+pub record OthersDo (context : Context) : Type 0 where
+  pub others :
+      (facts last : Facts) (number : ExpressionNumber) (form : ExpressionForm) (bound pushed from to : ℕ) (tree : TypedExpression)
+      → IsOther (knowing context.site facts) form
+      → IsForm (nodes_in context) context.storage bound form tree
+      → TypesHold context.typed context.within tree
+      → type_of tree ≡ Address
+      → keeps context.site number ≡ keeps_of_form (nodes_in context) Address form
+      → StepsStand context (PartDoes context) facts from (word_form_steps (knowing context.site facts) form pushed) last to
+      → IsCarriedOut context facts number tree Address pushed from last to
+  pub bytes :
+      (facts last : Facts) (number : ExpressionNumber) (reference : Reference) (bound pushed from to : ℕ) (tree : TypedExpression)
+      → IsExpression (nodes_in context) context.storage bound number.index tree
+      → TypesHold context.typed context.within tree
+      → type_of tree ≡ Byte
+      → memory_of (knowing context.site facts) number ≡ Some reference
+      → StepsStand context (PartDoes context) facts from (extended_byte_in_memory_steps (knowing context.site facts) reference pushed) last to
+      → IsCarriedOut context facts number tree Byte pushed from last to
+  -- the code of a BYTE that is not in memory keeps nothing
+  pub nothing_kept :
+      (facts : Facts) (number : ExpressionNumber) (bound : ℕ) (tree : TypedExpression)
+      → IsExpression (nodes_in context) context.storage bound number.index tree
+      → type_of tree ≡ Byte
+      → known (knowing context.site facts) number ≡ None
+      → memory_of (knowing context.site facts) number ≡ None
+      → keeps context.site number ≡ keeps_none
+  pub left_words : LeftWordDoes context
+
+without_rest :
+    (context : Context) {from : State} {budget : ℕ} {Good : ℕ → SourceState → State → Type 0} (outcome : Outcome ℕ)
+    → Does context.activation.around.program.script budget 0 from (then_do outcome (λ n t. Gave n t)) Good
+    → Does context.activation.around.program.script budget 0 from outcome Good
+without_rest context (Gave n t) does = does
+without_rest context (Stopped why t) does = does
+
+higher_one : (h need : ℕ) → 2 * (1 + h) ≤ need → 2 * h ≤ need
+higher_one h need high = omega (arith, high)
+
+higher_two : (h need : ℕ) → 2 * (2 + h) ≤ need → 2 * h ≤ need
+higher_two h need high = omega (arith, high)
+
+as_small : (n : ℕ) → as_type Address n < 65536
+as_small n = omega arith
+
+same_word : (n : ℕ) → n < 65536 → n ≡ as_type Address n
+same_word n small = omega (arith, small)
+
+-- what is kept of what stands inside
+extended_kept :
+    (nodes : Nodes) (outer form : ExpressionForm) (scalar : ScalarType) (traits : Traits)
+    → traits ≡ traits_of nodes scalar form
+    → same_low_byte nodes outer ≡ form
+    → IsKeptBy (keeps_of_extended nodes outer traits) traits.keeps
+unfolding traits_of
+extended_kept nodes outer form scalar traits are same =
+    subst (λ (one : Traits). IsKeptBy (keeps_of_extended nodes outer one) one.keeps) (sym are) (by scalar)
+  where
+    by : (of : ScalarType) → IsKeptBy (keeps_of_extended nodes outer (traits_of nodes of form)) (traits_of nodes of form).keeps
+    by Byte = byte_inside_kept nodes outer form (known_of nodes Byte form) same
+    by Address = kept_same _
+
+higher_shift : (a b need : ℕ) → 2 * (3 + max a b) ≤ need → 2 * (1 + max a b) ≤ need
+higher_shift a b need high = omega (arith, high)
+
+operand_of : {context : Context} {bound : ℕ} {of : ExpressionNumber} {tree : TypedExpression}
+    → IsExpression (nodes_in context) context.storage bound of.index tree
+    → TypesHold context.typed context.within tree
+    → IsOperand context of tree
+operand_of {bound = bound} is types = record { bound = bound; is = is; types = types }
+
+module _ (context : Context) (sound : IsSound context) (asked : OthersDo context) where
+  -- an ADDRESS operator
+  binary_carried :
+      {facts last : Facts} {number left right : ExpressionNumber} {first second : TypedExpression} {bound pushed from to : ℕ}
+      (operator : BinaryOperator)
+      → TwoWords context (record { left = left; right = right }) first second
+      → IsForm (nodes_in context) context.storage bound (forms.Binary Address operator left right)
+      (Rattle.typed_trees.specs.TypedTrees.BinaryNode Address operator first second)
+      → TypesHold context.typed context.within (Rattle.typed_trees.specs.TypedTrees.BinaryNode Address operator first second)
+      → Rattle.typed_trees.specs.ExpressionTypes.type_of_result operator Address ≡ Address
+      → keeps context.site number ≡ keeps_of_form (nodes_in context) Address (forms.Binary Address operator left right)
+      → StepsStand context (PartDoes context) facts from
+      (word_form_steps (knowing context.site facts) (forms.Binary Address operator left right) pushed) last to
+      → IsCarriedOut context facts number (Rattle.typed_trees.specs.TypedTrees.BinaryNode Address operator first second) Address pushed from last to
+  unfolding word_form_steps word_of_two_steps word_binary_steps quotient_steps remainder_steps division_steps
+  binary_carried {number = number} {left = left} {right = right} {from = from} operators.Add words form types same kept stand = λ top need base s r memory less room height going.
+      sum_does (record { left = left; right = right }) number from s r memory sound words kept less room height stand going
+  binary_carried {number = number} {left = left} {right = right} {from = from} operators.Subtract words form types same kept stand = λ top need base s r memory less room height going.
+      difference_does (record { left = left; right = right }) number from s r memory sound asked.left_words words kept less room height stand going
+  binary_carried {number = number} {left = left} {right = right} {from = from} operators.Multiply words form types same kept stand = λ top need base s r memory less room height going.
+      product_does (record { left = left; right = right }) number from s r memory sound words kept less room height stand going
+  binary_carried {facts = facts} {last = last} {number = number} {bound = bound} {pushed = pushed} {from = from} {to = to} operators.And words form types same kept stand =
+      asked.others facts last number _ bound pushed from to _ OtherAnd form types same kept stand
+  binary_carried {facts = facts} {last = last} {number = number} {bound = bound} {pushed = pushed} {from = from} {to = to} operators.Or words form types same kept stand =
+      asked.others facts last number _ bound pushed from to _ OtherOr form types same kept stand
+  binary_carried {facts = facts} {last = last} {number = number} {bound = bound} {pushed = pushed} {from = from} {to = to} operators.Xor words form types same kept stand =
+      asked.others facts last number _ bound pushed from to _ OtherXor form types same kept stand
+  binary_carried {facts = facts} {last = last} {number = number} {left = left} {right = right} {first = first} {second = second} {bound = bound} {pushed = pushed} {from = from} {to = to} operators.Divide words form types same kept stand =
+      by (power (knowing context.site facts) right) refl (quotient_is stand)
+    where
+      quotient_is :
+          StepsStand context (PartDoes context) facts from (quotient_steps (knowing context.site facts) (record { left = left; right = right }) pushed) last to
+          → StepsStand context (PartDoes context) facts from (elim (power (knowing context.site facts) right) [
+            | Some count ↦ word_shifted_right_steps (knowing context.site facts) left count pushed
+            | None ↦ division_steps (knowing context.site facts) (record { left = left; right = right }) pushed
+          ]) last to
+      quotient_is stand = stand
+      divided : StepsStand context (PartDoes context) facts from (division_steps (knowing context.site facts) (record { left = left; right = right }) pushed) last to
+          → StepsStand context (PartDoes context) facts from (pair_steps (knowing context.site facts) left right true pushed ++ (CallRoutine routines.Divide ∷ [])) last to
+      divided stand = stand
+      by : (found : Option ℕ) → power (knowing context.site facts) right ≡ found
+          → StepsStand context (PartDoes context) facts from (elim found [
+            | Some count ↦ word_shifted_right_steps (knowing context.site facts) left count pushed
+            | None ↦ division_steps (knowing context.site facts) (record { left = left; right = right }) pushed
+          ]) last to
+          → IsCarriedOut context facts number (Rattle.typed_trees.specs.TypedTrees.BinaryNode Address operators.Divide first second) Address pushed from last to
+      by (Some count) is given = asked.others facts last number _ bound pushed from to _ (OtherQuotient is) form types same kept stand
+      by None is given = λ top need base s r memory less room height going.
+          quotient_does number from s r memory sound words.one words.two kept less room
+          (one_high (height_of first) (height_of second) need height) (two_high (height_of first) (height_of second) need height)
+          (divided given) going
+  binary_carried {facts = facts} {last = last} {number = number} {left = left} {right = right} {first = first} {second = second} {bound = bound} {pushed = pushed} {from = from} {to = to} operators.Modulo words form types same kept stand =
+      by (number_of_two (knowing context.site facts) right) refl (remainder_is stand)
+    where
+      remainder_is :
+          StepsStand context (PartDoes context) facts from (remainder_steps (knowing context.site facts) (record { left = left; right = right }) pushed) last to
+          → StepsStand context (PartDoes context) facts from (elim (number_of_two (knowing context.site facts) right) [
+            | Some n ↦ Rattle.exprgen8080.specs.WordOperators.logic_with_number_steps (knowing context.site facts) Rattle.isa8080.specs.declared.instr.Operation.TheVariants.And left ((n + 65535) % 65536) pushed
+            | None ↦ division_steps (knowing context.site facts) (record { left = left; right = right }) pushed ++ (Plain Rattle.isa8080.specs.declared.instr.Instr.TheVariants.Xchg ∷ [])
+          ]) last to
+      remainder_is stand = stand
+      divided : StepsStand context (PartDoes context) facts from (division_steps (knowing context.site facts) (record { left = left; right = right }) pushed ++ (Plain Rattle.isa8080.specs.declared.instr.Instr.TheVariants.Xchg ∷ [])) last to
+          → StepsStand context (PartDoes context) facts from (pair_steps (knowing context.site facts) left right true pushed ++ (CallRoutine routines.Divide ∷ Plain Rattle.isa8080.specs.declared.instr.Instr.TheVariants.Xchg ∷ [])) last to
+      divided stand =
+          subst (λ steps. StepsStand context (PartDoes context) facts from steps last to)
+          (append_assoc (pair_steps (knowing context.site facts) left right true pushed) (CallRoutine routines.Divide ∷ [])
+          (Plain Rattle.isa8080.specs.declared.instr.Instr.TheVariants.Xchg ∷ [])) stand
+      by : (found : Option ℕ) → number_of_two (knowing context.site facts) right ≡ found
+          → StepsStand context (PartDoes context) facts from (elim found [
+            | Some n ↦ Rattle.exprgen8080.specs.WordOperators.logic_with_number_steps (knowing context.site facts) Rattle.isa8080.specs.declared.instr.Operation.TheVariants.And left ((n + 65535) % 65536) pushed
+            | None ↦ division_steps (knowing context.site facts) (record { left = left; right = right }) pushed ++ (Plain Rattle.isa8080.specs.declared.instr.Instr.TheVariants.Xchg ∷ [])
+          ]) last to
+          → IsCarriedOut context facts number (Rattle.typed_trees.specs.TypedTrees.BinaryNode Address operators.Modulo first second) Address pushed from last to
+      by (Some n) is given = asked.others facts last number _ bound pushed from to _ (OtherRemainder is) form types same kept stand
+      by None is given = λ top need base s r memory less room height going.
+          remainder_does number from s r memory sound words.one words.two kept less room
+          (one_high (height_of first) (height_of second) need height) (two_high (height_of first) (height_of second) need height)
+          (divided given) going
+  binary_carried operators.Equal words form types same kept stand = bytes_differ same
+  binary_carried operators.Less words form types same kept stand = bytes_differ same
+  binary_carried operators.Greater words form types same kept stand = bytes_differ same
+  binary_carried operators.LessOrEqual words form types same kept stand = bytes_differ same
+  binary_carried operators.GreaterOrEqual words form types same kept stand = bytes_differ same
+  binary_carried operators.Unequal words form types same kept stand = bytes_differ same
+
+  -- a shift of an ADDRESS
+  shift_carried :
+      {facts last : Facts} {number of count : ExpressionNumber} {first second : TypedExpression} {bound pushed from to : ℕ}
+      (function : ShiftFunction)
+      → IsOperand context of first
+      → IsOperand context count second
+      → IsForm (nodes_in context) context.storage bound (forms.Shift function of count)
+      (Rattle.typed_trees.specs.TypedTrees.ShiftNode Address function first second)
+      → TypesHold context.typed context.within (Rattle.typed_trees.specs.TypedTrees.ShiftNode Address function first second)
+      → keeps context.site number ≡ keeps_of_form (nodes_in context) Address (forms.Shift function of count)
+      → StepsStand context (PartDoes context) facts from
+      (word_form_steps (knowing context.site facts) (forms.Shift function of count) pushed) last to
+      → IsCarriedOut context facts number (Rattle.typed_trees.specs.TypedTrees.ShiftNode Address function first second) Address pushed from last to
+  unfolding word_form_steps word_of_two_steps word_shift_steps word_by_number_steps
+  shift_carried {facts = facts} {last = last} {number = number} {of = of} {count = count} {first = first} {second = second} {bound = bound} {pushed = pushed} {from = from} {to = to} function one two form types kept stand =
+      by (number_of (knowing context.site facts) count) refl stand
+    where
+      shift_keeps : (function : ShiftFunction) → number_at (nodes_in context) count ≡ None
+          → keeps_of_shift (nodes_in context) function of (number_at (nodes_in context) count) ≡ keeps_none
+      shift_keeps ShiftLeft none = ap (λ found. keeps_of_shift (nodes_in context) ShiftLeft of found) none
+      shift_keeps ShiftRight none = refl
+      shift_keeps RotateLeft none = refl
+      shift_keeps RotateRight none = refl
+      by_number : (of_function : ShiftFunction) (n : ℕ) → number_of (knowing context.site facts) count ≡ Some n
+          → StepsStand context (PartDoes context) facts from (word_by_number_steps (knowing context.site facts) of_function of n pushed) last to
+          → IsForm (nodes_in context) context.storage bound (forms.Shift of_function of count)
+          (Rattle.typed_trees.specs.TypedTrees.ShiftNode Address of_function first second)
+          → TypesHold context.typed context.within (Rattle.typed_trees.specs.TypedTrees.ShiftNode Address of_function first second)
+          → keeps context.site number ≡ keeps_of_form (nodes_in context) Address (forms.Shift of_function of count)
+          → StepsStand context (PartDoes context) facts from
+          (word_form_steps (knowing context.site facts) (forms.Shift of_function of count) pushed) last to
+          → IsCarriedOut context facts number (Rattle.typed_trees.specs.TypedTrees.ShiftNode Address of_function first second) Address pushed from last to
+      by_number ShiftRight n is given form types kept stand = asked.others facts last number _ bound pushed from to _ (OtherShift is) form types refl kept stand
+      by_number ShiftLeft n is given form types kept stand = λ top need base s r memory less room height going.
+          subst (λ outcome. Does context.activation.around.program.script s.budget 0 (at_place from r memory s.events) outcome
+          (Arrives context.activation top base to (WordIsGiven context last number Address r memory)))
+          (sym (second_known first facts (Number n) (λ x y u. Gave (shifted Address ShiftLeft x y) u) s sound two
+          (number_known context facts count n is)))
+          (left_does n number from s r memory sound one
+          (kept ∙ ap (λ found. keeps_of_shift (nodes_in context) ShiftLeft of found) (is_number_at context facts count (Some n) is))
+          less room (one_high (height_of first) (height_of second) need (higher_shift (height_of first) (height_of second) need height))
+          given going)
+      by_number RotateLeft n is given form types kept stand = absurd_type types.0
+      by_number RotateRight n is given form types kept stand = absurd_type types.0
+      by : (found : Option ℕ) → number_of (knowing context.site facts) count ≡ found
+          → StepsStand context (PartDoes context) facts from (elim found [
+            | Some n ↦ word_by_number_steps (knowing context.site facts) function of n pushed
+            | None ↦ computed_count_steps (knowing context.site facts) (record { function = function; value = of; count = count }) pushed
+          ]) last to
+          → IsCarriedOut context facts number (Rattle.typed_trees.specs.TypedTrees.ShiftNode Address function first second) Address pushed from last to
+      by (Some n) is given = by_number function n is given form types kept stand
+      by None is given = λ top need base s r memory less room height going.
+          computed_shift_does (record { function = function; value = of; count = count }) number from s r memory sound types.0 one two
+          (types.2).1
+          (kept ∙ shift_keeps function (is_number_at context facts count None is))
+          less room (one_high (height_of first) (height_of second) need (higher_shift (height_of first) (height_of second) need height))
+          (two_high (height_of first) (height_of second) need (higher_shift (height_of first) (height_of second) need height))
+          given going
+
+  -- a node inside of a conversion or DOUBLE
+  conversion_form :
+      {bound : ℕ} (inner : ExpressionNumber) (tree : TypedExpression)
+      (is : IsExpression (nodes_in context) context.storage bound inner.index tree)
+      → same_low_byte (nodes_in context) (forms.Conversion inner) ≡ (node_of {context = context} {number = inner} sound is).found.form
+  conversion_form inner tree is =
+      ap (λ (found : Option Expression). option_map_or (λ (expression : Expression). expression.form) found (forms.Conversion inner))
+      (node_of {context = context} {number = inner} sound is).is_there
+
+  double_form :
+      {bound : ℕ} (inner : ExpressionNumber) (tree : TypedExpression)
+      (is : IsExpression (nodes_in context) context.storage bound inner.index tree)
+      → same_low_byte (nodes_in context) (forms.Function Double inner) ≡ (node_of {context = context} {number = inner} sound is).found.form
+  double_form inner tree is =
+      ap (λ (found : Option Expression). option_map_or (λ (expression : Expression). expression.form) found (forms.Function Double inner))
+      (node_of {context = context} {number = inner} sound is).is_there
+
+  -- what is kept of it
+  inside_keeps :
+      {bound : ℕ} {tree : TypedExpression} (number inner : ExpressionNumber) (outer : ExpressionForm)
+      (is : IsExpression (nodes_in context) context.storage bound inner.index tree)
+      → keeps context.site number ≡ keeps_of_extended (nodes_in context) outer (traits_at (nodes_in context) inner)
+      → same_low_byte (nodes_in context) outer ≡ (node_of {context = context} {number = inner} sound is).found.form
+      → IsKeptBy (keeps context.site number) (keeps context.site inner)
+  inside_keeps {tree = tree} number inner outer is kept same =
+      let node : NodeOf context inner tree = node_of sound is in
+      let traits_are : traits_at (nodes_in context) inner ≡ traits_of (nodes_in context) (type_of tree) node.found.form
+      = ap (λ (found : Option Expression). option_map_or (λ (expression : Expression). expression.traits) found no_traits) node.is_there
+      ∙ node.traits in
+      subst (λ (less : Keeps). IsKeptBy less (keeps context.site inner)) (sym kept)
+      (subst (λ (more : Keeps). IsKeptBy (keeps_of_extended (nodes_in context) outer (traits_at (nodes_in context) inner)) more)
+      (sym (keeps_at_site context inner))
+      (extended_kept (nodes_in context) outer node.found.form (type_of tree) (traits_at (nodes_in context) inner) traits_are same))
+
+  -- a conversion to ADDRESS, and DOUBLE
+  conversion_carried :
+      {facts last : Facts} {inner : ExpressionNumber} {tree : TypedExpression} {bound pushed from to : ℕ}
+      (number : ExpressionNumber)
+      → IsExpression (nodes_in context) context.storage bound inner.index tree
+      → TypesHold context.typed context.within tree
+      → IsKeptBy (keeps context.site number) (keeps context.site inner)
+      → StepsStand context (PartDoes context) facts from (part_of (tasks.Word inner) pushed ∷ []) last to
+      → IsCarriedOut context facts number (Rattle.typed_trees.specs.TypedTrees.ConversionNode Address tree) Address pushed from last to
+  conversion_carried {tree = tree} {from = from} number is types kept (PartThere part rest) = λ top need base s r memory less room height going.
+      word_then from s r memory part is types less room height going
+      (λ n t now ended same fewer going_on given.
+      let small : n < 65536 = word_fits n (type_of tree) given.small in
+      word_ends t rest (as_small n) (record { h = given.h ∙ ap (λ m. m / 256) (same_word n small); l = given.l ∙ ap (λ m. m % 256) (same_word n small) })
+      (record { a = λ asked_for. given.a (kept.a asked_for); d = λ asked_for. given.d (kept.de asked_for); e = λ asked_for. given.e (kept.de asked_for) })
+      going_on)
+
+  double_carried :
+      {facts last : Facts} {inner : ExpressionNumber} {tree : TypedExpression} {bound pushed from to : ℕ}
+      (number : ExpressionNumber)
+      → IsExpression (nodes_in context) context.storage bound inner.index tree
+      → TypesHold context.typed context.within tree
+      → IsKeptBy (keeps context.site number) (keeps context.site inner)
+      → StepsStand context (PartDoes context) facts from (part_of (tasks.Word inner) pushed ∷ []) last to
+      → IsCarriedOut context facts number (Rattle.typed_trees.specs.TypedTrees.FunctionNode Double tree) Address pushed from last to
+  double_carried {tree = tree} {from = from} number is types kept (PartThere part rest) = λ top need base s r memory less room height going.
+      word_then from s r memory part is types less room (higher_two (height_of tree) need height) going
+      (λ n t now ended same fewer going_on given.
+      word_ends t rest (word_fits n (type_of tree) given.small) (record { h = given.h; l = given.l })
+      (record { a = λ asked_for. given.a (kept.a asked_for); d = λ asked_for. given.d (kept.de asked_for); e = λ asked_for. given.e (kept.de asked_for) })
+      going_on)
+
+  never_known : {A : Type 0} {place : Place} → Some place ≡ None → A
+  never_known e = cc
+
+  -- an ADDRESS of each form
+  form_carried :
+      {facts last : Facts} {number : ExpressionNumber} {form : ExpressionForm} {tree : TypedExpression} {bound pushed from to : ℕ}
+      → IsForm (nodes_in context) context.storage bound form tree
+      → TypesHold context.typed context.within tree
+      → type_of tree ≡ Address
+      → known_of (nodes_in context) (type_of tree) form ≡ None
+      → keeps context.site number ≡ keeps_of_form (nodes_in context) Address form
+      → StepsStand context (PartDoes context) facts from (word_form_steps (knowing context.site facts) form pushed) last to
+      → IsCarriedOut context facts number tree Address pushed from last to
+  unfolding word_form_steps word_function_steps
+  form_carried IsNumber types address unknown kept stand = never_known unknown
+  form_carried IsConstantList types address unknown kept stand = never_known unknown
+  form_carried {facts = facts} {last = last} {number = number} {bound = bound} {pushed = pushed} {from = from} {to = to} (IsValue reference) types address unknown kept stand =
+      asked.others facts last number _ bound pushed from to _ OtherValue (IsValue reference) types address kept stand
+  form_carried {facts = facts} {last = last} {number = number} {bound = bound} {pushed = pushed} {from = from} {to = to} (IsLocation reference) types address unknown kept stand =
+      asked.others facts last number _ bound pushed from to _ OtherLocation (IsLocation reference) types address kept stand
+  form_carried {number = number} (IsConversion {inner = inner} {scalar = Address} {tree = tree} is) types address unknown kept stand =
+      λ top need base s r memory less room height going.
+      conversion_carried number is types (inside_keeps number inner (forms.Conversion inner) is kept (conversion_form inner tree is)) stand top need base s r memory less room height going
+  form_carried (IsConversion {scalar = Byte} is) types address unknown kept stand = bytes_differ address
+  form_carried {facts = facts} {last = last} {number = number} {bound = bound} {pushed = pushed} {from = from} {to = to} (IsEmbedded target inner) types address unknown kept stand =
+      asked.others facts last number _ bound pushed from to _ OtherEmbedded (IsEmbedded target inner) types address kept stand
+  form_carried {facts = facts} {last = last} {number = number} {bound = bound} {pushed = pushed} {from = from} {to = to} (IsCallOf given) types address unknown kept stand =
+      asked.others facts last number _ bound pushed from to _ OtherCall (IsCallOf given) types address kept stand
+  form_carried {number = number} {from = from} (IsUnary {scalar = Address} {operator = operator} {tree = operand} is) types address unknown kept stand = λ top need base s r memory less room height going.
+      unary_does operator number from s r memory sound (operand_of is types.0) kept less room
+      (higher_one (height_of operand) need height) stand going
+  form_carried (IsUnary {scalar = Byte} is) types address unknown kept stand = bytes_differ address
+  form_carried (IsBinary {operands = Address} {operator = operator} one two) types address unknown kept stand =
+      binary_carried operator
+      (record {
+        one = operand_of one (types.1).0;
+        two = operand_of two (types.2).0;
+        one_is = (types.1).1;
+        two_is = (types.2).1;
+      })
+      (IsBinary one two) types address kept stand
+  form_carried (IsBinary {operands = Byte} {operator = operator} one two) types address unknown kept stand =
+      bytes_differ (wide operator Byte address)
+  form_carried {number = number} (IsFunction {function = Double} {operand = inner} {tree = tree} is) types address unknown kept stand =
+      λ top need base s r memory less room height going.
+      double_carried number is types (inside_keeps number inner (forms.Function Double inner) is kept (double_form inner tree is)) stand top need base s r memory less room height going
+  form_carried (IsFunction {function = Low} is) types address unknown kept stand = bytes_differ address
+  form_carried (IsFunction {function = High} is) types address unknown kept stand = bytes_differ address
+  form_carried (IsShift {scalar = Address} {function = function} moved by) types address unknown kept stand =
+      shift_carried function (operand_of moved (types.1).0) (operand_of by (types.2).0) (IsShift moved by) types kept stand
+  form_carried (IsShift {scalar = Byte} moved by) types address unknown kept stand = bytes_differ address
+  form_carried IsInput types address unknown kept stand = bytes_differ address
+
+  -- what is kept with the node of an expression that is not known
+  node_unknown :
+      {number : ExpressionNumber} {tree : TypedExpression} (facts : Facts) (node : NodeOf context number tree)
+      → known (knowing context.site facts) number ≡ None
+      → known_of (nodes_in context) (type_of tree) node.found.form ≡ None
+  unfolding known traits_of
+  node_unknown {number = number} {tree = tree} facts node none =
+      sym (ap (λ (traits : Traits). traits.known) node.traits)
+      ∙ sym (ap (λ (found : Option Expression). elim found [
+        | Some expression ↦ expression.traits.known
+        | None ↦ None
+      ]) (node.at_site facts)) ∙ none
+
+  node_keeps :
+      {number : ExpressionNumber} {tree : TypedExpression} (node : NodeOf context number tree)
+      → type_of tree ≡ Address
+      → known_of (nodes_in context) (type_of tree) node.found.form ≡ None
+      → keeps context.site number ≡ keeps_of_form (nodes_in context) Address node.found.form
+  unfolding traits_of
+  node_keeps {number = number} {tree = tree} node address none =
+      keeps_at_site context number
+      ∙ ap (λ (found : Option Expression). (option_map_or (λ (expression : Expression). expression.traits) found no_traits).keeps) node.is_there
+      ∙ ap (λ (traits : Traits). traits.keeps) node.traits
+      ∙ ap (λ (found : Option Place). keeps_of (nodes_in context) (type_of tree) found node.found.form) none
+      ∙ ap (λ (scalar : ScalarType). keeps_of_form (nodes_in context) scalar node.found.form) address
+
+  -- the code of an expression into HL
+  pub word_does :
+      (facts last : Facts) (number : ExpressionNumber) (pushed from to : ℕ)
+      → StepsStand context (PartDoes context) facts from (word_steps (knowing context.site facts) number pushed) last to
+      → WordDoes context facts number pushed from last to
+  unfolding word_steps computed_word_steps extended_byte_steps
+  word_does facts last number pushed from to stand bound tree is types top base s r memory less room ready known_before nothing =
+      by_known (known (knowing context.site facts) number) refl stand
+    where
+      by_memory : (found : Option Reference) → memory_of (knowing context.site facts) number ≡ found
+          → known (knowing context.site facts) number ≡ None
+          → type_of tree ≡ Byte
+          → StepsStand context (PartDoes context) facts from (elim found [
+            | Some reference ↦ extended_byte_in_memory_steps (knowing context.site facts) reference pushed
+            | None ↦ part_of (tasks.Byte number) pushed ∷ extension_steps
+          ]) last to
+          → Does context.activation.around.program.script s.budget 0 (at_place from r memory s.events)
+          (value context.later context.activation.around tree s)
+          (Arrives context.activation top base to (WordIsGiven context last number Byte r memory))
+      by_memory (Some reference) here none byte given =
+          asked.bytes facts last number reference bound pushed from to tree is types byte here given top (2 * height_of tree) base s r memory
+          less room (omega arith) (record { ready = ready; known = known_before })
+      by_memory None here none byte given =
+          without_rest context (value context.later context.activation.around tree s)
+          (extended_does number from s r memory sound (operand_of is types) byte (asked.nothing_kept facts number bound tree is byte none here)
+          less room (omega arith) given (record { ready = ready; known = known_before }))
+      by_type : (node : NodeOf context number tree) (scalar : ScalarType) → type_of tree ≡ scalar
+          → known (knowing context.site facts) number ≡ None
+          → StepsStand context (PartDoes context) facts from (elim scalar [
+            | Byte ↦ extended_byte_steps (knowing context.site facts) number pushed
+            | Address ↦ word_form_steps (knowing context.site facts) node.found.form pushed
+          ]) last to
+          → Does context.activation.around.program.script s.budget 0 (at_place from r memory s.events)
+          (value context.later context.activation.around tree s)
+          (Arrives context.activation top base to (WordIsGiven context last number scalar r memory))
+      by_type node Byte byte none given =
+          by_memory (memory_of (knowing context.site facts) number) refl none byte given
+      by_type node Address address none given =
+          let unknown = node_unknown facts node none in
+          form_carried node.form types address unknown (node_keeps node address unknown) given top (2 * height_of tree) base s r memory
+          less room (omega arith) (record { ready = ready; known = known_before })
+      by_known : (found : Option Place) → known (knowing context.site facts) number ≡ found
+          → StepsStand context (PartDoes context) facts from (elim found [
+            | Some place ↦ location_address_steps (knowing context.site facts) (Static place) pushed
+            | None ↦ elim (expression (knowing context.site facts) number) [
+              | Some node ↦ computed_word_steps (knowing context.site facts) number node pushed
+              | None ↦ []
+            ]
+          ]) last to
+          → Does context.activation.around.program.script s.budget 0 (at_place from r memory s.events)
+          (value context.later context.activation.around tree s)
+          (Arrives context.activation top base to (WordIsGiven context last number (type_of tree) r memory))
+      by_known (Some place) here given =
+          let small = known_small facts place sound is types here in
+          let word_value : ℕ = place_at context.activation.layout place in
+          subst (λ outcome. Does context.activation.around.program.script s.budget 0 (at_place from r memory s.events) outcome
+          (Arrives context.activation top base to (WordIsGiven context last number (type_of tree) r memory)))
+          (sym (known_is facts place sound is types here s))
+          (location_address_goes facts (Static place) r sound room (word_fits word_value (type_of tree) small) known_before given
+          (record { ready = ready; known = known_before })
+          (λ now beside going_on.
+          let bytes = going_on.ready.registers in
+          let has = has_word word_value now.h now.l bytes.h bytes.l beside.hl in
+          word_given s small (record { h = has.0; l = has.1 })
+          (record { a = λ _. beside.a; d = λ _. beside.d; e = λ _. beside.e }) going_on))
+      by_known None here given =
+          let node : NodeOf context number tree = node_of sound is in
+          by_type node (type_of tree) refl here
+          (subst (λ (scalar : ScalarType). StepsStand context (PartDoes context) facts from (elim scalar [
+            | Byte ↦ extended_byte_steps (knowing context.site facts) number pushed
+            | Address ↦ word_form_steps (knowing context.site facts) node.found.form pushed
+          ]) last to) node.scalar
+          (subst (λ (found : Option Expression). StepsStand context (PartDoes context) facts from (elim found [
+            | Some expression ↦ computed_word_steps (knowing context.site facts) number expression pushed
+            | None ↦ []
+          ]) last to) (node.at_site facts) given))
