@@ -1,3 +1,5 @@
 pub mod KeptParts
 pub mod KeptSegments
 pub mod NewNames
+pub mod Planning
+pub mod Driving

@@ -1,2 +1,6 @@
 pub mod Faults
+pub mod Procedures
+pub mod Statements
+pub mod Generated
+pub mod Driven
 pub mod internal

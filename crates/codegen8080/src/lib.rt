@@ -1,9 +1,12 @@
 //! The code of modules.
-#![tactic(auto)]
+#![tactic(auto, using(std::proofs::lemmas::List::append_assoc))]
 
+mod bodies;
+mod carrying;
 mod fault;
 mod generator;
 mod linkage;
+mod meeting;
 mod module;
 mod names;
 mod object;

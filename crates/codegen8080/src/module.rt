@@ -3,11 +3,11 @@
 ghost use Rattle.std.specs.Prelude.{IfOk};
 ghost use Rattle.codegen8080.specs.internal.Segments.{KeepsFixes};
 
+use crate::bodies::{put_main, put_procedure};
 use crate::fault::Fault;
 use crate::generator::Generator;
 use crate::names::{listed_names, with_publics};
 use crate::object::object_of;
-use crate::procedures::{put_main, put_procedure};
 use exprgen8080::{Externals, Finished, LabelNumber, ROUTINES, Writer, routine_label};
 use failure::Failure;
 use object_modules::ObjectModule;

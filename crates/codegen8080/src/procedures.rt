@@ -1,13 +1,15 @@
 //! Procedures: how they take their arguments and how they return.
 
-use crate::generator::{Generator, site_of};
+ghost use Rattle.std.specs.Prelude.{◌≡◌, ◌∷◌, [], length, IfOk, OnOk};
+ghost use Rattle.statements8080.specs.Plans.{PlanAdds, PlanAddsWithLabels};
+ghost use Rattle.codegen8080.specs.Procedures.{argument_step, below_return_steps, drop_steps, end_steps, entry_labels, entry_steps, exchanged_steps, frame_entry_steps, kept_steps, known_at, known_from, last_argument_facts, last_argument_steps, odd_byte_steps, pair_of, place_in_memory, popped_argument_steps, popped_at, popped_from, pops_steps, push_loop_steps, pushed_arguments_steps, pushes_labels, pushes_steps, return_of_frame_steps, return_over_any_steps, return_over_steps, return_steps, static_entry_steps, stores_steps, with_argument, zero_result_steps, zeros_labels, zeros_steps};
+
 use asm8080::WordForm;
-use exprgen8080::{Facts, LabelNumber, Step};
-use frames::{FramePlan, plan as frame_plan};
+use exprgen8080::{Facts, LabelNumber};
 use isa8080::{Condition, Instr, Operand, Operation, Pair, Register, StackPair};
 use statements8080::{Body, Plan};
-use std::alloc::{AllocError, Global};
-use treecode::{Location, Parameter, Place, ProcedureKind, TreeModule, TreeProcedure};
+use std::alloc::AllocError;
+use treecode::{Location, Parameter, Place, ProcedureKind};
 use trees::ScalarType;
 
 // Up to how many bytes POP drops them from the stack, which is then less code than adding to the stack pointer.
@@ -17,44 +19,61 @@ const POPPED_BYTES: u16 = 12;
 const PUSHED_WORDS: u16 = 12;
 
 // Drops so many words from the stack, where BC is not wanted.
-fn plan_pops(plan: &mut Plan, words: u16) -> Result<(), AllocError> {
+#[tactic(auto, unfolding(crate::specs::Procedures::pops_steps))]
+fn plan_pops(plan: &mut Plan, words: u16) -> Result<(), AllocError>
+    ensures { OnOk result (PlanAdds plan.old plan.new (pops_steps words)) }
+{
     plan.repeated(Instr::Pop(StackPair::StackBc), words)
 }
 
-// Drops so many bytes from the stack. The result stays where it is.
-fn plan_drop(
+// Instructions that keep a result where it is: HL is in DE along them.
+#[tactic(auto, unfolding(crate::specs::Procedures::kept_steps))]
+fn plan_kept(
     plan: &mut Plan,
-    bytes: u16,
     result_type: Option<ScalarType>,
-) -> Result<(), AllocError> {
+    instructions: &[Instr],
+) -> Result<(), AllocError>
+    ensures { OnOk result (PlanAdds plan.old plan.new (kept_steps result_type instructions.now)) }
+{
+    match result_type {
+        Some(ScalarType::Address) => {
+            plan.plain(Instr::Xchg)?;
+            plan.all(instructions)?;
+            plan.plain(Instr::Xchg)
+        }
+        Some(ScalarType::Byte) | None => plan.all(instructions),
+    }
+}
+
+// Drops so many bytes from the stack. The result stays where it is.
+#[tactic(auto, unfolding(crate::specs::Procedures::drop_steps))]
+fn plan_drop(plan: &mut Plan, bytes: u16, result_type: Option<ScalarType>) -> Result<(), AllocError>
+    ensures { OnOk result (PlanAdds plan.old plan.new (drop_steps bytes result_type)) }
+{
     if bytes <= POPPED_BYTES {
         plan_pops(plan, bytes / 2)?;
         return plan.repeated(Instr::Inx(Pair::Sp), bytes % 2);
     }
-    let is_in_hl = matches!(result_type, Some(ScalarType::Address));
-    if is_in_hl {
-        plan.plain(Instr::Xchg)?;
-    }
-    plan.all(&[
-        Instr::Lxi(Pair::Hl, bytes),
-        Instr::Dad(Pair::Sp),
-        Instr::Sphl,
-    ])?;
-    if is_in_hl {
-        plan.plain(Instr::Xchg)?;
-    }
-    Ok(())
+    plan_kept(
+        plan,
+        result_type,
+        &[
+            Instr::Lxi(Pair::Hl, bytes),
+            Instr::Dad(Pair::Sp),
+            Instr::Sphl,
+        ],
+    )
 }
 
-// Returns, with this many words of arguments above the return address. The result stays where it is.
+// Returns, with this many words of arguments above the return address, one or more. The result stays where it is.
+#[tactic(auto, unfolding(crate::specs::Procedures::return_over_steps))]
 fn plan_return_over(
     plan: &mut Plan,
     words: u16,
     result_type: Option<ScalarType>,
-) -> Result<(), AllocError> {
-    if words == 0 {
-        return plan.plain(Instr::Ret);
-    }
+) -> Result<(), AllocError>
+    ensures { OnOk result (PlanAdds plan.old plan.new (return_over_steps words result_type)) }
+{
     match result_type {
         Some(ScalarType::Address) => {
             plan.plain(Instr::Pop(StackPair::StackDe))?;
@@ -70,118 +89,237 @@ fn plan_return_over(
     }
 }
 
+// The same with any number of words.
+#[tactic(auto, unfolding(crate::specs::Procedures::return_over_any_steps))]
+fn plan_return_over_any(
+    plan: &mut Plan,
+    words: u16,
+    result_type: Option<ScalarType>,
+) -> Result<(), AllocError>
+    ensures { OnOk result (PlanAdds plan.old plan.new (return_over_any_steps words result_type)) }
+{
+    if words == 0 {
+        return plan.plain(Instr::Ret);
+    }
+    plan_return_over(plan, words, result_type)
+}
+
 // Drops the frame of a REENTRANT procedure with the arguments, and returns.
-fn plan_return_of_frame(body: &Body<'_>, plan: &mut Plan) -> Result<(), AllocError> {
+#[tactic(auto, unfolding(crate::specs::Procedures::return_of_frame_steps))]
+fn plan_return_of_frame(body: &Body<'_>, plan: &mut Plan) -> Result<(), AllocError>
+    ensures { OnOk result (PlanAdds plan.old plan.new (return_of_frame_steps body.now)) }
+{
     let scalar = body.procedure.result;
     let count = body.frame.parameter_count;
     let last = if count == 0 { 0 } else { 2 };
     plan_drop(plan, body.frame.variable_bytes.saturating_add(last), scalar)?;
-    plan_return_over(plan, count.saturating_sub(1), scalar)
+    plan_return_over_any(plan, count.saturating_sub(1), scalar)
 }
 
 /// The steps of a return, with the result where it is to be.
-pub(crate) fn plan_return(body: &Body<'_>, plan: &mut Plan) -> Result<(), AllocError> {
+#[tactic(auto, unfolding(crate::specs::Procedures::return_steps_by))]
+pub(crate) fn plan_return(body: &Body<'_>, plan: &mut Plan) -> Result<(), AllocError>
+    ensures { OnOk result (PlanAdds plan.old plan.new (return_steps body.now)) }
+{
     match body.procedure.kind {
         ProcedureKind::Reentrant => plan_return_of_frame(body, plan),
         ProcedureKind::Static | ProcedureKind::External(_) => plan.plain(Instr::Ret),
     }
 }
 
-// The place of a parameter in memory.
-fn place_of(parameter: Parameter) -> Place {
-    match parameter.location {
+// The place of a location in memory.
+fn place_of(location: Location) -> Place
+    ensures { result ≡ place_in_memory location }
+{
+    match location {
         Location::Static(place) => place,
         Location::Frame { .. } => Place::Number(0),
     }
 }
 
-// An argument in A or HL goes to its parameter.
-fn plan_argument(
-    plan: &mut Plan,
-    facts: &mut Facts,
-    parameter: Parameter,
-) -> Result<(), AllocError> {
+// What is known besides where the argument of a parameter is in A or HL.
+fn with_argument(facts: Facts, parameter: Parameter) -> Facts
+    ensures { result ≡ with_argument facts parameter }
+{
     match parameter.scalar {
-        ScalarType::Byte => {
-            facts.byte_in_a = Some(parameter.location);
-            plan.word(WordForm::StoreA, place_of(parameter))
-        }
-        ScalarType::Address => {
-            facts.word_in_hl = Some(parameter.location);
-            plan.word(WordForm::StoreHl, place_of(parameter))
-        }
+        ScalarType::Byte => Facts {
+            byte_in_a: Some(parameter.location),
+            ..facts
+        },
+        ScalarType::Address => Facts {
+            word_in_hl: Some(parameter.location),
+            ..facts
+        },
+    }
+}
+
+// The register in which a value of a type is on the stack.
+fn pair_of(scalar: ScalarType) -> StackPair
+    ensures { result ≡ pair_of scalar }
+{
+    match scalar {
+        ScalarType::Byte => StackPair::Psw,
+        ScalarType::Address => StackPair::StackHl,
+    }
+}
+
+// An argument in A or HL goes to its parameter.
+fn plan_argument(plan: &mut Plan, parameter: Parameter) -> Result<(), AllocError>
+    ensures { OnOk result (PlanAdds plan.old plan.new (argument_step parameter ∷ [])) }
+{
+    let place = place_of(parameter.location);
+    match parameter.scalar {
+        ScalarType::Byte => plan.word(WordForm::StoreA, place),
+        ScalarType::Address => plan.word(WordForm::StoreHl, place),
     }
 }
 
 // An argument on the stack goes to its parameter.
-fn plan_pushed_argument(
-    plan: &mut Plan,
-    facts: &mut Facts,
-    parameter: Parameter,
-) -> Result<(), AllocError> {
-    let pair = match parameter.scalar {
-        ScalarType::Byte => StackPair::Psw,
-        ScalarType::Address => StackPair::StackHl,
-    };
-    plan.plain(Instr::Pop(pair))?;
-    plan_argument(plan, facts, parameter)
+fn plan_popped_argument(plan: &mut Plan, parameter: Parameter) -> Result<(), AllocError>
+    ensures { OnOk result (PlanAdds plan.old plan.new (popped_argument_steps parameter)) }
+{
+    plan.plain(Instr::Pop(pair_of(parameter.scalar)))?;
+    plan_argument(plan, parameter)
+}
+
+// The argument on the stack goes to the parameter of an index.
+#[tactic(auto, unfolding(crate::specs::Procedures::popped_at))]
+fn plan_popped_at(plan: &mut Plan, parameters: &[Parameter], index: usize) -> Result<(), AllocError>
+    ensures { OnOk result (PlanAdds plan.old plan.new (popped_at parameters.now index)) }
+{
+    match parameters.get(index).copied() {
+        Some(parameter) => plan_popped_argument(plan, parameter),
+        None => Err(AllocError),
+    }
+}
+
+// Arguments on the stack go to their parameters, from the last one on.
+#[tactic(auto, using(statements8080::proofs::Adding::adding_begins, crate::proofs::Planning::popped_next, crate::proofs::Planning::popped_done))]
+fn plan_popped_arguments(plan: &mut Plan, parameters: &[Parameter]) -> Result<(), AllocError>
+    ensures { OnOk result (PlanAdds plan.old plan.new (popped_from parameters.now (length parameters.now))) }
+{
+    let mut left = parameters.len();
+    while left > 0 {
+        left -= 1;
+        plan_popped_at(plan, parameters, left)?;
+    }
+    Ok(())
+}
+
+// What is known after the argument of the parameter of an index is there.
+#[tactic(auto, unfolding(crate::specs::Procedures::known_at))]
+fn known_at(facts: Facts, parameters: &[Parameter], index: usize) -> Facts
+    ensures { result ≡ known_at facts parameters.now index }
+{
+    match parameters.get(index).copied() {
+        Some(parameter) => with_argument(facts, parameter),
+        None => facts,
+    }
+}
+
+// What is known after all are there.
+#[tactic(auto, using(crate::proofs::Planning::known_next, crate::proofs::Planning::known_done))]
+fn known_from(facts: Facts, parameters: &[Parameter]) -> Facts
+    ensures { result ≡ known_from facts parameters.now (length parameters.now) }
+{
+    let mut known = facts;
+    let mut left = parameters.len();
+    while left > 0 {
+        left -= 1;
+        known = known_at(known, parameters, left);
+    }
+    known
 }
 
 // The arguments below the return address go to the first parameters, from the last of them on.
-fn plan_pushed_arguments(
-    plan: &mut Plan,
-    facts: &mut Facts,
-    parameters: &[Parameter],
-) -> Result<(), AllocError> {
-    if let [parameter] = parameters
-        && matches!(parameter.scalar, ScalarType::Address)
-    {
-        plan.plain(Instr::Pop(StackPair::StackHl))?;
-        plan.plain(Instr::Xthl)?;
-        return plan_argument(plan, facts, *parameter);
-    }
+#[tactic(auto, unfolding(crate::specs::Procedures::pushed_arguments_steps))]
+fn plan_pushed_arguments(plan: &mut Plan, parameters: &[Parameter]) -> Result<(), AllocError>
+    ensures { OnOk result (PlanAdds plan.old plan.new (pushed_arguments_steps parameters.now)) }
+{
     plan.plain(Instr::Pop(StackPair::StackDe))?;
-    for parameter in parameters.iter().rev() {
-        plan_pushed_argument(plan, facts, *parameter)?;
-    }
+    plan_popped_arguments(plan, parameters)?;
     plan.plain(Instr::Push(StackPair::StackDe))
 }
 
-// The arguments go to the parameters of a procedure that is not REENTRANT. The last one that goes to a BYTE stays in A, and
-// the last one that goes to an ADDRESS in HL.
-fn plan_static_entry(plan: &mut Plan, parameters: &[Parameter]) -> Result<(), AllocError> {
-    let mut facts = Facts::none();
-    if let [others @ .., last] = parameters {
-        plan_argument(plan, &mut facts, *last)?;
-        if !others.is_empty() {
-            plan_pushed_arguments(plan, &mut facts, others)?;
-        }
-    }
-    plan.holds(facts)
+// The argument below the return address goes to a parameter that is an ADDRESS.
+#[tactic(auto, unfolding(crate::specs::Procedures::exchanged_steps))]
+fn plan_exchanged_argument(plan: &mut Plan, parameter: Parameter) -> Result<(), AllocError>
+    ensures { OnOk result (PlanAdds plan.old plan.new (exchanged_steps parameter)) }
+{
+    plan.plain(Instr::Pop(StackPair::StackHl))?;
+    plan.plain(Instr::Xthl)?;
+    plan_argument(plan, parameter)
 }
 
-// Pushes so many words of zeros, which are in DE.
-fn plan_zero_words(plan: &mut Plan, words: u16) -> Result<(), AllocError> {
+// The arguments below the return address go to the first parameters, if there are any.
+#[tactic(auto, unfolding(crate::specs::Procedures::below_return_steps))]
+fn plan_below_return(plan: &mut Plan, parameters: &[Parameter]) -> Result<(), AllocError>
+    ensures { OnOk result (PlanAdds plan.old plan.new (below_return_steps parameters.now)) }
+{
+    match parameters {
+        [] => Ok(()),
+        [parameter] => match parameter.scalar {
+            ScalarType::Address => plan_exchanged_argument(plan, *parameter),
+            ScalarType::Byte => plan_pushed_arguments(plan, parameters),
+        },
+        [_, _, ..] => plan_pushed_arguments(plan, parameters),
+    }
+}
+
+// The arguments go to the parameters of a procedure that is not REENTRANT: the last one from A or HL, the others from the
+// stack. The last one that goes to a BYTE stays in A, and the last one that goes to an ADDRESS in HL.
+#[tactic(auto, unfolding(crate::specs::Procedures::stores_steps))]
+fn plan_stores(plan: &mut Plan, last: Parameter, others: &[Parameter]) -> Result<(), AllocError>
+    ensures { OnOk result (PlanAdds plan.old plan.new (stores_steps last others.now)) }
+{
+    plan_argument(plan, last)?;
+    plan_below_return(plan, others)?;
+    plan.holds(known_from(with_argument(Facts::none(), last), others))
+}
+
+// How a procedure that is not REENTRANT begins.
+#[tactic(auto, unfolding(crate::specs::Procedures::static_entry_steps))]
+fn plan_static_entry(plan: &mut Plan, parameters: &[Parameter]) -> Result<(), AllocError>
+    ensures { OnOk result (PlanAdds plan.old plan.new (static_entry_steps parameters.now)) }
+{
+    let front = parameters.len().saturating_sub(1);
+    match parameters.get(front).copied() {
+        Some(last) => plan_stores(plan, last, &parameters[..front]),
+        None => plan.holds(Facts::none()),
+    }
+}
+
+// Pushes DE four times a turn, in a loop of so many turns.
+#[tactic(auto, unfolding(crate::specs::Procedures::push_loop_steps))]
+fn plan_push_loop(plan: &mut Plan, turns: u8, again: LabelNumber) -> Result<(), AllocError>
+    ensures { OnOk result (PlanAdds plan.old plan.new (push_loop_steps turns again)) }
+{
+    plan.plain(Instr::Mvi(Operand::Of(Register::B), turns))?;
+    plan.mark(again)?;
+    plan.repeated(Instr::Push(StackPair::StackDe), 4)?;
+    plan.plain(Instr::Dcr(Operand::Of(Register::B)))?;
+    plan.jump(WordForm::JumpWhere(Condition::NotZero), again)
+}
+
+// Pushes DE so many times. A frame has at most 1024 bytes of variables.
+#[tactic(auto, unfolding(crate::specs::Procedures::pushes_steps, crate::specs::Procedures::pushes_labels))]
+fn plan_pushes(plan: &mut Plan, words: u16) -> Result<(), AllocError>
+    ensures { OnOk result (PlanAddsWithLabels plan.old plan.new (pushes_labels words) (pushes_steps words)) }
+{
     let push = Instr::Push(StackPair::StackDe);
     if words <= PUSHED_WORDS {
         return plan.repeated(push, words);
     }
     let again = plan.label();
-    plan.plain(Instr::Mvi(Operand::Of(Register::B), (words / 4 % 256) as u8))?;
-    plan.mark(again)?;
-    plan.repeated(push, 4)?;
-    plan.plain(Instr::Dcr(Operand::Of(Register::B)))?;
-    plan.jump(WordForm::JumpWhere(Condition::NotZero), again)?;
+    plan_push_loop(plan, (words / 4 % 256) as u8, again)?;
     plan.repeated(push, words % 4)
 }
 
-// Pushes so many bytes of zeros. A and HL stay as they are.
-fn plan_zeros(plan: &mut Plan, bytes: u16) -> Result<(), AllocError> {
-    if bytes == 0 {
-        return Ok(());
-    }
-    plan.plain(Instr::Lxi(Pair::De, 0))?;
-    plan_zero_words(plan, bytes / 2)?;
+// Pushes a last odd byte.
+#[tactic(auto, unfolding(crate::specs::Procedures::odd_byte_steps))]
+fn plan_odd_byte(plan: &mut Plan, bytes: u16) -> Result<(), AllocError>
+    ensures { OnOk result (PlanAdds plan.old plan.new (odd_byte_steps bytes)) }
+{
     if bytes % 2 == 1 {
         plan.plain(Instr::Push(StackPair::StackDe))?;
         plan.plain(Instr::Inx(Pair::Sp))?;
@@ -189,155 +327,79 @@ fn plan_zeros(plan: &mut Plan, bytes: u16) -> Result<(), AllocError> {
     Ok(())
 }
 
+// Pushes so many bytes of zeros. A and HL stay as they are.
+#[tactic(auto, unfolding(crate::specs::Procedures::zeros_steps, crate::specs::Procedures::zeros_labels))]
+fn plan_zeros(plan: &mut Plan, bytes: u16) -> Result<(), AllocError>
+    ensures { OnOk result (PlanAddsWithLabels plan.old plan.new (zeros_labels bytes) (zeros_steps bytes)) }
+{
+    if bytes == 0 {
+        return Ok(());
+    }
+    plan.plain(Instr::Lxi(Pair::De, 0))?;
+    plan_pushes(plan, bytes / 2)?;
+    plan_odd_byte(plan, bytes)
+}
+
 // The last argument of a REENTRANT procedure is pushed, and stays in A or HL.
-fn plan_last_argument(plan: &mut Plan, parameter: Parameter) -> Result<Facts, AllocError> {
-    match parameter.scalar {
-        ScalarType::Byte => {
-            plan.plain(Instr::Push(StackPair::Psw))?;
-            Ok(Facts {
-                byte_in_a: Some(parameter.location),
-                ..Facts::none()
-            })
+#[tactic(auto, unfolding(crate::specs::Procedures::last_argument_steps, crate::specs::Procedures::last_argument_facts))]
+fn plan_last_argument(plan: &mut Plan, parameters: &[Parameter]) -> Result<Facts, AllocError>
+    ensures steps { OnOk result (PlanAdds plan.old plan.new (last_argument_steps parameters.now)) }
+    ensures facts { IfOk result (λ facts. facts ≡ last_argument_facts parameters.now) }
+{
+    match parameters.get(parameters.len().saturating_sub(1)).copied() {
+        Some(last) => {
+            plan.plain(Instr::Push(pair_of(last.scalar)))?;
+            Ok(with_argument(Facts::none(), last))
         }
-        ScalarType::Address => {
-            plan.plain(Instr::Push(StackPair::StackHl))?;
-            Ok(Facts {
-                word_in_hl: Some(parameter.location),
-                ..Facts::none()
-            })
-        }
+        None => Ok(Facts::none()),
     }
 }
 
 // The frame of a REENTRANT procedure is made: its last argument, and zeros for its variables.
-fn plan_frame_entry(
-    body: &Body<'_>,
-    plan: &mut Plan,
-    parameters: &[Parameter],
-) -> Result<(), AllocError> {
-    let facts = match parameters.last() {
-        Some(parameter) => plan_last_argument(plan, *parameter)?,
-        None => Facts::none(),
-    };
-    plan_zeros(plan, body.frame.variable_bytes)?;
+#[tactic(auto, unfolding(crate::specs::Procedures::frame_entry_steps))]
+fn plan_frame_entry(plan: &mut Plan, parameters: &[Parameter], bytes: u16) -> Result<(), AllocError>
+    ensures { OnOk result (PlanAddsWithLabels plan.old plan.new
+        (zeros_labels bytes) (frame_entry_steps parameters.now bytes)) }
+{
+    let facts = plan_last_argument(plan, parameters)?;
+    plan_zeros(plan, bytes)?;
     plan.holds(facts)
 }
 
-// How a procedure begins.
-fn plan_entry(body: &Body<'_>, plan: &mut Plan) -> Result<(), AllocError> {
+/// How a procedure begins.
+#[tactic(auto, unfolding(crate::specs::Procedures::entry_steps_by, crate::specs::Procedures::entry_labels_by))]
+pub(crate) fn plan_entry(body: &Body<'_>, plan: &mut Plan) -> Result<(), AllocError>
+    ensures { OnOk result (PlanAddsWithLabels plan.old plan.new (entry_labels body.now) (entry_steps body.now)) }
+{
     let parameters = body.procedure.parameters.as_slice();
     match body.procedure.kind {
-        ProcedureKind::Reentrant => plan_frame_entry(body, plan, parameters),
+        ProcedureKind::Reentrant => plan_frame_entry(plan, parameters, body.frame.variable_bytes),
         ProcedureKind::Static | ProcedureKind::External(_) => {
             plan_static_entry(plan, parameters)
         }
     }
 }
 
-// How a procedure ends whose end is reached: a result is 0.
-fn plan_end(body: &Body<'_>, plan: &mut Plan) -> Result<(), AllocError> {
-    match body.procedure.result {
+// A result of 0.
+#[tactic(auto, unfolding(crate::specs::Procedures::zero_result_steps))]
+fn plan_zero_result(plan: &mut Plan, result_type: Option<ScalarType>) -> Result<(), AllocError>
+    ensures { OnOk result (PlanAdds plan.old plan.new (zero_result_steps result_type)) }
+{
+    match result_type {
         Some(ScalarType::Byte) => plan.plain(Instr::Accumulate(
             Operation::ExclusiveOr,
             Operand::Of(Register::A),
-        ))?,
-        Some(ScalarType::Address) => plan.plain(Instr::Lxi(Pair::Hl, 0))?,
-        None => {}
+        )),
+        Some(ScalarType::Address) => plan.plain(Instr::Lxi(Pair::Hl, 0)),
+        None => Ok(()),
     }
+}
+
+/// How a procedure ends whose end is reached: a result is 0.
+#[tactic(auto, unfolding(crate::specs::Procedures::end_steps))]
+pub(crate) fn plan_end(body: &Body<'_>, plan: &mut Plan) -> Result<(), AllocError>
+    ensures { OnOk result (PlanAdds plan.old plan.new (end_steps body.now)) }
+{
+    plan_zero_result(plan, body.procedure.result)?;
     plan_return(body, plan)
-}
-
-// A body with labels of the code for its own.
-fn body_of<'a>(
-    generator: &mut Generator,
-    tree: &'a TreeModule,
-    procedure: &'a TreeProcedure,
-    frame: &'a FramePlan,
-) -> Body<'a> {
-    let steps = &mut generator.emission.steps;
-    Body {
-        tree,
-        procedure,
-        frame,
-        first_label: steps.labels(procedure.label_count),
-    }
-}
-
-// Plans how a procedure begins, with labels that no other code has.
-fn put_entry(generator: &mut Generator, body: &Body<'_>) -> Result<(), AllocError> {
-    let start = generator.plan.count();
-    let first = generator.emission.steps.labels(0);
-    generator.plan.take_labels_from(first);
-    plan_entry(body, &mut generator.plan)?;
-    let taken = generator.plan.taken();
-    let _ = generator.emission.steps.labels(taken);
-    generator.planned(body, start)
-}
-
-// Adds the end of a procedure.
-fn put_end(generator: &mut Generator, body: &Body<'_>) -> Result<(), AllocError> {
-    let start = generator.plan.count();
-    plan_end(body, &mut generator.plan)?;
-    generator.planned(body, start)
-}
-
-// Adds the code of a procedure that is not EXTERNAL.
-fn put_own(
-    alloc: Global,
-    generator: &mut Generator,
-    tree: &TreeModule,
-    procedure: &TreeProcedure,
-    entry: LabelNumber,
-) -> Result<(), AllocError> {
-    let frame = frame_plan(alloc, procedure)?;
-    let body = body_of(generator, tree, procedure, &frame);
-    generator.emission.add(&site_of(&body), Step::Mark(entry))?;
-    put_entry(generator, &body)?;
-    generator.list(&body, procedure.body, u32::MAX)?;
-    if procedure.reaches_its_end {
-        put_end(generator, &body)?;
-    }
-    Ok(())
-}
-
-/// Adds the code of a procedure by its number, unless it is EXTERNAL.
-pub(crate) fn put_procedure(
-    alloc: Global,
-    generator: &mut Generator,
-    tree: &TreeModule,
-    number: u32,
-) -> Result<(), AllocError> {
-    let Some(procedure) = tree.procedures.get(number as usize) else {
-        return Ok(());
-    };
-    match procedure.kind {
-        ProcedureKind::External(_) => Ok(()),
-        ProcedureKind::Static | ProcedureKind::Reentrant => put_own(
-            alloc,
-            generator,
-            tree,
-            procedure,
-            LabelNumber { index: number },
-        ),
-    }
-}
-
-/// Adds the code of the main program, from a label on.
-pub(crate) fn put_main(
-    alloc: Global,
-    generator: &mut Generator,
-    tree: &TreeModule,
-    entry: LabelNumber,
-) -> Result<(), AllocError> {
-    let frame = FramePlan::empty(alloc);
-    let body = body_of(generator, tree, &tree.main, &frame);
-    generator.emission.add(&site_of(&body), Step::Mark(entry))?;
-    generator
-        .emission
-        .writer
-        .stack_end(WordForm::LoadPair(Pair::Sp))?;
-    generator.list(&body, tree.main.body, u32::MAX)?;
-    generator
-        .emission
-        .add(&site_of(&body), Step::Plain(Instr::Hlt))
 }

@@ -1,5 +1,10 @@
 //! Which steps the code of a statement has.
 
+ghost use Rattle.std.specs.Prelude.{◌∷◌, [], OnOk};
+ghost use Rattle.steps8080.specs.declared.step.Task.TheVariants.{Call};
+ghost use Rattle.statements8080.specs.Plans.{PlanAdds, PlanAddsWithLabels, part};
+ghost use Rattle.codegen8080.specs.Statements.{goto_steps, halt_steps, return_of_steps, returned_value_steps, statement_labels, statement_steps};
+
 use crate::procedures::plan_return;
 use asm8080::WordForm;
 use exprgen8080::{LabelNumber, Site, Task};
@@ -12,34 +17,54 @@ use treecode::{ExpressionNumber, Range, Statement};
 use trees::ScalarType;
 
 // The code ends with this instruction.
-fn plan_halt(plan: &mut Plan) -> Result<(), AllocError> {
+fn plan_halt(plan: &mut Plan) -> Result<(), AllocError>
+    ensures { OnOk result (PlanAdds plan.old plan.new halt_steps) }
+{
     plan.plain(Instr::Hlt)?;
     plan.push(Planned::Reaches(false))
 }
 
 // The code goes on at a label.
-fn plan_goto(plan: &mut Plan, label: LabelNumber) -> Result<(), AllocError> {
+fn plan_goto(plan: &mut Plan, label: LabelNumber) -> Result<(), AllocError>
+    ensures { OnOk result (PlanAdds plan.old plan.new (goto_steps label)) }
+{
     plan.jump(WordForm::Jump, label)?;
     plan.push(Planned::Reaches(false))
 }
 
+// The value of a RETURN into A or HL, by the type of the procedure.
+fn plan_returned_value(
+    plan: &mut Plan,
+    value: Option<ExpressionNumber>,
+    result_type: Option<ScalarType>,
+) -> Result<(), AllocError>
+    ensures { OnOk result (PlanAdds plan.old plan.new (returned_value_steps value result_type)) }
+{
+    match (value, result_type) {
+        (Some(value), Some(ScalarType::Byte)) => plan.part(Task::Byte(value), 0),
+        (Some(value), Some(ScalarType::Address)) => plan.part(Task::Word(value), 0),
+        _ => Ok(()),
+    }
+}
+
 // The code returns, with a value where there is one.
+#[tactic(auto, unfolding(crate::specs::Statements::return_of_steps))]
 fn plan_return_of(
     body: &Body<'_>,
     plan: &mut Plan,
     value: Option<ExpressionNumber>,
-) -> Result<(), AllocError> {
-    match (value, body.procedure.result) {
-        (Some(value), Some(ScalarType::Byte)) => plan.part(Task::Byte(value), 0)?,
-        (Some(value), Some(ScalarType::Address)) => plan.part(Task::Word(value), 0)?,
-        _ => {}
-    }
+) -> Result<(), AllocError>
+    ensures { OnOk result (PlanAdds plan.old plan.new (return_of_steps body.now value)) }
+{
+    plan_returned_value(plan, value, body.procedure.result)?;
     plan_return(body, plan)?;
     plan.push(Planned::Reaches(false))
 }
 
 // A call of a procedure without a result.
-fn plan_call(plan: &mut Plan, procedure: u32, arguments: Range) -> Result<(), AllocError> {
+fn plan_call(plan: &mut Plan, procedure: u32, arguments: Range) -> Result<(), AllocError>
+    ensures { OnOk result (PlanAdds plan.old plan.new (part (Call procedure arguments) 0 ∷ [])) }
+{
     plan.part(
         Task::Call {
             procedure,
@@ -50,12 +75,16 @@ fn plan_call(plan: &mut Plan, procedure: u32, arguments: Range) -> Result<(), Al
 }
 
 /// The steps of a statement.
+#[tactic(auto, unfolding(crate::specs::Statements::statement_steps, crate::specs::Statements::statement_labels), using(crate::proofs::Planning::none_taken))]
 pub(crate) fn plan_statement(
     body: &Body<'_>,
     site: &Site<'_>,
     plan: &mut Plan,
     statement: Statement,
-) -> Result<(), AllocError> {
+) -> Result<(), AllocError>
+    ensures { OnOk result (PlanAddsWithLabels plan.old plan.new
+        (statement_labels body.now site.now statement) (statement_steps body.now site.now statement)) }
+{
     match statement {
         Statement::Label(label) => plan.mark(body.label(label)),
         Statement::Null => Ok(()),

@@ -1,0 +1,355 @@
+-- The code of statements as it is written step by step.
+use Rattle.std.proofs.Common.{◌≡◌, ℕ, suc, ◌+◌, ◌-◌, ◌≤◌, ◌<◌, Bool, true, false, List, [], ◌∷◌, ◌++◌, length, Option, Some, None, Result, Ok, Err, OnOk, slice_get, drop, take, refl, sym, ap, subst, ◌∙◌, arith, append_assoc, append-nil}
+use Rattle.std.proofs.lemmas.List.{drop_at, drop_all, drop_more, take_at}
+use Rattle.std.proofs.lemmas.Option.{get_or_from_slice_get, slice_get_within}
+use Rattle.std.specs.Prelude.{IfOk}
+use Rattle.asm8080.specs.declared.item.Item.{Item}
+use Rattle.treecode.specs.declared.lists.Range.{Range}
+use Rattle.treecode.specs.declared.statement.Statement.{Statement as TreeStatement}
+use Rattle.treecode.specs.declared.statement.StatementNumber.{StatementNumber}
+use Rattle.steps8080.specs.declared.facts.Facts.{Facts}
+use Rattle.steps8080.specs.declared.step.Step.{Step}
+use Rattle.steps8080.specs.Writer.{Writes}
+use Rattle.steps8080.proofs.Numbered.{writes_nothing, writes_then}
+use Rattle.sites8080.specs.declared.site.Site.{Site}
+use Rattle.exprgen8080.specs.declared.emission.Emission.{Emission}
+use Rattle.exprgen8080.specs.Emission.{AreWritten, knowing}
+use Rattle.exprgen8080.specs.Emitted.{EmitsSteps, HasAll}
+use Rattle.exprgen8080.proofs.Emitting.{are_kept, emits_then, has_itself, left_is, none_is}
+use Rattle.statements8080.specs.declared.body.Body.{Body}
+use Rattle.statements8080.specs.declared.plan.Planned.{Planned}
+use Rattle.statements8080.specs.declared.plan.Planned.TheVariants as planned
+use Rattle.codegen8080.specs.declared.generator.Generator.{Generator}
+use Rattle.codegen8080.specs.declared.meeting.Here.{Here}
+use Rattle.codegen8080.specs.Driven.{AddsCode, AddsList, AddsPlanned, AddsStatement, AddsStep, here_of}
+use Rattle.codegen8080.specs.Generated.{AreAllCarriedOut, AreCarriedOut, HoldsNoStatement, IsCarriedOut, IsListCarriedOut, ListCarriedOut, ListPlanned, MoreStatements, NoStatements, NoneCarriedOut, StatementCarriedOut, StatementPlanned, StepCarriedOut, carried_steps, here_after, site_of, waiting_after}
+use Rattle.codegen8080.specs.Statements.{statement_steps}
+use Rattle.codegen8080.specs.internal.Carrying.{CarriesOut}
+
+-- steps that may not be added, after others
+pub emits_after : (site : Site) (first second : List Step) (before between after : Emission)
+    {E : Type 0} (result : Result (Unit {0}) E)
+    → EmitsSteps site first before between
+    → OnOk result (EmitsSteps site second between after)
+    → OnOk result (EmitsSteps site (first ++ second) before after)
+emits_after site first second before between after (Ok done) here next =
+    emits_then site first second before between after here next
+emits_after site first second before between after (Err fault) here next = next
+
+-- What is written where some routines are called is written where more are.
+module _ {body : Body} {called wider : List Bool} (more : HasAll called wider) where
+  mutual
+    pub all_kept : {here last : Here} {waiting : Option Facts} {steps : List Planned} {items : List Item}
+        → AreCarriedOut body called here waiting steps items last
+        → AreCarriedOut body wider here waiting steps items last
+    all_kept NoneCarriedOut = NoneCarriedOut
+    all_kept (StepCarriedOut alone first others) = StepCarriedOut alone (are_kept more first) (all_kept others)
+    all_kept (StatementCarriedOut first others) = StatementCarriedOut (statement_kept first) (all_kept others)
+    all_kept (ListCarriedOut first others) = ListCarriedOut (list_kept first) (all_kept others)
+
+    pub statement_kept : {facts : Facts} {number : StatementNumber} {items : List Item} {last : Here}
+        → IsCarriedOut body called facts number items last
+        → IsCarriedOut body wider facts number items last
+    statement_kept (StatementPlanned label at steps) = StatementPlanned label at (all_kept steps)
+
+    pub list_kept : {facts : Facts} {range : Range} {items : List Item} {last : Here}
+        → IsListCarriedOut body called facts range items last
+        → IsListCarriedOut body wider facts range items last
+    list_kept (ListPlanned statements) = ListPlanned (statements_kept statements)
+
+    pub statements_kept : {here last : Here} {first count : ℕ} {items : List Item}
+        → AreAllCarriedOut body called here first count items last
+        → AreAllCarriedOut body wider here first count items last
+    statements_kept NoStatements = NoStatements
+    statements_kept (MoreStatements at first others) =
+        MoreStatements at (statement_kept first) (statements_kept others)
+
+module _ (body : Body) (waiting : Option Facts) (before after : Generator) where
+  -- a step that holds no statement is carried out
+  pub step_carried : (step : Planned) (waits : Option Facts)
+      → AddsStep body step waiting before after waits
+      → HoldsNoStatement step
+      → CarriesOut body step waiting before after waits
+  step_carried step waits adds alone =
+      let written : Emission = adds.written in
+      let emission : Emission = record written { facts = after.emission.facts } in
+      let same : emission ≡ after.emission = sym adds.emission in
+      record {
+        list = adds.emits.list;
+        writes = subst (λ (to : Emission). Writes before.emission.writer to.writer adds.emits.list) same
+            adds.emits.writes;
+        followed = λ called others more last wider rest.
+            StepCarriedOut alone
+            (are_kept (subst (λ (to : Emission). HasAll to.is_called.items called) (sym same) wider)
+            adds.emits.written)
+            (subst (λ here. AreCarriedOut body called here (waiting_after (here_of before) waiting step) others more last)
+            adds.here
+            (subst (λ at. AreCarriedOut body called (here_of after) at others more last) adds.waiting_is rest));
+        called = subst (λ (to : Emission). HasAll before.emission.is_called.items to.is_called.items) same
+            adds.emits.called;
+        plan = ap (λ at. at.list.items) adds.plan;
+      }
+
+  pub step_carried_if : (step : Planned) {E : Type 0} (result : Result (Option Facts) E)
+      → IfOk result (λ waits. AddsStep body step waiting before after waits)
+      → OnOk result (HoldsNoStatement step)
+      → IfOk result (λ waits. CarriesOut body step waiting before after waits)
+  step_carried_if step (Ok waits) adds alone = step_carried step waits adds alone
+  step_carried_if step (Err fault) adds alone = adds
+
+  -- and a statement
+  pub statement_carried : (number : StatementNumber)
+      → AddsStatement body number before after
+      → after.plan.list.items ≡ before.plan.list.items
+      → CarriesOut body (planned.Statement number) waiting before after waiting
+  statement_carried number adds plan = record {
+    list = adds.list;
+    writes = adds.writes;
+    followed = λ called others more last wider rest.
+        StatementCarriedOut (statement_kept wider adds.written) rest;
+    called = adds.called;
+    plan = plan;
+  }
+
+  -- and a list
+  pub list_carried : (list : Range)
+      → AddsList body list before after
+      → after.plan.list.items ≡ before.plan.list.items
+      → CarriesOut body (planned.List list) waiting before after waiting
+  list_carried list adds plan = record {
+    list = adds.list;
+    writes = adds.writes;
+    followed = λ called others more last wider rest.
+        ListCarriedOut (list_kept wider adds.written) rest;
+    called = adds.called;
+    plan = plan;
+  }
+
+-- what is added for a step that holds no statement
+pub step_added : (body : Body) (step : Planned) (waiting waits : Option Facts) (before after : Generator)
+    (written : Emission) (here : Here)
+    → EmitsSteps (site_of body) (carried_steps (site_of body) (here_of before) step) before.emission written
+    → here ≡ here_after (here_of before) waiting written.facts step
+    → after ≡ record before { emission = record written { facts = here.facts }; goes_on = here.goes_on }
+    → waits ≡ waiting_after (here_of before) waiting step
+    → AddsStep body step waiting before after waits
+step_added body step waiting waits before after written here emits arrives same wait = record {
+  written = written;
+  emits = emits;
+  emission = ap (λ (to : Generator). to.emission) same
+      ∙ ap (λ (facts : Facts). record written { facts = facts }) (sym (ap (λ (to : Generator). to.emission.facts) same));
+  here = ap here_of same ∙ arrives;
+  waiting_is = wait;
+  plan = ap (λ (to : Generator). to.plan) same;
+}
+
+-- Planned steps from one on are being carried out; those from an index on are left.
+pub record IsCarrying
+    (body : Body) (before now : Generator) (waiting : Option Facts) (start index : ℕ) : Type 0 where
+  pub list : List Item
+  pub writes : Writes before.emission.writer now.emission.writer list
+  pub left : (called : List Bool) (more : List Item) (last : Here)
+      → HasAll now.emission.is_called.items called
+      → AreCarriedOut body called (here_of now) waiting (drop index now.plan.list.items) more last
+      → AreCarriedOut body called (here_of before) None (drop start before.plan.list.items) (list ++ more) last
+  pub called : HasAll before.emission.is_called.items now.emission.is_called.items
+  pub plan : now.plan.list.items ≡ before.plan.list.items
+
+pub carrying_begins : (body : Body) (before : Generator) (start : ℕ)
+    → IsCarrying body before before None start start
+carrying_begins body before start = record {
+  list = [];
+  writes = writes_nothing before.emission.writer;
+  left = λ called more last wider rest. rest;
+  called = has_itself before.emission.is_called.items;
+  plan = refl;
+}
+
+module _ (body : Body) (before now : Generator) (waiting : Option Facts) (start index : ℕ) where
+  pub step_passed : (next : Generator) (waits : Option Facts) (step : Planned)
+      → IsCarrying body before now waiting start index
+      → slice_get now.plan.list.items index ≡ Some step
+      → CarriesOut body step waiting now next waits
+      → IsCarrying body before next waits start (index + 1)
+  step_passed next waits step so_far is carries =
+      let steps : List Planned = now.plan.list.items in
+      record {
+        list = so_far.list ++ carries.list;
+        writes = writes_then before.emission.writer now.emission.writer next.emission.writer so_far.list
+            carries.list so_far.writes carries.writes;
+        left = λ called more last wider rest.
+            subst (λ all. AreCarriedOut body called (here_of before) None (drop start before.plan.list.items) all last)
+            (sym (append_assoc so_far.list carries.list more))
+            (so_far.left called (carries.list ++ more) last
+            (λ routine given. wider routine (carries.called routine given))
+            (subst (λ left. AreCarriedOut body called (here_of now) waiting left (carries.list ++ more) last)
+            (sym (left_is steps index step is))
+            (carries.followed called (drop (index + 1) steps) more last wider
+            (subst (λ at. AreCarriedOut body called (here_of next) waits (drop (index + 1) at) more last)
+            carries.plan rest))));
+        called = λ routine given. carries.called routine (so_far.called routine given);
+        plan = carries.plan ∙ so_far.plan;
+      }
+
+  pub none_passed :
+      IsCarrying body before now waiting start index
+      → slice_get now.plan.list.items index ≡ None
+      → IsCarrying body before now waiting start (index + 1)
+  none_passed so_far none = record {
+    list = so_far.list;
+    writes = so_far.writes;
+    left = λ called more last wider rest.
+        so_far.left called more last wider
+        (subst (λ left. AreCarriedOut body called (here_of now) waiting left more last)
+        (sym (none_is now.plan.list.items index none)) rest);
+    called = so_far.called;
+    plan = so_far.plan;
+  }
+
+  pub carrying_ends : (after : Generator)
+      → IsCarrying body before now waiting start index
+      → length before.plan.list.items ≤ index
+      → after.emission ≡ now.emission
+      → after.goes_on ≡ now.goes_on
+      → AddsPlanned body (drop start before.plan.list.items) before after
+  carrying_ends after so_far done emission goes_on =
+      let called : List Bool = now.emission.is_called.items in
+      let steps : List Planned = drop start before.plan.list.items in
+      let none : drop index now.plan.list.items ≡ [] =
+      drop_all index now.plan.list.items (omega (arith, ap length so_far.plan, done)) in
+      let written : AreCarriedOut body called (here_of before) None steps so_far.list (here_of now) =
+      subst (λ all. AreCarriedOut body called (here_of before) None steps all (here_of now))
+      (append-nil so_far.list)
+      (so_far.left called [] (here_of now) (has_itself called)
+      (subst (λ left. AreCarriedOut body called (here_of now) waiting left [] (here_of now)) (sym none)
+      NoneCarriedOut)) in
+      record {
+        list = so_far.list;
+        writes = subst (λ (to : Emission). Writes before.emission.writer to.writer so_far.list) (sym emission)
+            so_far.writes;
+        written =
+            subst (λ goes. AreCarriedOut body after.emission.is_called.items (here_of before) None steps so_far.list
+            (record { facts = after.emission.facts; goes_on = goes })) (sym goes_on)
+            (subst (λ (to : Emission). AreCarriedOut body to.is_called.items (here_of before) None steps so_far.list
+            (record { facts = to.facts; goes_on = now.goes_on })) (sym emission) written);
+        called = subst (λ (to : Emission). HasAll before.emission.is_called.items to.is_called.items) (sym emission)
+            so_far.called;
+      }
+
+-- a statement is carried out by the steps that are planned for it
+pub statement_added : (body : Body) (number : StatementNumber) (statement : TreeStatement) (label : ℕ)
+    (before ready after : Generator)
+    → slice_get body.tree.now.statements.items number.index ≡ Some statement
+    → ready.emission ≡ record (before.emission) { steps = ready.emission.steps }
+    → ready.goes_on ≡ true
+    → ready.plan.list.items ≡ before.plan.list.items
+    ++ statement_steps body (knowing (site_of body) before.emission.facts) statement label
+    → AddsPlanned body (drop (length before.plan.list.items) ready.plan.list.items) ready after
+    → AddsStatement body number before after
+statement_added body number statement label before ready after at emission goes_on plan adds =
+    let steps : List Planned = statement_steps body (knowing (site_of body) before.emission.facts) statement label in
+    let called : List Bool = after.emission.is_called.items in
+    let left : drop (length before.plan.list.items) ready.plan.list.items ≡ steps =
+    ap (drop (length before.plan.list.items)) plan
+    ∙ drop_at before.plan.list.items steps (length before.plan.list.items) refl in
+    let written : AreCarriedOut body called (here_of ready) None steps adds.list (here_of after) =
+    subst (λ all. AreCarriedOut body called (here_of ready) None all adds.list (here_of after)) left adds.written in
+    record {
+      list = adds.list;
+      writes = subst (λ (from : Emission). Writes from.writer after.emission.writer adds.list) emission adds.writes;
+      written = StatementPlanned label at
+          (subst (λ (from : Emission). AreCarriedOut body called (record { facts = from.facts; goes_on = true }) None
+          steps adds.list (here_of after)) emission
+          (subst (λ goes. AreCarriedOut body called (record { facts = ready.emission.facts; goes_on = goes }) None
+          steps adds.list (here_of after)) goes_on written));
+      called = subst (λ (from : Emission). HasAll from.is_called.items called) emission adds.called;
+    }
+
+pub statement_added_if : (body : Body) (number : StatementNumber) (statement : TreeStatement) (label start : ℕ)
+    (before ready after : Generator) {E : Type 0} (result : Result (Unit {0}) E)
+    → slice_get body.tree.now.statements.items number.index ≡ Some statement
+    → ready.emission ≡ record (before.emission) { steps = ready.emission.steps }
+    → ready.goes_on ≡ true
+    → ready.plan.list.items ≡ before.plan.list.items
+    ++ statement_steps body (knowing (site_of body) before.emission.facts) statement label
+    → start ≡ length before.plan.list.items
+    → OnOk result (AddsPlanned body (drop start ready.plan.list.items) ready after)
+    → OnOk result (AddsStatement body number before after)
+statement_added_if body number statement label start before ready after (Ok done) at emission goes_on plan begins adds =
+    statement_added body number statement label before ready after at emission goes_on plan
+    (subst (λ from. AddsPlanned body (drop from ready.plan.list.items) ready after) begins adds)
+statement_added_if body number statement label start before ready after (Err fault) at emission goes_on plan begins adds =
+    adds
+
+-- The statements of a list are being written; those from an index on are left.
+pub record IsListing (body : Body) (range : Range) (before now : Generator) (index : ℕ) : Type 0 where
+  pub list : List Item
+  pub writes : Writes before.emission.writer now.emission.writer list
+  pub left : (called : List Bool) (more : List Item) (last : Here)
+      → HasAll now.emission.is_called.items called
+      → AreAllCarriedOut body called (here_of now) (range.first + index) (range.count - index) more last
+      → IsListCarriedOut body called before.emission.facts range (list ++ more) last
+  pub called : HasAll before.emission.is_called.items now.emission.is_called.items
+  pub plan : now.plan.list.items ≡ before.plan.list.items
+
+module _ (body : Body) (range : Range) (before now : Generator) where
+  pub listing_begins : now ≡ record before { goes_on = true } → IsListing body range before now 0
+  listing_begins same =
+      let first : range.first + 0 ≡ range.first = omega arith in
+      let count : range.count - 0 ≡ range.count = omega arith in
+      subst (λ (to : Generator). IsListing body range before to 0) (sym same) (record {
+        list = [];
+        writes = writes_nothing before.emission.writer;
+        left = λ called more last wider rest.
+            ListPlanned
+            (subst (λ at. AreAllCarriedOut body called (record { facts = before.emission.facts; goes_on = true }) at
+            range.count more last) first
+            (subst (λ at. AreAllCarriedOut body called (record { facts = before.emission.facts; goes_on = true })
+            (range.first + 0) at more last) count rest));
+        called = has_itself before.emission.is_called.items;
+        plan = refl;
+      })
+
+  module _ (index : ℕ) (so_far : IsListing body range before now index) where
+    pub statement_passed : (next : Generator) (number : StatementNumber)
+        → index < range.count
+        → slice_get body.tree.now.lists.items (range.first + index) ≡ Some number
+        → AddsStatement body number now next
+        → next.plan.list.items ≡ now.plan.list.items
+        → IsListing body range before next (index + 1)
+    statement_passed next number below at adds plan =
+        let following : range.first + (index + 1) ≡ suc (range.first + index) = omega arith in
+        let one_more : range.count - index ≡ suc (range.count - (index + 1)) = omega (arith, below) in
+        record {
+          list = so_far.list ++ adds.list;
+          writes = writes_then before.emission.writer now.emission.writer next.emission.writer so_far.list
+              adds.list so_far.writes adds.writes;
+          left = λ called more last wider rest.
+              subst (λ all. IsListCarriedOut body called before.emission.facts range all last)
+              (sym (append_assoc so_far.list adds.list more))
+              (so_far.left called (adds.list ++ more) last
+              (λ routine given. wider routine (adds.called routine given))
+              (subst (λ count. AreAllCarriedOut body called (here_of now) (range.first + index) count
+              (adds.list ++ more) last) (sym one_more)
+              (MoreStatements at (statement_kept wider adds.written)
+              (subst (λ first. AreAllCarriedOut body called (here_of next) first (range.count - (index + 1)) more last)
+              following rest))));
+          called = λ routine given. adds.called routine (so_far.called routine given);
+          plan = plan ∙ so_far.plan;
+        }
+
+    pub listing_ends : range.count ≤ index → AddsList body range before now
+    listing_ends done =
+        let called : List Bool = now.emission.is_called.items in
+        let none : range.count - index ≡ 0 = omega (arith, done) in
+        record {
+          list = so_far.list;
+          writes = so_far.writes;
+          written =
+              subst (λ all. IsListCarriedOut body called before.emission.facts range all (here_of now))
+              (append-nil so_far.list)
+              (so_far.left called [] (here_of now) (has_itself called)
+              (subst (λ count. AreAllCarriedOut body called (here_of now) (range.first + index) count [] (here_of now))
+              (sym none) NoStatements));
+          called = so_far.called;
+        }

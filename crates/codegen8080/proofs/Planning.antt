@@ -1,0 +1,62 @@
+-- Steps that are planned.
+use Rattle.std.proofs.Common.{◌≡◌, ℕ, suc, ◌+◌, ◌-◌, ◌<◌, ◌≤◌, List, ◌++◌, sym, ap, subst, ◌∙◌, arith}
+use Rattle.std.specs.Prelude.{min}
+use Rattle.treecode.specs.declared.procedure.Parameter.{Parameter}
+use Rattle.steps8080.specs.declared.facts.Facts.{Facts}
+use Rattle.statements8080.specs.declared.plan.Plan.{Plan}
+use Rattle.statements8080.specs.declared.plan.Planned.{Planned}
+use Rattle.statements8080.specs.Plans.{PlanAdds, PlanAddsWithLabels}
+use Rattle.statements8080.specs.internal.Adding.{IsAdding}
+use Rattle.statements8080.proofs.Adding.{adding_ends, adding_goes_on}
+use Rattle.codegen8080.specs.Procedures.{known_at, known_from, popped_at, popped_from}
+
+-- planners that take no label, as such that may take some
+pub none_taken : (before after : Plan) (list : List Planned)
+    → PlanAdds before after list
+    → PlanAddsWithLabels before after 0 (λ first. list)
+none_taken before after list adds = record {
+  added = adds.added;
+  first = adds.first;
+  taken = ap (λ taken. min taken 4294967295) adds.taken ∙ sym (ap (λ taken. min taken 4294967295) (add_none before.taken));
+}
+  where
+    add_none : (n : ℕ) → n + 0 ≡ n
+    add_none n = omega arith
+
+module _ (parameters : List Parameter) where
+  popped_more : (left : ℕ) → 0 < left
+      → popped_from parameters left ≡ popped_at parameters (left - 1) ++ popped_from parameters (left - 1)
+  unfolding popped_from
+  popped_more left some =
+      let more : left ≡ suc (left - 1) = omega (arith, some) in ap (popped_from parameters) more
+
+  -- one of the arguments that are left is stored
+  pub popped_next : (before now next : Plan) (whole : List Planned) (left : ℕ) → 0 < left
+      → IsAdding before now whole (popped_from parameters left)
+      → PlanAdds now next (popped_at parameters (left - 1))
+      → IsAdding before next whole (popped_from parameters (left - 1))
+  popped_next before now next whole left some adding adds =
+      adding_goes_on before now next whole (popped_at parameters (left - 1)) (popped_from parameters (left - 1))
+      (subst (IsAdding before now whole) (popped_more left some) adding) adds
+
+  -- none is left
+  pub popped_done : (before now : Plan) (whole : List Planned) (left : ℕ) → left ≤ 0
+      → IsAdding before now whole (popped_from parameters left) → PlanAdds before now whole
+  unfolding popped_from
+  popped_done before now whole left none adding =
+      let no : left ≡ 0 = omega (arith, none) in
+      adding_ends before now whole
+      (subst (λ count. IsAdding before now whole (popped_from parameters count)) no adding)
+
+  -- the same for what is known
+  pub known_next : (facts : Facts) (left : ℕ) → 0 < left
+      → known_from facts parameters left
+      ≡ known_from (known_at facts parameters (left - 1)) parameters (left - 1)
+  unfolding known_from
+  known_next facts left some =
+      let more : left ≡ suc (left - 1) = omega (arith, some) in ap (known_from facts parameters) more
+
+  pub known_done : (facts : Facts) (left : ℕ) → left ≤ 0 → known_from facts parameters left ≡ facts
+  unfolding known_from
+  known_done facts left none =
+      let no : left ≡ 0 = omega (arith, none) in ap (known_from facts parameters) no

@@ -1,0 +1,26 @@
+-- Code of planned steps that others follow.
+use Rattle.std.specs.Prelude.{◌≡◌, Bool, List, ◌∷◌, ◌++◌, Option}
+use Rattle.asm8080.specs.declared.item.Item.{Item}
+use Rattle.steps8080.specs.declared.facts.Facts.{Facts}
+use Rattle.steps8080.specs.Writer.{Writes}
+use Rattle.exprgen8080.specs.Emitted.{HasAll}
+use Rattle.statements8080.specs.declared.body.Body.{Body}
+use Rattle.statements8080.specs.declared.plan.Planned.{Planned}
+use Rattle.codegen8080.specs.declared.generator.Generator.{Generator}
+use Rattle.codegen8080.specs.declared.meeting.Here.{Here}
+use Rattle.codegen8080.specs.Driven.{here_of}
+use Rattle.codegen8080.specs.Generated.{AreCarriedOut}
+
+-- the code of a step is added: with that of others after it, it is that of all
+pub record CarriesOut
+    (body : Body) (step : Planned) (waiting : Option Facts) (before after : Generator)
+    (waits : Option Facts) : Type 0 where
+  pub list : List Item
+  pub writes : Writes before.emission.writer after.emission.writer list
+  pub followed :
+      (called : List Bool) (others : List Planned) (more : List Item) (last : Here)
+      → HasAll after.emission.is_called.items called
+      → AreCarriedOut body called (here_of after) waits others more last
+      → AreCarriedOut body called (here_of before) waiting (step ∷ others) (list ++ more) last
+  pub called : HasAll before.emission.is_called.items after.emission.is_called.items
+  pub plan : after.plan.list.items ≡ before.plan.list.items

@@ -1,0 +1,129 @@
+//! What is known where code comes from several places.
+
+ghost use Rattle.std.specs.Prelude.{◌≡◌};
+ghost use Rattle.codegen8080.specs.Generated.{arriving, common, common_location, here_after, known_here, met, waiting_after};
+
+use exprgen8080::Facts;
+use statements8080::Planned;
+use treecode::Location;
+
+/// The end of code: what is known of the registers there, and whether the code goes on to it.
+#[derive(Clone, Copy)]
+pub(crate) struct Here {
+    pub facts: Facts,
+    pub goes_on: bool,
+}
+
+// What is known by both of two facts.
+fn common_location(one: Option<Location>, other: Option<Location>) -> Option<Location>
+    ensures { result ≡ common_location one other }
+{
+    match (one, other) {
+        (Some(one), Some(other)) if one == other => Some(one),
+        _ => None,
+    }
+}
+
+// What two places have in common, of which both may be the one before this.
+fn common(one: Facts, other: Facts) -> Facts
+    ensures { result ≡ common one other }
+{
+    Facts {
+        byte_in_a: common_location(one.byte_in_a, other.byte_in_a),
+        word_in_hl: common_location(one.word_in_hl, other.word_in_hl),
+        address_in_hl: common_location(one.address_in_hl, other.address_in_hl),
+        zero_shows_a: one.zero_shows_a && other.zero_shows_a,
+    }
+}
+
+// What is known where code comes from two places, if it comes from them.
+fn met(one: Option<Facts>, other: Option<Facts>) -> Option<Facts>
+    ensures { result ≡ met one other }
+{
+    match (one, other) {
+        (Some(one), Some(other)) => Some(common(one, other)),
+        (Some(facts), None) | (None, Some(facts)) => Some(facts),
+        (None, None) => None,
+    }
+}
+
+// What is known at the end of code, if it goes on to it.
+fn known_here(here: Here) -> Option<Facts>
+    ensures { result ≡ known_here here }
+{
+    if here.goes_on { Some(here.facts) } else { None }
+}
+
+/// A place to which code comes with these facts, if it comes there.
+pub(crate) fn arriving(facts: Option<Facts>) -> Here
+    ensures { result ≡ arriving facts }
+{
+    match facts {
+        Some(facts) => Here {
+            facts,
+            goes_on: true,
+        },
+        None => Here {
+            facts: Facts::none(),
+            goes_on: false,
+        },
+    }
+}
+
+/// Where the code is after a step that holds no statement, by where it is before it and what is known after the step's
+/// code. What waits is known where the code before `Jumped` jumps to.
+#[tactic(auto, unfolding(crate::specs::Generated::here_after))]
+pub(crate) fn here_after(here: Here, waiting: Option<Facts>, known: Facts, step: Planned) -> Here
+    ensures { result ≡ here_after here waiting known step }
+{
+    match step {
+        Planned::Turn { .. } => arriving(waiting),
+        Planned::Meet(_) => arriving(met(known_here(here), waiting)),
+        Planned::Again {
+            label: _,
+            facts,
+            is_entered,
+        } => {
+            let entered = if is_entered { known_here(here) } else { None };
+            arriving(met(entered, Some(facts)))
+        }
+        Planned::Reaches(goes_on) => Here {
+            facts: known,
+            goes_on,
+        },
+        Planned::Code(_)
+        | Planned::Statement(_)
+        | Planned::List(_)
+        | Planned::LoadByte(_)
+        | Planned::LoadWord(_)
+        | Planned::Jumped { .. }
+        | Planned::JumpOn(_) => Here {
+            facts: known,
+            goes_on: here.goes_on,
+        },
+    }
+}
+
+/// What waits after a step that holds no statement.
+#[tactic(auto, unfolding(crate::specs::Generated::waiting_after))]
+pub(crate) fn waiting_after(here: Here, waiting: Option<Facts>, step: Planned) -> Option<Facts>
+    ensures { result ≡ waiting_after here waiting step }
+{
+    match step {
+        Planned::Jumped { is_the_only_one } => Some(if is_the_only_one {
+            here.facts
+        } else {
+            Facts::none()
+        }),
+        Planned::Turn { .. } => known_here(here),
+        Planned::Code(_)
+        | Planned::Statement(_)
+        | Planned::List(_)
+        | Planned::LoadByte(_)
+        | Planned::LoadWord(_)
+        | Planned::JumpOn(_)
+        | Planned::Meet(_)
+        | Planned::Again { .. }
+        | Planned::Reaches(_) => waiting,
+    }
+}
