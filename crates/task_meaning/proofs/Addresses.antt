@@ -1,40 +1,35 @@
 -- The code of addresses of locations, and of words there: HL holds them then, and what is beside stays.
-use Rattle.std.proofs.Common.{◌≡◌, ℕ, zero, suc, ◌+◌, ◌-◌, ◌*◌, ◌/◌, ◌%◌, ◌<◌, ◌≤◌, ◌==◌, Bool, true, false, if◌then◌else◌, nat_le, List, [], ◌∷◌, ◌++◌, Option, Some, None, slice_set, refl, sym, ap, subst, append-nil, ◌∙◌, arith}
-use Rattle.std.proofs.lemmas.Bool.{leb-true, leb-false, eqb-true, eqb-false}
-use Rattle.mem80.specs.declared.memory.TheConstants.{MEMORY_SIZE}
-use Rattle.mem80.specs.Memory.{byte_at, word_at}
-use Rattle.mem80.proofs.MemoryLemmas.{byte_small}
+use Rattle.std.proofs.Common.{◌≡◌, ℕ, zero, suc, ◌+◌, ◌*◌, ◌%◌, ◌<◌, Bool, true, false, if◌then◌else◌, nat_le, List, [], ◌∷◌, ◌++◌, Some, refl, sym, ap, subst, append-nil, ◌∙◌, arith}
 use Rattle.ports.specs.declared.event.Event.{Event}
 use Rattle.meaning.specs.Outcomes.{State as SourceState, Outcome}
 use Rattle.isa8080.specs.declared.instr.Instr.{Instr}
-use Rattle.isa8080.specs.declared.instr.Instr.TheVariants.{Dad, Dcx, Inx, Lxi, Pop, Push, Xchg}
-use Rattle.isa8080.specs.declared.instr.Pair.TheVariants.{Bc, De, Hl, Sp}
-use Rattle.isa8080.specs.State.{HoldBytes, Registers, State, high_byte, low_byte, word, wrap}
-use Rattle.isa8080.specs.Act.{act}
-use Rattle.asm8080.specs.declared.item.WordForm.TheVariants.{LoadHl, LoadPair}
+use Rattle.isa8080.specs.declared.instr.Instr.TheVariants.{Dad, Dcx, Inx, Lxi}
+use Rattle.isa8080.specs.declared.instr.Pair.TheVariants.{Bc, Hl, Sp}
+use Rattle.isa8080.specs.State.{Registers, State, high_byte, low_byte, word, wrap}
+use Rattle.asm8080.specs.declared.item.WordForm.TheVariants.{LoadPair}
 use Rattle.treecode.specs.declared.place.Place.{Place}
 use Rattle.treecode.specs.declared.place.Place.TheVariants.{Number, Code, Data, External}
 use Rattle.treecode.specs.declared.place.Location.{Location}
 use Rattle.treecode.specs.declared.place.Location.TheVariants as locations
 use Rattle.treecode.specs.Homes.{location_after}
 use Rattle.code_meaning.specs.Landing.{Does, at_place}
-use Rattle.code_meaning.specs.Activations.{Activation, HasRoom, IsReady, IsThere}
+use Rattle.code_meaning.specs.Activations.{HasRoom}
 use Rattle.code_facts.specs.Holding.{location_at, place_at}
 use Rattle.code_facts.proofs.Places.{after_before, location_after_is}
 use Rattle.code_facts.proofs.Uses.{address_in_hl_is}
 use Rattle.steps8080.specs.declared.facts.Facts.{Facts}
 use Rattle.steps8080.specs.declared.step.Part.{Part}
 use Rattle.steps8080.specs.declared.step.Step.{Step}
-use Rattle.steps8080.specs.declared.step.Step.TheVariants.{Holds, Plain, Word}
-use Rattle.steps8080.specs.Facts.{after, before, is_at, no_facts, with_facts}
+use Rattle.steps8080.specs.declared.step.Step.TheVariants.{Plain, Word}
+use Rattle.steps8080.specs.Facts.{before, is_at, no_facts}
 use Rattle.steps8080.specs.Step.{plain, repeat_steps}
 use Rattle.sites8080.specs.Site.{distance}
 use Rattle.operands8080.specs.Addresses.{addition_steps, hold_address_steps, location_address_steps, negated, new_address_steps, number_added_steps}
 use Rattle.exprgen8080.specs.Emission.{knowing}
 use Rattle.task_meaning.specs.Contexts.{Context, IsSound, distances_in}
-use Rattle.task_meaning.specs.Steps.{StepsStand, NoneThere, PlainThere, WordThere, HoldsThere}
+use Rattle.task_meaning.specs.Steps.{StepsStand, NoneThere, WordThere, HoldsThere}
 use Rattle.task_meaning.specs.Tasks.{Know}
-use Rattle.task_meaning.proofs.Rules.{GoesOn, holds_go, ready_with_registers, registers_go, split, word_goes}
+use Rattle.task_meaning.proofs.Rules.{GoesOn, holds_go, ready_with_registers, word_goes}
 use Rattle.task_meaning.proofs.RegisterCode.{AreOnRegisters, effect, registers_then}
 
 -- no step
@@ -92,7 +87,9 @@ inx_go (suc count) r sound stand on rest =
     (λ now beside.
     rest now (record {
       hl = one_more r.h r.l count (word now.h now.l) high low beside.hl;
-      a = beside.a; d = beside.d; e = beside.e;
+      a = beside.a;
+      d = beside.d;
+      e = beside.e;
     })))
 
 one_less_more : (h l count now : ℕ) → h < 256 → l < 256
@@ -126,7 +123,9 @@ dcx_go (suc count) r sound stand on rest =
     (λ now beside.
     rest now (record {
       hl = one_less_more r.h r.l count (word now.h now.l) high low beside.hl;
-      a = beside.a; d = beside.d; e = beside.e;
+      a = beside.a;
+      d = beside.d;
+      e = beside.e;
     })))
 
 taken_for : (n number : ℕ) → number < 65536 → wrap (n + 65535 * negated number) ≡ wrap (n + number)
@@ -187,7 +186,9 @@ number_added_goes {outcome = outcome} {Good = Good} {context = context} {PartIs 
         registers_end (Lxi Bc number ∷ Dad Bc ∷ []) r sound (tt, (tt, tt)) stand on
         (λ on. rest _ (record {
           hl = back_together (word r.h r.l + word (high_byte number) (low_byte number)) ∙ added_word r.h r.l number;
-          a = refl; d = refl; e = refl;
+          a = refl;
+          d = refl;
+          e = refl;
         }) on)
 
 -- a word that is added by way of BC
@@ -220,7 +221,9 @@ word_added_goes {context = context} {memory = memory} {events = events} place r 
     })
     (λ on. rest _ (record {
       hl = back_together (word r.h r.l + word (high_byte number) (low_byte number)) ∙ added_word r.h r.l number;
-      a = refl; d = refl; e = refl;
+      a = refl;
+      d = refl;
+      e = refl;
     }) on))
 
 -- a known word that is added to HL
@@ -357,7 +360,9 @@ location_address_goes {outcome = outcome} {Good = Good} {context = context} {Par
         nothing_goes r stand on
         (rest r (record {
           hl = address_in_hl_is context.activation (distances_in context) used.address_in_hl location r.h r.l here_is known.address_holds;
-          a = refl; d = refl; e = refl;
+          a = refl;
+          d = refl;
+          e = refl;
         }))
     by_test false true last_one here_is next_is last_is stand =
         let is : word (high_byte (wrap (word r.h r.l + 1))) (low_byte (wrap (word r.h r.l + 1)))

@@ -1,5 +1,5 @@
 -- What questions ask, and how flags show it.
-use Rattle.std.proofs.Common.{◌≡◌, ℕ, ◌+◌, ◌-◌, ◌*◌, ◌/◌, ◌%◌, ◌<◌, ◌≤◌, ◌==◌, Bool, true, false, not, nat_lt, nat_le, min, if◌then◌else◌, Option, Some, None, refl, sym, ap, ◌∙◌, arith}
+use Rattle.std.proofs.Common.{◌≡◌, ℕ, ◌+◌, ◌%◌, ◌<◌, ◌≤◌, ◌==◌, Bool, true, false, not, nat_lt, nat_le, min, if◌then◌else◌, Option, Some, refl, sym, ap, ◌∙◌, arith}
 use Rattle.std.proofs.lemmas.Bool.{ltb-true, ltb-false, lt-ltb, le-ltb, leb-true, leb-false, le-leb, lt-leb, eqb-true, eqb-false, eq-eqb, ne_eqb}
 use Rattle.std.proofs.lemmas.Option.{none-some, same_Some}
 use Rattle.trees.specs.declared.declaration.ScalarType.{ScalarType}
@@ -9,7 +9,6 @@ use Rattle.trees.specs.declared.expression.BinaryOperator.TheVariants as operato
 use Rattle.meaning.specs.Values.{result_of, truth, values_of}
 use Rattle.isa8080.specs.declared.instr.Operation.TheVariants.{Compare, Subtract}
 use Rattle.isa8080.specs.State.{Registers}
-use Rattle.isa8080.specs.Arithmetic.{subtract_of}
 use Rattle.code_meaning.proofs.ByteResults.{borrow_shows, same_test, zero_shows}
 use Rattle.sites8080.specs.declared.questions.NumberQuestion.{NumberQuestion}
 use Rattle.sites8080.specs.declared.questions.NumberQuestion.TheVariants.{Never, Below, Is}

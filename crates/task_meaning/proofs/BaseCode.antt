@@ -1,11 +1,9 @@
 -- The code that has the address of a base: without computed subscripts, or with their sum in HL.
-use Rattle.std.proofs.Common.{◌≡◌, ℕ, ◌+◌, ◌-◌, ◌*◌, ◌/◌, ◌%◌, ◌<◌, ◌≤◌, Bool, true, false, List, [], ◌∷◌, ◌++◌, refl, sym, ap, subst, ◌∙◌, arith}
-use Rattle.mem80.specs.declared.memory.TheConstants.{MEMORY_SIZE}
+use Rattle.std.proofs.Common.{◌≡◌, ℕ, ◌+◌, ◌*◌, ◌<◌, Bool, true, false, List, [], ◌∷◌, ◌++◌, refl, sym, ap, subst, ◌∙◌, arith}
 use Rattle.mem80.specs.Memory.{byte_at}
-use Rattle.mem80.proofs.MemoryLemmas.{byte_small}
 use Rattle.meaning.specs.Access.{Place as SourcePlace, InMemory, InTheFrame, home_of, place_of}
 use Rattle.meaning.specs.Meaning.{based_place}
-use Rattle.meaning.specs.Outcomes.{State as SourceState, Outcome, Gave, then_do}
+use Rattle.meaning.specs.Outcomes.{State as SourceState, Outcome, Gave}
 use Rattle.isa8080.specs.declared.instr.Instr.TheVariants.{Dad, Lxi, Xchg}
 use Rattle.isa8080.specs.declared.instr.Pair.TheVariants.{Bc, De, Sp}
 use Rattle.isa8080.specs.State.{Registers, State, high_byte, low_byte, word, wrap}
@@ -18,7 +16,6 @@ use Rattle.code_facts.specs.Holding.{location_at, place_at}
 use Rattle.code_facts.proofs.Changes.{no_facts_hold}
 use Rattle.steps8080.specs.declared.facts.Facts.{Facts}
 use Rattle.steps8080.specs.declared.step.Part.{Part}
-use Rattle.steps8080.specs.declared.step.Step.{Step}
 use Rattle.steps8080.specs.declared.step.Step.TheVariants.{Plain}
 use Rattle.steps8080.specs.Facts.{no_facts}
 use Rattle.sites8080.specs.declared.queries.Base.{Base}
@@ -31,7 +28,7 @@ use Rattle.task_meaning.specs.Steps.{StepsStand}
 use Rattle.task_meaning.specs.Tasks.{Know, Left, address_on_machine}
 use Rattle.task_meaning.proofs.Rules.{GoesOn, split}
 use Rattle.task_meaning.proofs.RegisterCode.{registers_then}
-use Rattle.task_meaning.proofs.Addresses.{addition_goes, back_together, location_address_goes, registers_end, small_again}
+use Rattle.task_meaning.proofs.Addresses.{addition_goes, back_together, location_address_goes, registers_end}
 use Rattle.task_meaning.proofs.LocationWords.{frame_away, location_word_goes}
 use Rattle.task_meaning.proofs.Reading.{word_read}
 use Rattle.task_meaning.proofs.Bases.{IsBase, InAFrame, InPlace, IsSmall, OnBase}
@@ -92,7 +89,9 @@ base_goes {Good = Good} {context = context} {budget = budget} {more = more} {kno
     (location_address_goes used (locations.Static place) r sound room small known_here stand on
     (λ now beside on. rest now (InMemory (wrap (place_at context.activation.layout place + 0))) (record {
       hl = beside.hl ∙ at_it (place_at context.activation.layout place) small;
-      a = λ kept. beside.a; d = λ kept. beside.d; e = λ kept. beside.e;
+      a = λ kept. beside.a;
+      d = λ kept. beside.d;
+      e = λ kept. beside.e;
     }) on))
 base_goes {Good = Good} {context = context} {budget = budget} {more = more} {object = object} {known = known} {memory = memory} {from = from} used (bases.Frame variable offset) bytes is_inside s r sound room small (InAFrame at is_at) is known_here stand on rest =
     subst (λ (outcome : Outcome SourcePlace). Does context.activation.around.program.script budget more (at_place from r memory s.events) outcome Good)
@@ -102,7 +101,9 @@ base_goes {Good = Good} {context = context} {budget = budget} {more = more} {obj
       hl = beside.hl
           ∙ at_it (location_at context.activation (distances_in context) (locations.Frame variable offset)) (omega arith)
           ∙ sym (is_at bytes 0 (alone bytes known is));
-      a = λ kept. beside.a; d = λ kept. beside.d; e = λ kept. beside.e;
+      a = λ kept. beside.a;
+      d = λ kept. beside.d;
+      e = λ kept. beside.e;
     }) on))
 base_goes {Good = Good} {context = context} {PartIs = PartIs} {last = last} {to = to} {top = top} {pushed = pushed} {need = need} {budget = budget} {more = more} {object = object} {known = known} {memory = memory} {facts = facts} {from = from} used (bases.Based pointer offset) bytes is_inside s r sound room small (OnBase base offset_is at pointer_is fits) is known_here stand on rest =
     subst (λ (outcome : Outcome SourcePlace). Does context.activation.around.program.script budget more (at_place from r memory s.events) outcome Good)
@@ -173,7 +174,9 @@ base_added_goes {Good = Good} {context = context} {budget = budget} {more = more
     (addition_goes place r sound small stand on
     (λ now beside on. rest now (InMemory (wrap (address + word r.h r.l))) (record {
       hl = beside.hl ∙ added_at (word r.h r.l) address bytes known is;
-      a = λ kept. beside.a; d = λ kept. beside.d; e = λ kept. beside.e;
+      a = λ kept. beside.a;
+      d = λ kept. beside.d;
+      e = λ kept. beside.e;
     }) on))
 base_added_goes {Good = Good} {context = context} {top = top} {pushed = pushed} {need = need} {budget = budget} {more = more} {object = object} {known = known} {memory = memory} {from = from} used (bases.Frame variable offset) bytes is_inside s r sound room small (InAFrame at is_at) is stand on rest =
     let away : ℕ = distance context.site variable offset pushed in
@@ -186,7 +189,9 @@ base_added_goes {Good = Good} {context = context} {top = top} {pushed = pushed} 
       hl = back_together (word (high_byte first) (low_byte first) + r.sp)
           ∙ framed r.h r.l away r.sp address (frame_away context top pushed need variable offset r.sp room on.ready.pointer)
           ∙ sym (is_at bytes (word r.h r.l) is);
-      a = λ kept. refl; d = λ kept. refl; e = λ kept. refl;
+      a = λ kept. refl;
+      d = λ kept. refl;
+      e = λ kept. refl;
     }) on))
 base_added_goes {Good = Good} {context = context} {PartIs = PartIs} {last = last} {to = to} {top = top} {pushed = pushed} {need = need} {budget = budget} {more = more} {object = object} {known = known} {memory = memory} {facts = facts} {from = from} used (bases.Based pointer offset) bytes is_inside s r sound room small (OnBase base offset_is at pointer_is fits) is stand on rest =
     let place : SourcePlace = place_of context.activation.around base in
@@ -202,7 +207,7 @@ base_added_goes {Good = Good} {context = context} {PartIs = PartIs} {last = last
     r sound (tt, tt) stand on
     (λ middle found stand on_one.
     let parts = split (location_word_steps (knowing context.site no_facts) pointer pushed)
-            (Plain (Dad De) ∷ addition_steps (Number offset)) stand in
+    (Plain (Dad De) ∷ addition_steps (Number offset)) stand in
     location_word_goes no_facts pointer one sound room
     (subst (λ (n : ℕ). Rattle.code_facts.specs.Holding.IsSteady context.activation n) pointer_is steady)
     (subst (λ (n : ℕ). Rattle.code_facts.specs.Holding.IsSteady context.activation (wrap (n + 1))) pointer_is next)

@@ -1,10 +1,7 @@
 -- The base of an object: where it lies by the tree and by the source, and the code that has its address.
-use Rattle.std.proofs.Common.{◌≡◌, ℕ, ◌+◌, ◌-◌, ◌*◌, ◌/◌, ◌%◌, ◌<◌, ◌≤◌, ◌&&◌, Bool, true, false, List, [], ◌∷◌, ◌++◌, Option, Some, None, slice_get, refl, sym, ap, subst, ◌∙◌, arith}
+use Rattle.std.proofs.Common.{◌≡◌, ℕ, ◌+◌, ◌*◌, ◌%◌, ◌<◌, Bool, true, List, [], Option, Some, None, slice_get, refl, sym, ap, subst, ◌∙◌, arith}
 use Rattle.std.specs.Prelude.{IsSomeAnd}
 use Rattle.std.specs.Option.{option_map_or}
-use Rattle.mem80.specs.declared.memory.TheConstants.{MEMORY_SIZE}
-use Rattle.mem80.specs.Memory.{byte_at}
-use Rattle.ports.specs.declared.event.Event.{Event}
 use Rattle.trees.specs.declared.declaration.ScalarType.{ScalarType}
 use Rattle.trees.specs.declared.declaration.ScalarType.TheVariants.{Address}
 use Rattle.typed_trees.specs.ObjectParts.{IsScalar}
@@ -14,18 +11,15 @@ use Rattle.typed_trees.specs.WellTyped.{IsSeen, LiesFor, Within, WithinMain, Wit
 use Rattle.meaning.specs.Access.{Place as SourcePlace, InMemory, InTheFrame, Surroundings, home_in, home_of, place_in, place_of, read_scalar}
 use Rattle.meaning.specs.Meaning.{based_place}
 use Rattle.meaning.specs.Outcomes.{State as SourceState, Outcome, Gave, Stopped, then_do}
-use Rattle.isa8080.specs.State.{Registers, State, high_byte, low_byte, word, wrap}
+use Rattle.isa8080.specs.State.{wrap}
 use Rattle.treecode.specs.declared.place.Home.{Home}
 use Rattle.treecode.specs.declared.place.Home.TheVariants as homes
 use Rattle.treecode.specs.declared.place.Place.{Place}
-use Rattle.treecode.specs.declared.place.Place.TheVariants.{Number}
 use Rattle.treecode.specs.declared.place.Location.{Location}
 use Rattle.treecode.specs.declared.place.Location.TheVariants as locations
 use Rattle.treecode.specs.Homes.{frame_number, homes_of, location_of, place_after}
 use Rattle.treecode.specs.Nodes.{home_at}
 use Rattle.treecode.specs.Queries.{home}
-use Rattle.code_meaning.specs.Landing.{Does, at_place}
-use Rattle.code_meaning.specs.Activations.{Activation, HasRoom, IsReady}
 use Rattle.code_facts.specs.Holding.{location_at, place_at}
 use Rattle.code_facts.proofs.Places.{location_after_is}
 use Rattle.sites8080.specs.declared.queries.Base.{Base}

@@ -1,6 +1,6 @@
 -- The code of jumps where a condition holds does so.
 use Rattle.std.proofs.Common.{◌≡◌, ℕ, zero, suc, ◌+◌, ◌-◌, ◌*◌, ◌/◌, ◌%◌, ◌<◌, ◌≤◌, ◌==◌, Bool, true, false, not, ◌&&◌, List, [], ◌∷◌, ◌++◌, Option, Some, None, max, bit_and, bit_or, refl, sym, ap, ◌∙◌, subst, arith, if◌then◌else◌}
-use Rattle.std.proofs.lemmas.Bool.{false≢true, eqb-true, eqb-false, eq-eqb, ne_eqb}
+use Rattle.std.proofs.lemmas.Bool.{false≢true}
 use Rattle.std.proofs.lemmas.Option.{none-some, same_Some}
 use lib.Bits.{and_comm, or_comm}
 use Rattle.trees.specs.declared.declaration.ScalarType.{ScalarType}
@@ -15,11 +15,10 @@ use Rattle.typed_trees.specs.TypedTrees.{TypedExpression, BinaryNode}
 use Rattle.typed_trees.specs.WellTyped.{TypesHold}
 use Rattle.meaning.specs.Meaning.{computed}
 use Rattle.meaning.specs.Outcomes.{State as SourceState, Outcome, Gave, then_do}
-use Rattle.meaning.specs.Values.{as_type, function_of, is_true, result_of, result_of_one, truth, values_of}
-use Rattle.isa8080.specs.State.{Registers, State}
+use Rattle.meaning.specs.Values.{as_type, is_true, result_of, result_of_one, truth, values_of}
+use Rattle.isa8080.specs.State.{Registers}
 use Rattle.treecode.specs.declared.expression.Expression.{Expression}
 use Rattle.treecode.specs.declared.expression.ExpressionForm.{ExpressionForm}
-use Rattle.treecode.specs.declared.expression.ExpressionForm.TheVariants as forms
 use Rattle.treecode.specs.declared.expression.ExpressionNumber.{ExpressionNumber}
 use Rattle.treecode.specs.Lowered.{IsExpression, IsForm, IsNumber, IsValue, IsLocation, IsConstantList, IsConversion, IsEmbedded, IsUnary, IsBinary, IsCallOf, IsFunction, IsShift, IsInput}
 use Rattle.steps8080.specs.declared.facts.Facts.{Facts}
@@ -29,7 +28,7 @@ use Rattle.code_meaning.specs.Landing.{Does, at_place}
 use Rattle.sites8080.specs.declared.questions.Comparison.{Comparison}
 use Rattle.sites8080.specs.declared.questions.Question.{Question}
 use Rattle.sites8080.specs.declared.questions.Question.TheVariants.{LeftBelow, RightBelow, Equal}
-use Rattle.sites8080.specs.declared.questions.Inquiry.TheVariants.{Between, WithNumber}
+use Rattle.sites8080.specs.declared.questions.Inquiry.TheVariants.{Between}
 use Rattle.sites8080.specs.declared.questions.Relation.{Relation}
 use Rattle.sites8080.specs.declared.site.Site.{Site}
 use Rattle.sites8080.specs.Site.{expression}
@@ -37,17 +36,16 @@ use Rattle.sites8080.specs.Queries.{is_quiet, number}
 use Rattle.sites8080.specs.Questions.{agree, question_of, relation_of}
 use Rattle.sites8080.specs.Widths.{fits_byte}
 use Rattle.relations8080.specs.declared.branches.Branch.{Branch}
-use Rattle.relations8080.specs.declared.branches.Shape.{Shape}
 use Rattle.relations8080.specs.declared.branches.Shape.TheVariants.{Known, SameAs, Opposite, Whatever, Joined, Other}
 use Rattle.relations8080.specs.Branches.{branch_setting, branch_steps, by_bit_steps, equality_steps, is_odd, outcome_branch_steps, shape_of, shape_of_form, shape_steps, other_steps}
 use Rattle.relations8080.specs.Relations.{relation_outcome, relation_steps}
-use Rattle.relations8080.specs.WordRelations.{equality_of_words, high_difference_steps, low_difference_steps, words_asked, words_of, words_steps}
+use Rattle.relations8080.specs.WordRelations.{equality_of_words, low_difference_steps, words_asked, words_of, words_steps}
 use Rattle.exprgen8080.specs.Emission.{knowing}
 use Rattle.task_meaning.specs.Conditions.{jumps_once}
 use Rattle.task_meaning.specs.Contexts.{Context, IsSound, nodes_in}
 use Rattle.task_meaning.specs.Steps.{StepsStand, PartThere}
 use Rattle.task_meaning.specs.Tasks.{BranchDoes, Parts, PartDoes}
-use Rattle.task_meaning.proofs.Answers.{question_truth, relation_gives}
+use Rattle.task_meaning.proofs.Answers.{relation_gives}
 use Rattle.task_meaning.proofs.Branches.{bit_jumps, given_itself, relation_jumps, truth_is_true}
 use Rattle.task_meaning.proofs.BytesAsked.{BytesAsked}
 use Rattle.task_meaning.proofs.ByteComparisons.{asking}
@@ -333,9 +331,10 @@ module _
       does_same _ (means s)
       (part_jumps (not branch.sense) from to inner tree branch.sense f (only_part stand) node types fewer stage
       (λ v u is.
-      let bit = bits v (asked.values_fit inner bound top v inside base s u r memory node types stage.ready is) in
-      ((λ yes. bit ∙ (ap not yes ∙ not_twice branch.sense)),
-      (λ no. bit ∙ (ap not no ∙ not_twice (not branch.sense))))) once)
+      let bit = bits v (asked.values_fit inner bound top v inside base s u r memory node types stage.ready is) in (
+        (λ yes. bit ∙ (ap not yes ∙ not_twice branch.sense)),
+        (λ no. bit ∙ (ap not no ∙ not_twice (not branch.sense))),
+      )) once)
 
   -- AND or OR with a number
   with_number_jumps :
@@ -538,7 +537,7 @@ branch_law {context = context} {facts = facts} {last = last} {from = from} {to =
         (found : Option Expression) → expression (knowing context.site facts) condition ≡ found
         → StepsStand context (PartDoes context) facts from
         (shape_steps (knowing context.site facts)
-        (elim found [ | Some one ↦ shape_of_form (knowing context.site facts) one.form | None ↦ Other ]) condition branch first) last to
+        (elim found [ Some one ↦ shape_of_form (knowing context.site facts) one.form | None ↦ Other ]) condition branch first) last to
         → Does (script_of context) s.budget 0 (at_place from r memory s.events) (value_in context tree s)
         (Parts context last tree label sense top base to)
     by_expression None is stands =

@@ -1,27 +1,20 @@
 -- Code that jumps where a condition holds.
-use Rattle.std.proofs.Common.{◌≡◌, ℕ, ◌+◌, ◌*◌, ◌/◌, ◌%◌, ◌<◌, ◌≤◌, ◌==◌, Bool, true, false, not, ◌&&◌, List, [], ◌∷◌, ◌++◌, Option, Some, None, max, bit_and, bit_or, refl, sym, ap, ◌∙◌, subst, arith, if◌then◌else◌}
-use Rattle.trees.specs.declared.declaration.ScalarType.{ScalarType}
+use Rattle.std.proofs.Common.{◌≡◌, ℕ, ◌*◌, ◌%◌, ◌≤◌, ◌==◌, Bool, true, false, not, List, ◌++◌, refl, sym, ap, ◌∙◌, arith}
 use Rattle.typed_trees.specs.Charge.{height_of}
 use Rattle.typed_trees.specs.TypedTrees.{TypedExpression}
 use Rattle.typed_trees.specs.WellTyped.{TypesHold}
-use Rattle.meaning.specs.Meaning.{value}
 use Rattle.meaning.specs.Outcomes.{State as SourceState, Outcome, Gave, Stopped, then_do}
 use Rattle.meaning.specs.Values.{is_true, truth}
 use Rattle.isa8080.specs.declared.instr.Condition.{Condition}
 use Rattle.isa8080.specs.declared.instr.Condition.TheVariants.{NotZero, Zero, NoCarry, Carry}
-use Rattle.isa8080.specs.declared.instr.Instr.TheVariants.{Rrc}
 use Rattle.isa8080.specs.Arithmetic.{rotate_right_of}
-use Rattle.isa8080.specs.State.{Registers, State, holds}
+use Rattle.isa8080.specs.State.{Registers}
 use Rattle.treecode.specs.declared.expression.ExpressionNumber.{ExpressionNumber}
 use Rattle.treecode.specs.Lowered.{IsExpression}
 use Rattle.steps8080.specs.declared.facts.Facts.{Facts}
-use Rattle.steps8080.specs.declared.step.LabelNumber.{LabelNumber}
-use Rattle.steps8080.specs.declared.step.Step.{Step}
 use Rattle.code_meaning.specs.Landing.{Does, at_place}
 use Rattle.sites8080.specs.declared.questions.Relation.{Relation}
-use Rattle.sites8080.specs.Questions.{relation_of}
 use Rattle.relations8080.specs.declared.answers.Purpose.TheVariants as purposes
-use Rattle.relations8080.specs.declared.answers.Setting.{Setting}
 use Rattle.relations8080.specs.declared.branches.Branch.{Branch}
 use Rattle.relations8080.specs.declared.relations.Outcome.{Outcome as Shown}
 use Rattle.relations8080.specs.declared.relations.Outcome.TheVariants.{Known, Where}

@@ -1,13 +1,11 @@
 -- Two BYTEs are compared, in each form.
-use Rattle.std.proofs.Common.{◌≡◌, ℕ, ◌+◌, ◌*◌, ◌%◌, ◌<◌, ◌≤◌, ◌==◌, ◌⊎◌, inl, inr, Bool, true, false, ◌&&◌, ◌||◌, not, List, [], ◌∷◌, ◌++◌, Option, Some, None, is_some, max, refl, sym, ap, ◌∙◌, subst, arith, if◌then◌else◌}
+use Rattle.std.proofs.Common.{◌≡◌, ℕ, ◌+◌, ◌*◌, ◌<◌, ◌≤◌, ◌==◌, Bool, true, false, ◌&&◌, List, Option, Some, None, refl, sym, ◌∙◌, subst, arith, if◌then◌else◌}
 use Rattle.std.proofs.lemmas.Bool.{and_parts}
 use Rattle.trees.specs.declared.declaration.ScalarType.{ScalarType}
 use Rattle.typed_trees.specs.Charge.{height_of}
-use Rattle.typed_trees.specs.ExpressionTypes.{type_of}
 use Rattle.typed_trees.specs.TypedTrees.{TypedExpression}
 use Rattle.typed_trees.specs.WellTyped.{TypesHold}
 use Rattle.meaning.specs.Outcomes.{State as SourceState, Outcome}
-use Rattle.meaning.specs.Values.{values_of}
 use Rattle.isa8080.specs.declared.instr.Operation.{Operation}
 use Rattle.isa8080.specs.declared.instr.Operation.TheVariants.{Compare, Subtract}
 use Rattle.isa8080.specs.State.{Registers, State}
@@ -37,7 +35,7 @@ use Rattle.task_meaning.specs.Steps.{StepsStand}
 use Rattle.task_meaning.specs.Tasks.{PartDoes}
 use Rattle.task_meaning.proofs.Answers.{AnswerShows, compared_below, compared_equal, question_truth, same_turned, subtracted_equal}
 use Rattle.task_meaning.proofs.BytesAsked.{BytesAsked}
-use Rattle.task_meaning.proofs.ByteOperations.{GoesOnOperated, IsOperated, IsValueOf, operand_at, operated_with_e, operated_with_first_in_b, operated_with_memory, operated_with_second_in_b}
+use Rattle.task_meaning.proofs.ByteOperations.{IsOperated, IsValueOf, operand_at, operated_with_e, operated_with_first_in_b, operated_with_memory, operated_with_second_in_b}
 use Rattle.task_meaning.proofs.SiteNodes.{does_exchanged, free_is, value_in}
 use Rattle.task_meaning.proofs.Stages.{Stage, script_of}
 
@@ -81,7 +79,7 @@ left_in_memory site comparison question asks = by (operand_in_memory site compar
   where
     by : (found : Option Reference) → operand_in_memory site comparison.right ≡ found
         → Fits site comparison question
-        (elim found [ | Some reference ↦ Some (WithMemory (in_order comparison) reference) | None ↦ None ])
+        (elim found [ Some reference ↦ Some (WithMemory (in_order comparison) reference) | None ↦ None ])
     by None is = tt
     by (Some reference) is = LeftWithMemory asks is
 
@@ -132,7 +130,7 @@ chosen_fits :
     → Fits site comparison question register
     → Fits site comparison question memory
     → Fits site comparison question
-    (if test then register else elim memory [ | Some form ↦ Some form | None ↦ register ])
+    (if test then register else elim memory [ Some form ↦ Some form | None ↦ register ])
 chosen_fits site comparison question true register memory one two = one
 chosen_fits site comparison question false register (Some form) one two = two
 chosen_fits site comparison question false register None one two = one
@@ -212,7 +210,7 @@ shows_with_left RightBelow setting v w now asks one two is = absurd (Rattle.std.
 shows_with_left Equal setting v w now asks one two is = by setting.purpose is
   where
     by : (purpose : Purpose)
-        → IsOperated (elim purpose [ | Branch ↦ Compare | Value ↦ Subtract ]) v w now
+        → IsOperated (elim purpose [ Branch ↦ Compare | Value ↦ Subtract ]) v w now
         → AnswerShows purpose Zero (v == w) now
     by Branch made = compared_equal v w now one two made
     by Value made = subtracted_equal v w now one two made
@@ -230,7 +228,7 @@ shows_with_right RightBelow setting v w now asks one two is = compared_below w v
 shows_with_right Equal setting v w now asks one two is = by setting.purpose is
   where
     by : (purpose : Purpose)
-        → IsOperated (elim purpose [ | Branch ↦ Compare | Value ↦ Subtract ]) w v now
+        → IsOperated (elim purpose [ Branch ↦ Compare | Value ↦ Subtract ]) w v now
         → AnswerShows purpose Zero (v == w) now
     by Branch made = compared_equal w v now two one made ∙ same_turned v w
     by Value made = subtracted_equal w v now two one made ∙ same_turned v w

@@ -1,28 +1,26 @@
 -- The low byte of a value that has one part: conversions, LOW, DOUBLE, NOT and `-`.
-use Rattle.std.proofs.Common.{◌≡◌, ℕ, ◌+◌, ◌-◌, ◌*◌, ◌/◌, ◌%◌, ◌<◌, ◌≤◌, Bool, true, false, List, [], ◌∷◌, Option, Some, None, slice_get, refl, sym, ap, ◌∙◌, subst, arith}
+use Rattle.std.proofs.Common.{◌≡◌, ℕ, ◌+◌, ◌-◌, ◌*◌, ◌%◌, ◌<◌, ◌≤◌, true, List, [], ◌∷◌, Option, None, refl, ap, ◌∙◌, arith}
 use Rattle.std.specs.Option.{option_map_or}
 use Rattle.trees.specs.declared.declaration.ScalarType.{ScalarType}
 use Rattle.trees.specs.declared.declaration.ScalarType.TheVariants.{Byte, Address}
 use Rattle.trees.specs.declared.expression.UnaryOperator.TheVariants.{Not, Negate}
 use Rattle.typed_trees.specs.Charge.{height_of}
 use Rattle.typed_trees.specs.ExpressionTypes.{type_of}
-use Rattle.typed_trees.specs.TypedTrees.{TypedExpression, ConversionNode, UnaryNode, FunctionNode}
-use Rattle.typed_trees.specs.declared.parts.UnaryFunction.TheVariants.{Low, Double}
+use Rattle.typed_trees.specs.TypedTrees.{TypedExpression}
 use Rattle.typed_trees.specs.WellTyped.{TypesHold}
-use Rattle.meaning.specs.Outcomes.{State as SourceState, Outcome, Gave, then_do}
+use Rattle.meaning.specs.Outcomes.{State as SourceState, Gave, then_do}
 use Rattle.meaning.specs.Values.{as_type, result_of_one, values_of}
 use Rattle.isa8080.specs.declared.instr.Instr.TheVariants.{Cma, Inr}
 use Rattle.isa8080.specs.declared.instr.Operand.TheVariants.{Of}
 use Rattle.isa8080.specs.declared.instr.Register.TheVariants.{A}
 use Rattle.isa8080.specs.Arithmetic.{increment_of}
-use Rattle.isa8080.specs.State.{Registers, State}
+use Rattle.isa8080.specs.State.{Registers}
 use Rattle.treecode.specs.declared.expression.Expression.{Expression}
 use Rattle.treecode.specs.declared.expression.ExpressionNumber.{ExpressionNumber}
 use Rattle.treecode.specs.declared.place.Place.{Place}
 use Rattle.treecode.specs.Lowered.{IsExpression}
-use Rattle.treecode.specs.Traits.{free_at, is_free_form, is_free_of, known_at, known_of, no_traits, traits_of}
+use Rattle.treecode.specs.Traits.{is_free_form, is_free_of, known_of, no_traits, traits_of}
 use Rattle.steps8080.specs.declared.facts.Facts.{Facts}
-use Rattle.steps8080.specs.declared.step.Step.{Step}
 use Rattle.steps8080.specs.declared.step.Step.TheVariants.{Plain}
 use Rattle.steps8080.specs.declared.step.Task.TheVariants as tasks
 use Rattle.steps8080.specs.Step.{part}
@@ -33,7 +31,7 @@ use Rattle.sites8080.specs.Queries.{is_free}
 use Rattle.task_meaning.specs.Contexts.{Context, IsSound, nodes_in}
 use Rattle.task_meaning.specs.Steps.{StepsStand, PartThere, PlainThere}
 use Rattle.task_meaning.specs.Tasks.{ByteIsGiven, Carries, ChangesAOnly, Nothing, PartDoes}
-use Rattle.task_meaning.proofs.Nodes.{NodeOf, node_of}
+use Rattle.task_meaning.proofs.Nodes.{NodeOf}
 use Rattle.task_meaning.proofs.SiteNodes.{free_is, value_in}
 use Rattle.task_meaning.proofs.Stages.{Stage, at_a, at_byte, at_end, script_of}
 
@@ -75,7 +73,13 @@ changes_a :
     → ChangesAOnly r memory now memory_now
     → ChangesAOnly r memory (record now { a = a; flags = flags }) memory_now
 changes_a a flags only = record {
-  b = only.b; c = only.c; d = only.d; e = only.e; h = only.h; l = only.l; same_memory = only.same_memory;
+  b = only.b;
+  c = only.c;
+  d = only.d;
+  e = only.e;
+  h = only.h;
+  l = only.l;
+  same_memory = only.same_memory;
 }
 
 module _

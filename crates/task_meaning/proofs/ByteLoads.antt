@@ -1,5 +1,5 @@
 -- The code of the low byte of a value in memory, into A.
-use Rattle.std.proofs.Common.{◌≡◌, ℕ, ◌+◌, ◌*◌, ◌/◌, ◌%◌, ◌<◌, ◌≤◌, Bool, true, false, List, [], ◌∷◌, Option, Some, None, refl, sym, ap, subst, ◌∙◌, arith}
+use Rattle.std.proofs.Common.{◌≡◌, ℕ, ◌+◌, ◌*◌, ◌%◌, ◌<◌, true, List, [], ◌∷◌, Option, Some, None, refl, sym, ap, subst, ◌∙◌, arith}
 use Rattle.mem80.specs.declared.memory.TheConstants.{MEMORY_SIZE}
 use Rattle.mem80.specs.Memory.{byte_at}
 use Rattle.mem80.proofs.MemoryLemmas.{byte_small}
@@ -13,15 +13,15 @@ use Rattle.meaning.specs.Access.{Place as SourcePlace, InMemory, InTheFrame, rea
 use Rattle.meaning.specs.Outcomes.{State as SourceState, Outcome, Gave, then_do}
 use Rattle.meaning.specs.Values.{values_of}
 use Rattle.isa8080.specs.declared.instr.Register.TheVariants as registers
-use Rattle.isa8080.specs.State.{Registers, State, word, wrap}
+use Rattle.isa8080.specs.State.{Registers, State, wrap}
 use Rattle.treecode.specs.declared.place.Location.{Location}
 use Rattle.treecode.specs.declared.reference.Reference.{Reference}
 use Rattle.treecode.specs.Lowered.{IsReference}
 use Rattle.treecode.specs.Traits.{is_static_location}
 use Rattle.code_meaning.specs.Landing.{Does, at_place}
-use Rattle.code_meaning.specs.Activations.{Activation, Arrives, HasRoom, IsReady}
+use Rattle.code_meaning.specs.Activations.{Activation, Arrives, IsReady}
 use Rattle.code_meaning.proofs.Landing.{gives}
-use Rattle.code_facts.specs.Holding.{IsSteady, location_at}
+use Rattle.code_facts.specs.Holding.{IsSteady}
 use Rattle.steps8080.specs.declared.facts.Facts.{Facts}
 use Rattle.steps8080.specs.declared.step.Step.TheVariants.{Plain}
 use Rattle.steps8080.specs.declared.step.Task.TheVariants as tasks
@@ -30,15 +30,14 @@ use Rattle.steps8080.specs.Step.{part}
 use Rattle.sites8080.specs.Queries.{location_of}
 use Rattle.operands8080.specs.Loads.{byte_in_memory_steps, location_byte_steps}
 use Rattle.exprgen8080.specs.Emission.{knowing}
-use Rattle.task_meaning.specs.Contexts.{Context, IsSound, distances_in, nodes_in}
+use Rattle.task_meaning.specs.Contexts.{Context, IsSound, nodes_in}
 use Rattle.task_meaning.specs.Steps.{StepsStand, PartThere}
-use Rattle.task_meaning.specs.Tasks.{Carries, ChangesAOnly, IsReferred, Know, Left, Nothing, PartDoes, address_on_machine}
-use Rattle.task_meaning.proofs.Rules.{GoesOn}
+use Rattle.task_meaning.specs.Tasks.{Carries, ChangesAOnly, Know, Nothing, PartDoes, address_on_machine}
 use Rattle.task_meaning.proofs.Values.{then_does_where}
 use Rattle.task_meaning.proofs.Reading.{FitsIn, byte_read, word_read}
 use Rattle.task_meaning.proofs.Located.{located_in}
 use Rattle.task_meaning.proofs.Fitting.{located_fits, refers_is_referred}
-use Rattle.task_meaning.proofs.LocationBytes.{ByteBeside, NeighboursOf, load_a_goes, location_byte_goes}
+use Rattle.task_meaning.proofs.LocationBytes.{NeighboursOf, load_a_goes, location_byte_goes}
 use Rattle.task_meaning.proofs.Loads.{given_last, lies_there, same_location_found, static_only}
 
 low_of : (low high : ℕ) → low < 256 → (low + 256 * high) % 256 ≡ low
@@ -129,7 +128,10 @@ byte_in_memory_law {context = context} {facts = facts} {last = last} {reference 
         (subst (λ (n : ℕ). IsSteady context.activation n) lies.is_at steady)
         known stand (record { ready = ready; known = known })
         (λ now loaded on. gives (record {
-          r = now; memory = memory; is_at = refl; ready = on.ready;
+          r = now;
+          memory = memory;
+          is_at = refl;
+          ready = on.ready;
           holds = record {
             a = loaded.a ∙ ap (byte_at memory) (sym lies.is_at) ∙ low;
             small = small;
@@ -154,7 +156,10 @@ byte_in_memory_law {context = context} {facts = facts} {last = last} {reference 
         (λ n steady low small.
         load_a_goes address there sound steady (given.holds).hl stand (record { ready = given.ready; known = (given.holds).known })
         (λ now loaded on. gives (record {
-          r = now; memory = ended; is_at = refl; ready = on.ready;
+          r = now;
+          memory = ended;
+          is_at = refl;
+          ready = on.ready;
           holds = record {
             a = loaded.a ∙ low;
             small = small;

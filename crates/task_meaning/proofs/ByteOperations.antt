@@ -1,9 +1,8 @@
 -- An operation of the low bytes of two values, in each of the ways in which these come to it.
-use Rattle.std.proofs.Common.{◌≡◌, ℕ, ◌+◌, ◌-◌, ◌*◌, ◌/◌, ◌%◌, ◌<◌, ◌≤◌, Bool, true, false, List, [], ◌∷◌, Option, Some, None, bit_and, bit_or, bit_xor, refl, sym, ap, ◌∙◌, subst, arith, if◌then◌else◌}
+use Rattle.std.proofs.Common.{◌≡◌, ℕ, ◌+◌, ◌*◌, ◌/◌, ◌%◌, ◌<◌, ◌≤◌, true, List, [], ◌∷◌, Some, refl, sym, ap, ◌∙◌, subst, arith}
 use Rattle.std.proofs.lemmas.Option.{cond_some, option_and_then_some}
 use Rattle.std.proofs.lemmas.Nat.{or_of_8, xor_of_8}
 use lib.Bits.{and_le_l}
-use Rattle.mem80.specs.declared.memory.TheConstants.{MEMORY_SIZE}
 use Rattle.mem80.specs.Memory.{byte_at}
 use Rattle.typed_trees.specs.Charge.{height_of}
 use Rattle.typed_trees.specs.ExpressionTypes.{type_of}
@@ -11,15 +10,15 @@ use Rattle.typed_trees.specs.TypedTrees.{TypedExpression, NumberNode, ValueNode,
 use Rattle.typed_trees.specs.WellTyped.{TypesHold}
 use Rattle.meaning.specs.Outcomes.{State as SourceState, Outcome, Gave}
 use Rattle.meaning.specs.Values.{values_of}
-use Rattle.isa8080.specs.declared.instr.Instr.TheVariants.{Accumulate, Pop, Push}
+use Rattle.isa8080.specs.declared.instr.Instr.TheVariants.{Pop, Push}
 use Rattle.isa8080.specs.declared.instr.Operation.{Operation}
 use Rattle.isa8080.specs.declared.instr.Operation.TheVariants.{Add, AddWithCarry, Subtract, SubtractWithBorrow, And, ExclusiveOr, Or, Compare}
 use Rattle.isa8080.specs.declared.instr.Register.TheVariants.{A, B, E}
 use Rattle.isa8080.specs.declared.instr.StackPair.TheVariants.{Psw, StackBc}
 use Rattle.isa8080.specs.declared.registers.Flags.{Flags}
 use Rattle.isa8080.specs.Arithmetic.{operate}
-use Rattle.isa8080.specs.Flags.{flag_byte, flags_in}
-use Rattle.isa8080.specs.State.{HoldBytes, Registers, State, with_popped, word, wrap}
+use Rattle.isa8080.specs.Flags.{flag_byte}
+use Rattle.isa8080.specs.State.{Registers, State, with_popped, word, wrap}
 use Rattle.treecode.specs.declared.expression.ExpressionNumber.{ExpressionNumber}
 use Rattle.treecode.specs.declared.reference.Reference.{Reference}
 use Rattle.treecode.specs.Lowered.{IsExpression}

@@ -1,12 +1,10 @@
 -- Conditions whose lowest bit is that of a part, or of both.
-use Rattle.std.proofs.Common.{◌≡◌, ℕ, ◌+◌, ◌-◌, ◌*◌, ◌/◌, ◌%◌, ◌<◌, ◌≤◌, ◌==◌, Bool, true, false, not, ◌&&◌, List, [], ◌∷◌, ◌++◌, Option, Some, None, max, bit_and, bit_or, refl, sym, ap, ◌∙◌, subst, arith, if◌then◌else◌}
+use Rattle.std.proofs.Common.{◌≡◌, ℕ, ◌*◌, ◌≤◌, Bool, true, false, not, List, [], ◌∷◌, refl, sym, ap, ◌∙◌, subst, arith, if◌then◌else◌}
 use Rattle.std.proofs.lemmas.Bool.{false≢true}
 use Rattle.typed_trees.specs.Charge.{height_of}
-use Rattle.typed_trees.specs.ExpressionTypes.{type_of}
 use Rattle.typed_trees.specs.TypedTrees.{TypedExpression}
 use Rattle.typed_trees.specs.WellTyped.{TypesHold}
-use Rattle.meaning.specs.Meaning.{value}
-use Rattle.meaning.specs.Outcomes.{State as SourceState, Ended, More, Outside, Outcome, Gave, Stopped, then_do}
+use Rattle.meaning.specs.Outcomes.{State as SourceState, Outcome, Gave, then_do}
 use Rattle.meaning.specs.Values.{is_true}
 use Rattle.isa8080.specs.State.{Registers, State}
 use Rattle.treecode.specs.declared.expression.ExpressionNumber.{ExpressionNumber}
@@ -14,21 +12,18 @@ use Rattle.treecode.specs.Lowered.{IsExpression}
 use Rattle.steps8080.specs.declared.facts.Facts.{Facts}
 use Rattle.steps8080.specs.declared.step.LabelNumber.{LabelNumber}
 use Rattle.steps8080.specs.declared.step.Part.{Part}
-use Rattle.steps8080.specs.declared.step.Step.{Step}
 use Rattle.steps8080.specs.declared.step.Step.TheVariants as steps
 use Rattle.steps8080.specs.Step.{label_of}
-use Rattle.code_meaning.specs.Activations.{Arrives}
 use Rattle.code_meaning.specs.Landing.{Does, at_place}
 use Rattle.code_meaning.proofs.Landing.{after_step, gives}
 use Rattle.code_facts.proofs.Changes.{no_facts_hold}
 use Rattle.quiet_expressions.specs.internal.Evaluations.{Answer, Found, Fails, IsQuiet, outcome_of}
 use Rattle.quiet_expressions.proofs.Exchanging.{in_order}
 use Rattle.relations8080.specs.declared.branches.Branch.{Branch}
-use Rattle.relations8080.specs.declared.branches.Junction.{Junction}
 use Rattle.relations8080.specs.Branches.{branch_part, joined_steps}
 use Rattle.sites8080.specs.Questions.{agree}
 use Rattle.task_meaning.specs.Conditions.{jumps_once}
-use Rattle.task_meaning.specs.Contexts.{Context, IsSound, nodes_in}
+use Rattle.task_meaning.specs.Contexts.{Context, nodes_in}
 use Rattle.task_meaning.specs.Steps.{StepsStand, NoneThere, PartThere, MarkThere}
 use Rattle.task_meaning.specs.Tasks.{BranchDoes, Know, Parts, Goes, Passes, PartDoes}
 use Rattle.task_meaning.proofs.SiteNodes.{value_in}
@@ -179,7 +174,7 @@ joined_jumps {context = context} {top = top} {need = need} {base = base} {t = t}
         (λ w s given.
         let bit = other_decides v w (is ∙ ap not alike) in
         ((λ yes. bit ∙ yes), (λ no. bit ∙ no)))
-            (λ single. never_once (sym many ∙ single)))
+        (λ single. never_once (sym many ∙ single)))
 
     moved :
         {v w other_middle : ℕ} {s : SourceState} {late : State} {other_found : Facts}
@@ -194,7 +189,8 @@ joined_jumps {context = context} {top = top} {need = need} {base = base} {t = t}
     moved {s = s} bit mark (Passes is arrives) =
         Passes (bit ∙ is)
         (record {
-          r = arrives.r; memory = arrives.memory;
+          r = arrives.r;
+          memory = arrives.memory;
           is_at = arrives.is_at ∙ ap (λ place. at_place place arrives.r arrives.memory s.events) mark.1;
           ready = arrives.ready;
           holds = mark.2 arrives.r arrives.memory;
@@ -213,7 +209,8 @@ joined_jumps {context = context} {top = top} {need = need} {base = base} {t = t}
         (λ w. after_step step
         (gives (Passes (decides v w is ∙ (sym (not_not deciding) ∙ ap not (sym unlike)))
         (record {
-          r = arrives.r; memory = arrives.memory;
+          r = arrives.r;
+          memory = arrives.memory;
           is_at = arrives.is_at ∙ ap (λ place. at_place place arrives.r arrives.memory u.events) mark.0;
           ready = arrives.ready;
           holds = mark.2 arrives.r arrives.memory;

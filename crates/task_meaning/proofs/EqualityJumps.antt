@@ -1,28 +1,18 @@
 -- Jumps where two ADDRESSes are equal, or where they are not.
-use Rattle.std.proofs.Common.{◌≡◌, ℕ, ◌+◌, ◌-◌, ◌*◌, ◌/◌, ◌%◌, ◌<◌, ◌≤◌, ◌==◌, ◌⊎◌, inl, inr, Bool, true, false, not, ◌&&◌, List, [], ◌∷◌, ◌++◌, Option, Some, None, max, refl, sym, ap, ◌∙◌, subst, arith, if◌then◌else◌}
-use Rattle.std.proofs.lemmas.Bool.{false≢true, eqb-true, eqb-false, eq-eqb, ne_eqb}
-use Rattle.std.proofs.lemmas.Option.{cond_some, none-some, same_Some}
+use Rattle.std.proofs.Common.{◌≡◌, ℕ, ◌+◌, ◌/◌, ◌%◌, ◌<◌, ◌==◌, Bool, true, false, not, List, [], ◌∷◌, ◌++◌, None, refl, sym, ap, ◌∙◌, subst, arith, if◌then◌else◌}
+use Rattle.std.proofs.lemmas.Bool.{eqb-true, eqb-false, eq-eqb, ne_eqb}
 use Rattle.mem80.specs.Memory.{byte_at}
-use Rattle.trees.specs.declared.declaration.ScalarType.{ScalarType}
-use Rattle.trees.specs.declared.declaration.ScalarType.TheVariants as scalars
-use Rattle.typed_trees.specs.Charge.{height_of}
-use Rattle.typed_trees.specs.ExpressionTypes.{type_of}
 use Rattle.typed_trees.specs.TypedTrees.{TypedExpression}
-use Rattle.typed_trees.specs.WellTyped.{TypesHold}
-use Rattle.meaning.specs.Outcomes.{State as SourceState, Outcome, Gave, then_do}
+use Rattle.meaning.specs.Outcomes.{State as SourceState, Outcome, Gave}
 use Rattle.meaning.specs.Values.{is_true}
 use Rattle.isa8080.specs.declared.instr.Condition.{Condition}
 use Rattle.isa8080.specs.declared.instr.Condition.TheVariants.{NotZero, Zero}
-use Rattle.isa8080.specs.declared.instr.Operation.TheVariants.{Subtract}
-use Rattle.isa8080.specs.declared.instr.Register.TheVariants.{A, D, E, H, L}
 use Rattle.isa8080.specs.Arithmetic.{subtract_of}
 use Rattle.isa8080.specs.State.{Registers, State, holds}
 use Rattle.asm8080.specs.declared.item.Reference.TheVariants.{AtLabel}
 use Rattle.asm8080.specs.declared.item.WordForm.TheVariants as forms
-use Rattle.treecode.specs.declared.expression.ExpressionNumber.{ExpressionNumber}
 use Rattle.treecode.specs.declared.place.Place.{Place}
 use Rattle.treecode.specs.Homes.{place_after}
-use Rattle.treecode.specs.Lowered.{IsExpression}
 use Rattle.steps8080.specs.declared.facts.Facts.{Facts}
 use Rattle.steps8080.specs.declared.step.LabelNumber.{LabelNumber}
 use Rattle.steps8080.specs.declared.step.Part.{Part}
@@ -30,7 +20,7 @@ use Rattle.steps8080.specs.declared.step.Step.{Step}
 use Rattle.steps8080.specs.declared.step.Step.TheVariants.{Jump, Mark}
 use Rattle.steps8080.specs.Step.{label_of}
 use Rattle.steps8080.specs.Writer.{jump_item}
-use Rattle.code_meaning.specs.Activations.{Arrives, IsThere}
+use Rattle.code_meaning.specs.Activations.{IsThere}
 use Rattle.code_meaning.specs.Landing.{Does, at_place}
 use Rattle.code_meaning.proofs.FirstItems.{jump_passed, jump_taken, word_step}
 use Rattle.code_meaning.proofs.Landing.{gives}
@@ -39,12 +29,10 @@ use Rattle.relations8080.specs.declared.branches.Branch.{Branch}
 use Rattle.relations8080.specs.declared.word_relations.Words.{Words}
 use Rattle.relations8080.specs.declared.word_relations.Words.TheVariants.{PlaceAndHl, DeAndHl}
 use Rattle.relations8080.specs.WordRelations.{high_difference_steps, low_difference_steps}
-use Rattle.sites8080.specs.Questions.{agree}
-use Rattle.task_meaning.specs.Contexts.{Context, IsSound, nodes_in}
-use Rattle.task_meaning.specs.Steps.{StepsStand, JumpThere, NoneThere, MarkThere, PartThere, PlainThere, WordThere}
+use Rattle.task_meaning.specs.Contexts.{Context, IsSound}
+use Rattle.task_meaning.specs.Steps.{StepsStand, JumpThere, NoneThere, PlainThere, WordThere}
 use Rattle.task_meaning.specs.Tasks.{Know, Parts, Goes, Passes, PartDoes}
 use Rattle.task_meaning.proofs.Conditions.{marked}
-use Rattle.task_meaning.proofs.Jumps.{passes}
 use Rattle.task_meaning.proofs.Stages.{Stage, at_a, at_load_a, script_of}
 use Rattle.task_meaning.proofs.WordFlags.{low_equal}
 
@@ -206,7 +194,8 @@ equal_jumps {context = context} {top = top} {pushed = pushed} {need = need} {bas
         let ending = marked mark in
         jump_passed now sound.lies next.ready.shares.code there (shows ∙ is)
         (gives (Passes (stays (high_decides x y false low is)) (record {
-          r = now; memory = memory;
+          r = now;
+          memory = memory;
           is_at = ap (λ n. at_place n now memory u.events) ending.1;
           ready = next.ready;
           holds = ending.2 now memory;
@@ -231,7 +220,8 @@ equal_jumps {context = context} {top = top} {pushed = pushed} {need = need} {bas
     by middle now (JumpThere there rest_stand) ending has_still shows next false is =
         jump_taken now sound.lies next.ready.shares.code there (ap not (shows ∙ is))
         (gives (Passes (stays (low_differs x y is)) (record {
-          r = now; memory = memory;
+          r = now;
+          memory = memory;
           is_at = ap (λ n. at_place n now memory u.events) ending.0;
           ready = next.ready;
           holds = ending.1 now memory;
@@ -294,7 +284,8 @@ equal_jumps {context = context} {top = top} {pushed = pushed} {need = need} {bas
         let ending = ends_known ends in
         jump_passed now sound.lies next.ready.shares.code there (ap not (shows ∙ is))
         (gives (Passes (stays (high_decides x y true low is)) (record {
-          r = now; memory = memory;
+          r = now;
+          memory = memory;
           is_at = ap (λ n. at_place n now memory u.events) ending.1;
           ready = next.ready;
           holds = ending.0 now memory next.known;

@@ -1,13 +1,11 @@
 -- Relations that ask whether two ADDRESSes are equal, as jumps.
-use Rattle.std.proofs.Common.{◌≡◌, ℕ, ◌+◌, ◌-◌, ◌*◌, ◌/◌, ◌%◌, ◌<◌, ◌≤◌, ◌==◌, ◌⊎◌, inl, inr, Bool, true, false, not, ◌&&◌, List, [], ◌∷◌, ◌++◌, Option, Some, None, max, refl, sym, ap, ◌∙◌, subst, arith, if◌then◌else◌}
-use Rattle.std.proofs.lemmas.Option.{none-some, same_Some}
-use Rattle.trees.specs.declared.declaration.ScalarType.{ScalarType}
+use Rattle.std.proofs.Common.{◌≡◌, ℕ, ◌+◌, ◌*◌, ◌<◌, ◌≤◌, ◌==◌, false, List, [], ◌∷◌, ◌++◌, Option, Some, None, max, refl, arith}
 use Rattle.trees.specs.declared.declaration.ScalarType.TheVariants as scalars
 use Rattle.typed_trees.specs.Charge.{height_of}
 use Rattle.typed_trees.specs.ExpressionTypes.{type_of}
-use Rattle.typed_trees.specs.TypedTrees.{TypedExpression, BinaryNode}
+use Rattle.typed_trees.specs.TypedTrees.{TypedExpression}
 use Rattle.typed_trees.specs.WellTyped.{TypesHold}
-use Rattle.meaning.specs.Outcomes.{State as SourceState, Outcome, Gave, then_do}
+use Rattle.meaning.specs.Outcomes.{State as SourceState, Outcome}
 use Rattle.isa8080.specs.State.{Registers, State}
 use Rattle.treecode.specs.declared.expression.ExpressionNumber.{ExpressionNumber}
 use Rattle.treecode.specs.Lowered.{IsExpression}
@@ -15,9 +13,7 @@ use Rattle.steps8080.specs.declared.facts.Facts.{Facts}
 use Rattle.steps8080.specs.declared.step.Step.{Step}
 use Rattle.code_meaning.specs.Landing.{Does, at_place}
 use Rattle.quiet_expressions.proofs.Exchanging.{in_order}
-use Rattle.sites8080.specs.declared.questions.Comparison.{Comparison}
-use Rattle.sites8080.specs.declared.questions.Question.{Question}
-use Rattle.sites8080.specs.declared.questions.Question.TheVariants.{LeftBelow, RightBelow, Equal}
+use Rattle.sites8080.specs.declared.questions.Question.TheVariants.{Equal}
 use Rattle.operands8080.specs.declared.pairs.PairOrder.{PairOrder}
 use Rattle.operands8080.specs.declared.pairs.PairOrder.TheVariants.{LeftInHl, RightInHl}
 use Rattle.operands8080.specs.Pairs.{pair_order, pair_steps}
@@ -125,7 +121,7 @@ words_come {C = C} {context = context} {top = top} {pushed = pushed} {need = nee
           | Some apart ↦ Rattle.steps8080.specs.Step.part (Rattle.steps8080.specs.declared.step.Task.TheVariants.Word apart.other) pushed ∷ []
           | None ↦ pair_steps (knowing context.site facts) left right false pushed
         ] ++ others) last to
-        → GoesOnWords context (elim found [ | Some apart ↦ PlaceAndHl apart.place | None ↦ DeAndHl ]) top pushed need base
+        → GoesOnWords context (elim found [ Some apart ↦ PlaceAndHl apart.place | None ↦ DeAndHl ]) top pushed need base
         others last to more go Good
         → Does (script_of context) t.budget more (at_place from r memory t.events)
         (in_order (value_in context first) (value_in context second) go t) Good

@@ -1,5 +1,5 @@
 -- What is located is a scalar that lies within its object, where each subscript is below its dimension.
-use Rattle.std.proofs.Common.{◌≡◌, ℕ, ◌+◌, ◌*◌, ◌%◌, ◌<◌, ◌≤◌, ◌&&◌, nat_lt, Bool, true, false, List, Option, Some, None, refl, sym, ap, subst, ◌∙◌, arith}
+use Rattle.std.proofs.Common.{◌≡◌, ℕ, ◌+◌, ◌%◌, ◌<◌, ◌≤◌, ◌&&◌, Bool, true, Option, Some, None, refl, sym, ap, subst, ◌∙◌, arith}
 use Rattle.std.specs.Prelude.{IsSomeAnd, slice_get}
 use Rattle.std.proofs.lemmas.Bool.{ltb-true}
 use Rattle.mem80.specs.declared.memory.TheConstants.{MEMORY_SIZE}
@@ -10,7 +10,7 @@ use Rattle.typed_trees.specs.Sizes.{size_of_object, size_of_scalar}
 use Rattle.typed_trees.specs.TypedTrees.{Home as TypedHome, InData, InConstants, Placed, BasedOn, Elsewhere, Nowhere, InFrame, PartOf, Subscript, NoSubscript, At, TypedObject, TypedReference}
 use Rattle.typed_trees.specs.WellTyped.{IsSeen, RefersToScalar}
 use Rattle.typed_trees.proofs.Inside.{LiesAt, scalar_lies_within}
-use Rattle.meaning.specs.Access.{Place, InMemory, InTheFrame, home_of, place_of, read_scalar}
+use Rattle.meaning.specs.Access.{Place, InMemory, home_of, place_of, read_scalar}
 use Rattle.meaning.specs.Meaning.{Displacement, based_place, displaced, displacement, located, value}
 use Rattle.meaning.specs.Outcomes.{State, Outcome, Gave, Stopped, then_do}
 use Rattle.task_meaning.specs.Contexts.{Context, IsSound}
@@ -45,8 +45,7 @@ displacement_lies context NoSubscript found s u same inside =
     ap (λ (d : Displacement). d.bytes) (sym (same_given same))
 displacement_lies context (At stride count index) found s u same inside =
     let given = gave_first (value context.later context.activation.around index s) (λ n t. Gave (displaced stride count n) t) found u same in
-    let is : displaced stride count given.first ≡ found = same_given given.next in
-    (
+    let is : displaced stride count given.first ≡ found = same_given given.next in (
       given.first,
       ltb-true given.first count (ap (λ (d : Displacement). d.is_inside) is ∙ inside),
       ap (λ (d : Displacement). d.bytes) (sym is),
@@ -77,11 +76,11 @@ based_fits context object bytes size is_inside found place s u sound is seen fit
         → FitsIn context.activation size place
     by_kind (BasedOn base) kind_is same =
         let given = gave_first (read_scalar context.activation.around.program Rattle.trees.specs.declared.declaration.ScalarType.TheVariants.Address (place_of context.activation.around base) s)
-                (λ start t. Gave (InMemory ((start + bytes) % MEMORY_SIZE)) t) place u same in
+        (λ start t. Gave (InMemory ((start + bytes) % MEMORY_SIZE)) t) place u same in
         in_memory (given.first + bytes) (same_given given.next)
     by_kind (InFrame procedure) kind_is same =
         let own = own_frame context.within procedure
-                (subst (λ (kind : TypedHome). IsSeen context.typed context.within kind) kind_is seen) in
+        (subst (λ (kind : TypedHome). IsSeen context.typed context.within kind) kind_is seen) in
         let planned = sound.frame procedure object own.0 found own.1 is kind_is in
         let size_is = planned.1 in
         subst (λ (place : Place). FitsIn context.activation size place) (same_given same)
@@ -102,12 +101,12 @@ pub located_fits :
 located_fits context scalar (PartOf object subscript member offset member_subscript) place s u sound refers same =
     let its = has_some (slice_get context.typed.objects object) refers in
     let one = gave_first (displacement context.later context.activation.around subscript s)
-            (λ one t. then_do (displacement context.later context.activation.around member_subscript t)
-            (λ two u. based_place (home_of context.activation.around object) context.activation.around object
-            (one.bytes + offset + two.bytes) (one.is_inside && two.is_inside) u)) place u same in
+    (λ one t. then_do (displacement context.later context.activation.around member_subscript t)
+    (λ two u. based_place (home_of context.activation.around object) context.activation.around object
+    (one.bytes + offset + two.bytes) (one.is_inside && two.is_inside) u)) place u same in
     let two = gave_first (displacement context.later context.activation.around member_subscript one.t)
-            (λ two u. based_place (home_of context.activation.around object) context.activation.around object
-            ((one.first).bytes + offset + two.bytes) ((one.first).is_inside && two.is_inside) u) place u one.next in
+    (λ two u. based_place (home_of context.activation.around object) context.activation.around object
+    ((one.first).bytes + offset + two.bytes) ((one.first).is_inside && two.is_inside) u) place u one.next in
     based_fits context object ((one.first).bytes + offset + (two.first).bytes) (size_of_scalar scalar)
     ((one.first).is_inside && (two.first).is_inside) its.found place two.t u sound its.is its.holds.0
     (λ inside.

@@ -1,19 +1,17 @@
 -- Jumps by flags, and without them.
-use Rattle.std.proofs.Common.{◌≡◌, ℕ, ◌+◌, ◌%◌, ◌<◌, ◌==◌, Bool, true, false, not, List, [], ◌∷◌, refl, sym, ap, ◌∙◌, if◌then◌else◌}
+use Rattle.std.proofs.Common.{◌≡◌, ℕ, ◌+◌, Bool, true, false, not, List, [], ◌∷◌, refl, sym, ap, ◌∙◌, if◌then◌else◌}
 use Rattle.typed_trees.specs.TypedTrees.{TypedExpression}
-use Rattle.meaning.specs.Outcomes.{State as SourceState, Outcome, Gave}
+use Rattle.meaning.specs.Outcomes.{State as SourceState, Gave}
 use Rattle.meaning.specs.Values.{is_true}
 use Rattle.isa8080.specs.declared.instr.Condition.{Condition}
 use Rattle.isa8080.specs.declared.instr.Condition.TheVariants.{NotZero, Zero, NoCarry, Carry, ParityOdd, ParityEven, Plus, Minus}
 use Rattle.isa8080.specs.declared.registers.Flags.{Flags}
-use Rattle.isa8080.specs.State.{Registers, State, holds}
+use Rattle.isa8080.specs.State.{Registers, holds}
 use Rattle.asm8080.specs.declared.item.Reference.TheVariants.{AtLabel}
 use Rattle.asm8080.specs.declared.item.WordForm.TheVariants as forms
 use Rattle.steps8080.specs.declared.facts.Facts.{Facts}
 use Rattle.steps8080.specs.declared.step.LabelNumber.{LabelNumber}
-use Rattle.steps8080.specs.declared.step.Step.{Step}
 use Rattle.steps8080.specs.declared.step.Step.TheVariants.{Jump}
-use Rattle.code_meaning.specs.Activations.{Arrives}
 use Rattle.code_meaning.specs.Landing.{Does, at_place}
 use Rattle.code_meaning.proofs.FirstItems.{jump_passed, word_step}
 use Rattle.code_meaning.proofs.Landing.{gives}

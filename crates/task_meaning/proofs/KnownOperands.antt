@@ -1,6 +1,6 @@
 -- What is known of expressions at a site: values that are known but for where things lie, their range, and operands
 -- that may be evaluated in the other order.
-use Rattle.std.proofs.Common.{◌≡◌, ℕ, ◌+◌, ◌-◌, ◌*◌, ◌/◌, ◌%◌, ◌^◌, ◌<◌, ◌≤◌, ◌==◌, Bool, true, false, ◌&&◌, ◌||◌, not, nat_lt, nat_le, if◌then◌else◌, Option, Some, None, is_some, option_map, slice_get, List, bit_and, bit_or, bit_xor, refl, sym, ap, ◌∙◌, subst, arith}
+use Rattle.std.proofs.Common.{◌≡◌, ℕ, ◌+◌, ◌-◌, ◌*◌, ◌/◌, ◌%◌, ◌^◌, ◌<◌, ◌≤◌, ◌==◌, Bool, true, false, ◌&&◌, ◌||◌, not, nat_lt, nat_le, if◌then◌else◌, Option, Some, None, is_some, option_map, slice_get, List, bit_and, refl, sym, ap, ◌∙◌, subst, arith}
 use Rattle.std.specs.Option.{option_and_then, option_map_or}
 use Rattle.std.proofs.lemmas.Nat.{and_le_l, or_of_8, or_of_16, xor_of_8, xor_of_16}
 use Rattle.trees.specs.declared.declaration.ScalarType.{ScalarType}
@@ -14,12 +14,11 @@ use Rattle.typed_trees.specs.declared.parts.ShiftFunction.TheVariants.{ShiftLeft
 use Rattle.typed_trees.specs.declared.parts.UnaryFunction.{UnaryFunction}
 use Rattle.typed_trees.specs.declared.parts.UnaryFunction.TheVariants.{Low, High, Double}
 use Rattle.typed_trees.specs.ExpressionTypes.{type_of, type_of_function, type_of_result}
-use Rattle.typed_trees.specs.TypedTrees.{TypedExpression, NumberNode, ValueNode, LocationNode, ListNode, ConversionNode, AssignmentNode, UnaryNode, BinaryNode, CallNode, FunctionNode, ShiftNode, InputNode, TypedModule, TypedReference, PartOf, Subscript, NoSubscript, At, TypedTarget, StoredIn, SentTo}
+use Rattle.typed_trees.specs.TypedTrees.{TypedExpression, NumberNode, ValueNode, LocationNode, ListNode, ConversionNode, AssignmentNode, UnaryNode, BinaryNode, CallNode, FunctionNode, ShiftNode, InputNode, TypedModule, TypedReference, PartOf, Subscript, NoSubscript, At}
 use Rattle.typed_trees.specs.WellTyped.{ShiftsIn, TypesHold, TypesHoldInReference, TypesHoldInSubscript, Within, WorksOn}
-use Rattle.layout.specs.Storage.{Storage}
 use Rattle.meaning.specs.Meaning.{value}
-use Rattle.meaning.specs.Outcomes.{State, Ended, More, Outside, Outcome, Gave, Stopped, then_do}
-use Rattle.meaning.specs.Values.{as_type, function_of, result_of, result_of_one, shifted, truth, turned, values_of}
+use Rattle.meaning.specs.Outcomes.{State, Ended, More, Outside, Outcome, Gave, Stopped}
+use Rattle.meaning.specs.Values.{result_of, result_of_one, shifted, truth, turned, values_of}
 use Rattle.isa8080.specs.State.{State as Machine}
 use Rattle.treecode.specs.declared.expression.Expression.{Expression}
 use Rattle.treecode.specs.declared.expression.ExpressionForm.{ExpressionForm}
@@ -29,12 +28,11 @@ use Rattle.treecode.specs.declared.place.Home.{Home}
 use Rattle.treecode.specs.declared.place.Home.TheVariants as homes
 use Rattle.treecode.specs.declared.place.Place.{Place}
 use Rattle.treecode.specs.declared.place.Place.TheVariants.{Number, Code, Data, External}
-use Rattle.treecode.specs.declared.traits.Traits.{Traits}
 use Rattle.treecode.specs.Homes.{number_of_place, place_after}
-use Rattle.treecode.specs.Known.{converted_place, function_of_place, known_number, known_place, known_subscript, known_value, place_of_part, result_of_known, result_of_places, result_of_place, shift_of_known}
+use Rattle.treecode.specs.Known.{converted_place, function_of_place, known_number, known_subscript, known_value, place_of_part, result_of_known, result_of_place, shift_of_known}
 use Rattle.treecode.specs.Lowered.{IsExpression, IsNode, IsForm, IsNumber, IsValue, IsLocation, IsConstantList, IsConversion, IsEmbedded, IsUnary, IsBinary, IsCallOf, IsFunction, IsShift, IsInput}
-use Rattle.treecode.specs.Nodes.{Nodes, home_at}
-use Rattle.treecode.specs.Resolved.{HaveOperands, PartHasOperands, Resolves, SubscriptHasOperands}
+use Rattle.treecode.specs.Nodes.{home_at}
+use Rattle.treecode.specs.Resolved.{HaveOperands, PartHasOperands, SubscriptHasOperands}
 use Rattle.treecode.specs.Traits.{known_at, no_traits}
 use Rattle.treecode.proofs.KeptValues.{known_kept}
 use Rattle.quiet_expressions.specs.internal.Evaluations.{AreAlike, AreSame, BothOutside, GoesOutside, may_exchange as may_exchange_at}
@@ -48,7 +46,6 @@ use Rattle.sites8080.specs.Site.{expression}
 use Rattle.exprgen8080.specs.Emission.{knowing}
 use Rattle.runtime8080.proofs.Bits.{equal_below}
 use Rattle.task_meaning.specs.Contexts.{Context, IsSound, NumbersAreWords, nodes_in}
-use Rattle.task_meaning.proofs.Nodes.{NodeOf, node_of}
 
 -- expressions whose types hold have the operands that their operators ask for
 mutual

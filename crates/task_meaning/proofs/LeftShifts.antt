@@ -1,5 +1,5 @@
 -- Shifts of an ADDRESS to the left by a number.
-use Rattle.std.proofs.Common.{◌≡◌, ℕ, ◌+◌, ◌-◌, ◌*◌, ◌/◌, ◌%◌, ◌^◌, ◌<◌, ◌≤◌, max, Bool, true, false, nat_le, nat_lt, if◌then◌else◌, List, [], ◌∷◌, ◌++◌, replicate, Option, Some, None, pow-add, refl, sym, ap, ◌∙◌, subst, arith}
+use Rattle.std.proofs.Common.{◌≡◌, ℕ, ◌+◌, ◌-◌, ◌*◌, ◌/◌, ◌%◌, ◌^◌, ◌<◌, ◌≤◌, Bool, true, false, nat_le, if◌then◌else◌, List, [], ◌∷◌, ◌++◌, replicate, Some, pow-add, refl, sym, ap, ◌∙◌, subst, arith}
 use Rattle.std.proofs.lemmas.Bool.{leb-true, leb-false, lt-ltb, le-ltb}
 use Rattle.trees.specs.declared.declaration.ScalarType.TheVariants.{Address}
 use Rattle.typed_trees.specs.declared.parts.ShiftFunction.TheVariants.{ShiftLeft}
@@ -21,7 +21,6 @@ use Rattle.code_meaning.specs.Landing.{Does, at_place}
 use Rattle.code_meaning.specs.Activations.{Arrives, HasRoom}
 use Rattle.steps8080.specs.declared.facts.Facts.{Facts}
 use Rattle.steps8080.specs.declared.step.Step.{Step}
-use Rattle.steps8080.specs.declared.step.Step.TheVariants.{Plain, Word}
 use Rattle.steps8080.specs.declared.step.Task.TheVariants as tasks
 use Rattle.steps8080.specs.Instructions.{copy, set}
 use Rattle.steps8080.specs.Step.{part as part_of, plain, repeat_steps}
@@ -33,12 +32,12 @@ use Rattle.task_meaning.specs.Tasks.{PartDoes, WordIsGiven}
 use Rattle.task_meaning.proofs.Addresses.{registers_end}
 use Rattle.task_meaning.proofs.Rules.{GoesOn, ready_with_registers, word_goes}
 use Rattle.task_meaning.proofs.RegisterCode.{effect, registers_then}
-use Rattle.task_meaning.proofs.Values.{HasWord, byte_then, effects_then, word_ends, word_given, word_then}
+use Rattle.task_meaning.proofs.Values.{byte_then, effects_then, word_ends, word_given, word_then}
 use Rattle.task_meaning.proofs.Pairs.{IsOperand}
 use Rattle.task_meaning.proofs.PairedWords.{kept_none}
 use Rattle.task_meaning.proofs.WordArithmetic.{word_below}
 use Rattle.task_meaning.proofs.WordSums.{kept_as, kept_beside}
-use Rattle.task_meaning.proofs.Multiples.{WordBeside, by_high_byte, doubled_is, low_word_small, repeated, repeated_on}
+use Rattle.task_meaning.proofs.Multiples.{by_high_byte, doubled_is, low_word_small, repeated, repeated_on}
 
 past_a_word : (x p : ℕ) → (x * (65536 * p)) % 65536 ≡ 0
 past_a_word x p = omega arith
@@ -123,6 +122,7 @@ left_does {context = context} {pushed = pushed} {top = top} {need = need} {to = 
     none_kept : 8 ≤ count → keeps context.site number ≡ keeps_none
     none_kept most =
         kept ∙ ap (λ (test : Bool). if test then keeps_at (nodes_in context) other else keeps_none) (le-ltb count 8 most)
+
     by_byte : (test : Bool) → nat_le 8 count ≡ test
         → StepsStand context (PartDoes context) facts from
         (if test
@@ -150,7 +150,7 @@ left_does {context = context} {pushed = pushed} {top = top} {need = need} {to = 
         let begun : Registers = effect (copy H A ∷ set L 0 ∷ []) now in
         let doubled : List Instr = replicate (count - 8) (Dad Hl) in
         let beside = doubled_is (count - 8) (256 * (x % 256)) begun (low_word_small x)
-            (record { h = high_is now.a x given.a; l = low_is x }) in
+        (record { h = high_is now.a x given.a; l = low_is x }) in
         let most = leb-true 8 count is in
         registers_then (copy H A ∷ set L 0 ∷ []) (repeat_steps (Dad Hl) (count - 8)) now sound (tt, (tt, tt)) rest going_on
         (λ after after_found stand_on going_still.
@@ -164,6 +164,7 @@ left_does {context = context} {pushed = pushed} {top = top} {need = need} {to = 
           l = beside.l ∙ ap (λ n. n % 256) (by_eight_bits x count most);
         })
         (kept_none context number r (effect doubled begun) (none_kept most)) going_last)))
+
     by_word : (test : Bool) → nat_le 16 count ≡ test
         → StepsStand context (PartDoes context) facts from
         (if test then zero_steps other pushed

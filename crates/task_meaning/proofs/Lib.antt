@@ -30,6 +30,11 @@ pub mod ByteLoads
 pub mod Writing
 pub mod Stores
 pub mod StaticStores
+pub mod Sends
+pub mod WordWriting
+pub mod WordStores
+pub mod ComputedWordStores
+pub mod NextBytes
 pub mod Ranges
 pub mod Pairs
 pub mod WordArithmetic
@@ -40,7 +45,11 @@ pub mod WordRoutines
 pub mod Multiples
 pub mod WordBinaries
 pub mod LeftShifts
+pub mod LogicNumbers
+pub mod LogicPairs
+pub mod LogicAnd
 pub mod KeptInside
+pub mod BytesInMemory
 pub mod Words
 pub mod BytesAsked
 pub mod ByteOperations
@@ -61,3 +70,7 @@ pub mod EqualityRelations
 pub mod LowestBits
 pub mod BranchLaws
 pub mod ByteForms
+pub mod TwoBytes
+pub mod Zeros
+pub mod ZeroLaws
+pub mod EmbeddedBytes

@@ -1,5 +1,5 @@
 -- The code of values in memory.
-use Rattle.std.proofs.Common.{◌≡◌, ℕ, ◌&&◌, ◌+◌, ◌*◌, ◌/◌, ◌%◌, ◌<◌, ◌≤◌, Bool, true, false, List, [], ◌∷◌, Option, Some, None, refl, sym, ap, subst, ◌∙◌, arith}
+use Rattle.std.proofs.Common.{◌≡◌, ℕ, ◌&&◌, ◌+◌, ◌*◌, ◌/◌, ◌%◌, ◌<◌, Bool, true, List, ◌∷◌, Option, Some, None, refl, sym, ap, subst, ◌∙◌, arith}
 use Rattle.std.specs.Prelude.{IsSomeAnd, slice_get}
 use Rattle.mem80.specs.Memory.{byte_at}
 use Rattle.mem80.proofs.MemoryLemmas.{byte_small}
@@ -8,38 +8,34 @@ use Rattle.typed_trees.specs.Charge.{height_of_reference}
 use Rattle.typed_trees.specs.TypedTrees.{PartOf, Subscript, TypedObject, TypedReference}
 use Rattle.typed_trees.specs.WellTyped.{IsSeen, RefersToScalar, TypesHoldInReference}
 use Rattle.meaning.specs.Access.{Place as SourcePlace, InMemory, InTheFrame, home_of, read_scalar}
-use Rattle.meaning.specs.Meaning.{Displacement, based_place, displacement, located as located_in_source}
+use Rattle.meaning.specs.Meaning.{Displacement, based_place, displacement}
 use Rattle.meaning.specs.Outcomes.{State as SourceState, Outcome, Gave, Stopped, then_do}
-use Rattle.isa8080.specs.State.{Registers, State, word, wrap}
+use Rattle.isa8080.specs.State.{Registers, State, wrap}
 use Rattle.treecode.specs.declared.place.Location.{Location}
-use Rattle.treecode.specs.declared.place.Location.TheVariants as locations
 use Rattle.treecode.specs.declared.reference.Reference.{Reference}
 use Rattle.treecode.specs.declared.reference.Subscript.{Subscript as IndexNode}
 use Rattle.treecode.specs.Lowered.{IsPart, IsReference}
 use Rattle.treecode.specs.Queries.{home}
 use Rattle.treecode.specs.Traits.{is_static_location}
 use Rattle.code_meaning.specs.Landing.{Does, at_place}
-use Rattle.code_meaning.specs.Activations.{Arrives, HasRoom, IsReady}
+use Rattle.code_meaning.specs.Activations.{Arrives}
 use Rattle.code_meaning.proofs.Landing.{gives}
 use Rattle.code_facts.specs.Holding.{IsSteady, location_at, place_at}
 use Rattle.steps8080.specs.declared.facts.Facts.{Facts}
-use Rattle.steps8080.specs.declared.step.Part.{Part}
-use Rattle.steps8080.specs.declared.step.Step.{Step}
 use Rattle.steps8080.specs.declared.step.Task.TheVariants as tasks
 use Rattle.steps8080.specs.Step.{part}
 use Rattle.sites8080.specs.declared.queries.Base.{Base}
 use Rattle.sites8080.specs.declared.queries.Base.TheVariants as bases
-use Rattle.sites8080.specs.Queries.{base_after, base_of, keeps_of_address, located, location_of, location_at as base_location, located_at, split}
+use Rattle.sites8080.specs.Queries.{base_after, base_of, keeps_of_address, located, location_of, location_at as base_location, located_at}
 use Rattle.operands8080.specs.Addresses.{location_word_steps, word_at_hl_steps}
 use Rattle.operands8080.specs.Loads.{word_in_memory_steps}
 use Rattle.exprgen8080.specs.Emission.{knowing}
 use Rattle.task_meaning.specs.Contexts.{Context, IsSound, distances_in, nodes_in}
 use Rattle.task_meaning.specs.Steps.{StepsStand, PartThere}
-use Rattle.task_meaning.specs.Tasks.{AddressDoes, AddressIsGiven, Carries, IsReferred, Know, Left, Nothing, PartDoes, address_on_machine}
-use Rattle.task_meaning.proofs.Rules.{GoesOn}
+use Rattle.task_meaning.specs.Tasks.{Carries, IsReferred, Know, Left, Nothing, PartDoes, address_on_machine}
 use Rattle.task_meaning.proofs.Values.{then_does_where}
 use Rattle.task_meaning.proofs.LocationWords.{location_word_goes, word_at_hl_goes}
-use Rattle.task_meaning.proofs.Reading.{FitsIn, word_read}
+use Rattle.task_meaning.proofs.Reading.{word_read}
 use Rattle.task_meaning.proofs.Bases.{IsBase, InAFrame, InPlace, IsSmall, OnBase, small_after}
 use Rattle.task_meaning.proofs.Subscripts.{IsSplit, AllKnown, IsComputed, is_split}
 use Rattle.task_meaning.proofs.Located.{all_known, base_with, base_with_is, located_in}
@@ -106,14 +102,14 @@ lies_by_split :
     → location_where (located_at (base_with context object offset one_known two_known) one two).first
     (base_location (located_at (base_with context object offset one_known two_known) one two).base) ≡ Some location
     → LiesThere context (PartOf object subscript member offset member_subscript) location
-lies_by_split {context = context} object offset first second subscript member_subscript member _ _ one_known two_known location sound referred
+lies_by_split {context = context} object offset first second tree_one member_subscript member _ _ one_known two_known location sound referred
     (AllKnown shift means bytes kept) (AllKnown shift_too means_too bytes_too kept_too) same =
     let lies = lies_at_base context object (0 + offset % 65536 + one_known + two_known) (shift.bytes + offset + shift_too.bytes)
-            (shift.is_inside && shift_too.is_inside)
-            (base_with context object offset one_known two_known) location
-            (small_after context (base_after (base_after (base_of (home context.site.tree.now object)) (offset % 65536)) one_known) two_known sound)
-            (base_with_is context object offset one_known two_known sound referred)
-            (all_known shift.bytes offset shift_too.bytes one_known two_known bytes bytes_too) same in
+    (shift.is_inside && shift_too.is_inside)
+    (base_with context object offset one_known two_known) location
+    (small_after context (base_after (base_after (base_of (home context.site.tree.now object)) (offset % 65536)) one_known) two_known sound)
+    (base_with_is context object offset one_known two_known sound referred)
+    (all_known shift.bytes offset shift_too.bytes one_known two_known bytes bytes_too) same in
     record {
       place = lies.0;
       means = λ s.
@@ -127,9 +123,9 @@ lies_by_split {context = context} object offset first second subscript member_su
           ∙ lies.1 s;
       is_at = lies.2;
     }
-lies_by_split object offset first second subscript member_subscript member _ _ one_known two_known location sound referred
+lies_by_split object offset first second tree_one member_subscript member _ _ one_known two_known location sound referred
     (IsComputed of bound inner shift is types address high means bytes kept less) two same = none_there same
-lies_by_split object offset first second subscript member_subscript member _ _ one_known two_known location sound referred
+lies_by_split object offset first second tree_one member_subscript member _ _ one_known two_known location sound referred
     (AllKnown shift means bytes kept) (IsComputed of bound inner shift_too is types address high means_too bytes_too kept_too less) same =
     none_there same
 
@@ -220,7 +216,10 @@ word_in_memory_law {context = context} {facts = facts} {last = last} {reference 
         (subst (λ (n : ℕ). IsSteady context.activation (wrap (n + 1))) lies.is_at next)
         known stand (record { ready = ready; known = known })
         (λ now loaded on. gives (record {
-          r = now; memory = memory; is_at = refl; ready = on.ready;
+          r = now;
+          memory = memory;
+          is_at = refl;
+          ready = on.ready;
           holds = record {
             h = high_is now.h low high low_small (loaded.high ∙ ap (λ (n : ℕ). byte_at memory (wrap (n + 1))) (sym lies.is_at)) high_small;
             l = low_is now.l low high low_small (loaded.low ∙ ap (byte_at memory) (sym lies.is_at));
@@ -252,7 +251,10 @@ word_in_memory_law {context = context} {facts = facts} {last = last} {reference 
         (λ steady next.
         word_at_hl_goes address there sound steady (given.holds).hl stand (record { ready = given.ready; known = (given.holds).known })
         (λ now loaded on. gives (record {
-          r = now; memory = ended; is_at = refl; ready = on.ready;
+          r = now;
+          memory = ended;
+          is_at = refl;
+          ready = on.ready;
           holds = record {
             h = high_is now.h low high low_small loaded.high high_small;
             l = low_is now.l low high low_small loaded.low;

@@ -7,7 +7,7 @@ use Rattle.typed_trees.specs.WellTyped.{IsSeen}
 use Rattle.meaning.specs.Access.{Place as SourcePlace, home_of}
 use Rattle.meaning.specs.Meaning.{Displacement, based_place, displacement, value}
 use Rattle.meaning.specs.Outcomes.{State as SourceState, Outcome, Gave, Stopped, then_do}
-use Rattle.isa8080.specs.State.{Registers, State, word, wrap}
+use Rattle.isa8080.specs.State.{Registers, word, wrap}
 use Rattle.asm8080.proofs.Segments.{left_true, right_true}
 use Rattle.treecode.specs.declared.place.Home.{Home}
 use Rattle.treecode.specs.declared.place.Home.TheVariants as homes
@@ -19,23 +19,23 @@ use Rattle.treecode.specs.Nodes.{home_at}
 use Rattle.treecode.specs.Queries.{home}
 use Rattle.treecode.specs.Traits.{is_static_location, keeps_of_part, keeps_of_subscript, keeps_of_sum}
 use Rattle.code_meaning.specs.Landing.{Does, at_place}
-use Rattle.code_meaning.specs.Activations.{Arrives, HasRoom, IsReady}
+use Rattle.code_meaning.specs.Activations.{Arrives, HasRoom}
 use Rattle.code_meaning.proofs.Landing.{gives}
 use Rattle.steps8080.specs.declared.facts.Facts.{Facts}
 use Rattle.sites8080.specs.declared.queries.Base.{Base}
-use Rattle.sites8080.specs.Queries.{base_after, base_of, keeps, keeps_of_address, located, located_at, split}
-use Rattle.operands8080.specs.Addresses.{address_steps, base_added_steps, base_steps, located_steps, second_steps}
+use Rattle.sites8080.specs.Queries.{base_after, base_of, keeps_of_address, located, located_at}
+use Rattle.operands8080.specs.Addresses.{address_steps, base_added_steps, located_steps, second_steps}
 use Rattle.operands8080.specs.Products.{product_steps}
 use Rattle.exprgen8080.specs.Emission.{knowing}
 use Rattle.task_meaning.specs.Contexts.{Context, IsSound, nodes_in}
 use Rattle.task_meaning.specs.Steps.{StepsStand}
-use Rattle.task_meaning.specs.Tasks.{AddressDoes, AddressIsGiven, Know, Left, PartDoes, address_on_machine}
+use Rattle.task_meaning.specs.Tasks.{AddressDoes, AddressIsGiven, PartDoes}
 use Rattle.task_meaning.proofs.Rules.{GoesOn, split as split_steps}
 use Rattle.task_meaning.proofs.Products.{ProductsDo, product_then}
-use Rattle.task_meaning.proofs.Subscripts.{IsSplit, AllKnown, IsComputed, KeepsLess, is_split}
+use Rattle.task_meaning.proofs.Subscripts.{IsSplit, AllKnown, IsComputed, is_split}
 use Rattle.task_meaning.proofs.SecondSubscripts.{second_then}
-use Rattle.task_meaning.proofs.Bases.{IsBase, IsSmall, base_further, base_is, small_after}
-use Rattle.task_meaning.proofs.BaseCode.{PlaceBeside, added_base_keeps_de, base_added_goes, base_goes, base_keeps_a}
+use Rattle.task_meaning.proofs.Bases.{IsBase, base_further, base_is, small_after}
+use Rattle.task_meaning.proofs.BaseCode.{added_base_keeps_de, base_added_goes, base_goes, base_keeps_a}
 
 -- the base of an object with what is known of its subscripts
 abbrev pub base_with : Context → (object offset one two : ℕ) → Base
@@ -159,7 +159,7 @@ located_goes :
     (located_in context (PartOf object subscript member offset member_subscript) s)
     (Arrives context.activation top base to
     (AddressIsGiven context last (record { object = object; subscript = first; offset = offset % 65536; member_subscript = second }) r memory))
-located_goes {context = context} {facts = facts} {last = last} {from = from} {to = to} {top = top} {base = base} object offset first second subscript member_subscript member _ _ one_known two_known s r memory products sound referred less room
+located_goes {context = context} {facts = facts} {last = last} {from = from} {to = to} {top = top} {base = base} object offset first second tree_one member_subscript member _ _ one_known two_known s r memory products sound referred less room
     (AllKnown shift means bytes kept_none) (AllKnown shift_too means_too bytes_too kept_none_too) stand on =
     let reference : Reference = record { object = object; subscript = first; offset = offset % 65536; member_subscript = second } in
     let start : Home = home_at context.site.tree.now.homes.items object in
@@ -183,25 +183,29 @@ located_goes {context = context} {facts = facts} {last = last} {from = from} {to
     (base_with_is context object offset one_known two_known sound referred)
     (all_known shift.bytes offset shift_too.bytes one_known two_known bytes bytes_too) on.known stand on
     (λ now found beside on_now. gives (record {
-      r = now; memory = memory; is_at = refl; ready = on_now.ready;
+      r = now;
+      memory = memory;
+      is_at = refl;
+      ready = on_now.ready;
       holds = record {
-        hl = beside.hl; known = on_now.known;
+        hl = beside.hl;
+        known = on_now.known;
         a = λ kept. beside.a (home_keeps_a start (offset % 65536) one_known two_known None None (ap (λ (of : Keeps). of.a) (sym whole) ∙ kept)).1;
         d = λ kept. beside.d refl;
         e = λ kept. beside.e refl;
       };
     }))))
-located_goes {context = context} {facts = facts} {last = last} {pushed = pushed} {from = from} {to = to} {top = top} {base = base} object offset first second subscript member_subscript member _ _ one_known two_known s r memory products sound referred less room
+located_goes {context = context} {facts = facts} {last = last} {pushed = pushed} {from = from} {to = to} {top = top} {base = base} object offset first second tree_one member_subscript member _ _ one_known two_known s r memory products sound referred less room
     (IsComputed {index = index} of bound inner shift is types address high means bytes kept_of keeps_less) (AllKnown shift_too means_too bytes_too kept_none_too) stand on =
     let reference : Reference = record { object = object; subscript = first; offset = offset % 65536; member_subscript = second } in
     let start : Home = home_at context.site.tree.now.homes.items object in
     let whole = part_keeps context reference (Some of) None kept_of kept_none_too in
     let parts = split_steps (product_steps index.index index.stride pushed)
-        (base_added_steps (knowing context.site facts) (base_with context object offset one_known two_known) pushed) stand in
+    (base_added_steps (knowing context.site facts) (base_with context object offset one_known two_known) pushed) stand in
     let go : Displacement → SourceState → Outcome SourcePlace
     = λ one t. then_do (displacement context.later context.activation.around member_subscript t)
-        (λ two u. based_place (home_of context.activation.around object) context.activation.around object
-        (one.bytes + offset + two.bytes) (one.is_inside && two.is_inside) u) in
+    (λ two u. based_place (home_of context.activation.around object) context.activation.around object
+    (one.bytes + offset + two.bytes) (one.is_inside && two.is_inside) u) in
     subst (λ (outcome : Outcome SourcePlace).
     Does context.activation.around.program.script s.budget 0 (at_place from r memory s.events) outcome
     (Arrives context.activation top base to (AddressIsGiven context last reference r memory)))
@@ -209,7 +213,7 @@ located_goes {context = context} {facts = facts} {last = last} {pushed = pushed}
     ∙ changed_first (value context.later context.activation.around inner s) shift go))
     (product_then from s r memory
     (products facts parts.found index.index index.stride pushed from parts.middle parts.first)
-    is types address less room (low_enough (height_of inner) (height_of_subscript subscript) (height_of_subscript member_subscript) high) on
+    is types address less room (low_enough (height_of inner) (height_of_subscript tree_one) (height_of_subscript member_subscript) high) on
     (λ n t there ended fewer on_there given.
     subst (λ (outcome : Outcome Displacement).
     Does context.activation.around.program.script t.budget 0 (at_place parts.middle there ended t.events)
@@ -224,9 +228,13 @@ located_goes {context = context} {facts = facts} {last = last} {pushed = pushed}
     (first_computed (shift n).bytes offset shift_too.bytes one_known two_known (n * index.stride) (word there.h there.l) (bytes n) bytes_too given.hl)
     parts.second on_there
     (λ now found beside on_now. gives (record {
-      r = now; memory = ended; is_at = refl; ready = on_now.ready;
+      r = now;
+      memory = ended;
+      is_at = refl;
+      ready = on_now.ready;
       holds = record {
-        hl = beside.hl; known = on_now.known;
+        hl = beside.hl;
+        known = on_now.known;
         a = λ kept.
             let both = home_keeps_a start (offset % 65536) one_known two_known (Some of) None (ap (λ (of : Keeps). of.a) (sym whole) ∙ kept) in
             beside.a both.1 ∙ given.a (keeps_less.a both.0);
@@ -238,16 +246,16 @@ located_goes {context = context} {facts = facts} {last = last} {pushed = pushed}
             beside.e (both.1 refl) ∙ given.e (keeps_less.de both.0);
       };
     })))))
-located_goes {context = context} {facts = facts} {last = last} {pushed = pushed} {from = from} {to = to} {top = top} {base = base} object offset first second subscript member_subscript member _ _ one_known two_known s r memory products sound referred less room
+located_goes {context = context} {facts = facts} {last = last} {pushed = pushed} {from = from} {to = to} {top = top} {base = base} object offset first second tree_one member_subscript member _ _ one_known two_known s r memory products sound referred less room
     (AllKnown shift means bytes kept_none) (IsComputed {index = index} of bound inner shift_too is types address high means_too bytes_too kept_of keeps_less) stand on =
     let reference : Reference = record { object = object; subscript = first; offset = offset % 65536; member_subscript = second } in
     let start : Home = home_at context.site.tree.now.homes.items object in
     let whole = part_keeps context reference None (Some of) kept_none kept_of in
     let parts = split_steps (product_steps index.index index.stride pushed)
-        (base_added_steps (knowing context.site facts) (base_with context object offset one_known two_known) pushed) stand in
+    (base_added_steps (knowing context.site facts) (base_with context object offset one_known two_known) pushed) stand in
     let go : Displacement → SourceState → Outcome SourcePlace
     = λ two u. based_place (home_of context.activation.around object) context.activation.around object
-        (shift.bytes + offset + two.bytes) (shift.is_inside && two.is_inside) u in
+    (shift.bytes + offset + two.bytes) (shift.is_inside && two.is_inside) u in
     subst (λ (outcome : Outcome SourcePlace).
     Does context.activation.around.program.script s.budget 0 (at_place from r memory s.events) outcome
     (Arrives context.activation top base to (AddressIsGiven context last reference r memory)))
@@ -259,7 +267,7 @@ located_goes {context = context} {facts = facts} {last = last} {pushed = pushed}
     ∙ changed_first (value context.later context.activation.around inner s) shift_too go))
     (product_then from s r memory
     (products facts parts.found index.index index.stride pushed from parts.middle parts.first)
-    is types address less room (lower (height_of inner) (height_of_subscript subscript) (height_of_subscript member_subscript) high) on
+    is types address less room (lower (height_of inner) (height_of_subscript tree_one) (height_of_subscript member_subscript) high) on
     (λ n t there ended fewer on_there given.
     base_added_goes facts (base_with context object offset one_known two_known) (shift.bytes + offset + (shift_too n).bytes)
     (shift.is_inside && (shift_too n).is_inside) t there sound room
@@ -268,9 +276,13 @@ located_goes {context = context} {facts = facts} {last = last} {pushed = pushed}
     (second_computed shift.bytes offset (shift_too n).bytes one_known two_known (n * index.stride) (word there.h there.l) bytes (bytes_too n) given.hl)
     parts.second on_there
     (λ now found beside on_now. gives (record {
-      r = now; memory = ended; is_at = refl; ready = on_now.ready;
+      r = now;
+      memory = ended;
+      is_at = refl;
+      ready = on_now.ready;
       holds = record {
-        hl = beside.hl; known = on_now.known;
+        hl = beside.hl;
+        known = on_now.known;
         a = λ kept.
             let both = home_keeps_a start (offset % 65536) one_known two_known None (Some of) (ap (λ (of : Keeps). of.a) (sym whole) ∙ kept) in
             beside.a both.1 ∙ given.a (keeps_less.a both.0);
@@ -282,20 +294,20 @@ located_goes {context = context} {facts = facts} {last = last} {pushed = pushed}
             beside.e (both.1 refl) ∙ given.e (keeps_less.de both.0);
       };
     }))))
-located_goes {context = context} {facts = facts} {last = last} {pushed = pushed} {from = from} {to = to} {top = top} {base = base} object offset first second subscript member_subscript member _ _ one_known two_known s r memory products sound referred less room
+located_goes {context = context} {facts = facts} {last = last} {pushed = pushed} {from = from} {to = to} {top = top} {base = base} object offset first second tree_one member_subscript member _ _ one_known two_known s r memory products sound referred less room
     (IsComputed {index = index} of bound inner shift is types address high means bytes kept_of keeps_less)
     (IsComputed {index = index_too} of_too bound_too inner_too shift_too is_too types_too address_too high_too means_too bytes_too kept_of_too keeps_less_too) stand on =
     let reference : Reference = record { object = object; subscript = first; offset = offset % 65536; member_subscript = second } in
     let start : Home = home_at context.site.tree.now.homes.items object in
     let whole = part_keeps context reference (Some of) (Some of_too) kept_of kept_of_too in
     let later = split_steps (product_steps index.index index.stride pushed ++ second_steps (knowing context.site facts) index_too pushed)
-        (base_added_steps (knowing context.site facts) (base_with context object offset one_known two_known) pushed) stand in
+    (base_added_steps (knowing context.site facts) (base_with context object offset one_known two_known) pushed) stand in
     let parts = split_steps (product_steps index.index index.stride pushed)
-        (second_steps (knowing context.site facts) index_too pushed) later.first in
+    (second_steps (knowing context.site facts) index_too pushed) later.first in
     let go : Displacement → SourceState → Outcome SourcePlace
     = λ one t. then_do (displacement context.later context.activation.around member_subscript t)
-        (λ two u. based_place (home_of context.activation.around object) context.activation.around object
-        (one.bytes + offset + two.bytes) (one.is_inside && two.is_inside) u) in
+    (λ two u. based_place (home_of context.activation.around object) context.activation.around object
+    (one.bytes + offset + two.bytes) (one.is_inside && two.is_inside) u) in
     subst (λ (outcome : Outcome SourcePlace).
     Does context.activation.around.program.script s.budget 0 (at_place from r memory s.events) outcome
     (Arrives context.activation top base to (AddressIsGiven context last reference r memory)))
@@ -303,11 +315,11 @@ located_goes {context = context} {facts = facts} {last = last} {pushed = pushed}
     ∙ changed_first (value context.later context.activation.around inner s) shift go))
     (product_then from s r memory
     (products facts parts.found index.index index.stride pushed from parts.middle parts.first)
-    is types address less room (low_enough (height_of inner) (height_of_subscript subscript) (height_of_subscript member_subscript) high) on
+    is types address less room (low_enough (height_of inner) (height_of_subscript tree_one) (height_of_subscript member_subscript) high) on
     (λ n t there ended fewer on_there given.
     let go_on : Displacement → SourceState → Outcome SourcePlace
     = λ two u. based_place (home_of context.activation.around object) context.activation.around object
-        ((shift n).bytes + offset + two.bytes) ((shift n).is_inside && two.is_inside) u in
+    ((shift n).bytes + offset + two.bytes) ((shift n).is_inside && two.is_inside) u in
     subst (λ (outcome : Outcome SourcePlace).
     Does context.activation.around.program.script t.budget 0 (at_place parts.middle there ended t.events) outcome
     (Arrives context.activation top base to (AddressIsGiven context last reference r memory)))
@@ -315,7 +327,7 @@ located_goes {context = context} {facts = facts} {last = last} {pushed = pushed}
     ∙ changed_first (value context.later context.activation.around inner_too t) shift_too go_on))
     (second_then facts index_too parts.middle t there ended products sound is_too types_too address_too
     (omega (arith, less, fewer)) room
-    (low_enough_too (height_of inner_too) (height_of_subscript subscript) (height_of_subscript member_subscript) high_too)
+    (low_enough_too (height_of inner_too) (height_of_subscript tree_one) (height_of_subscript member_subscript) high_too)
     parts.second on_there
     (λ m u summed left fewer_too on_summed sum kept_a.
     base_added_goes facts (base_with context object offset one_known two_known) ((shift n).bytes + offset + (shift_too m).bytes)
@@ -326,9 +338,13 @@ located_goes {context = context} {facts = facts} {last = last} {pushed = pushed}
     (word there.h there.l) (word summed.h summed.l) (bytes n) (bytes_too m) given.hl sum)
     later.second on_summed
     (λ now found beside on_now. gives (record {
-      r = now; memory = left; is_at = refl; ready = on_now.ready;
+      r = now;
+      memory = left;
+      is_at = refl;
+      ready = on_now.ready;
       holds = record {
-        hl = beside.hl; known = on_now.known;
+        hl = beside.hl;
+        known = on_now.known;
         a = λ kept.
             let both = home_keeps_a start (offset % 65536) one_known two_known (Some of) (Some of_too) (ap (λ (of : Keeps). of.a) (sym whole) ∙ kept) in
             beside.a both.1

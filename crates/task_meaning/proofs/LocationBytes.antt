@@ -1,5 +1,5 @@
 -- The code of the byte at a location, which comes into A.
-use Rattle.std.proofs.Common.{◌≡◌, ℕ, ◌+◌, ◌-◌, ◌*◌, ◌/◌, ◌%◌, ◌<◌, ◌≤◌, ◌==◌, Bool, true, false, if◌then◌else◌, List, [], ◌∷◌, ◌++◌, Option, Some, None, refl, sym, ap, subst, ◌∙◌, arith}
+use Rattle.std.proofs.Common.{◌≡◌, ℕ, ◌+◌, ◌<◌, ◌==◌, Bool, true, false, if◌then◌else◌, List, [], ◌∷◌, ◌++◌, Option, Some, None, refl, sym, ap, subst, ◌∙◌, arith}
 use Rattle.std.proofs.lemmas.Bool.{eqb-true}
 use Rattle.mem80.specs.declared.memory.TheConstants.{MEMORY_SIZE}
 use Rattle.mem80.specs.Memory.{byte_at, word_at}
@@ -7,11 +7,8 @@ use Rattle.mem80.proofs.MemoryLemmas.{byte_small}
 use Rattle.ports.specs.declared.event.Event.{Event}
 use Rattle.meaning.specs.Outcomes.{State as SourceState, Outcome}
 use Rattle.isa8080.specs.declared.instr.Instr.{Instr}
-use Rattle.isa8080.specs.declared.instr.Instr.TheVariants.{Mov, Pop, Push}
-use Rattle.isa8080.specs.declared.instr.Operand.TheVariants.{Of, M}
 use Rattle.isa8080.specs.declared.instr.Register.TheVariants.{A, H, L}
-use Rattle.isa8080.specs.declared.instr.StackPair.TheVariants.{StackHl}
-use Rattle.isa8080.specs.State.{HoldBytes, Registers, State, high_byte, low_byte, word, wrap}
+use Rattle.isa8080.specs.State.{Registers, State, high_byte, low_byte, word, wrap}
 use Rattle.asm8080.specs.declared.item.WordForm.TheVariants.{LoadA}
 use Rattle.treecode.specs.declared.place.Place.{Place}
 use Rattle.treecode.specs.declared.place.Location.{Location}
@@ -26,16 +23,15 @@ use Rattle.code_facts.proofs.Uses.{address_in_hl_is, byte_in_a_is, byte_in_h_is,
 use Rattle.steps8080.specs.declared.facts.Facts.{Facts}
 use Rattle.steps8080.specs.declared.step.Part.{Part}
 use Rattle.steps8080.specs.declared.step.Step.{Step}
-use Rattle.steps8080.specs.declared.step.Step.TheVariants.{Holds, Plain, Word}
-use Rattle.steps8080.specs.Facts.{before, byte_from_hl, is_at, no_facts}
+use Rattle.steps8080.specs.declared.step.Step.TheVariants.{Plain, Word}
+use Rattle.steps8080.specs.Facts.{before, is_at, no_facts}
 use Rattle.steps8080.specs.Instructions.{copy, load}
-use Rattle.steps8080.specs.Step.{plain}
 use Rattle.sites8080.specs.Site.{distance}
 use Rattle.operands8080.specs.Addresses.{hold_word_steps, location_address_steps}
 use Rattle.operands8080.specs.Loads.{frame_byte_steps, location_byte_steps, top_word_steps}
 use Rattle.exprgen8080.specs.Emission.{knowing}
 use Rattle.task_meaning.specs.Contexts.{Context, IsSound, distances_in}
-use Rattle.task_meaning.specs.Steps.{StepsStand, NoneThere, PlainThere, WordThere, HoldsThere}
+use Rattle.task_meaning.specs.Steps.{StepsStand, PlainThere, WordThere, HoldsThere}
 use Rattle.task_meaning.specs.Tasks.{ChangesAOnly, Know}
 use Rattle.task_meaning.proofs.Rules.{GoesOn, holds_go, ready_with_registers, registers_go, split, word_goes}
 use Rattle.task_meaning.proofs.Addresses.{location_address_goes, nothing_goes}

@@ -1,18 +1,17 @@
 -- The code of the word at a location, which comes into HL.
-use Rattle.std.proofs.Common.{◌≡◌, ℕ, zero, suc, ◌+◌, ◌-◌, ◌*◌, ◌/◌, ◌%◌, ◌<◌, ◌≤◌, ◌==◌, Bool, true, false, if◌then◌else◌, List, [], ◌∷◌, ◌++◌, Option, Some, None, slice_set, slice_index, refl, sym, ap, subst, ◌∙◌, arith}
-use Rattle.std.proofs.lemmas.Bool.{eqb-true, eqb-false}
+use Rattle.std.proofs.Common.{◌≡◌, ℕ, zero, suc, ◌+◌, ◌*◌, ◌<◌, ◌==◌, Bool, true, false, if◌then◌else◌, List, [], ◌∷◌, ◌++◌, Some, slice_set, slice_index, refl, sym, ap, subst, ◌∙◌, arith}
+use Rattle.std.proofs.lemmas.Bool.{eqb-true}
 use Rattle.mem80.specs.declared.memory.TheConstants.{MEMORY_SIZE}
 use Rattle.mem80.specs.Memory.{IsMemory, byte_at, word_at}
 use Rattle.mem80.proofs.MemoryLemmas.{byte_small}
 use Rattle.ports.specs.declared.event.Event.{Event}
 use Rattle.meaning.specs.Outcomes.{State as SourceState, Outcome}
-use Rattle.isa8080.specs.declared.instr.Instr.TheVariants.{Inx, Mov, Pop, Push}
-use Rattle.isa8080.specs.declared.instr.Operand.TheVariants.{Of, M}
-use Rattle.isa8080.specs.declared.instr.Pair.TheVariants.{Hl}
-use Rattle.isa8080.specs.declared.instr.Register.TheVariants.{A, H, L}
+use Rattle.isa8080.specs.declared.instr.Instr.TheVariants.{Mov, Pop, Push}
+use Rattle.isa8080.specs.declared.instr.Operand.TheVariants.{Of}
+use Rattle.isa8080.specs.declared.instr.Register.TheVariants.{A, L}
 use Rattle.isa8080.specs.declared.instr.StackPair.{StackPair}
 use Rattle.isa8080.specs.declared.instr.StackPair.TheVariants.{StackBc, StackHl}
-use Rattle.isa8080.specs.State.{HoldBytes, Registers, State, high_byte, low_byte, one_less, pushed_of, two_less, word, wrap}
+use Rattle.isa8080.specs.State.{Registers, State, high_byte, low_byte, one_less, pushed_of, two_less, word, wrap}
 use Rattle.isa8080.specs.Act.{act}
 use Rattle.asm8080.specs.declared.item.WordForm.TheVariants.{LoadHl}
 use Rattle.treecode.specs.declared.place.Place.{Place}
@@ -20,7 +19,7 @@ use Rattle.treecode.specs.declared.place.Location.{Location}
 use Rattle.treecode.specs.declared.place.Location.TheVariants as locations
 use Rattle.treecode.specs.Traits.{is_static_location}
 use Rattle.code_meaning.specs.Landing.{Does, at_place}
-use Rattle.code_meaning.specs.Activations.{Activation, HasRoom, IsReady, IsThere}
+use Rattle.code_meaning.specs.Activations.{HasRoom}
 use Rattle.code_meaning.proofs.FirstItems.{plain_first}
 use Rattle.code_facts.specs.Holding.{IsSteady, location_at, place_at}
 use Rattle.code_facts.proofs.Changes.{without_hl_holds}
@@ -29,7 +28,7 @@ use Rattle.code_facts.proofs.Uses.{word_in_hl_is}
 use Rattle.steps8080.specs.declared.facts.Facts.{Facts}
 use Rattle.steps8080.specs.declared.step.Part.{Part}
 use Rattle.steps8080.specs.declared.step.Step.{Step}
-use Rattle.steps8080.specs.declared.step.Step.TheVariants.{Holds, Plain, Word}
+use Rattle.steps8080.specs.declared.step.Step.TheVariants.{Word}
 use Rattle.steps8080.specs.Facts.{is_at, no_facts}
 use Rattle.steps8080.specs.Step.{plain}
 use Rattle.sites8080.specs.Site.{distance}
@@ -39,7 +38,6 @@ use Rattle.task_meaning.specs.Contexts.{Context, IsSound, distances_in}
 use Rattle.task_meaning.specs.Steps.{StepsStand, NoneThere, PlainThere, WordThere, HoldsThere}
 use Rattle.task_meaning.specs.Tasks.{Know}
 use Rattle.task_meaning.proofs.Rules.{GoesOn, holds_go, pushed_anywhere, ready_with_registers, registers_go, split, word_goes}
-use Rattle.task_meaning.proofs.RegisterCode.{registers_then}
 use Rattle.task_meaning.proofs.Addresses.{frame_address, location_address_goes, nothing_goes, registers_end}
 
 -- a byte that is put where it is changes nothing
@@ -356,15 +354,18 @@ frame_word_goes {outcome = outcome} {Good = Good} {context = context} {PartIs = 
         hold_word_goes (locations.Frame variable offset) now stand on
         (word_known context now memory (locations.Frame variable offset) steady next low_now high_now)
         (λ on. rest now (record {
-          low = low_now; high = high_now; a = λ never. absurd cc;
-          d = ap (λ (r : Registers). r.d) is; e = ap (λ (r : Registers). r.e) is;
+          low = low_now;
+          high = high_now;
+          a = λ never. absurd cc;
+          d = ap (λ (r : Registers). r.d) is;
+          e = ap (λ (r : Registers). r.e) is;
         }) on))
     by_test false false none_is two_is stand =
         let address : ℕ = location_at context.activation (distances_in context) (locations.Frame variable offset) in
         let later = split (location_address_steps (knowing context.site used) (locations.Frame variable offset) pushed ++ word_at_hl_steps)
-            (hold_word_steps (locations.Frame variable offset)) stand in
+        (hold_word_steps (locations.Frame variable offset)) stand in
         let parts = split (location_address_steps (knowing context.site used) (locations.Frame variable offset) pushed)
-            word_at_hl_steps later.first in
+        word_at_hl_steps later.first in
         location_address_goes used (locations.Frame variable offset) r sound room (omega arith) known parts.first on
         (λ there beside on_there.
         word_at_hl_goes address there sound steady beside.hl parts.second on_there
@@ -372,8 +373,11 @@ frame_word_goes {outcome = outcome} {Good = Good} {context = context} {PartIs = 
         hold_word_goes (locations.Frame variable offset) now later.second on_now
         (word_known context now memory (locations.Frame variable offset) steady next word.low word.high)
         (λ on. rest now (record {
-          low = word.low; high = word.high; a = λ never. absurd cc;
-          d = word.d ∙ beside.d; e = word.e ∙ beside.e;
+          low = word.low;
+          high = word.high;
+          a = λ never. absurd cc;
+          d = word.d ∙ beside.d;
+          e = word.e ∙ beside.e;
         }) on)))
 
 -- the word at a place in memory
@@ -409,8 +413,11 @@ static_goes {context = context} {memory = memory} place r sound steady next (Wor
       known = known;
     })
     (rest now (record {
-      low = low_there memory address mem; high = high_there memory address mem;
-      a = λ kept. refl; d = refl; e = refl;
+      low = low_there memory address mem;
+      high = high_there memory address mem;
+      a = λ kept. refl;
+      d = refl;
+      e = refl;
     })))
 
 -- the word at a location

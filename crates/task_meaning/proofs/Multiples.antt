@@ -1,11 +1,7 @@
 -- HL times a number, by sums.
-use Rattle.std.proofs.Common.{◌≡◌, ℕ, zero, suc, ◌+◌, ◌-◌, ◌*◌, ◌/◌, ◌%◌, ◌^◌, ◌<◌, ◌≤◌, ◌==◌, max, Bool, true, false, not, nat_lt, ◌||◌, if◌then◌else◌, List, [], ◌∷◌, ◌++◌, replicate, Option, Some, None, refl, sym, ap, ◌∙◌, subst, arith}
+use Rattle.std.proofs.Common.{◌≡◌, ℕ, zero, suc, ◌+◌, ◌*◌, ◌/◌, ◌%◌, ◌^◌, ◌<◌, ◌≤◌, ◌==◌, Bool, true, false, ◌||◌, if◌then◌else◌, List, [], ◌∷◌, ◌++◌, replicate, Option, Some, None, refl, sym, ap, ◌∙◌, subst, arith}
 use Rattle.std.proofs.lemmas.Bool.{eqb-true, eqb-false, eq-eqb, false≢true, true≢false, lt-ltb}
 use Rattle.std.proofs.Math.Nat.{div-div-eq-div-mul, pow-suc}
-use Rattle.trees.specs.declared.declaration.ScalarType.TheVariants.{Address}
-use Rattle.typed_trees.specs.Charge.{height_of}
-use Rattle.typed_trees.specs.ExpressionTypes.{type_of}
-use Rattle.typed_trees.specs.TypedTrees.{TypedExpression}
 use Rattle.ports.specs.declared.event.Event.{Event}
 use Rattle.meaning.specs.Meaning.{value}
 use Rattle.meaning.specs.Outcomes.{State as SourceState, Outcome, Gave, Stopped, then_do}
@@ -13,7 +9,7 @@ use Rattle.isa8080.specs.declared.instr.Instr.{Instr}
 use Rattle.isa8080.specs.declared.instr.Instr.TheVariants.{Dad}
 use Rattle.isa8080.specs.declared.instr.Pair.TheVariants.{Bc, Hl}
 use Rattle.isa8080.specs.declared.instr.Register.TheVariants.{B, C, H, L}
-use Rattle.isa8080.specs.State.{HoldBytes, Registers, State, high_byte, low_byte, word, wrap}
+use Rattle.isa8080.specs.State.{Registers, State, high_byte, low_byte, word, wrap}
 use Rattle.asm8080.specs.declared.item.WordForm.TheVariants.{LoadPair}
 use Rattle.treecode.specs.declared.expression.ExpressionNumber.{ExpressionNumber}
 use Rattle.treecode.specs.declared.place.Place.TheVariants.{Number}
@@ -47,11 +43,11 @@ pub record WordBeside (n : ℕ) (r now : Registers) : Type 0 where
   pub d : now.d ≡ r.d
   pub e : now.e ≡ r.e
 
-effect_on : (one other : List Instr) (r : Registers) → effect (one ++ other) r ≡ effect other (effect one r)
+pub effect_on : (one other : List Instr) (r : Registers) → effect (one ++ other) r ≡ effect other (effect one r)
 effect_on [] other r = refl
 effect_on (i ∷ one) other r = effect_on one other (does_to i r)
 
-plain_on : (one other : List Instr) → plain (one ++ other) ≡ plain one ++ plain other
+pub plain_on : (one other : List Instr) → plain (one ++ other) ≡ plain one ++ plain other
 plain_on [] other = refl
 plain_on (i ∷ one) other = ap (λ (steps : List Step). Plain i ∷ steps) (plain_on one other)
 
@@ -306,7 +302,7 @@ chain_is (suc bit) number x below r now few gone =
     let first : List Instr = bit_instructions (Dad Hl) (Dad Bc) below set in
     let rest : List Instr = chain_instructions bit number (Dad Hl) (Dad Bc) (below || set) in
     let next = gone_on below set x (number / 2 ^ suc bit) (number / 2 ^ bit) r now (next_quotient number bit)
-        (sym (bit_is number bit (less_bits bit few))) gone in
+    (sym (bit_is number bit (less_bits bit few))) gone in
     let last = chain_is bit number x (below || set) r (effect first now) (fewer_bits bit few) next in
     (last.0, subst (λ (after : Registers). Gone last.0 x (number / 2 ^ 0) r after) (sym (effect_on first rest now)) last.1)
 
@@ -375,7 +371,7 @@ small_goes {budget = budget} {more = more} {outcome = outcome} {Good = Good} {co
         let instructions : List Instr = copy B H ∷ copy C L ∷ chain in
         let begun : Registers = effect (copy B H ∷ copy C L ∷ []) r in
         let ends = chain_is 16 number x false r begun (omega arith)
-            (subst (λ (n : ℕ). Gone false x n r begun) (sym (first_quotient number fits)) (copied x r small has)) in
+        (subst (λ (n : ℕ). Gone false x n r begun) (sym (first_quotient number fits)) (copied x r small has)) in
         registers_end instructions r sound (tt, (tt, chain_on 16 number (Dad Hl) (Dad Bc) false tt tt))
         (subst (λ (steps : List Step). StepsStand context PartIs facts from (Plain (copy B H) ∷ Plain (copy C L) ∷ steps) last to)
         (chain_same 16 number (Dad Hl) (Dad Bc) false) stand)
@@ -390,6 +386,7 @@ shifted_word x r has = record { h = high_is r.l x has.l; l = low_zero x }
   where
     high_is : (l x : ℕ) → l ≡ x % 256 → l ≡ (256 * (x % 256)) / 256
     high_is l x same = omega (arith, same)
+
     low_zero : (x : ℕ) → 0 ≡ (256 * (x % 256)) % 256
     low_zero x = omega arith
 
@@ -481,6 +478,7 @@ products_do context sound facts last index stride pushed from to fits stand boun
         outcome (Arrives context.activation top base to (ProductIsGiven context last index stride r memory))
     without_rest (Gave n t) does = does
     without_rest (Stopped why t) does = does
+
     by_zero : (test : Bool) → (stride == 0) ≡ test
         → StepsStand context (PartDoes context) facts from
         (if test then part_of (tasks.Effects index) pushed ∷ Word (LoadPair Hl) (Number 0) ∷ []

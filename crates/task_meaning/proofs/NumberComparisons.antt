@@ -1,5 +1,5 @@
 -- A BYTE is compared with a number.
-use Rattle.std.proofs.Common.{◌≡◌, ℕ, ◌+◌, ◌-◌, ◌*◌, ◌/◌, ◌%◌, ◌<◌, ◌≤◌, ◌==◌, Bool, true, false, nat_lt, List, [], ◌∷◌, ◌++◌, Option, Some, None, refl, sym, ap, ◌∙◌, subst, arith, if◌then◌else◌}
+use Rattle.std.proofs.Common.{◌≡◌, ℕ, ◌+◌, ◌*◌, ◌%◌, ◌<◌, ◌≤◌, ◌==◌, Bool, true, false, nat_lt, List, [], ◌∷◌, Option, Some, None, refl, sym, ap, ◌∙◌, arith, if◌then◌else◌}
 use Rattle.std.proofs.lemmas.Bool.{ltb-true, ltb-false, lt-ltb, le-ltb, eqb-true, eqb-false, eq-eqb, ne_eqb}
 use Rattle.typed_trees.specs.Charge.{height_of}
 use Rattle.typed_trees.specs.TypedTrees.{TypedExpression}
@@ -9,12 +9,11 @@ use Rattle.isa8080.specs.declared.instr.Instr.TheVariants.{AccumulateImmediate, 
 use Rattle.isa8080.specs.declared.instr.Operand.TheVariants.{Of}
 use Rattle.isa8080.specs.declared.instr.Operation.TheVariants.{Compare, Subtract}
 use Rattle.isa8080.specs.declared.instr.Register.TheVariants.{A}
-use Rattle.isa8080.specs.Arithmetic.{decrement_of, increment_of, operate, subtract_of}
+use Rattle.isa8080.specs.Arithmetic.{decrement_of, increment_of, subtract_of}
 use Rattle.isa8080.specs.State.{Registers, State}
 use Rattle.treecode.specs.declared.expression.ExpressionNumber.{ExpressionNumber}
 use Rattle.treecode.specs.Lowered.{IsExpression}
 use Rattle.steps8080.specs.declared.facts.Facts.{Facts}
-use Rattle.steps8080.specs.declared.step.Step.{Step}
 use Rattle.steps8080.specs.declared.step.Step.TheVariants.{Plain, TestA}
 use Rattle.code_meaning.specs.Landing.{Does, at_place}
 use Rattle.code_meaning.proofs.ByteResults.{borrow_shows, count_shows, same_test, zero_shows}
@@ -30,9 +29,9 @@ use Rattle.relations8080.specs.ByteRelations.{byte_is_steps, byte_number_answer,
 use Rattle.task_meaning.specs.Contexts.{Context, IsSound, nodes_in}
 use Rattle.task_meaning.specs.Steps.{StepsStand, PartThere, PlainThere, TestThere}
 use Rattle.task_meaning.specs.Tasks.{PartDoes}
-use Rattle.task_meaning.proofs.Answers.{AnswerShows, ZeroShows, low_is_all, number_truth}
+use Rattle.task_meaning.proofs.Answers.{AnswerShows, low_is_all, number_truth}
 use Rattle.task_meaning.proofs.BytesAsked.{BytesAsked}
-use Rattle.task_meaning.proofs.ByteOperations.{IsValueOf, operate_small, value_of}
+use Rattle.task_meaning.proofs.ByteOperations.{IsValueOf, value_of}
 use Rattle.task_meaning.proofs.Rules.{test_goes}
 use Rattle.task_meaning.proofs.SiteNodes.{value_in}
 use Rattle.task_meaning.proofs.Stages.{Stage, at_a, at_byte, at_effects, at_end, script_of}
@@ -82,7 +81,7 @@ module _
   zero_in_a {facts = facts} {from = from} {r = r} truth setting is = by setting.purpose
     where
       by : (purpose : Purpose)
-          → StepsStand context (PartDoes context) facts from (elim purpose [ | Branch ↦ TestA ∷ [] | Value ↦ [] ]) last to
+          → StepsStand context (PartDoes context) facts from (elim purpose [ Branch ↦ TestA ∷ [] | Value ↦ [] ]) last to
           → Stage context top pushed need base t facts r memory
           → GoesOnShown context purpose Zero truth top pushed need base t last memory to budget more outcome Good
           → Does (script_of context) budget more (at_place from r memory t.events) outcome Good
@@ -269,7 +268,7 @@ byte_asked {C = C} {context = context} {top = top} {need = need} {base = base} {
         ]) last to
         → Stage context top setting.pushed need base t facts r memory
         → GoesOnAsked context tree operand setting.purpose
-        (elim found [ | Some answer ↦ Known answer | None ↦ number_in_a_answer question ]) (number_truth question) top
+        (elim found [ Some answer ↦ Known answer | None ↦ number_in_a_answer question ]) (number_truth question) top
         setting.pushed need base last to more go Good
         → Does (script_of context) t.budget more (at_place from r memory t.events)
         (then_do (value_in context tree t) go) Good

@@ -1,10 +1,10 @@
 -- Operators whose two operands come into HL and DE, and then straight code.
-use Rattle.std.proofs.Common.{◌≡◌, ℕ, ◌+◌, ◌-◌, ◌*◌, ◌/◌, ◌%◌, ◌<◌, ◌≤◌, max, Bool, true, false, not, nat_lt, bit_and, bit_or, bit_xor, List, [], ◌∷◌, ◌++◌, append-nil, Option, Some, None, refl, sym, ap, ◌∙◌, subst, arith}
+use Rattle.std.proofs.Common.{◌≡◌, ℕ, ◌+◌, ◌-◌, ◌*◌, ◌/◌, ◌%◌, ◌<◌, ◌≤◌, not, nat_lt, bit_and, bit_or, bit_xor, List, [], ◌∷◌, ◌++◌, append-nil, Option, sym, ap, ◌∙◌, subst}
 use Rattle.std.proofs.lemmas.Bool.{false≢true}
 use Rattle.trees.specs.declared.declaration.ScalarType.TheVariants.{Address}
 use Rattle.typed_trees.specs.Charge.{height_of}
 use Rattle.typed_trees.specs.TypedTrees.{TypedExpression}
-use Rattle.meaning.specs.Outcomes.{State as SourceState, Outcome, Gave, then_do}
+use Rattle.meaning.specs.Outcomes.{State as SourceState, Gave, then_do}
 use Rattle.isa8080.specs.declared.instr.Instr.{Instr}
 use Rattle.isa8080.specs.declared.instr.Instr.TheVariants.{Dad}
 use Rattle.isa8080.specs.declared.instr.Operation.{Operation}
@@ -32,7 +32,7 @@ use Rattle.task_meaning.specs.Tasks.{PartDoes, WordIsGiven}
 use Rattle.task_meaning.proofs.Rules.{GoesOn}
 use Rattle.task_meaning.proofs.RegisterCode.{AreOnRegisters, effect, registers_then}
 use Rattle.task_meaning.proofs.Values.{HasWord, KeepsThem, word_ends}
-use Rattle.task_meaning.proofs.Pairs.{HasBoth, HasPair, IsOperand, pair_then}
+use Rattle.task_meaning.proofs.Pairs.{HasPair, IsOperand, pair_then}
 use Rattle.task_meaning.proofs.WordArithmetic.{and_high as and_high_of, and_low as and_low_of, high_difference, low_difference, or_high as or_high_of, or_low as or_low_of, sum_high, sum_low, sum_turned, word_below, xor_high as xor_high_of, xor_low as xor_low_of}
 
 -- nothing is kept

@@ -1,19 +1,17 @@
 -- Two words of which one comes into HL and the other into DE.
-use Rattle.std.proofs.Common.{◌≡◌, ℕ, ◌+◌, ◌-◌, ◌*◌, ◌/◌, ◌%◌, ◌<◌, ◌≤◌, max, Bool, true, false, ◌&&◌, ◌||◌, if◌then◌else◌, List, [], ◌∷◌, ◌++◌, Option, Some, None, refl, sym, ap, ◌∙◌, subst, arith}
-use Rattle.std.proofs.lemmas.Bool.{and_parts, false≢true}
-use Rattle.mem80.specs.declared.memory.TheConstants.{MEMORY_SIZE}
+use Rattle.std.proofs.Common.{◌≡◌, ℕ, ◌+◌, ◌-◌, ◌*◌, ◌/◌, ◌%◌, ◌<◌, ◌≤◌, Bool, true, false, ◌&&◌, if◌then◌else◌, List, [], ◌∷◌, ◌++◌, Option, Some, None, refl, sym, ap, ◌∙◌, subst, arith}
+use Rattle.std.proofs.lemmas.Bool.{and_parts}
 use Rattle.typed_trees.specs.Charge.{height_of, height_of_reference}
 use Rattle.typed_trees.specs.ExpressionTypes.{type_of}
 use Rattle.typed_trees.specs.TypedTrees.{TypedExpression, NumberNode, ValueNode, LocationNode, ListNode, ConversionNode, AssignmentNode, UnaryNode, BinaryNode, CallNode, FunctionNode, ShiftNode, InputNode, TypedReference, PartOf}
 use Rattle.typed_trees.specs.WellTyped.{TypesHold}
 use Rattle.meaning.specs.Meaning.{value}
 use Rattle.meaning.specs.Outcomes.{State as SourceState, Outcome, Gave, Stopped, then_do}
-use Rattle.meaning.specs.Values.{values_of}
-use Rattle.isa8080.specs.declared.instr.Instr.TheVariants.{Pop, Push, Xchg}
+use Rattle.isa8080.specs.declared.instr.Instr.TheVariants.{Xchg}
 use Rattle.isa8080.specs.declared.instr.Pair.TheVariants.{De}
 use Rattle.isa8080.specs.declared.instr.Register.TheVariants.{A, D, E}
 use Rattle.isa8080.specs.declared.instr.StackPair.TheVariants.{StackDe, StackHl}
-use Rattle.isa8080.specs.State.{HoldBytes, Registers, State, wrap}
+use Rattle.isa8080.specs.State.{Registers, State, wrap}
 use Rattle.asm8080.specs.declared.item.WordForm.TheVariants.{LoadPair}
 use Rattle.treecode.specs.declared.expression.ExpressionNumber.{ExpressionNumber}
 use Rattle.treecode.specs.declared.place.Place.{Place}
@@ -23,10 +21,9 @@ use Rattle.code_meaning.specs.Activations.{HasRoom}
 use Rattle.code_facts.specs.Holding.{place_at}
 use Rattle.steps8080.specs.declared.facts.Facts.{Facts}
 use Rattle.steps8080.specs.declared.step.Step.{Step}
-use Rattle.steps8080.specs.declared.step.Step.TheVariants.{Plain, Word}
 use Rattle.steps8080.specs.Instructions.{copy, set}
 use Rattle.steps8080.specs.declared.step.Task.TheVariants as tasks
-use Rattle.steps8080.specs.Step.{part as part_of, plain}
+use Rattle.steps8080.specs.Step.{part as part_of}
 use Rattle.sites8080.specs.declared.site.Site.{Site}
 use Rattle.sites8080.specs.Queries.{is_free, keeps, known, may_exchange}
 use Rattle.sites8080.specs.Site.{expression}
@@ -38,12 +35,11 @@ use Rattle.operands8080.specs.declared.pairs.PairForm.TheVariants.{RightKnown, L
 use Rattle.operands8080.specs.declared.pairs.PairOrder.{PairOrder}
 use Rattle.operands8080.specs.declared.pairs.PairOrder.TheVariants.{LeftInHl, RightInHl}
 use Rattle.operands8080.specs.Pairs.{any_order, choices_of, form_steps, is_free_byte, left_in_hl, order_of, pair_form, pair_in_order_steps, pair_order_by, right_in_hl, wished_steps, with_byte_steps, with_exchange_steps, with_known_steps, with_stack_steps}
-use Rattle.quiet_expressions.proofs.Exchanging.{in_order, exchanged}
 use Rattle.exprgen8080.specs.Emission.{knowing}
 use Rattle.task_meaning.specs.Contexts.{Context, IsSound, nodes_in}
-use Rattle.task_meaning.specs.Steps.{StepsStand, NoneThere, PlainThere, WordThere, PartThere}
-use Rattle.task_meaning.specs.Tasks.{ByteDoes, ByteIsGiven, PartDoes, WordDoes, WordIsGiven}
-use Rattle.task_meaning.proofs.Rules.{GoesOn, more_pushed, pop_goes, push_goes, room_for, word_goes}
+use Rattle.task_meaning.specs.Steps.{StepsStand, PlainThere, WordThere, PartThere}
+use Rattle.task_meaning.specs.Tasks.{PartDoes}
+use Rattle.task_meaning.proofs.Rules.{GoesOn, more_pushed, pop_goes, push_goes, word_goes}
 use Rattle.task_meaning.proofs.RegisterCode.{effect, registers_then}
 use Rattle.task_meaning.proofs.KnownOperands.{alike_does, known_is, known_small, operands_may, word_fits}
 use Rattle.task_meaning.proofs.Ranges.{fits_means, ready_fits}
@@ -368,6 +364,7 @@ module _ (context : Context) (sound : IsSound context) where
         by_wish (Some LeftInHl) = left_allowed
         by_wish (Some RightInHl) = right_allowed
         by_wish None = any_allowed
+
         by_left : (found : Option Place) → known (knowing context.site facts) left ≡ found
             → Allowed (elim found [
               | Some place ↦ LeftKnown place
@@ -381,6 +378,7 @@ module _ (context : Context) (sound : IsSound context) where
             ])
         by_left (Some place) is = is
         by_left None is = by_wish wish
+
         by_right : (found : Option Place) → known (knowing context.site facts) right ≡ found
             → Allowed (elim found [
               | Some place ↦ RightKnown place

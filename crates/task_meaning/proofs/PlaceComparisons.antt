@@ -1,7 +1,6 @@
 -- Two ADDRESSes are compared of which one stays in memory.
-use Rattle.std.proofs.Common.{◌≡◌, ℕ, ◌+◌, ◌-◌, ◌*◌, ◌/◌, ◌%◌, ◌<◌, ◌≤◌, ◌==◌, ◌⊎◌, inl, inr, Bool, true, false, ◌&&◌, nat_lt, bit_or, List, [], ◌∷◌, ◌++◌, Option, Some, None, max, refl, sym, ap, ◌∙◌, subst, arith, if◌then◌else◌}
+use Rattle.std.proofs.Common.{◌≡◌, ℕ, ◌*◌, ◌/◌, ◌%◌, ◌<◌, ◌≤◌, ◌==◌, ◌⊎◌, inl, inr, Bool, true, false, nat_lt, bit_or, List, ◌++◌, Option, Some, None, refl, sym, ap, ◌∙◌, subst, arith, if◌then◌else◌}
 use Rattle.mem80.specs.Memory.{byte_at}
-use Rattle.mem80.proofs.MemoryLemmas.{byte_small}
 use Rattle.std.proofs.lemmas.Nat.{or_of_8}
 use Rattle.trees.specs.declared.declaration.ScalarType.{ScalarType}
 use Rattle.typed_trees.specs.Charge.{height_of}
@@ -10,8 +9,7 @@ use Rattle.typed_trees.specs.TypedTrees.{TypedExpression}
 use Rattle.typed_trees.specs.WellTyped.{TypesHold}
 use Rattle.meaning.specs.Outcomes.{State as SourceState, Ended, More, Outside, Outcome, Gave, Stopped, then_do}
 use Rattle.meaning.specs.Values.{values_of}
-use Rattle.isa8080.specs.declared.instr.Operation.TheVariants.{Or, Subtract, SubtractWithBorrow}
-use Rattle.isa8080.specs.declared.instr.Register.TheVariants.{A, B, D, E, H, L}
+use Rattle.isa8080.specs.declared.instr.Operation.TheVariants.{Or}
 use Rattle.isa8080.specs.Arithmetic.{operate, subtract_of}
 use Rattle.isa8080.specs.State.{Registers, State}
 use Rattle.treecode.specs.declared.expression.ExpressionNumber.{ExpressionNumber}
@@ -19,8 +17,6 @@ use Rattle.treecode.specs.declared.place.Place.{Place}
 use Rattle.treecode.specs.Homes.{place_after}
 use Rattle.treecode.specs.Lowered.{IsExpression}
 use Rattle.steps8080.specs.declared.facts.Facts.{Facts}
-use Rattle.steps8080.specs.declared.step.Step.{Step}
-use Rattle.steps8080.specs.Instructions.{copy, with_register}
 use Rattle.code_meaning.specs.Landing.{Does, at_place}
 use Rattle.code_facts.specs.Holding.{IsSteady, place_at}
 use Rattle.quiet_expressions.specs.internal.Evaluations.{GoesOutside}
@@ -34,15 +30,14 @@ use Rattle.relations8080.specs.declared.answers.Purpose.{Purpose}
 use Rattle.relations8080.specs.declared.answers.Setting.{Setting}
 use Rattle.relations8080.specs.declared.word_relations.Apart.{Apart}
 use Rattle.relations8080.specs.ByteRelations.{answer_to}
-use Rattle.relations8080.specs.WordRelations.{apart_of, high_steps, in_hl, left_apart, load_a_steps, low_steps, operand_apart, place_apart, right_apart, with_place_steps}
+use Rattle.relations8080.specs.WordRelations.{apart_of, high_steps, in_hl, left_apart, load_a_steps, low_steps, operand_apart, right_apart, with_place_steps}
 use Rattle.exprgen8080.specs.Emission.{knowing}
 use Rattle.task_meaning.specs.Contexts.{Context, IsSound, nodes_in}
 use Rattle.task_meaning.specs.Steps.{StepsStand, PartThere, PlainThere, WordThere}
 use Rattle.task_meaning.specs.Tasks.{PartDoes}
-use Rattle.task_meaning.proofs.Answers.{AnswerShows, ZeroShows, question_truth, same_turned}
+use Rattle.task_meaning.proofs.Answers.{AnswerShows, question_truth, same_turned}
 use Rattle.task_meaning.proofs.BytesAsked.{BytesAsked, WordAtPlace}
 use Rattle.task_meaning.proofs.ByteComparisons.{asking}
-use Rattle.task_meaning.proofs.ByteOperations.{operate_small}
 use Rattle.task_meaning.proofs.SiteNodes.{does_exchanged, value_in}
 use Rattle.task_meaning.proofs.Stages.{Stage, at_a, at_end, at_load_a, at_registers, at_word, does_same, script_of}
 use Rattle.task_meaning.proofs.WordComparisons.{GoesOnBoth, zero_for}
@@ -116,7 +111,7 @@ either_fits :
     (site : Site) (left right : ExpressionNumber) (question : Question) (one other : Option Apart)
     → Fits site left right question one
     → Fits site left right question other
-    → Fits site left right question (elim one [ | Some found ↦ Some found | None ↦ other ])
+    → Fits site left right question (elim one [ Some found ↦ Some found | None ↦ other ])
 either_fits site left right question (Some found) other first second = first
 either_fits site left right question None other first second = second
 

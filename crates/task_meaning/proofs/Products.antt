@@ -1,5 +1,5 @@
 -- What is asked here of the code of products, and how it is followed.
-use Rattle.std.proofs.Common.{◌≡◌, ℕ, ◌+◌, ◌*◌, ◌%◌, ◌<◌, ◌≤◌, List, ap, sym, subst, ◌∙◌, arith}
+use Rattle.std.proofs.Common.{◌≡◌, ℕ, ◌*◌, ◌%◌, ◌<◌, ◌≤◌, List, sym, subst}
 use Rattle.trees.specs.declared.declaration.ScalarType.TheVariants.{Address}
 use Rattle.typed_trees.specs.Charge.{height_of}
 use Rattle.typed_trees.specs.ExpressionTypes.{type_of}
@@ -11,12 +11,12 @@ use Rattle.isa8080.specs.State.{Registers, State, word}
 use Rattle.treecode.specs.declared.expression.ExpressionNumber.{ExpressionNumber}
 use Rattle.treecode.specs.Lowered.{IsExpression}
 use Rattle.code_meaning.specs.Landing.{Does, at_place}
-use Rattle.code_meaning.specs.Activations.{Arrives, HasRoom}
+use Rattle.code_meaning.specs.Activations.{HasRoom}
 use Rattle.code_meaning.proofs.Landing.{then_does}
 use Rattle.steps8080.specs.declared.facts.Facts.{Facts}
 use Rattle.sites8080.specs.Queries.{keeps}
 use Rattle.operands8080.specs.Products.{product_steps}
-use Rattle.task_meaning.specs.Contexts.{Context, IsSound, nodes_in}
+use Rattle.task_meaning.specs.Contexts.{Context, nodes_in}
 use Rattle.task_meaning.specs.Steps.{StepsStand}
 use Rattle.task_meaning.specs.Tasks.{Carries, Know, Left, Nothing, PartDoes}
 use Rattle.task_meaning.proofs.Rules.{GoesOn, room_for}

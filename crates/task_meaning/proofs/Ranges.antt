@@ -1,5 +1,5 @@
 -- Values of expressions are of their types, as long as calls give such values.
-use Rattle.std.proofs.Common.{◌≡◌, ◌≢◌, ◌⊎◌, inl, inr, ℕ, ◌+◌, ◌-◌, ◌*◌, ◌/◌, ◌%◌, ◌^◌, ◌<◌, ◌≤◌, ◌==◌, nat_lt, nat_le, Bool, true, false, ◌&&◌, ◌||◌, bit_and, List, [], ◌∷◌, length, All, IsSomeAnd, option_map, Option, Some, None, slice_get, slice_index_or, slice_set, if◌then◌else◌, refl, sym, ap, ◌∙◌, subst, arith}
+use Rattle.std.proofs.Common.{◌≡◌, ◌≢◌, ◌⊎◌, inl, inr, ℕ, ◌+◌, ◌-◌, ◌*◌, ◌/◌, ◌%◌, ◌^◌, ◌<◌, ◌≤◌, ◌==◌, nat_lt, Bool, true, false, ◌&&◌, ◌||◌, bit_and, List, [], ◌∷◌, length, All, IsSomeAnd, option_map, Option, Some, None, slice_get, slice_index_or, slice_set, if◌then◌else◌, refl, sym, ap, ◌∙◌, subst, arith}
 use Rattle.std.specs.Option.{option_map_or}
 use Rattle.std.proofs.lemmas.List.Elements.{All-from_get_or, All-get_or, All-nil, All-set}
 use Rattle.std.proofs.lemmas.List.{get_or_past, length-set}
@@ -18,13 +18,13 @@ use Rattle.typed_trees.specs.declared.parts.ShiftFunction.TheVariants.{ShiftRigh
 use Rattle.typed_trees.specs.declared.parts.UnaryFunction.{UnaryFunction}
 use Rattle.typed_trees.specs.declared.parts.UnaryFunction.TheVariants.{Low, High, Double}
 use Rattle.typed_trees.specs.ExpressionTypes.{type_of, type_of_function, type_of_result, type_of_target}
-use Rattle.typed_trees.specs.TypedTrees.{Home, InData, InConstants, Placed, BasedOn, Elsewhere, Nowhere, InFrame, TypedArguments, NoArguments, MoreArguments, TypedModule, TypedExpression, BinaryNode, ShiftNode, TypedProcedure, TypedReference, PartOf, Subscript, NoSubscript, At, TypedTarget, StoredIn, SentTo}
+use Rattle.typed_trees.specs.TypedTrees.{Home, InData, InConstants, Placed, BasedOn, Elsewhere, Nowhere, InFrame, TypedArguments, TypedModule, TypedExpression, BinaryNode, ShiftNode, TypedProcedure, TypedReference, Subscript, TypedTarget, StoredIn, SentTo}
 use Rattle.typed_trees.specs.WellTyped.{TypesHold, TypesHoldInArguments, TypesHoldInReference, TypesHoldInSubscript, TypesHoldInTarget, types_of, Takes, Within}
 use Rattle.meaning.specs.declared.reason.Reason.{Reason}
 use Rattle.meaning.specs.declared.reason.Reason.TheVariants.{Constant}
-use Rattle.meaning.specs.Access.{InMemory, InTheFrame, Place, Surroundings, frame_bytes, home_of, is_constant, is_declared, next_place, place_in, place_of, read_byte, read_scalar, write_byte, write_scalar}
-use Rattle.meaning.specs.Meaning.{Later, address_in_memory, address_of_list, based_place, called_for, callee_in, computed, displaced, displacement, located, no_displacement, stored, taken_in, value, values}
-use Rattle.meaning.specs.Outcomes.{Program, State, Ended, More, Outside, Outcome, Gave, Stop, Stopped, then_do}
+use Rattle.meaning.specs.Access.{InMemory, InTheFrame, Place, Surroundings, frame_bytes, home_of, is_constant, is_declared, next_place, place_of, read_byte, read_scalar, write_byte, write_scalar}
+use Rattle.meaning.specs.Meaning.{address_in_memory, address_of_list, based_place, called_for, callee_in, computed, displaced, displacement, located, stored, value, values}
+use Rattle.meaning.specs.Outcomes.{State, Outside, Outcome, Gave, Stop, Stopped, then_do}
 use Rattle.meaning.specs.Values.{as_type, function_of, result_of, result_of_one, shifted, values_of}
 use Rattle.treecode.specs.declared.expression.Expression.{Expression}
 use Rattle.treecode.specs.declared.expression.ExpressionForm.{ExpressionForm}
@@ -37,7 +37,7 @@ use Rattle.treecode.specs.declared.reference.Target.{Target}
 use Rattle.layout.specs.Placement.{ModulePlacement}
 use Rattle.ports.specs.declared.event.Event.{Event}
 use Rattle.machine_runs.proofs.Kept.{byte_kept, byte_put}
-use Rattle.code_meaning.specs.Activations.{FrameLies, IsReady}
+use Rattle.code_meaning.specs.Activations.{IsReady}
 use Rattle.isa8080.specs.State.{Registers}
 use Rattle.runtime8080.proofs.AddressBits.{by_eight}
 use Rattle.treecode.specs.declared.expression.ExpressionNumber.{ExpressionNumber}
@@ -152,9 +152,11 @@ module _ (around : Surroundings) where
     where
       past : length memory ≤ address → length (slice_set memory address byte) ≤ address
       past less = rw (length-set memory address byte) less
+
       same : (address < length memory) ⊎ (length memory ≤ address) → byte_at (slice_set memory address byte) address < 256
       same (inl inside) = rw (byte_put memory address byte inside) small
       same (inr outside) = rw (get_or_past (slice_set memory address byte) address 0 (past outside)) (omega arith)
+
       by : (other ≡ address) ⊎ (other ≢ address) → byte_at (slice_set memory address byte) other < 256
       by (inl here) = rw here (same (cases_lt address (length memory)))
       by (inr apart) = rw (byte_kept memory address other byte apart) before
@@ -272,7 +274,7 @@ module _ (context : Context) (sound : IsSound context) where
       by None there is = absurd is
       by (Some heading) there is =
           let given = sound.calls_fit procedure n heading list t u there
-              (subst (λ (scalars : List ScalarType). AreOfTypes scalars list) (sym is.1) fits) source same in
+          (subst (λ (scalars : List ScalarType). AreOfTypes scalars list) (sym is.1) fits) source same in
           (subst (λ (result : Option ScalarType). IsOfResult result n) is.0 given.0, given.1)
 
   mutual
@@ -358,8 +360,10 @@ module _ (context : Context) (sound : IsSound context) where
         (λ k u two.
         IsGiven (shift_fits scalar function n k types.0 (of_type (type_of moved) scalar n (types.1).1 one.0), two.1)))
     fits_form s small (IsInput {port = port}) types source =
-        IsGiven (input_fits context.activation.around.program.script s.events port sound.script,
-        record { memory = source.memory; frame = source.frame })
+        IsGiven (
+          input_fits context.activation.around.program.script s.events port sound.script,
+          record { memory = source.memory; frame = source.frame },
+        )
 
     fits_values : {bound first count : ℕ} {trees : TypedArguments} (s : State)
         → AreArguments (nodes_in context) context.storage bound first count trees
@@ -556,19 +560,19 @@ module _ (context : Context) (sound : IsSound context) (facts : Facts) where
           (λ x t is.
           gives_then (meant second t) (λ y u. computed (result_of Address And x y) u) (any_value t two)
           (λ y u any. IsGiven (
-            let less : bit_and x y ≤ x = and_le_l x y in
-            let small = known.2 in omega (arith, less, small, is))))
+          let less : bit_and x y ≤ x = and_le_l x y in
+          let small = known.2 in omega (arith, less, small, is))))
       by false here =
           let known = below_number (number_of (knowing context.site facts) right) 256
-              (sym (ap (λ (test : Bool). test || is_number_below (knowing context.site facts) right 256) here) ∙ fits) in
+          (sym (ap (λ (test : Bool). test || is_number_below (knowing context.site facts) right 256) here) ∙ fits) in
           gives_then (meant first s) (λ x t. then_do (meant second t) (λ y u. computed (result_of Address And x y) u))
           (any_value s one)
           (λ x t any.
           gives_then (meant second t) (λ y u. computed (result_of Address And x y) u)
           (is_number known.0 t two types_two known.1)
           (λ y u is. IsGiven (
-            let less : bit_and x y ≤ y = and_le_r x y in
-            let small = known.2 in omega (arith, less, small, is))))
+          let less : bit_and x y ≤ y = and_le_r x y in
+          let small = known.2 in omega (arith, less, small, is))))
   two_below {left = left} {right = right} {first = first} {second = second} Modulo s one two types_one types_two fits =
       let known = below_number (number_of (knowing context.site facts) right) 257 fits in
       gives_then (meant first s) (λ x t. then_do (meant second t) (λ y u. computed (result_of Address Modulo x y) u))
@@ -602,9 +606,9 @@ module _ (context : Context) (sound : IsSound context) (facts : Facts) where
       (λ n t first.
       gives_then (meant by t) (λ k u. Gave (shifted Address function n k) u) (is_number known.0 t two types_two known.1)
       (λ k u is. IsGiven (
-        let most = known.2 in
-        let small = right_by_eight n k (of_type (type_of moved) Address n is_address first.0) (omega (arith, most, is)) in
-        subst (λ (f : ShiftFunction). shifted Address f n k < 256) (sym known.3) small)))
+      let most = known.2 in
+      let small = right_by_eight n k (of_type (type_of moved) Address n is_address first.0) (omega (arith, most, is)) in
+      subst (λ (f : ShiftFunction). shifted Address f n k < 256) (sym known.3) small)))
 
   form_below :
       {bound : ℕ} {form : ExpressionForm} {tree : TypedExpression} (s : State)
@@ -667,6 +671,7 @@ module _ (context : Context) (sound : IsSound context) (facts : Facts) where
           subst (λ (outcome : Outcome ℕ). Gives (λ n t. n < 256) outcome)
           (sym (number_is facts known.0 sound is types known.1 s)) (IsGiven known.2)
       by_number node false here address fits = form_below s node.form address types fits source
+
       by_type : (node : NodeOf context of tree) (scalar : ScalarType) → type_of tree ≡ scalar
           → fits_byte_by (knowing context.site facts) of scalar node.found.form ≡ true
           → Gives (λ n t. n < 256) (meant tree s)

@@ -1,16 +1,15 @@
 -- Scalars that are read: the machine has their bytes at the address of their place, and they are steady.
-use Rattle.std.proofs.Common.{◌≡◌, ℕ, ◌+◌, ◌*◌, ◌%◌, ◌<◌, ◌≤◌, inl, inr, Bool, true, false, if◌then◌else◌, List, slice_index, refl, sym, ap, subst, ◌∙◌, arith}
+use Rattle.std.proofs.Common.{◌≡◌, ℕ, ◌+◌, ◌*◌, ◌<◌, ◌≤◌, inl, inr, Bool, true, false, if◌then◌else◌, List, slice_index, refl, ap, subst, ◌∙◌, arith}
 use Rattle.mem80.specs.declared.memory.TheConstants.{MEMORY_SIZE}
 use Rattle.mem80.specs.Memory.{byte_at}
-use Rattle.trees.specs.declared.declaration.ScalarType.{ScalarType}
 use Rattle.trees.specs.declared.declaration.ScalarType.TheVariants.{Byte, Address}
 use Rattle.meaning.specs.declared.reason.Reason.TheVariants.{Byte as UndeclaredByte}
 use Rattle.meaning.specs.Outcomes.{State as SourceState, Outside, Outcome, Gave, Stopped, then_do}
-use Rattle.meaning.specs.Access.{Place, InMemory, InTheFrame, frame_bytes, is_declared, read_byte, read_scalar}
+use Rattle.meaning.specs.Access.{Place, InMemory, InTheFrame, frame_bytes, is_declared, read_scalar}
 use Rattle.isa8080.specs.State.{Registers, State, wrap}
 use Rattle.code_meaning.specs.Landing.{Does}
 use Rattle.code_meaning.specs.Activations.{Activation, IsReady}
-use Rattle.code_facts.specs.Holding.{IsOfFrame, IsSteady}
+use Rattle.code_facts.specs.Holding.{IsSteady}
 use Rattle.task_meaning.specs.Contexts.{Context, IsSound}
 use Rattle.task_meaning.specs.Tasks.{address_on_machine}
 

@@ -1,5 +1,5 @@
 -- Steps that touch registers alone, one after another.
-use Rattle.std.proofs.Common.{◌≡◌, ℕ, ◌+◌, ◌-◌, ◌*◌, ◌/◌, ◌%◌, ◌<◌, ◌≤◌, Bool, true, false, List, [], ◌∷◌, ◌++◌, map, bit_and, bit_or, bit_xor, refl, sym, ap, ◌∙◌, arith, subst}
+use Rattle.std.proofs.Common.{◌≡◌, ℕ, ◌+◌, ◌*◌, ◌/◌, ◌%◌, ◌<◌, ◌≤◌, Bool, true, false, List, [], ◌∷◌, ◌++◌, bit_and, refl, sym, ap, ◌∙◌, arith, subst}
 use Rattle.std.proofs.lemmas.Nat.{and_le_l, or_of_8, xor_of_8}
 use Rattle.mem80.specs.Memory.{IsMemory, byte_at}
 use Rattle.mem80.proofs.MemoryLemmas.{byte_small}
@@ -7,10 +7,10 @@ use Rattle.ports.specs.declared.event.Event.{Event}
 use Rattle.meaning.specs.Outcomes.{State as SourceState, Outcome}
 use Rattle.isa8080.specs.declared.instr.Instr.{Instr}
 use Rattle.isa8080.specs.declared.instr.Instr.TheVariants.{Accumulate, AccumulateImmediate, Cma, Dad, Dcx, Inx, Lxi, Mov, Mvi, Rar, Rlc, Rrc, Ral, Xchg}
-use Rattle.isa8080.specs.declared.instr.Operand.TheVariants.{Of, M}
+use Rattle.isa8080.specs.declared.instr.Operand.TheVariants.{Of}
 use Rattle.isa8080.specs.declared.instr.Operation.{Operation}
 use Rattle.isa8080.specs.declared.instr.Operation.TheVariants.{Add, AddWithCarry, Subtract, SubtractWithBorrow, And, ExclusiveOr, Or, Compare}
-use Rattle.isa8080.specs.declared.instr.Pair.TheVariants.{Bc, De, Hl, Sp}
+use Rattle.isa8080.specs.declared.instr.Pair.TheVariants.{Bc, De, Hl}
 use Rattle.isa8080.specs.declared.instr.Register.{Register}
 use Rattle.isa8080.specs.declared.instr.Register.TheVariants.{A, B, C, D, E, H, L}
 use Rattle.isa8080.specs.declared.registers.Flags.{Flags}
@@ -22,7 +22,6 @@ use Rattle.isa8080.specs.Step.{running}
 use Rattle.asm8080.specs.declared.item.Item.TheVariants as items
 use Rattle.asm8080.specs.Standing.{InstructionStands, size_of_instruction}
 use Rattle.code_meaning.specs.Landing.{Does, at_place}
-use Rattle.code_meaning.specs.Activations.{Activation, IsReady, IsThere}
 use Rattle.code_meaning.proofs.FirstItems.{plain_first}
 use Rattle.code_meaning.proofs.Standing.{stands_now}
 use Rattle.code_facts.specs.Asking.{Asks}

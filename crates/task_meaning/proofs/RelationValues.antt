@@ -1,12 +1,12 @@
 -- A relation as a value: 0FFH in A where it holds, else 0.
-use Rattle.std.proofs.Common.{◌≡◌, ℕ, ◌+◌, ◌-◌, ◌*◌, ◌/◌, ◌%◌, ◌<◌, ◌≤◌, ◌==◌, Bool, true, false, not, nat_lt, nat_le, List, [], ◌∷◌, ◌++◌, Option, Some, None, bit_xor, refl, sym, ap, ◌∙◌, subst, arith, if◌then◌else◌}
-use Rattle.std.proofs.lemmas.Bool.{false≢true, eqb-true, eqb-false, le-leb, lt-leb}
+use Rattle.std.proofs.Common.{◌≡◌, ℕ, ◌+◌, ◌*◌, ◌%◌, ◌<◌, ◌≤◌, ◌==◌, Bool, true, false, not, nat_le, List, ◌++◌, Some, bit_xor, refl, sym, ap, ◌∙◌, arith}
+use Rattle.std.proofs.lemmas.Bool.{false≢true, eqb-true, le-leb}
 use Rattle.std.specs.Int.Bits.{xor_self}
 use Rattle.typed_trees.specs.Charge.{height_of}
 use Rattle.typed_trees.specs.ExpressionTypes.{type_of}
 use Rattle.typed_trees.specs.TypedTrees.{TypedExpression}
 use Rattle.typed_trees.specs.WellTyped.{TypesHold}
-use Rattle.meaning.specs.Outcomes.{State as SourceState, Outcome, Gave, then_do}
+use Rattle.meaning.specs.Outcomes.{State as SourceState, Outcome, Gave}
 use Rattle.meaning.specs.Values.{truth, values_of}
 use Rattle.trees.specs.declared.declaration.ScalarType.{ScalarType}
 use Rattle.trees.specs.declared.declaration.ScalarType.TheVariants.{Byte, Address}
@@ -18,11 +18,10 @@ use Rattle.isa8080.specs.State.{Registers, State}
 use Rattle.treecode.specs.declared.expression.ExpressionNumber.{ExpressionNumber}
 use Rattle.treecode.specs.Lowered.{IsExpression}
 use Rattle.steps8080.specs.declared.facts.Facts.{Facts}
-use Rattle.steps8080.specs.declared.step.Step.{Step}
 use Rattle.code_meaning.specs.Activations.{Arrives}
 use Rattle.code_meaning.specs.Landing.{Does, at_place}
 use Rattle.code_meaning.proofs.Landing.{gives}
-use Rattle.code_meaning.proofs.ByteResults.{borrow_shows, same_test}
+use Rattle.code_meaning.proofs.ByteResults.{borrow_shows}
 use Rattle.sites8080.specs.declared.questions.Relation.{Relation}
 use Rattle.sites8080.specs.Questions.{relation_of}
 use Rattle.sites8080.specs.Queries.{is_free}
@@ -37,7 +36,7 @@ use Rattle.task_meaning.specs.Tasks.{ByteIsGiven, Carries, Nothing, PartDoes}
 use Rattle.task_meaning.proofs.Branches.{given_itself}
 use Rattle.task_meaning.proofs.BytesAsked.{BytesAsked}
 use Rattle.task_meaning.proofs.NumberComparisons.{below_one}
-use Rattle.task_meaning.proofs.Relations.{IsRelation, OutcomeShows, relation_is, relation_shown}
+use Rattle.task_meaning.proofs.Relations.{OutcomeShows, relation_is, relation_shown}
 use Rattle.task_meaning.proofs.Rules.{split}
 use Rattle.task_meaning.proofs.SiteNodes.{value_in}
 use Rattle.task_meaning.proofs.Stages.{Stage, at_a, at_end, does_same, script_of}

@@ -1,5 +1,5 @@
 -- Relations: what their code leaves shows whether they hold.
-use Rattle.std.proofs.Common.{◌≡◌, ℕ, ◌+◌, ◌*◌, ◌%◌, ◌<◌, ◌≤◌, ◌==◌, Bool, true, false, not, ◌&&◌, nat_le, min, max, List, [], ◌∷◌, ◌++◌, Option, Some, None, option_map, refl, sym, ap, ◌∙◌, subst, arith, if◌then◌else◌}
+use Rattle.std.proofs.Common.{◌≡◌, ℕ, ◌+◌, ◌*◌, ◌<◌, ◌≤◌, ◌==◌, Bool, true, false, not, ◌&&◌, nat_le, min, max, List, Option, Some, None, option_map, refl, sym, ap, ◌∙◌, subst, arith, if◌then◌else◌}
 use Rattle.std.specs.Option.{option_and_then}
 use Rattle.std.proofs.lemmas.Bool.{and_parts}
 use Rattle.std.proofs.lemmas.Option.{none-some, same_Some}
@@ -20,16 +20,14 @@ use Rattle.treecode.specs.declared.expression.ExpressionForm.{ExpressionForm}
 use Rattle.treecode.specs.declared.expression.ExpressionNumber.{ExpressionNumber}
 use Rattle.treecode.specs.Lowered.{IsExpression, IsForm, IsNumber, IsValue, IsLocation, IsConstantList, IsConversion, IsEmbedded, IsUnary, IsBinary, IsCallOf, IsFunction, IsShift, IsInput}
 use Rattle.steps8080.specs.declared.facts.Facts.{Facts}
-use Rattle.steps8080.specs.declared.step.Step.{Step}
 use Rattle.code_meaning.specs.Landing.{Does, at_place}
-use Rattle.sites8080.specs.declared.questions.Inquiry.TheVariants.{Between, WithNumber}
+use Rattle.sites8080.specs.declared.questions.Inquiry.TheVariants.{Between}
 use Rattle.sites8080.specs.declared.questions.NumberQuestion.{NumberQuestion}
-use Rattle.sites8080.specs.declared.questions.NumberQuestion.TheVariants.{Never, Below, Is}
+use Rattle.sites8080.specs.declared.questions.NumberQuestion.TheVariants.{Never, Below}
 use Rattle.sites8080.specs.declared.questions.Question.{Question}
 use Rattle.sites8080.specs.declared.questions.Question.TheVariants.{LeftBelow, RightBelow, Equal}
 use Rattle.sites8080.specs.declared.questions.Relation.{Relation}
 use Rattle.sites8080.specs.declared.site.Site.{Site}
-use Rattle.sites8080.specs.Site.{expression}
 use Rattle.sites8080.specs.Queries.{number}
 use Rattle.sites8080.specs.Questions.{agree, greatest, mirrored, number_question, question_of, relation_between, relation_of, relation_of_form, relation_with_number}
 use Rattle.sites8080.specs.Widths.{fits_byte}
@@ -43,7 +41,7 @@ use Rattle.relations8080.specs.declared.relations.Outcome.TheVariants.{Known, Wh
 use Rattle.relations8080.specs.declared.word_relations.Apart.{Apart}
 use Rattle.relations8080.specs.ByteRelations.{answer_to, byte_relation_steps}
 use Rattle.relations8080.specs.Relations.{comparison_steps, number_answer, number_steps, outcome_of, relation_outcome, relation_steps}
-use Rattle.relations8080.specs.WordRelations.{operand_apart, with_pair_steps, with_place_steps, word_relation_steps}
+use Rattle.relations8080.specs.WordRelations.{operand_apart, with_pair_steps, with_place_steps}
 use Rattle.quiet_expressions.proofs.Exchanging.{in_order as evaluated_in_order}
 use Rattle.exprgen8080.specs.Emission.{knowing}
 use Rattle.task_meaning.specs.Contexts.{Context, IsSound, nodes_in}
@@ -52,7 +50,6 @@ use Rattle.task_meaning.specs.Tasks.{PartDoes}
 use Rattle.task_meaning.proofs.Answers.{AnswerShows, ZeroShows, agree_twice, mirrored_asks, number_asks, number_truth, question_truth, relation_gives}
 use Rattle.task_meaning.proofs.BytesAsked.{BytesAsked}
 use Rattle.task_meaning.proofs.ByteComparisons.{asking, bytes_compared}
-use Rattle.task_meaning.proofs.ByteOperations.{IsValueOf}
 use Rattle.task_meaning.proofs.Nodes.{node_of}
 use Rattle.task_meaning.proofs.NumberComparisons.{GoesOnAsked, byte_asked}
 use Rattle.task_meaning.proofs.PlaceComparisons.{is_apart, place_compared, word_of_type}

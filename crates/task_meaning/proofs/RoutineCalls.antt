@@ -1,5 +1,5 @@
 -- Calls of routines.
-use Rattle.std.proofs.Common.{◌≡◌, ◌≢◌, ℕ, ◌+◌, ◌-◌, ◌*◌, ◌/◌, ◌%◌, ◌<◌, ◌≤◌, inl, inr, true, List, [], ◌∷◌, refl, sym, ap, ◌∙◌, arith, subst}
+use Rattle.std.proofs.Common.{◌≡◌, ℕ, ◌+◌, ◌-◌, ◌<◌, ◌≤◌, inl, inr, List, [], ◌∷◌, refl, sym, ap, ◌∙◌, arith, subst}
 use Rattle.mem80.specs.declared.memory.TheConstants.{MEMORY_SIZE}
 use Rattle.mem80.specs.declared.range.Range.{Range}
 use Rattle.mem80.specs.Memory.{byte_at}
@@ -11,13 +11,12 @@ use Rattle.isa8080.specs.declared.registers.Status.TheVariants.{Running}
 use Rattle.isa8080.specs.Code.{bytes_of}
 use Rattle.isa8080.specs.State.{HoldBytes, Registers, State, wrap}
 use Rattle.asm8080.specs.declared.item.WordForm.TheVariants.{CallTo}
-use Rattle.asm8080.specs.Runs.{Comes}
 use Rattle.asm8080.specs.Standing.{InstructionStands, Keeps, below}
 use Rattle.runtime8080.specs.declared.routine.Routine.{Routine}
 use Rattle.runtime8080.specs.declared.routine.Routine.TheVariants as routines
-use Rattle.runtime8080.specs.Routines.{BlocksMiss, Computes, CopyMisses, HasReturned, Leaves, MayCall, Returns, memory_after}
+use Rattle.runtime8080.specs.Routines.{BlocksMiss, Computes, CopyMisses, HasReturned, Leaves, Returns, memory_after}
 use Rattle.code_meaning.specs.Landing.{Does, Lands, at_place}
-use Rattle.code_meaning.specs.Activations.{Activation, HasRoom, IsReady, IsThere, LiesWell, Owns}
+use Rattle.code_meaning.specs.Activations.{Activation, HasRoom, IsReady, LiesWell, Owns}
 use Rattle.code_meaning.proofs.Landing.{told_on}
 use Rattle.code_meaning.proofs.Owning.{keeps_both, keeps_wider}
 use Rattle.code_meaning.proofs.Standing.{bytes_alike, stands_now}
@@ -32,7 +31,6 @@ use Rattle.steps8080.specs.Writer.{jump_item}
 use Rattle.exprgen8080.specs.Emission.{label_of_routine}
 use Rattle.task_meaning.specs.Contexts.{Context, IsSound, RoutineIsAt}
 use Rattle.task_meaning.specs.Steps.{StepsStand, RoutineThere}
-use Rattle.task_meaning.specs.Tasks.{Know}
 use Rattle.task_meaning.proofs.Rules.{GoesOn, bytes_at_place}
 
 -- all routines but MOVE leave memory as it was, but for the bytes below the stack

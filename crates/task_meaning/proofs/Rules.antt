@@ -332,16 +332,40 @@ pub popped_bytes :
     (pair : StackPair) (word : ℕ) (r : Registers) (sp : ℕ) → word < MEMORY_SIZE → HoldBytes r
     → HoldBytes (record (with_popped pair word r) { sp = sp })
 popped_bytes StackBc word r sp small bytes = record {
-  a = bytes.a; b = omega (arith, small); c = omega arith; d = bytes.d; e = bytes.e; h = bytes.h; l = bytes.l;
+  a = bytes.a;
+  b = omega (arith, small);
+  c = omega arith;
+  d = bytes.d;
+  e = bytes.e;
+  h = bytes.h;
+  l = bytes.l;
 }
 popped_bytes StackDe word r sp small bytes = record {
-  a = bytes.a; b = bytes.b; c = bytes.c; d = omega (arith, small); e = omega arith; h = bytes.h; l = bytes.l;
+  a = bytes.a;
+  b = bytes.b;
+  c = bytes.c;
+  d = omega (arith, small);
+  e = omega arith;
+  h = bytes.h;
+  l = bytes.l;
 }
 popped_bytes StackHl word r sp small bytes = record {
-  a = bytes.a; b = bytes.b; c = bytes.c; d = bytes.d; e = bytes.e; h = omega (arith, small); l = omega arith;
+  a = bytes.a;
+  b = bytes.b;
+  c = bytes.c;
+  d = bytes.d;
+  e = bytes.e;
+  h = omega (arith, small);
+  l = omega arith;
 }
 popped_bytes Psw word r sp small bytes = record {
-  a = omega (arith, small); b = bytes.b; c = bytes.c; d = bytes.d; e = bytes.e; h = bytes.h; l = bytes.l;
+  a = omega (arith, small);
+  b = bytes.b;
+  c = bytes.c;
+  d = bytes.d;
+  e = bytes.e;
+  h = bytes.h;
+  l = bytes.l;
 }
 
 pop_asks :
@@ -384,7 +408,7 @@ pop_goes {context = context} {facts = facts} {top = top} {base = base} {source =
     let below : top ≤ activation.level = omega (arith, depth) in
     let limit : top ≤ MEMORY_SIZE = omega (arith, below, above, stack) in
     let is = still_pushed activation top word other others after_part memory ended lies start below
-        before.shares.is_memory.size on.ready in
+    before.shares.is_memory.size on.ready in
     let now : Registers = record (with_popped pair word after_part) { sp = wrap top } in
     let does = pop_does script pair place top word after_part ended events on.ready.pointer (omega (arith, start)) limit is in
     plain_goes after_part now ended events sound there on

@@ -1,10 +1,10 @@
 -- What the code asks of nodes, in the words of trees.
-use Rattle.std.proofs.Common.{◌≡◌, ℕ, ◌+◌, ◌<◌, ◌&&◌, ◌||◌, Bool, true, false, Option, Some, None, is_some, slice_get, refl, sym, ap, subst, ◌∙◌, List}
+use Rattle.std.proofs.Common.{◌≡◌, ℕ, ◌&&◌, ◌||◌, true, false, Option, Some, None, is_some, slice_get, refl, sym, ap, ◌∙◌, List}
 use Rattle.std.specs.Option.{option_map_or}
 use Rattle.typed_trees.specs.TypedTrees.{TypedModule, TypedExpression, NumberNode, ValueNode, LocationNode, ListNode, ConversionNode, AssignmentNode, UnaryNode, BinaryNode, CallNode, FunctionNode, ShiftNode, InputNode, TypedReference, PartOf, Subscript, NoSubscript, At}
 use Rattle.typed_trees.specs.WellTyped.{TypesHold, TypesHoldInReference, TypesHoldInSubscript, Within}
 use Rattle.meaning.specs.Meaning.{value}
-use Rattle.meaning.specs.Outcomes.{State as SourceState, Ended, More, Outside, Outcome, Gave, Stopped, then_do}
+use Rattle.meaning.specs.Outcomes.{State as SourceState, Ended, More, Outside, Outcome, Gave, Stopped}
 use Rattle.isa8080.specs.State.{State}
 use Rattle.treecode.specs.declared.expression.Expression.{Expression}
 use Rattle.treecode.specs.declared.expression.ExpressionNumber.{ExpressionNumber}
@@ -12,7 +12,7 @@ use Rattle.treecode.specs.declared.place.Place.{Place}
 use Rattle.treecode.specs.declared.place.Place.TheVariants.{Number, Code, Data, External}
 use Rattle.treecode.specs.Known.{known_number}
 use Rattle.treecode.specs.Lowered.{IsExpression}
-use Rattle.treecode.specs.Nodes.{Nodes, nodes_of}
+use Rattle.treecode.specs.Nodes.{nodes_of}
 use Rattle.treecode.specs.Queries.{place_number}
 use Rattle.treecode.specs.Resolved.{HaveOperands, PartHasOperands, SubscriptHasOperands}
 use Rattle.treecode.specs.Traits.{free_at, known_at, no_traits, number_at, quiet_at, storing_nothing_at}
@@ -46,12 +46,16 @@ mutual
   have_operands typed within (AssignmentNode target inner) hold = have_operands typed within inner hold.0
   have_operands typed within (UnaryNode scalar operator operand) hold = have_operands typed within operand hold.0
   have_operands typed within (BinaryNode operands operator left right) hold = (
-    hold.1.1, hold.2.1, have_operands typed within left hold.1.0, have_operands typed within right hold.2.0,
+    hold.1.1,
+    hold.2.1,
+    have_operands typed within left hold.1.0,
+    have_operands typed within right hold.2.0,
   )
   have_operands typed within (CallNode procedure scalar given) hold = tt
   have_operands typed within (FunctionNode function operand) hold = have_operands typed within operand hold
   have_operands typed within (ShiftNode scalar function moved count) hold = (
-    have_operands typed within moved hold.1.0, have_operands typed within count hold.2.0,
+    have_operands typed within moved hold.1.0,
+    have_operands typed within count hold.2.0,
   )
   have_operands typed within (InputNode port) hold = tt
 
@@ -59,7 +63,8 @@ mutual
       → TypesHoldInReference typed within part
       → PartHasOperands part
   part_has_operands typed within (PartOf object subscript member offset member_subscript) hold = (
-    subscript_has_operands typed within subscript hold.0, subscript_has_operands typed within member_subscript hold.1,
+    subscript_has_operands typed within subscript hold.0,
+    subscript_has_operands typed within member_subscript hold.1,
   )
 
   pub subscript_has_operands : (typed : TypedModule) (within : Within) (subscript : Subscript)
@@ -74,7 +79,7 @@ unfolding known expression
 known_is site of = by (slice_get site.tree.now.expressions.items of.index)
   where
     by : (found : Option Expression)
-        → elim found [ | Some one ↦ one.traits.known | None ↦ None ]
+        → elim found [ Some one ↦ one.traits.known | None ↦ None ]
         ≡ (option_map_or (λ (one : Expression). one.traits) found no_traits).known
     by (Some one) = refl
     by None = refl
@@ -84,7 +89,7 @@ unfolding is_quiet expression
 quiet_is site of = by (slice_get site.tree.now.expressions.items of.index)
   where
     by : (found : Option Expression)
-        → elim found [ | Some one ↦ one.traits.is_quiet | None ↦ false ]
+        → elim found [ Some one ↦ one.traits.is_quiet | None ↦ false ]
         ≡ (option_map_or (λ (one : Expression). one.traits) found no_traits).is_quiet
     by (Some one) = refl
     by None = refl
@@ -95,7 +100,7 @@ unfolding stores_nothing expression
 storing_is site of = by (slice_get site.tree.now.expressions.items of.index)
   where
     by : (found : Option Expression)
-        → elim found [ | Some one ↦ one.traits.stores_nothing | None ↦ false ]
+        → elim found [ Some one ↦ one.traits.stores_nothing | None ↦ false ]
         ≡ (option_map_or (λ (one : Expression). one.traits) found no_traits).stores_nothing
     by (Some one) = refl
     by None = refl
@@ -105,13 +110,13 @@ unfolding is_free expression
 free_is site of = by (slice_get site.tree.now.expressions.items of.index)
   where
     by : (found : Option Expression)
-        → elim found [ | Some one ↦ one.traits.is_free | None ↦ false ]
+        → elim found [ Some one ↦ one.traits.is_free | None ↦ false ]
         ≡ (option_map_or (λ (one : Expression). one.traits) found no_traits).is_free
     by (Some one) = refl
     by None = refl
 
 number_of_known : (found : Option Place)
-    → elim found [ | Some place ↦ place_number place | None ↦ None ] ≡ known_number found
+    → elim found [ Some place ↦ place_number place | None ↦ None ] ≡ known_number found
 number_of_known (Some place) = refl
 number_of_known None = refl
 

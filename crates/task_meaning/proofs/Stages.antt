@@ -1,5 +1,5 @@
 -- A machine within the code of a body, and what it does that comes to a step.
-use Rattle.std.proofs.Common.{◌≡◌, ℕ, ◌+◌, ◌-◌, ◌*◌, ◌/◌, ◌%◌, ◌<◌, ◌≤◌, Bool, true, false, List, [], ◌∷◌, ◌++◌, refl, sym, ap, ◌∙◌, subst, arith}
+use Rattle.std.proofs.Common.{◌≡◌, ℕ, ◌+◌, ◌-◌, ◌*◌, ◌%◌, ◌<◌, ◌≤◌, Bool, true, false, List, [], ◌∷◌, ◌++◌, refl, sym, ap, ◌∙◌, subst, arith}
 use Rattle.mem80.specs.declared.memory.TheConstants.{MEMORY_SIZE}
 use Rattle.mem80.specs.Memory.{byte_at}
 use Rattle.mem80.proofs.MemoryLemmas.{byte_small}
@@ -9,7 +9,6 @@ use Rattle.typed_trees.specs.TypedTrees.{TypedExpression}
 use Rattle.typed_trees.specs.WellTyped.{TypesHold}
 use Rattle.meaning.specs.Meaning.{value}
 use Rattle.meaning.specs.Outcomes.{State as SourceState, Ended, More, Outside, Outcome, Gave, Stopped, then_do}
-use Rattle.meaning.specs.Values.{values_of}
 use Rattle.isa8080.specs.declared.instr.Instr.{Instr}
 use Rattle.isa8080.specs.declared.instr.Instr.TheVariants.{Pop, Push}
 use Rattle.isa8080.specs.declared.instr.StackPair.{StackPair}
@@ -20,7 +19,7 @@ use Rattle.isa8080.specs.Flags.{bit, flag_byte}
 use Rattle.isa8080.specs.State.{HoldBytes, Registers, State, pushed_of, with_popped, wrap}
 use Rattle.asm8080.specs.declared.item.Item.TheVariants as items
 use Rattle.asm8080.specs.Standing.{size_of_instruction}
-use Rattle.machine_runs.proofs.Calls.{pushed as pushed_word, pushed_keeps}
+use Rattle.machine_runs.proofs.Calls.{pushed as pushed_word}
 use Rattle.treecode.specs.declared.expression.ExpressionNumber.{ExpressionNumber}
 use Rattle.treecode.specs.Lowered.{IsExpression}
 use Rattle.steps8080.specs.declared.facts.Facts.{Facts}
@@ -31,7 +30,7 @@ use Rattle.steps8080.specs.Step.{plain}
 use Rattle.steps8080.specs.Writer.{word_item}
 use Rattle.asm8080.specs.declared.item.WordForm.TheVariants.{LoadA}
 use Rattle.treecode.specs.declared.place.Place.{Place}
-use Rattle.code_meaning.specs.Activations.{Activation, Arrives, HasRoom, IsReady, IsThere}
+use Rattle.code_meaning.specs.Activations.{Activation, HasRoom, IsReady, IsThere}
 use Rattle.code_meaning.specs.Landing.{Does, Lands, at_place}
 use Rattle.code_meaning.proofs.FirstItems.{plain_first}
 use Rattle.code_meaning.proofs.Landing.{then_does, told_on}
@@ -41,12 +40,11 @@ use Rattle.code_facts.specs.Asking.{Asks}
 use Rattle.code_facts.specs.Holding.{FactsHold, IsSteady, place_at}
 use Rattle.code_facts.proofs.After.{facts_after}
 use Rattle.code_facts.proofs.Steady.{push_asks}
-use Rattle.sites8080.specs.Queries.{is_free}
 use Rattle.task_meaning.specs.Contexts.{Context, IsSound, distances_in, nodes_in}
 use Rattle.task_meaning.specs.Steps.{StepsStand, NoneThere}
 use Rattle.task_meaning.proofs.RegisterCode.{AreOnRegisters, effect, registers_then}
 use Rattle.task_meaning.proofs.Rules.{ready_with_registers, word_goes}
-use Rattle.task_meaning.specs.Tasks.{ByteDoes, ByteIsGiven, Carries, ChangesAOnly, EffectsDo, Know, Nothing, EffectsAreGiven, WordDoes, WordIsGiven}
+use Rattle.task_meaning.specs.Tasks.{ByteDoes, ByteIsGiven, Carries, EffectsDo, Know, EffectsAreGiven, WordDoes, WordIsGiven}
 
 -- what ports give
 abbrev pub script_of : Context → List (List ℕ)
@@ -384,7 +382,12 @@ at_load_a {context = context} {r = r} {memory = memory} {place = place} sound th
       ready = ready_with_registers refl
           (record {
             a = byte_small memory (place_at context.activation.layout place) stage.ready.shares.is_memory;
-            b = held.b; c = held.c; d = held.d; e = held.e; h = held.h; l = held.l;
+            b = held.b;
+            c = held.c;
+            d = held.d;
+            e = held.e;
+            h = held.h;
+            l = held.l;
           }) stage.ready;
       known = known;
     }))

@@ -1,8 +1,7 @@
 -- The code of stores at places that are known, and of a BYTE in A at any.
-use Rattle.std.proofs.Common.{◌≡◌, ℕ, ◌+◌, ◌-◌, ◌*◌, ◌/◌, ◌%◌, ◌<◌, ◌≤◌, Bool, true, false, List, [], ◌∷◌, ◌++◌, Option, Some, None, slice_set, refl, sym, ap, subst, ◌∙◌, arith}
-use Rattle.mem80.specs.declared.memory.TheConstants.{MEMORY_SIZE}
+use Rattle.std.proofs.Common.{◌≡◌, ℕ, ◌+◌, ◌*◌, ◌%◌, ◌<◌, Bool, List, [], ◌∷◌, Option, Some, None, slice_set, refl, sym, ap, subst, ◌∙◌, arith}
 use Rattle.ports.specs.declared.event.Event.{Event}
-use Rattle.trees.specs.declared.declaration.ScalarType.TheVariants.{Byte, Address}
+use Rattle.trees.specs.declared.declaration.ScalarType.TheVariants.{Byte}
 use Rattle.typed_trees.specs.Charge.{height_of_reference}
 use Rattle.typed_trees.specs.TypedTrees.{TypedReference}
 use Rattle.typed_trees.specs.WellTyped.{RefersToScalar, TypesHoldInReference}
@@ -22,14 +21,13 @@ use Rattle.treecode.specs.declared.place.Location.TheVariants as locations
 use Rattle.treecode.specs.declared.reference.Reference.{Reference}
 use Rattle.treecode.specs.Lowered.{IsReference}
 use Rattle.code_meaning.specs.Landing.{Does, at_place}
-use Rattle.code_meaning.specs.Activations.{Arrives, HasRoom, IsReady, IsThere}
+use Rattle.code_meaning.specs.Activations.{Arrives, IsReady, IsThere}
 use Rattle.code_meaning.proofs.Landing.{gives}
 use Rattle.code_meaning.proofs.FirstItems.{plain_step, word_step}
 use Rattle.code_facts.specs.Asking.{IsSteadyByte, WordAsks}
-use Rattle.code_facts.specs.Holding.{location_at, place_at}
+use Rattle.code_facts.specs.Holding.{place_at}
 use Rattle.code_facts.proofs.After.{facts_after_word}
 use Rattle.steps8080.specs.declared.facts.Facts.{Facts}
-use Rattle.steps8080.specs.declared.step.Step.{Step}
 use Rattle.steps8080.specs.declared.step.Step.TheVariants.{Word}
 use Rattle.steps8080.specs.Facts.{after_word}
 use Rattle.steps8080.specs.Writer.{word_item}
@@ -183,6 +181,9 @@ byte_store_law {context = context} {facts = facts} {last = last} {reference = re
         (asked ∙ twice_low number small) lies.is_at (located_fits context Byte tree lies.place s s sound refers (lies.means s)) stand
         (record { ready = ready; known = known })
         (λ u left on_left. gives (record {
-          r = r; memory = left; is_at = refl; ready = on_left.ready;
+          r = r;
+          memory = left;
+          is_at = refl;
+          ready = on_left.ready;
           holds = record { known = on_left.known; wanted = λ wanted. asked };
         })))

@@ -1,6 +1,5 @@
 -- The code of stores of a byte that is in A.
-use Rattle.std.proofs.Common.{◌≡◌, ℕ, suc, ◌+◌, ◌-◌, ◌*◌, ◌/◌, ◌%◌, ◌<◌, ◌≤◌, Bool, true, false, if◌then◌else◌, List, [], ◌∷◌, ◌++◌, slice_set, refl, sym, ap, subst, ◌∙◌, arith}
-use Rattle.mem80.specs.declared.memory.TheConstants.{MEMORY_SIZE}
+use Rattle.std.proofs.Common.{◌≡◌, ℕ, suc, ◌+◌, ◌-◌, ◌*◌, ◌%◌, ◌<◌, ◌≤◌, Bool, true, false, if◌then◌else◌, List, [], ◌∷◌, ◌++◌, slice_set, refl, sym, ap, subst, ◌∙◌, arith}
 use Rattle.trees.specs.declared.declaration.ScalarType.TheVariants.{Byte}
 use Rattle.typed_trees.specs.Charge.{height_of_reference}
 use Rattle.typed_trees.specs.TypedTrees.{TypedReference}
@@ -18,14 +17,13 @@ use Rattle.isa8080.proofs.FlagBytes.{flag_byte_small}
 use Rattle.isa8080.specs.Act.{act}
 use Rattle.isa8080.specs.Step.{step_of}
 use Rattle.asm8080.specs.declared.item.Item.TheVariants as items
-use Rattle.asm8080.specs.Runs.{Comes}
 use Rattle.asm8080.specs.Standing.{size_of_instruction}
 use Rattle.machine_runs.proofs.Calls.{pushed as pushed_memory}
 use Rattle.machine_runs.proofs.Steps.{step_then}
 use Rattle.treecode.specs.declared.reference.Reference.{Reference}
 use Rattle.treecode.specs.Lowered.{IsReference}
 use Rattle.code_meaning.specs.Landing.{Does, Lands, at_place}
-use Rattle.code_meaning.specs.Activations.{Arrives, HasRoom, IsReady, IsThere}
+use Rattle.code_meaning.specs.Activations.{Arrives, IsReady, IsThere}
 use Rattle.code_meaning.proofs.Landing.{after_step, gives}
 use Rattle.code_meaning.proofs.FirstItems.{plain_step}
 use Rattle.code_facts.specs.Asking.{Asks}
@@ -33,7 +31,6 @@ use Rattle.code_facts.proofs.After.{facts_after}
 use Rattle.code_facts.proofs.Steady.{address_asks}
 use Rattle.steps8080.specs.declared.facts.Facts.{Facts}
 use Rattle.steps8080.specs.declared.step.Part.{Part}
-use Rattle.steps8080.specs.declared.step.Step.{Step}
 use Rattle.steps8080.specs.declared.step.Step.TheVariants.{Plain}
 use Rattle.steps8080.specs.declared.step.Task.TheVariants as tasks
 use Rattle.steps8080.specs.Facts.{after}
@@ -42,8 +39,8 @@ use Rattle.sites8080.specs.Queries.{keeps_of_address}
 use Rattle.operands8080.specs.Stores.{goal_of, store_a_at_steps}
 use Rattle.exprgen8080.specs.Emission.{knowing}
 use Rattle.task_meaning.specs.Contexts.{Context, InRegister, IsSound, distances_in, nodes_in}
-use Rattle.task_meaning.specs.Steps.{StepsStand, NoneThere, PlainThere, PartThere}
-use Rattle.task_meaning.specs.Tasks.{AddressDoes, Carries, IsStored, Know, PartDoes, address_on_machine}
+use Rattle.task_meaning.specs.Steps.{StepsStand, PlainThere, PartThere}
+use Rattle.task_meaning.specs.Tasks.{Carries, IsStored, Know, PartDoes, address_on_machine}
 use Rattle.task_meaning.proofs.Rules.{GoesOn, bytes_at_place, more_pushed, pop_goes, push_goes, pushed_word_small, room_for}
 use Rattle.task_meaning.proofs.Values.{then_does_where}
 use Rattle.task_meaning.proofs.Addresses.{nothing_goes}
@@ -158,7 +155,7 @@ twice_low : (n : ℕ) → n < 256 → n ≡ n % 256 % 256
 twice_low n small = omega (arith, small)
 
 -- what is known of registers does not change what the code of an address keeps
-address_keeps_anywhere : (context : Context) (used : Facts) (reference : Reference)
+pub address_keeps_anywhere : (context : Context) (used : Facts) (reference : Reference)
     → keeps_of_address (knowing context.site used) reference ≡ keeps_of_address context.site reference
 unfolding keeps_of_address
 address_keeps_anywhere context used reference = refl
@@ -197,7 +194,10 @@ byte_at_address_law {context = context} {facts = facts} {last = last} {reference
         (mov_a_stores (λ found u. Gave found u) place (number % 256 % 256) t now ended sound (omega arith)
         (a ∙ twice_low number small) hl fits stand on
         (λ u left on_left. gives (record {
-          r = now; memory = left; is_at = refl; ready = on_left.ready;
+          r = now;
+          memory = left;
+          is_at = refl;
+          ready = on_left.ready;
           holds = record { known = on_left.known; wanted = λ wanted. a };
         })))
 

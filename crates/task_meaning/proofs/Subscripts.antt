@@ -1,16 +1,16 @@
 -- Subscripts as tree code takes them apart: what is computed, and how many bytes are known, are the source's
 -- displacement modulo the size of memory.
-use Rattle.std.proofs.Common.{◌≡◌, ℕ, ◌+◌, ◌-◌, ◌*◌, ◌/◌, ◌%◌, ◌<◌, ◌≤◌, Bool, true, false, Option, Some, None, is_some, slice_get, max, if◌then◌else◌, refl, sym, ap, ◌∙◌, subst, arith, mul_comm, unwrap_or}
+use Rattle.std.proofs.Common.{◌≡◌, ℕ, ◌+◌, ◌-◌, ◌*◌, ◌%◌, ◌<◌, ◌≤◌, true, Option, Some, None, is_some, slice_get, max, if◌then◌else◌, refl, sym, ap, ◌∙◌, subst, arith, mul_comm, unwrap_or}
 use Rattle.std.proofs.Math.Nat.{mul-add}
-use Rattle.std.proofs.lemmas.Nat.{mul-mod_first, mul-mod_second}
+use Rattle.std.proofs.lemmas.Nat.{mul-mod_second}
 use Rattle.std.specs.Option.{option_and_then, option_map_or}
 use Rattle.trees.specs.declared.declaration.ScalarType.{ScalarType}
-use Rattle.trees.specs.declared.declaration.ScalarType.TheVariants.{Byte, Address}
+use Rattle.trees.specs.declared.declaration.ScalarType.TheVariants.{Address}
 use Rattle.trees.specs.declared.expression.BinaryOperator.{BinaryOperator}
 use Rattle.trees.specs.declared.expression.BinaryOperator.TheVariants as operators
 use Rattle.typed_trees.specs.Charge.{height_of, height_of_subscript}
 use Rattle.typed_trees.specs.ExpressionTypes.{type_of}
-use Rattle.typed_trees.specs.TypedTrees.{TypedExpression, BinaryNode, Subscript, NoSubscript, At}
+use Rattle.typed_trees.specs.TypedTrees.{TypedExpression, BinaryNode, Subscript, At}
 use Rattle.typed_trees.specs.WellTyped.{TypesHold, TypesHoldInSubscript}
 use Rattle.meaning.specs.Meaning.{Displacement, computed, displaced, displacement, no_displacement, value}
 use Rattle.meaning.specs.Outcomes.{State, Outcome, Gave, Stopped, then_do}
@@ -25,7 +25,6 @@ use Rattle.treecode.specs.declared.reference.Subscript.{Subscript as IndexNode}
 use Rattle.treecode.specs.declared.traits.Keeps.{Keeps}
 use Rattle.treecode.specs.declared.traits.Traits.{Traits}
 use Rattle.treecode.specs.Lowered.{IsExpression, IsForm, IsBinary, IsSubscript, IsAbsent, IsIndex}
-use Rattle.treecode.specs.Nodes.{Nodes}
 use Rattle.treecode.specs.Known.{known_number, result_of_known}
 use Rattle.treecode.specs.Queries.{none_kept, place_number}
 use Rattle.treecode.specs.Traits.{keeps_at, keeps_both, keeps_none, keeps_of, keeps_of_index, keeps_of_subscript, known_of, known_at, no_traits, number_at, traits_at, traits_of}
@@ -36,7 +35,7 @@ use Rattle.sites8080.specs.Site.{expression}
 use Rattle.exprgen8080.specs.Emission.{knowing}
 use Rattle.task_meaning.specs.Contexts.{Context, IsSound, nodes_in}
 use Rattle.task_meaning.proofs.Nodes.{NodeOf, node_of}
-use Rattle.task_meaning.proofs.KnownOperands.{number_is, number_known, number_small}
+use Rattle.task_meaning.proofs.KnownOperands.{number_is, number_small}
 
 -- what is kept by one is kept by another
 pub record KeepsLess (one other : Keeps) : Type 0 where
@@ -516,6 +515,6 @@ is_split {context = context} facts sound (IsIndex {stride = stride} {count = cou
     by_number None unknown =
         let node = node_of sound is in
         let apart = split_unknown context facts (record { index = of; stride = stride % 65536 }) unknown
-                ∙ split_by_form context facts (record { index = of; stride = stride % 65536 }) node.found (node.at_site facts) in
+        ∙ split_by_form context facts (record { index = of; stride = stride % 65536 }) node.found (node.at_site facts) in
         subst (λ split. IsSplit context (Some (record { index = of; stride = stride % 65536 })) (At stride count tree) split.computed split.offset) (sym apart)
         (computed_split context facts of stride count _ tree sound node is types.0 types.1 unknown node.found.form refl node.form)

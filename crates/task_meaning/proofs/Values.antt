@@ -1,5 +1,5 @@
 -- Parts of code that give values: what follows them is done with the value in its register.
-use Rattle.std.proofs.Common.{◌≡◌, ℕ, ◌+◌, ◌*◌, ◌/◌, ◌%◌, ◌<◌, ◌≤◌, true, List, [], ◌∷◌, refl, sym, ap, ◌∙◌, subst, arith}
+use Rattle.std.proofs.Common.{◌≡◌, ℕ, ◌*◌, ◌/◌, ◌%◌, ◌<◌, ◌≤◌, List, [], ◌∷◌, refl, sym, subst, arith}
 use Rattle.trees.specs.declared.declaration.ScalarType.{ScalarType}
 use Rattle.typed_trees.specs.Charge.{height_of}
 use Rattle.typed_trees.specs.ExpressionTypes.{type_of}
@@ -8,7 +8,7 @@ use Rattle.typed_trees.specs.WellTyped.{TypesHold}
 use Rattle.meaning.specs.Meaning.{value}
 use Rattle.meaning.specs.Outcomes.{State as SourceState, Ended, More, Outside, Outcome, Gave, Stopped, then_do}
 use Rattle.meaning.specs.Values.{values_of}
-use Rattle.isa8080.specs.State.{HoldBytes, Registers, State}
+use Rattle.isa8080.specs.State.{Registers, State}
 use Rattle.treecode.specs.declared.expression.ExpressionNumber.{ExpressionNumber}
 use Rattle.treecode.specs.Lowered.{IsExpression}
 use Rattle.code_meaning.specs.Landing.{Does, Lands, at_place}
@@ -19,9 +19,9 @@ use Rattle.steps8080.specs.declared.step.Part.{Part}
 use Rattle.steps8080.specs.declared.step.Step.{Step}
 use Rattle.steps8080.specs.declared.step.Step.TheVariants as steps
 use Rattle.sites8080.specs.Queries.{keeps}
-use Rattle.task_meaning.specs.Contexts.{Context, IsSound, nodes_in}
+use Rattle.task_meaning.specs.Contexts.{Context, nodes_in}
 use Rattle.task_meaning.specs.Steps.{StepsStand, NoneThere, PartThere}
-use Rattle.task_meaning.specs.Tasks.{PartDoes, ByteDoes, ByteIsGiven, EffectsDo, Know, Left, EffectsAreGiven, WordDoes, WordIsGiven}
+use Rattle.task_meaning.specs.Tasks.{PartDoes, ByteDoes, ByteIsGiven, EffectsDo, Left, EffectsAreGiven, WordDoes, WordIsGiven}
 use Rattle.task_meaning.proofs.Rules.{GoesOn, room_for}
 
 -- a part that gave something, then others, which know what it gave

@@ -1,9 +1,7 @@
 -- Products and differences in HL.
-use Rattle.std.proofs.Common.{◌≡◌, ℕ, ◌+◌, ◌-◌, ◌*◌, ◌/◌, ◌%◌, ◌<◌, ◌≤◌, max, Bool, true, false, if◌then◌else◌, List, [], ◌∷◌, ◌++◌, Option, Some, None, is_some, refl, sym, ap, ◌∙◌, subst, arith}
-use Rattle.std.specs.Option.{option_and_then}
+use Rattle.std.proofs.Common.{◌≡◌, ℕ, ◌+◌, ◌-◌, ◌*◌, ◌%◌, ◌<◌, ◌≤◌, max, false, if◌then◌else◌, List, [], ◌∷◌, ◌++◌, Option, Some, None, is_some, refl, sym, ap, ◌∙◌, subst, arith}
 use Rattle.trees.specs.declared.declaration.ScalarType.{ScalarType}
 use Rattle.trees.specs.declared.declaration.ScalarType.TheVariants.{Address}
-use Rattle.trees.specs.declared.expression.BinaryOperator.{BinaryOperator}
 use Rattle.trees.specs.declared.expression.BinaryOperator.TheVariants as operators
 use Rattle.typed_trees.specs.Charge.{height_of}
 use Rattle.typed_trees.specs.ExpressionTypes.{type_of}
@@ -21,11 +19,10 @@ use Rattle.treecode.specs.declared.place.Place.TheVariants.{Number}
 use Rattle.treecode.specs.Homes.{number_of_place}
 use Rattle.treecode.specs.Known.{known_number}
 use Rattle.treecode.specs.Nodes.{Nodes}
-use Rattle.treecode.specs.Traits.{keeps_at, keeps_none, keeps_of_binary, known_at, number_at}
+use Rattle.treecode.specs.Traits.{keeps_at, keeps_none, keeps_of_binary, number_at}
 use Rattle.code_meaning.specs.Landing.{Does, at_place}
 use Rattle.code_meaning.specs.Activations.{Arrives, HasRoom}
 use Rattle.steps8080.specs.declared.facts.Facts.{Facts}
-use Rattle.steps8080.specs.declared.step.Step.{Step}
 use Rattle.steps8080.specs.declared.step.Step.TheVariants.{CallRoutine}
 use Rattle.steps8080.specs.declared.step.Task.TheVariants as tasks
 use Rattle.steps8080.specs.Step.{part as part_of, plain}
@@ -45,7 +42,7 @@ use Rattle.task_meaning.specs.Steps.{StepsStand}
 use Rattle.task_meaning.specs.Tasks.{PartDoes, WordIsGiven}
 use Rattle.task_meaning.proofs.Rules.{GoesOn}
 use Rattle.task_meaning.proofs.KnownOperands.{known_same, number_known, number_small}
-use Rattle.task_meaning.proofs.Values.{HasWord, word_given}
+use Rattle.task_meaning.proofs.Values.{word_given}
 use Rattle.task_meaning.proofs.Pairs.{IsOperand, same_rest}
 use Rattle.task_meaning.proofs.PairedWords.{byte_instructions, difference_makes, paired_does}
 use Rattle.task_meaning.proofs.WordSums.{TwoWords, added_does, first_known, kept_as, less_high, one_high, second_known, two_high}
@@ -104,7 +101,7 @@ numbered_product_does {context = context} {pushed = pushed} {to = to} {facts = f
 turned_product : (a b : ℕ) → (a * b) % 65536 ≡ (b * a) % 65536
 turned_product a b = omega arith
 
-number_below : (n : ℕ) (scalar : ScalarType) → scalar ≡ Address → n < values_of scalar → n < 65536
+pub number_below : (n : ℕ) (scalar : ScalarType) → scalar ≡ Address → n < values_of scalar → n < 65536
 number_below n scalar same small = subst (λ (of : ScalarType). n < values_of of) same small
 
 module _ (nodes : Nodes) (left right : ExpressionNumber) where
@@ -185,6 +182,7 @@ product_does {context = context} {pushed = pushed} {top = top} {need = need} {to
         (is_number_at context facts operands.right None none) (is_number_at context facts operands.left None is))
         less room (one_high (height_of first) (height_of second) need height)
         (two_high (height_of first) (height_of second) need height) stand going
+
     by_right : (found : Option ℕ) → number_of (knowing context.site facts) operands.right ≡ found
         → StepsStand context (PartDoes context) facts from (elim found [
           | Some n ↦ product_steps operands.left n pushed
@@ -305,6 +303,7 @@ difference_does {context = context} {pushed = pushed} {top = top} {need = need} 
         (Rattle.operands8080.specs.Pairs.pair_steps (knowing context.site facts) operands.left operands.right false pushed ++ steps) last to)
         (pairs_same Subtract SubtractWithBorrow (Rattle.operands8080.specs.Pairs.pair_order (knowing context.site facts) operands.left operands.right false)) stand)
         going
+
     by_left : (found : Option ℕ) → number_of (knowing context.site facts) operands.left ≡ found
         → number_of (knowing context.site facts) operands.right ≡ None
         → StepsStand context (PartDoes context) facts from (elim found [
@@ -326,6 +325,7 @@ difference_does {context = context} {pushed = pushed} {top = top} {need = need} 
         (kept ∙ difference_none (nodes_in context) operands.left operands.right (is_number_at context facts operands.right None none))
         less room (less_high (height_of first) (height_of second) need height) stand going)
     by_left None is none stand = by_word (left_word (knowing context.site facts) operands) refl none stand
+
     by_right : (found : Option ℕ) → number_of (knowing context.site facts) operands.right ≡ found
         → StepsStand context (PartDoes context) facts from (elim found [
           | Some n ↦ part_of (tasks.Word operands.left) pushed ∷ addition_steps (Number ((65536 - n) % 65536))

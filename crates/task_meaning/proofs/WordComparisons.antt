@@ -1,23 +1,16 @@
 -- Two ADDRESSes are compared.
-use Rattle.std.proofs.Common.{◌≡◌, ℕ, ◌+◌, ◌-◌, ◌*◌, ◌/◌, ◌%◌, ◌<◌, ◌≤◌, ◌==◌, ◌⊎◌, inl, inr, Bool, true, false, ◌&&◌, List, [], ◌∷◌, ◌++◌, Option, Some, None, max, refl, sym, ap, ◌∙◌, subst, arith, if◌then◌else◌}
-use Rattle.std.proofs.lemmas.Bool.{and_parts}
+use Rattle.std.proofs.Common.{◌≡◌, ℕ, ◌+◌, ◌*◌, ◌<◌, ◌≤◌, ◌==◌, Bool, false, List, [], ◌∷◌, max, refl, ◌∙◌}
 use Rattle.trees.specs.declared.declaration.ScalarType.{ScalarType}
 use Rattle.typed_trees.specs.Charge.{height_of}
-use Rattle.typed_trees.specs.ExpressionTypes.{type_of}
 use Rattle.typed_trees.specs.TypedTrees.{TypedExpression}
 use Rattle.typed_trees.specs.WellTyped.{TypesHold}
 use Rattle.meaning.specs.Outcomes.{State as SourceState, Outcome, Gave, Stopped, then_do}
-use Rattle.meaning.specs.Values.{values_of}
-use Rattle.isa8080.specs.declared.instr.Instr.{Instr}
-use Rattle.isa8080.specs.declared.instr.Instr.TheVariants.{Accumulate}
 use Rattle.isa8080.specs.declared.instr.Operation.TheVariants.{Or, Subtract, SubtractWithBorrow}
 use Rattle.isa8080.specs.declared.instr.Register.TheVariants.{A, B, D, E, H, L}
-use Rattle.isa8080.specs.Arithmetic.{operate, subtract_of}
 use Rattle.isa8080.specs.State.{Registers, State}
 use Rattle.treecode.specs.declared.expression.ExpressionNumber.{ExpressionNumber}
 use Rattle.treecode.specs.Lowered.{IsExpression}
 use Rattle.steps8080.specs.declared.facts.Facts.{Facts}
-use Rattle.steps8080.specs.declared.step.Step.{Step}
 use Rattle.steps8080.specs.Instructions.{copy, with_register}
 use Rattle.code_meaning.specs.Landing.{Does, at_place}
 use Rattle.quiet_expressions.proofs.Exchanging.{in_order as evaluated_in_order}
@@ -37,8 +30,7 @@ use Rattle.task_meaning.specs.Steps.{StepsStand}
 use Rattle.task_meaning.specs.Tasks.{PartDoes}
 use Rattle.task_meaning.proofs.Answers.{AnswerShows, ZeroShows, question_truth, same_turned}
 use Rattle.task_meaning.proofs.BytesAsked.{BytesAsked, PairIsGiven, PairLies, pair_of_values}
-use Rattle.task_meaning.proofs.ByteComparisons.{GoesOnCompared, asking}
-use Rattle.task_meaning.proofs.ByteOperations.{IsValueOf, value_of}
+use Rattle.task_meaning.proofs.ByteComparisons.{asking}
 use Rattle.task_meaning.proofs.Rules.{split}
 use Rattle.task_meaning.proofs.SiteNodes.{value_in}
 use Rattle.task_meaning.proofs.Stages.{Stage, at_carried, at_end, at_instructions, does_same, script_of}

@@ -1,5 +1,5 @@
 -- Values in HL of one operand, and straight code.
-use Rattle.std.proofs.Common.{◌≡◌, ℕ, ◌+◌, ◌-◌, ◌*◌, ◌/◌, ◌%◌, ◌<◌, ◌≤◌, ◌==◌, max, Bool, true, false, not, nat_lt, if◌then◌else◌, List, [], ◌∷◌, ◌++◌, append-nil, bit_xor, Option, Some, None, refl, sym, ap, ◌∙◌, subst, arith}
+use Rattle.std.proofs.Common.{◌≡◌, ℕ, ◌+◌, ◌-◌, ◌*◌, ◌/◌, ◌%◌, ◌<◌, ◌≤◌, ◌==◌, Bool, true, false, not, nat_lt, if◌then◌else◌, List, [], ◌∷◌, append-nil, bit_xor, refl, sym, ap, ◌∙◌, subst, arith}
 use Rattle.std.specs.Int.Bits.{xor_self}
 use Rattle.std.proofs.lemmas.Bool.{ltb-true, ltb-false, eqb-true}
 use Rattle.trees.specs.declared.declaration.ScalarType.{ScalarType}
@@ -10,14 +10,14 @@ use Rattle.typed_trees.specs.Charge.{height_of}
 use Rattle.typed_trees.specs.ExpressionTypes.{type_of}
 use Rattle.typed_trees.specs.TypedTrees.{TypedExpression}
 use Rattle.meaning.specs.Meaning.{value}
-use Rattle.meaning.specs.Outcomes.{State as SourceState, Outcome, Gave, then_do}
+use Rattle.meaning.specs.Outcomes.{State as SourceState, Gave, then_do}
 use Rattle.meaning.specs.Values.{result_of_one, values_of}
 use Rattle.isa8080.specs.declared.instr.Instr.{Instr}
 use Rattle.isa8080.specs.declared.instr.Instr.TheVariants.{Cma}
 use Rattle.isa8080.specs.declared.instr.Operation.TheVariants.{Subtract, SubtractWithBorrow}
 use Rattle.isa8080.specs.declared.instr.Register.TheVariants.{A, H, L}
 use Rattle.isa8080.specs.Flags.{bit}
-use Rattle.isa8080.specs.State.{HoldBytes, Registers}
+use Rattle.isa8080.specs.State.{Registers}
 use Rattle.treecode.specs.declared.expression.ExpressionNumber.{ExpressionNumber}
 use Rattle.treecode.specs.Traits.{keeps_none}
 use Rattle.code_meaning.specs.Landing.{Does, at_place}

@@ -1,5 +1,5 @@
 -- An ADDRESS is compared with a number.
-use Rattle.std.proofs.Common.{◌≡◌, ℕ, zero, suc, ◌+◌, ◌-◌, ◌*◌, ◌/◌, ◌%◌, ◌<◌, ◌≤◌, ◌==◌, Bool, true, false, nat_lt, bit_or, bit_xor, List, [], ◌∷◌, ◌++◌, Option, Some, None, refl, sym, ap, ◌∙◌, subst, arith, if◌then◌else◌}
+use Rattle.std.proofs.Common.{◌≡◌, ℕ, zero, suc, ◌+◌, ◌-◌, ◌*◌, ◌/◌, ◌%◌, ◌<◌, ◌≤◌, ◌==◌, Bool, true, false, nat_lt, bit_or, bit_xor, List, [], ◌∷◌, ◌++◌, refl, sym, ap, ◌∙◌, subst, arith, if◌then◌else◌}
 use Rattle.std.proofs.lemmas.Bool.{ltb-true, ltb-false, lt-ltb, le-ltb, eqb-true, eqb-false, eq-eqb, ne_eqb}
 use Rattle.std.specs.Int.Bits.{xor_self, xor_add_and}
 use lib.Bits.{and_le_l, and_le_r}
@@ -18,7 +18,6 @@ use Rattle.isa8080.specs.State.{Registers, State}
 use Rattle.treecode.specs.declared.expression.ExpressionNumber.{ExpressionNumber}
 use Rattle.treecode.specs.Lowered.{IsExpression}
 use Rattle.steps8080.specs.declared.facts.Facts.{Facts}
-use Rattle.steps8080.specs.declared.step.Step.{Step}
 use Rattle.steps8080.specs.Instructions.{copy, high, low, with_register}
 use Rattle.steps8080.specs.Step.{part, plain, repeat_steps}
 use Rattle.steps8080.specs.declared.step.Task.TheVariants as tasks
@@ -29,13 +28,12 @@ use Rattle.sites8080.specs.declared.questions.NumberQuestion.TheVariants.{Never,
 use Rattle.sites8080.specs.Widths.{fits_byte}
 use Rattle.operands8080.specs.Addresses.{negated}
 use Rattle.relations8080.specs.declared.answers.Answer.{Answer}
-use Rattle.relations8080.specs.declared.answers.Answer.TheVariants.{Known, Carry, Zero}
+use Rattle.relations8080.specs.declared.answers.Answer.TheVariants.{Carry, Zero}
 use Rattle.relations8080.specs.declared.answers.Purpose.{Purpose}
 use Rattle.relations8080.specs.declared.answers.Purpose.TheVariants.{Branch, Value}
 use Rattle.relations8080.specs.declared.answers.Setting.{Setting}
-use Rattle.relations8080.specs.Answers.{known_steps}
 use Rattle.relations8080.specs.ByteRelations.{byte_number_answer, byte_number_steps, number_in_a_answer, number_in_a_steps}
-use Rattle.relations8080.specs.WordRelations.{below_steps, difference_steps, high_byte_steps, word_below_answer, word_below_steps, word_is_steps, word_is_zero_steps, word_number_answer, word_number_steps, word_question_answer, word_question_steps}
+use Rattle.relations8080.specs.WordRelations.{below_steps, high_byte_steps, word_below_answer, word_below_steps, word_is_steps, word_is_zero_steps, word_number_answer, word_number_steps, word_question_answer, word_question_steps}
 use Rattle.exprgen8080.specs.Emission.{knowing}
 use Rattle.task_meaning.specs.Contexts.{Context, IsSound, nodes_in}
 use Rattle.task_meaning.specs.Steps.{StepsStand, PartThere}

@@ -1,5 +1,5 @@
 -- Products, quotients, remainders and shifts in HL by routines.
-use Rattle.std.proofs.Common.{◌≡◌, ℕ, ◌+◌, ◌-◌, ◌*◌, ◌/◌, ◌%◌, ◌^◌, ◌<◌, ◌≤◌, ◌==◌, max, Bool, true, false, not, if◌then◌else◌, List, [], ◌∷◌, ◌++◌, Option, Some, None, refl, sym, ap, ◌∙◌, subst, arith}
+use Rattle.std.proofs.Common.{◌≡◌, ℕ, ◌+◌, ◌-◌, ◌*◌, ◌/◌, ◌%◌, ◌<◌, ◌≤◌, ◌==◌, Bool, true, false, if◌then◌else◌, List, [], ◌∷◌, ◌++◌, Option, Some, None, refl, sym, ap, ◌∙◌, subst, arith}
 use Rattle.trees.specs.declared.declaration.ScalarType.TheVariants.{Address, Byte}
 use Rattle.trees.specs.declared.expression.BinaryOperator.TheVariants.{Divide, Modulo, Multiply}
 use Rattle.typed_trees.specs.declared.parts.ShiftFunction.{ShiftFunction}
@@ -9,9 +9,8 @@ use Rattle.typed_trees.specs.TypedTrees.{TypedExpression}
 use Rattle.typed_trees.specs.ExpressionTypes.{type_of}
 use Rattle.typed_trees.specs.WellTyped.{ShiftsIn}
 use Rattle.trees.specs.declared.declaration.ScalarType.{ScalarType}
-use Rattle.meaning.specs.declared.reason.Reason.TheVariants.{Divide as DividedByZero}
 use Rattle.meaning.specs.Meaning.{computed, value}
-use Rattle.meaning.specs.Outcomes.{State as SourceState, Outside, Outcome, Gave, Stopped, then_do}
+use Rattle.meaning.specs.Outcomes.{State as SourceState, Gave, then_do}
 use Rattle.meaning.specs.Values.{result_of, shifted, values_of}
 use Rattle.isa8080.specs.declared.instr.Instr.TheVariants.{Pop, Push, Xchg}
 use Rattle.isa8080.specs.declared.instr.StackPair.TheVariants.{StackHl}
@@ -22,7 +21,6 @@ use Rattle.treecode.specs.Traits.{keeps_none}
 use Rattle.code_meaning.specs.Landing.{Does, at_place}
 use Rattle.code_meaning.specs.Activations.{Arrives, HasRoom}
 use Rattle.steps8080.specs.declared.facts.Facts.{Facts}
-use Rattle.steps8080.specs.declared.step.Step.{Step}
 use Rattle.steps8080.specs.declared.step.Step.TheVariants.{CallRoutine, Plain}
 use Rattle.steps8080.specs.declared.step.Task.TheVariants as tasks
 use Rattle.steps8080.specs.Step.{part as part_of}
@@ -33,11 +31,10 @@ use Rattle.operands8080.specs.declared.pairs.PairOrder.{PairOrder}
 use Rattle.operands8080.specs.declared.pairs.PairOrder.TheVariants.{LeftInHl, RightInHl}
 use Rattle.operands8080.specs.Pairs.{pair_in_order_steps, pair_steps}
 use Rattle.exprgen8080.specs.Emission.{knowing}
-use Rattle.exprgen8080.specs.WordOperators.{division_steps}
 use Rattle.task_meaning.specs.Contexts.{Context, IsSound}
 use Rattle.task_meaning.specs.Steps.{StepsStand, PartThere, PlainThere}
 use Rattle.task_meaning.specs.Tasks.{PartDoes, WordIsGiven}
-use Rattle.task_meaning.proofs.Rules.{GoesOn, more_pushed, pop_goes, push_goes, room_for}
+use Rattle.task_meaning.proofs.Rules.{GoesOn, more_pushed, pop_goes, push_goes}
 use Rattle.task_meaning.proofs.KnownOperands.{quotient_less, shift_fits}
 use Rattle.task_meaning.proofs.RegisterCode.{effect, registers_then}
 use Rattle.task_meaning.proofs.RoutineCalls.{routine_then}
@@ -168,9 +165,9 @@ quotient_does {context = context} number from s r memory sound one two none less
     (λ after last_memory ends going_last computes leaves.
     let bytes = going_last.ready.registers in
     let is : word after.h after.l ≡ x / y = computes.0 (x / y)
-        (ap (λ n. result_of Address Divide n (word now.d now.e)) (word_is x now.h now.l has.h has.l)
-        ∙ ap (λ n. result_of Address Divide x n) (word_is y now.d now.e has.d has.e)
-        ∙ some_of y (x / y) some) in
+    (ap (λ n. result_of Address Divide n (word now.d now.e)) (word_is x now.h now.l has.h has.l)
+    ∙ ap (λ n. result_of Address Divide x n) (word_is y now.d now.e has.d has.e)
+    ∙ some_of y (x / y) some) in
     word_ends t ends (quotient_small x y small)
     (word_given_by (x / y) after.h after.l bytes.h bytes.l is after refl refl)
     (kept_none context number r after none) going_last)))
@@ -205,9 +202,9 @@ remainder_does {context = context} number from s r memory sound one two none les
     (λ after last_memory stand_on going_last computes leaves.
     let bytes = going_last.ready.registers in
     let is : word after.d after.e ≡ x % y = computes.1 (x % y)
-        (ap (λ n. result_of Address Modulo n (word now.d now.e)) (word_is x now.h now.l has.h has.l)
-        ∙ ap (λ n. result_of Address Modulo x n) (word_is y now.d now.e has.d has.e)
-        ∙ some_of y (x % y) some) in
+    (ap (λ n. result_of Address Modulo n (word now.d now.e)) (word_is x now.h now.l has.h has.l)
+    ∙ ap (λ n. result_of Address Modulo x n) (word_is y now.d now.e has.d has.e)
+    ∙ some_of y (x % y) some) in
     registers_then (Xchg ∷ []) [] after sound (tt, tt) stand_on going_last
     (λ at_end at_end_found ends going_end.
     word_ends t ends (remainder_small x y small)

@@ -1,54 +1,41 @@
 -- Sums and differences in HL.
-use Rattle.std.proofs.Common.{◌≡◌, ℕ, ◌+◌, ◌-◌, ◌*◌, ◌/◌, ◌%◌, ◌<◌, ◌≤◌, ◌==◌, max, Bool, true, false, not, nat_lt, if◌then◌else◌, List, [], ◌∷◌, ◌++◌, append-nil, Option, Some, None, is_some, refl, sym, ap, ◌∙◌, subst, arith}
-use Rattle.std.proofs.lemmas.Bool.{eqb-true}
+use Rattle.std.proofs.Common.{◌≡◌, ℕ, ◌+◌, ◌*◌, ◌/◌, ◌%◌, ◌<◌, ◌≤◌, max, false, if◌then◌else◌, List, [], ◌∷◌, ◌++◌, Option, Some, None, is_some, refl, sym, ap, ◌∙◌, subst, arith}
 use Rattle.std.specs.Option.{option_map_or}
-use Rattle.mem80.specs.Memory.{byte_at}
 use Rattle.trees.specs.declared.declaration.ScalarType.TheVariants.{Address}
 use Rattle.trees.specs.declared.expression.BinaryOperator.TheVariants as operators
 use Rattle.typed_trees.specs.Charge.{height_of}
 use Rattle.typed_trees.specs.ExpressionTypes.{type_of}
 use Rattle.typed_trees.specs.TypedTrees.{TypedExpression}
-use Rattle.meaning.specs.Meaning.{computed, value}
-use Rattle.meaning.specs.Outcomes.{State as SourceState, Outcome, Gave, Stopped, then_do}
-use Rattle.meaning.specs.Values.{result_of, values_of}
+use Rattle.meaning.specs.Meaning.{value}
+use Rattle.meaning.specs.Outcomes.{State as SourceState, Outcome, Gave, then_do}
 use Rattle.isa8080.specs.declared.instr.Instr.{Instr}
-use Rattle.isa8080.specs.declared.instr.Operation.TheVariants.{Subtract, SubtractWithBorrow}
-use Rattle.isa8080.specs.declared.instr.Register.TheVariants.{A, H, L}
-use Rattle.isa8080.specs.Flags.{bit}
-use Rattle.isa8080.specs.State.{HoldBytes, Registers, word, wrap}
+use Rattle.isa8080.specs.State.{Registers, word, wrap}
 use Rattle.treecode.specs.declared.expression.Expression.{Expression}
 use Rattle.treecode.specs.declared.expression.ExpressionNumber.{ExpressionNumber}
 use Rattle.treecode.specs.declared.place.Place.{Place}
-use Rattle.treecode.specs.declared.place.Place.TheVariants.{Number}
-use Rattle.treecode.specs.declared.traits.Keeps.{Keeps}
-use Rattle.treecode.specs.declared.traits.Traits.{Traits}
-use Rattle.treecode.specs.Traits.{keeps_at, keeps_none, keeps_of_binary, known_at, no_traits, number_at}
-use Rattle.treecode.specs.Known.{known_number}
+use Rattle.treecode.specs.Traits.{keeps_at, keeps_none, keeps_of_binary, known_at, no_traits}
 use Rattle.code_meaning.specs.Landing.{Does, at_place}
 use Rattle.code_meaning.specs.Activations.{Arrives, HasRoom}
 use Rattle.code_facts.specs.Holding.{place_at}
 use Rattle.steps8080.specs.declared.facts.Facts.{Facts}
-use Rattle.steps8080.specs.declared.step.Step.{Step}
 use Rattle.steps8080.specs.declared.step.Step.TheVariants.{Plain}
 use Rattle.steps8080.specs.declared.step.Task.TheVariants as tasks
-use Rattle.steps8080.specs.Instructions.{clear_a, copy, high, low, set, with_register}
-use Rattle.steps8080.specs.Step.{part as part_of, plain}
-use Rattle.sites8080.specs.Queries.{keeps, known, number as number_of}
+use Rattle.steps8080.specs.Step.{part as part_of}
+use Rattle.sites8080.specs.Queries.{keeps, known}
 use Rattle.sites8080.specs.Site.{expression}
 use Rattle.operands8080.specs.Addresses.{addition_steps}
 use Rattle.exprgen8080.specs.declared.byte_operators.Operands.{Operands}
 use Rattle.exprgen8080.specs.Emission.{knowing}
-use Rattle.exprgen8080.specs.WordOperators.{sum_steps, taken_from_number_steps, with_pair_steps}
+use Rattle.exprgen8080.specs.WordOperators.{sum_steps}
 use Rattle.task_meaning.specs.Contexts.{Context, IsSound, nodes_in}
 use Rattle.task_meaning.specs.Steps.{StepsStand, PartThere}
 use Rattle.task_meaning.specs.Tasks.{PartDoes, WordIsGiven}
-use Rattle.task_meaning.proofs.Addresses.{AddressBeside, addition_goes}
+use Rattle.task_meaning.proofs.Addresses.{addition_goes}
 use Rattle.task_meaning.proofs.Rules.{GoesOn}
-use Rattle.task_meaning.proofs.RegisterCode.{effect, registers_then}
-use Rattle.task_meaning.proofs.KnownOperands.{known_is, known_same, known_small, number_known, word_fits}
-use Rattle.task_meaning.proofs.Values.{HasWord, KeepsThem, part_first, word_ends, word_given, word_then}
+use Rattle.task_meaning.proofs.KnownOperands.{known_is, known_same, known_small, word_fits}
+use Rattle.task_meaning.proofs.Values.{KeepsThem, word_given, word_then}
 use Rattle.task_meaning.proofs.Pairs.{IsOperand, same_rest}
-use Rattle.task_meaning.proofs.PairedWords.{kept_none, paired_does, sum_instructions, sum_makes}
+use Rattle.task_meaning.proofs.PairedWords.{paired_does, sum_instructions, sum_makes}
 use Rattle.task_meaning.proofs.WordArithmetic.{has_word, word_is}
 
 -- what a node keeps is what the site says
@@ -123,7 +110,7 @@ added_does {context = context} {other = other} place number from s r memory soun
     let word_value = (x + place_at context.activation.layout place) % 65536 in
     let bytes = going_last.ready.registers in
     let is = has_word word_value last_registers.h last_registers.l bytes.h bytes.l
-        (beside.hl ∙ added now.h now.l x (place_at context.activation.layout place) given.h given.l) in
+    (beside.hl ∙ added now.h now.l x (place_at context.activation.layout place) given.h given.l) in
     word_given t (wrapped_small x (place_at context.activation.layout place)) (record { h = is.0; l = is.1 })
     (kept_as context number other r last_registers kept
     (kept_beside last_registers given beside.a beside.d beside.e)) going_last))
@@ -262,6 +249,7 @@ sum_does {context = context} {pushed = pushed} {top = top} {need = need} {to = t
         (is_known context facts operands.right None none) (is_known context facts operands.left None is))
         less room (one_high (height_of first) (height_of second) need height)
         (two_high (height_of first) (height_of second) need height) stand going
+
     by_right : (found : Option Place) → known (knowing context.site facts) operands.right ≡ found
         → StepsStand context (PartDoes context) facts from (elim found [
           | Some place ↦ part_of (tasks.Word operands.left) pushed ∷ addition_steps place

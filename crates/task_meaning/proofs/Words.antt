@@ -1,5 +1,5 @@
 -- The code of words does what the expressions mean, where the forms that are still open do.
-use Rattle.std.proofs.Common.{◌≡◌, ℕ, ◌+◌, ◌-◌, ◌*◌, ◌/◌, ◌%◌, ◌<◌, ◌≤◌, max, Bool, true, false, List, [], ◌∷◌, ◌++◌, Option, Some, None, refl, sym, ap, ◌∙◌, subst, arith}
+use Rattle.std.proofs.Common.{◌≡◌, ℕ, ◌+◌, ◌*◌, ◌/◌, ◌%◌, ◌<◌, ◌≤◌, max, true, List, [], ◌∷◌, ◌++◌, Option, Some, None, refl, sym, ap, ◌∙◌, subst, arith}
 use Rattle.std.proofs.lemmas.List.{append_assoc}
 use Rattle.trees.specs.declared.declaration.ScalarType.{ScalarType}
 use Rattle.trees.specs.declared.declaration.ScalarType.TheVariants.{Address, Byte}
@@ -14,7 +14,7 @@ use Rattle.typed_trees.specs.TypedTrees.{TypedExpression}
 use Rattle.typed_trees.specs.WellTyped.{TypesHold}
 use Rattle.meaning.specs.Meaning.{value}
 use Rattle.meaning.specs.Outcomes.{State as SourceState, Outcome, Gave, Stopped, then_do}
-use Rattle.meaning.specs.Values.{as_type, shifted, values_of}
+use Rattle.meaning.specs.Values.{as_type, shifted}
 use Rattle.isa8080.specs.State.{Registers, State}
 use Rattle.runtime8080.specs.declared.routine.Routine.TheVariants as routines
 use Rattle.treecode.specs.declared.expression.Expression.{Expression}
@@ -28,7 +28,7 @@ use Rattle.treecode.specs.declared.place.Place.TheVariants.{Number}
 use Rattle.treecode.specs.declared.reference.Reference.{Reference}
 use Rattle.treecode.specs.declared.reference.Target.{Target}
 use Rattle.treecode.specs.Lowered.{IsExpression, IsForm, IsNumber, IsValue, IsLocation, IsConstantList, IsConversion, IsEmbedded, IsUnary, IsBinary, IsCallOf, IsFunction, IsShift, IsInput}
-use Rattle.treecode.specs.Traits.{keeps_none, keeps_of_form, keeps_of, keeps_of_extended, keeps_of_shift, same_low_byte, traits_at, known_of, no_traits, number_at, traits_of}
+use Rattle.treecode.specs.Traits.{keeps_none, keeps_of_form, keeps_of, keeps_of_address, keeps_of_extended, memory_of_form, keeps_of_shift, same_low_byte, traits_at, known_of, no_traits, number_at, traits_of}
 use Rattle.treecode.specs.declared.traits.Traits.{Traits}
 use Rattle.std.specs.Option.{option_map_or}
 use Rattle.sites8080.specs.Site.{expression}
@@ -36,7 +36,6 @@ use Rattle.code_meaning.specs.Landing.{Does, at_place}
 use Rattle.code_meaning.specs.Activations.{Arrives, HasRoom}
 use Rattle.code_facts.specs.Holding.{place_at}
 use Rattle.steps8080.specs.declared.facts.Facts.{Facts}
-use Rattle.steps8080.specs.declared.step.Step.{Step}
 use Rattle.steps8080.specs.declared.step.Step.TheVariants.{CallRoutine, Plain}
 use Rattle.steps8080.specs.declared.step.Task.TheVariants as tasks
 use Rattle.steps8080.specs.Step.{extension_steps, part as part_of}
@@ -46,21 +45,21 @@ use Rattle.sites8080.specs.Widths.{power}
 use Rattle.operands8080.specs.Addresses.{location_address_steps}
 use Rattle.operands8080.specs.Loads.{extended_byte_in_memory_steps}
 use Rattle.operands8080.specs.Pairs.{pair_steps}
-use Rattle.exprgen8080.specs.declared.byte_operators.Operands.{Operands}
 use Rattle.exprgen8080.specs.Emission.{knowing}
 use Rattle.exprgen8080.specs.ByteOperators.{number_of_two}
-use Rattle.exprgen8080.specs.WordOperators.{division_steps, quotient_steps, remainder_steps, word_binary_steps}
+use Rattle.exprgen8080.specs.WordOperators.{division_steps, quotient_steps, remainder_steps, with_simple, word_binary_steps}
 use Rattle.exprgen8080.specs.WordShifts.{computed_count_steps, word_by_number_steps, word_shift_steps, word_shifted_right_steps}
 use Rattle.exprgen8080.specs.Words.{computed_word_steps, extended_byte_steps, word_form_steps, word_function_steps, word_of_two_steps, word_steps}
 use Rattle.task_meaning.specs.Contexts.{Context, IsSound, nodes_in}
 use Rattle.task_meaning.specs.Steps.{StepsStand, PartThere}
 use Rattle.task_meaning.specs.Tasks.{PartDoes, WordDoes, WordIsGiven}
 use Rattle.task_meaning.proofs.Addresses.{location_address_goes}
+use Rattle.task_meaning.proofs.BytesInMemory.{memory_same}
 use Rattle.task_meaning.proofs.Nodes.{NodeOf, node_of}
 use Rattle.task_meaning.proofs.Rules.{GoesOn}
 use Rattle.task_meaning.proofs.KnownOperands.{bytes_differ, known_is, known_small, number_known, word_fits}
 use Rattle.task_meaning.proofs.Ranges.{wide}
-use Rattle.task_meaning.proofs.Values.{HasWord, KeepsThem, word_ends, word_given, word_then}
+use Rattle.task_meaning.proofs.Values.{word_ends, word_given, word_then}
 use Rattle.task_meaning.proofs.Pairs.{IsOperand}
 use Rattle.task_meaning.proofs.WordArithmetic.{has_word}
 use Rattle.task_meaning.proofs.KeptInside.{IsKeptBy, byte_inside_kept, kept_same}
@@ -68,6 +67,9 @@ use Rattle.treecode.specs.declared.traits.Keeps.{Keeps}
 use Rattle.treecode.specs.Nodes.{Nodes}
 use Rattle.task_meaning.proofs.WordSums.{TwoWords, keeps_at_site, one_high, second_known, sum_does, two_high}
 use Rattle.task_meaning.proofs.LeftShifts.{left_does}
+use Rattle.task_meaning.proofs.LogicPairs.{either_does}
+use Rattle.isa8080.specs.declared.instr.Operation.TheVariants as operations
+use Rattle.exprgen8080.specs.declared.word_operators.Simple.{Simple}
 use Rattle.task_meaning.proofs.WordForms.{extended_does, unary_does}
 use Rattle.task_meaning.proofs.WordRoutines.{absurd_type, computed_shift_does, quotient_does, remainder_does}
 use Rattle.task_meaning.proofs.WordBinaries.{LeftWordDoes, difference_does, is_number_at, product_does}
@@ -93,8 +95,12 @@ pub data IsOther (site : Site) : ExpressionForm → Type 0 where
   OtherEmbedded : {target : Target} {inner : ExpressionNumber} → IsOther site (forms.Assignment target inner)
   OtherCall : {procedure : ℕ} {range : Range} → IsOther site (forms.Call procedure range)
   OtherAnd : {left right : ExpressionNumber} → IsOther site (forms.Binary Address operators.And left right)
-  OtherOr : {left right : ExpressionNumber} → IsOther site (forms.Binary Address operators.Or left right)
-  OtherXor : {left right : ExpressionNumber} → IsOther site (forms.Binary Address operators.Xor left right)
+  OtherOr : {left right : ExpressionNumber} {chosen : ExpressionNumber × Simple}
+      → with_simple site (record { left = left; right = right }) ≡ Some chosen
+      → IsOther site (forms.Binary Address operators.Or left right)
+  OtherXor : {left right : ExpressionNumber} {chosen : ExpressionNumber × Simple}
+      → with_simple site (record { left = left; right = right }) ≡ Some chosen
+      → IsOther site (forms.Binary Address operators.Xor left right)
   OtherQuotient : {left right : ExpressionNumber} {count : ℕ} → power site right ≡ Some count
       → IsOther site (forms.Binary Address operators.Divide left right)
   OtherRemainder : {left right : ExpressionNumber} {n : ℕ} → number_of_two site right ≡ Some n
@@ -121,14 +127,6 @@ pub record OthersDo (context : Context) : Type 0 where
       → memory_of (knowing context.site facts) number ≡ Some reference
       → StepsStand context (PartDoes context) facts from (extended_byte_in_memory_steps (knowing context.site facts) reference pushed) last to
       → IsCarriedOut context facts number tree Byte pushed from last to
-  -- the code of a BYTE that is not in memory keeps nothing
-  pub nothing_kept :
-      (facts : Facts) (number : ExpressionNumber) (bound : ℕ) (tree : TypedExpression)
-      → IsExpression (nodes_in context) context.storage bound number.index tree
-      → type_of tree ≡ Byte
-      → known (knowing context.site facts) number ≡ None
-      → memory_of (knowing context.site facts) number ≡ None
-      → keeps context.site number ≡ keeps_none
   pub left_words : LeftWordDoes context
 
 without_rest :
@@ -196,10 +194,12 @@ module _ (context : Context) (sound : IsSound context) (asked : OthersDo context
       product_does (record { left = left; right = right }) number from s r memory sound words kept less room height stand going
   binary_carried {facts = facts} {last = last} {number = number} {bound = bound} {pushed = pushed} {from = from} {to = to} operators.And words form types same kept stand =
       asked.others facts last number _ bound pushed from to _ OtherAnd form types same kept stand
-  binary_carried {facts = facts} {last = last} {number = number} {bound = bound} {pushed = pushed} {from = from} {to = to} operators.Or words form types same kept stand =
-      asked.others facts last number _ bound pushed from to _ OtherOr form types same kept stand
-  binary_carried {facts = facts} {last = last} {number = number} {bound = bound} {pushed = pushed} {from = from} {to = to} operators.Xor words form types same kept stand =
-      asked.others facts last number _ bound pushed from to _ OtherXor form types same kept stand
+  binary_carried {facts = facts} {last = last} {number = number} {left = left} {right = right} {bound = bound} {pushed = pushed} {from = from} {to = to} operators.Or words form types same kept stand = λ top need base s r memory less room height going.
+      either_does operations.Or (record { left = left; right = right }) number from s r memory sound tt words kept less room height stand going
+      (λ chosen here. asked.others facts last number _ bound pushed from to _ (OtherOr here) form types same kept stand top need base s r memory less room height going)
+  binary_carried {facts = facts} {last = last} {number = number} {left = left} {right = right} {bound = bound} {pushed = pushed} {from = from} {to = to} operators.Xor words form types same kept stand = λ top need base s r memory less room height going.
+      either_does operations.ExclusiveOr (record { left = left; right = right }) number from s r memory sound tt words kept less room height stand going
+      (λ chosen here. asked.others facts last number _ bound pushed from to _ (OtherXor here) form types same kept stand top need base s r memory less room height going)
   binary_carried {facts = facts} {last = last} {number = number} {left = left} {right = right} {first = first} {second = second} {bound = bound} {pushed = pushed} {from = from} {to = to} operators.Divide words form types same kept stand =
       by (power (knowing context.site facts) right) refl (quotient_is stand)
     where
@@ -210,9 +210,11 @@ module _ (context : Context) (sound : IsSound context) (asked : OthersDo context
             | None ↦ division_steps (knowing context.site facts) (record { left = left; right = right }) pushed
           ]) last to
       quotient_is stand = stand
+
       divided : StepsStand context (PartDoes context) facts from (division_steps (knowing context.site facts) (record { left = left; right = right }) pushed) last to
           → StepsStand context (PartDoes context) facts from (pair_steps (knowing context.site facts) left right true pushed ++ (CallRoutine routines.Divide ∷ [])) last to
       divided stand = stand
+
       by : (found : Option ℕ) → power (knowing context.site facts) right ≡ found
           → StepsStand context (PartDoes context) facts from (elim found [
             | Some count ↦ word_shifted_right_steps (knowing context.site facts) left count pushed
@@ -234,12 +236,14 @@ module _ (context : Context) (sound : IsSound context) (asked : OthersDo context
             | None ↦ division_steps (knowing context.site facts) (record { left = left; right = right }) pushed ++ (Plain Rattle.isa8080.specs.declared.instr.Instr.TheVariants.Xchg ∷ [])
           ]) last to
       remainder_is stand = stand
+
       divided : StepsStand context (PartDoes context) facts from (division_steps (knowing context.site facts) (record { left = left; right = right }) pushed ++ (Plain Rattle.isa8080.specs.declared.instr.Instr.TheVariants.Xchg ∷ [])) last to
           → StepsStand context (PartDoes context) facts from (pair_steps (knowing context.site facts) left right true pushed ++ (CallRoutine routines.Divide ∷ Plain Rattle.isa8080.specs.declared.instr.Instr.TheVariants.Xchg ∷ [])) last to
       divided stand =
           subst (λ steps. StepsStand context (PartDoes context) facts from steps last to)
           (append_assoc (pair_steps (knowing context.site facts) left right true pushed) (CallRoutine routines.Divide ∷ [])
           (Plain Rattle.isa8080.specs.declared.instr.Instr.TheVariants.Xchg ∷ [])) stand
+
       by : (found : Option ℕ) → number_of_two (knowing context.site facts) right ≡ found
           → StepsStand context (PartDoes context) facts from (elim found [
             | Some n ↦ Rattle.exprgen8080.specs.WordOperators.logic_with_number_steps (knowing context.site facts) Rattle.isa8080.specs.declared.instr.Operation.TheVariants.And left ((n + 65535) % 65536) pushed
@@ -281,6 +285,7 @@ module _ (context : Context) (sound : IsSound context) (asked : OthersDo context
       shift_keeps ShiftRight none = refl
       shift_keeps RotateLeft none = refl
       shift_keeps RotateRight none = refl
+
       by_number : (of_function : ShiftFunction) (n : ℕ) → number_of (knowing context.site facts) count ≡ Some n
           → StepsStand context (PartDoes context) facts from (word_by_number_steps (knowing context.site facts) of_function of n pushed) last to
           → IsForm (nodes_in context) context.storage bound (forms.Shift of_function of count)
@@ -302,6 +307,7 @@ module _ (context : Context) (sound : IsSound context) (asked : OthersDo context
           given going)
       by_number RotateLeft n is given form types kept stand = absurd_type types.0
       by_number RotateRight n is given form types kept stand = absurd_type types.0
+
       by : (found : Option ℕ) → number_of (knowing context.site facts) count ≡ found
           → StepsStand context (PartDoes context) facts from (elim found [
             | Some n ↦ word_by_number_steps (knowing context.site facts) function of n pushed
@@ -383,6 +389,9 @@ module _ (context : Context) (sound : IsSound context) (asked : OthersDo context
       (record { a = λ asked_for. given.a (kept.a asked_for); d = λ asked_for. given.d (kept.de asked_for); e = λ asked_for. given.e (kept.de asked_for) })
       going_on)
 
+  never_there : {A : Type 0} {reference : Reference} → Some reference ≡ None → A
+  never_there e = cc
+
   never_known : {A : Type 0} {place : Place} → Some place ≡ None → A
   never_known e = cc
 
@@ -450,17 +459,51 @@ module _ (context : Context) (sound : IsSound context) (asked : OthersDo context
       ]) (node.at_site facts)) ∙ none
 
   node_keeps :
-      {number : ExpressionNumber} {tree : TypedExpression} (node : NodeOf context number tree)
-      → type_of tree ≡ Address
+      {number : ExpressionNumber} {tree : TypedExpression} (scalar : ScalarType) (node : NodeOf context number tree)
+      → type_of tree ≡ scalar
       → known_of (nodes_in context) (type_of tree) node.found.form ≡ None
-      → keeps context.site number ≡ keeps_of_form (nodes_in context) Address node.found.form
+      → keeps context.site number ≡ keeps_of_form (nodes_in context) scalar node.found.form
   unfolding traits_of
-  node_keeps {number = number} {tree = tree} node address none =
+  node_keeps {number = number} {tree = tree} scalar node same none =
       keeps_at_site context number
       ∙ ap (λ (found : Option Expression). (option_map_or (λ (expression : Expression). expression.traits) found no_traits).keeps) node.is_there
       ∙ ap (λ (traits : Traits). traits.keeps) node.traits
       ∙ ap (λ (found : Option Place). keeps_of (nodes_in context) (type_of tree) found node.found.form) none
-      ∙ ap (λ (scalar : ScalarType). keeps_of_form (nodes_in context) scalar node.found.form) address
+      ∙ ap (λ (of : ScalarType). keeps_of_form (nodes_in context) of node.found.form) same
+
+  -- the code of a BYTE that is not in memory keeps nothing
+  byte_keeps :
+      {bound : ℕ} {form : ExpressionForm} {tree : TypedExpression}
+      → IsForm (nodes_in context) context.storage bound form tree
+      → type_of tree ≡ Byte
+      → memory_of_form (nodes_in context) form ≡ None
+      → keeps_of_form (nodes_in context) Byte form ≡ keeps_none
+  byte_keeps (IsValue reference) byte none = never_there none
+  byte_keeps (IsLocation reference) byte none = absurd_type byte
+  byte_keeps (IsConversion inner) byte none =
+      ap (λ (found : Option Reference). option_map_or (keeps_of_address (nodes_in context)) found keeps_none) none
+  byte_keeps (IsFunction operand) byte none =
+      ap (λ (found : Option Reference). option_map_or (keeps_of_address (nodes_in context)) found keeps_none) none
+  byte_keeps IsNumber byte none = refl
+  byte_keeps IsConstantList byte none = refl
+  byte_keeps (IsEmbedded target inner) byte none = refl
+  byte_keeps (IsUnary operand) byte none = refl
+  byte_keeps (IsBinary one two) byte none = refl
+  byte_keeps (IsCallOf given) byte none = refl
+  byte_keeps (IsShift one two) byte none = refl
+  byte_keeps IsInput byte none = refl
+
+  nothing_kept :
+      {bound : ℕ} {number : ExpressionNumber} {tree : TypedExpression} (facts : Facts)
+      → IsExpression (nodes_in context) context.storage bound number.index tree
+      → type_of tree ≡ Byte
+      → known (knowing context.site facts) number ≡ None
+      → memory_of (knowing context.site facts) number ≡ None
+      → keeps context.site number ≡ keeps_none
+  nothing_kept {number = number} {tree = tree} facts is byte unknown none =
+      let node : NodeOf context number tree = node_of sound is in
+      node_keeps Byte node byte (node_unknown facts node unknown)
+      ∙ byte_keeps node.form byte (sym (memory_same context sound facts node) ∙ none)
 
   -- the code of an expression into HL
   pub word_does :
@@ -486,8 +529,9 @@ module _ (context : Context) (sound : IsSound context) (asked : OthersDo context
           less room (omega arith) (record { ready = ready; known = known_before })
       by_memory None here none byte given =
           without_rest context (value context.later context.activation.around tree s)
-          (extended_does number from s r memory sound (operand_of is types) byte (asked.nothing_kept facts number bound tree is byte none here)
+          (extended_does number from s r memory sound (operand_of is types) byte (nothing_kept facts is byte none here)
           less room (omega arith) given (record { ready = ready; known = known_before }))
+
       by_type : (node : NodeOf context number tree) (scalar : ScalarType) → type_of tree ≡ scalar
           → known (knowing context.site facts) number ≡ None
           → StepsStand context (PartDoes context) facts from (elim scalar [
@@ -501,8 +545,9 @@ module _ (context : Context) (sound : IsSound context) (asked : OthersDo context
           by_memory (memory_of (knowing context.site facts) number) refl none byte given
       by_type node Address address none given =
           let unknown = node_unknown facts node none in
-          form_carried node.form types address unknown (node_keeps node address unknown) given top (2 * height_of tree) base s r memory
+          form_carried node.form types address unknown (node_keeps Address node address unknown) given top (2 * height_of tree) base s r memory
           less room (omega arith) (record { ready = ready; known = known_before })
+
       by_known : (found : Option Place) → known (knowing context.site facts) number ≡ found
           → StepsStand context (PartDoes context) facts from (elim found [
             | Some place ↦ location_address_steps (knowing context.site facts) (Static place) pushed

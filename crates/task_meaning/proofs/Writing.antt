@@ -1,18 +1,17 @@
 -- Bytes that are written, in memory or in the frame, on both sides: an activation stays ready.
-use Rattle.std.proofs.Common.{◌≡◌, ◌≢◌, ℕ, zero, suc, ◌+◌, ◌-◌, ◌*◌, ◌%◌, ◌<◌, ◌≤◌, ◌==◌, ◌⊎◌, inl, inr, Bool, true, false, if◌then◌else◌, List, [], ◌∷◌, length, slice_set, slice_index, slice_index_or, refl, sym, ap, subst, ◌∙◌, arith}
+use Rattle.std.proofs.Common.{◌≡◌, ◌≢◌, ℕ, zero, suc, ◌+◌, ◌<◌, ◌≤◌, ◌==◌, ◌⊎◌, inl, inr, Bool, true, false, if◌then◌else◌, List, [], ◌∷◌, length, slice_set, slice_index_or, refl, sym, ap, subst, ◌∙◌, arith}
 use Rattle.std.proofs.lemmas.Bool.{cases_lt}
 use Rattle.std.proofs.lemmas.List.{length-set}
 use Rattle.std.proofs.lemmas.Bool.{eqb-true, eqb-false}
 use Rattle.mem80.specs.declared.memory.TheConstants.{MEMORY_SIZE}
-use Rattle.mem80.specs.Memory.{IsMemory, byte_at}
+use Rattle.mem80.specs.Memory.{byte_at}
 use Rattle.meaning.specs.declared.reason.Reason.TheVariants.{Byte as UndeclaredByte, Constant}
 use Rattle.meaning.specs.Outcomes.{State as SourceState, Outside, Outcome, Gave, Stopped, then_do}
 use Rattle.meaning.specs.Access.{Place, InMemory, InTheFrame, frame_bytes, is_constant, is_declared, write_byte}
 use Rattle.isa8080.specs.State.{Registers, State, wrap}
-use Rattle.asm8080.specs.Standing.{AgreesIn, Keeps}
 use Rattle.machine_runs.proofs.Kept.{byte_kept, byte_put, memory_put}
 use Rattle.code_meaning.specs.Landing.{Does}
-use Rattle.code_meaning.specs.Activations.{Activation, FrameLies, IsReady, IsVariable, LiesWell, Owns, Shares}
+use Rattle.code_meaning.specs.Activations.{Activation, FrameLies, IsReady, LiesWell, Owns}
 use Rattle.code_meaning.proofs.Stores.{keeps_put, ready_with_variable}
 use Rattle.code_facts.specs.Asking.{IsSteadyByte}
 use Rattle.task_meaning.specs.Contexts.{Context, IsSound}
