@@ -1,8 +1,8 @@
 -- What lowering adds for the expressions, targets and calls of a statement.
-use Rattle.std.proofs.Common.{◌≡◌, ℕ, zero, suc, ◌+◌, ◌<◌, ◌≤◌, min, max, List, [], ◌∷◌, ◌++◌, length, Option, Some, None, slice_get, refl, sym, ap, ◌∙◌, subst, arith}
+use Rattle.std.proofs.Common.{◌≡◌, ℕ, suc, ◌+◌, min, max, List, [], ◌∷◌, length, Option, Some, None, slice_get, refl, ap, ◌∙◌, subst, arith}
 use Rattle.trees.specs.declared.declaration.ScalarType.TheVariants.{Byte}
 use Rattle.typed_trees.specs.Charge.{count_of_arguments, height_of, height_of_arguments, height_of_iteration, height_of_optional, height_of_targets}
-use Rattle.typed_trees.specs.TypedTrees.{TypedExpression, CallNode, TypedTarget, TypedArguments, TypedIteration}
+use Rattle.typed_trees.specs.TypedTrees.{TypedExpression, TypedTarget, TypedArguments, TypedIteration}
 use Rattle.layout.specs.Storage.{Storage}
 use Rattle.treecode.specs.declared.expression.ExpressionNumber.{ExpressionNumber}
 use Rattle.treecode.specs.declared.lists.Range.{Range}
@@ -10,13 +10,13 @@ use Rattle.treecode.specs.declared.reference.Target.{Target}
 use Rattle.treecode.specs.declared.statement.Iteration.{Iteration}
 use Rattle.treecode.specs.Lowered.{IsCallOf, IsOptional, IsNoValue, IsSomeValue, AreTargets, NoTargets, MoreTargets, IsIteration}
 use Rattle.treecode.specs.Nodes.{Nodes}
-use Rattle.treecode.specs.Traits.{height_at, height_of_call, height_of_target}
-use Rattle.treecode.specs.internal.Adding.{arguments_in, expression_in, target_in, with_both}
-use Rattle.treecode.specs.internal.Growth.{Grows, Holds}
+use Rattle.treecode.specs.Traits.{height_of_call}
+use Rattle.treecode.specs.internal.Adding.{arguments_in, expression_in, target_in}
+use Rattle.treecode.specs.internal.Growth.{Grows}
 use Rattle.treecode.specs.internal.Walking.{Walk, goal_with, goals_in, iteration_in, noted, optional_in, put_targets, targets_in, value_in}
 use Rattle.treecode.proofs.AddedExpressions.{Added, AreSound, AsArguments, AsExpression, AsTarget, Leads, arguments_added, expression_added, found_after, leads_nowhere, leads_on, sound_after, target_added}
-use Rattle.treecode.proofs.Grown.{expression_in_stays, holds_with_more, optional_stays, target_stays}
-use Rattle.treecode.proofs.KeptValues.{arguments_count, form_height, height_kept, target_height}
+use Rattle.treecode.proofs.Grown.{expression_in_stays, holds_with_more, target_stays}
+use Rattle.treecode.proofs.KeptValues.{form_height, height_kept, target_height}
 
 -- nodes are added, and something of a height is noted
 pub record Steps (walk after : Walk) (level : ℕ) : Type 0 where

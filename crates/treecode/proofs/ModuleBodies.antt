@@ -1,5 +1,5 @@
 -- The bodies of a module.
-use Rattle.std.proofs.Common.{◌≡◌, ℕ, ◌<◌, ◌≤◌, List, [], length, map, None, Some, slice_get, refl, sym, ap, ◌∙◌, subst}
+use Rattle.std.proofs.Common.{◌≡◌, ℕ, ◌<◌, List, [], length, map, None, Some, slice_get, sym, ap, ◌∙◌, subst}
 use Rattle.std.proofs.lemmas.List.{length-map}
 use Rattle.std.proofs.lemmas.Option.{slice_get_within}
 use Rattle.typed_trees.specs.declared.module.TypedProcedure.{TypedProcedure as Procedure}
@@ -10,11 +10,11 @@ use Rattle.treecode.specs.declared.expression.Expression.{Expression}
 use Rattle.treecode.specs.declared.lowering.Lowering.{Lowering}
 use Rattle.treecode.specs.declared.module.TreeModule.{TreeModule}
 use Rattle.treecode.specs.declared.procedure.TreeProcedure.{TreeProcedure}
-use Rattle.treecode.specs.Lowered.{BodiesAreLowered, HasBody}
+use Rattle.treecode.specs.Lowered.{BodiesAreLowered}
 use Rattle.treecode.specs.Nodes.{Nodes, nodes_of}
 use Rattle.treecode.specs.internal.Beside.{Outside, beside, outside, walk_of}
-use Rattle.treecode.specs.internal.Completed.{AreComplete, BodiesAreAdded, HasHeading, MainIsComplete, SameHeading}
-use Rattle.treecode.specs.internal.Sound.{AreSound, Leads}
+use Rattle.treecode.specs.internal.Completed.{AreComplete, BodiesAreAdded, MainIsComplete, SameHeading}
+use Rattle.treecode.specs.internal.Sound.{AreSound}
 use Rattle.treecode.proofs.AddedExpressions.{leads_on}
 use Rattle.treecode.proofs.Bodies.{body_stays}
 use Rattle.treecode.proofs.Grown.{nothing_found}

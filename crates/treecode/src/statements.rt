@@ -47,7 +47,8 @@ impl Lowering {
         expression: &TypedExpression,
     ) -> Result<ExpressionNumber, AllocError>
         ensures kept { OnOk result (outside self.new ≡ outside self.old) }
-        ensures ok { IfOk result (λ added. value_in (layout_view storage.now) (walk_of self.old) (expression_view expression.now)
+        ensures ok { IfOk result (λ added. value_in (layout_view storage.now) (walk_of self.old)
+            (expression_view expression.now)
             ≡ (walk_of self.new, added)) }
     {
         let number = self.expression(storage, expression)?;
@@ -63,7 +64,8 @@ impl Lowering {
         expression: &Option<TypedExpression>,
     ) -> Result<Option<ExpressionNumber>, AllocError>
         ensures kept { OnOk result (outside self.new ≡ outside self.old) }
-        ensures ok { IfOk result (λ added. optional_in (layout_view storage.now) (walk_of self.old) (option_map expression_view expression.now)
+        ensures ok { IfOk result (λ added. optional_in (layout_view storage.now) (walk_of self.old)
+            (option_map expression_view expression.now)
             ≡ (walk_of self.new, added)) }
     {
         match expression {
@@ -124,7 +126,8 @@ impl Lowering {
         targets: &[TypedTarget],
     ) -> Result<Vec<Target>, AllocError>
         ensures kept { OnOk result (outside self.new ≡ outside self.old) }
-        ensures ok { IfOk result (λ added. goals_in (layout_view storage.now) (walk_of self.old) (map target_view targets.now)
+        ensures ok { IfOk result (λ added. goals_in (layout_view storage.now) (walk_of self.old)
+            (map target_view targets.now)
             ≡ (walk_of self.new, added.items)) }
     {
         let mut added = Vec::with_capacity(self.alloc, targets.len())?;
@@ -139,7 +142,8 @@ impl Lowering {
     #[tactic(auto, using(crate::proofs::PutNodes::outside_targets))]
     fn targets(&mut self, storage: &Layout, targets: &[TypedTarget]) -> Result<Range, AllocError>
         ensures kept { OnOk result (outside self.new ≡ outside self.old) }
-        ensures ok { IfOk result (λ added. targets_in (layout_view storage.now) (walk_of self.old) (map target_view targets.now)
+        ensures ok { IfOk result (λ added. targets_in (layout_view storage.now) (walk_of self.old)
+            (map target_view targets.now)
             ≡ (walk_of self.new, added)) }
     {
         let added = self.goals(storage, targets)?;
@@ -153,7 +157,8 @@ impl Lowering {
         assignment: &TypedAssignment,
     ) -> Result<AddedStatement, AllocError>
         ensures kept { OnOk result (outside self.new ≡ outside self.old) }
-        ensures ok { IfOk result (λ added. assigned_in (layout_view storage.now) (walk_of self.old) (map target_view assignment.now.targets.items) (expression_view assignment.now.value)
+        ensures ok { IfOk result (λ added. assigned_in (layout_view storage.now) (walk_of self.old)
+            (map target_view assignment.now.targets.items) (expression_view assignment.now.value)
             ≡ (walk_of self.new, added)) }
     {
         let value = self.value(storage, &assignment.value)?;
@@ -169,7 +174,8 @@ impl Lowering {
         arguments: &[TypedExpression],
     ) -> Result<AddedStatement, AllocError>
         ensures kept { OnOk result (outside self.new ≡ outside self.old) }
-        ensures ok { IfOk result (λ added. call_in (layout_view storage.now) (walk_of self.old) procedure (arguments_view arguments.now)
+        ensures ok { IfOk result (λ added. call_in (layout_view storage.now) (walk_of self.old) procedure
+            (arguments_view arguments.now)
             ≡ (walk_of self.new, added)) }
     {
         let arguments = self.arguments(storage, arguments)?;
@@ -189,7 +195,9 @@ impl Lowering {
         moved: &TypedMove,
     ) -> Result<AddedStatement, AllocError>
         ensures kept { OnOk result (outside self.new ≡ outside self.old) }
-        ensures ok { IfOk result (λ added. moved_in (layout_view storage.now) (walk_of self.old) (expression_view moved.now.count) (expression_view moved.now.source) (expression_view moved.now.destination)
+        ensures ok { IfOk result (λ added. moved_in (layout_view storage.now) (walk_of self.old)
+            (expression_view moved.now.count) (expression_view moved.now.source)
+            (expression_view moved.now.destination)
             ≡ (walk_of self.new, added)) }
     {
         let count = self.value(storage, &moved.count)?;
@@ -217,7 +225,8 @@ impl Lowering {
         value: &Option<Box<TypedExpression>>,
     ) -> Result<AddedStatement, AllocError>
         ensures kept { OnOk result (outside self.new ≡ outside self.old) }
-        ensures ok { IfOk result (λ added. returned_in (layout_view storage.now) (walk_of self.old) (option_map (λ held. expression_view held.value) value.now)
+        ensures ok { IfOk result (λ added. returned_in (layout_view storage.now) (walk_of self.old)
+            (option_map (λ held. expression_view held.value) value.now)
             ≡ (walk_of self.new, added)) }
     {
         let value = match value {
@@ -234,7 +243,8 @@ impl Lowering {
         head: &TypedIteration,
     ) -> Result<Iteration, AllocError>
         ensures kept { OnOk result (outside self.new ≡ outside self.old) }
-        ensures ok { IfOk result (λ added. iteration_in (layout_view storage.now) (walk_of self.old) (iteration_view head.now)
+        ensures ok { IfOk result (λ added. iteration_in (layout_view storage.now) (walk_of self.old)
+            (iteration_view head.now)
             ≡ (walk_of self.new, added)) }
     {
         self.note_height(1);
@@ -259,7 +269,8 @@ impl Lowering {
         statement: &TypedStatement,
     ) -> Result<AddedStatement, AllocError>
         ensures kept { OnOk result (outside self.new ≡ outside self.old) }
-        ensures ok { IfOk result (λ added. statement_in (layout_view storage.now) (walk_of self.old) (statement_view statement.now)
+        ensures ok { IfOk result (λ added. statement_in (layout_view storage.now) (walk_of self.old)
+            (statement_view statement.now)
             ≡ (walk_of self.new, added)) }
     {
         match statement {
@@ -295,7 +306,9 @@ impl Lowering {
     #[cycle(statement)]
     fn choose(&mut self, storage: &Layout, branch: &TypedIf) -> Result<AddedStatement, AllocError>
         ensures kept { OnOk result (outside self.new ≡ outside self.old) }
-        ensures ok { IfOk result (λ added. statement_in (layout_view storage.now) (walk_of self.old) (IfStatement (expression_view branch.now.condition) (statement_view branch.now.body) (else_view branch.now.otherwise))
+        ensures ok { IfOk result (λ added. statement_in (layout_view storage.now) (walk_of self.old)
+            (IfStatement (expression_view branch.now.condition) (statement_view branch.now.body)
+            (else_view branch.now.otherwise))
             ≡ (walk_of self.new, added)) }
     {
         let condition = self.value(storage, &branch.condition)?;
@@ -324,7 +337,8 @@ impl Lowering {
         otherwise: &Option<TypedStatement>,
     ) -> Result<Option<AddedStatement>, AllocError>
         ensures kept { OnOk result (outside self.new ≡ outside self.old) }
-        ensures ok { IfOk result (λ added. else_in (layout_view storage.now) (walk_of self.old) (else_view otherwise.now)
+        ensures ok { IfOk result (λ added. else_in (layout_view storage.now) (walk_of self.old)
+            (else_view otherwise.now)
             ≡ (walk_of self.new, added)) }
     {
         match otherwise {
@@ -347,7 +361,8 @@ impl Lowering {
     #[cycle(statement)]
     fn repeat(&mut self, storage: &Layout, turns: &TypedWhile) -> Result<AddedStatement, AllocError>
         ensures kept { OnOk result (outside self.new ≡ outside self.old) }
-        ensures ok { IfOk result (λ added. statement_in (layout_view storage.now) (walk_of self.old) (WhileStatement (expression_view turns.now.condition) (list_view turns.now.body))
+        ensures ok { IfOk result (λ added. statement_in (layout_view storage.now) (walk_of self.old)
+            (WhileStatement (expression_view turns.now.condition) (list_view turns.now.body))
             ≡ (walk_of self.new, added)) }
     {
         let condition = self.value(storage, &turns.condition)?;
@@ -368,7 +383,8 @@ impl Lowering {
         turns: &TypedIterate,
     ) -> Result<AddedStatement, AllocError>
         ensures kept { OnOk result (outside self.new ≡ outside self.old) }
-        ensures ok { IfOk result (λ added. statement_in (layout_view storage.now) (walk_of self.old) (IterateStatement (iteration_view turns.now.head) (list_view turns.now.body))
+        ensures ok { IfOk result (λ added. statement_in (layout_view storage.now) (walk_of self.old)
+            (IterateStatement (iteration_view turns.now.head) (list_view turns.now.body))
             ≡ (walk_of self.new, added)) }
     {
         let head = self.iteration(storage, &turns.head)?;
@@ -388,7 +404,8 @@ impl Lowering {
         choice: &TypedCase,
     ) -> Result<AddedStatement, AllocError>
         ensures kept { OnOk result (outside self.new ≡ outside self.old) }
-        ensures ok { IfOk result (λ added. statement_in (layout_view storage.now) (walk_of self.old) (CaseStatement (expression_view choice.now.choice) (statements_view choice.now.body.items))
+        ensures ok { IfOk result (λ added. statement_in (layout_view storage.now) (walk_of self.old)
+            (CaseStatement (expression_view choice.now.choice) (statements_view choice.now.body.items))
             ≡ (walk_of self.new, added)) }
     {
         let number = self.value(storage, &choice.choice)?;
@@ -408,7 +425,8 @@ impl Lowering {
         list: &TypedList,
     ) -> Result<AddedList, AllocError>
         ensures kept { OnOk result (outside self.new ≡ outside self.old) }
-        ensures ok { IfOk result (λ added. list_in (layout_view storage.now) (walk_of self.old) (list_view list.now)
+        ensures ok { IfOk result (λ added. list_in (layout_view storage.now) (walk_of self.old)
+            (list_view list.now)
             ≡ (walk_of self.new, added)) }
     {
         self.number_labels(list.first_label, list.places.len())?;
@@ -423,7 +441,8 @@ impl Lowering {
         statements: &[TypedStatement],
     ) -> Result<AddedList, AllocError>
         ensures kept { OnOk result (outside self.new ≡ outside self.old) }
-        ensures ok { IfOk result (λ added. statements_in (layout_view storage.now) (walk_of self.old) (statements_view statements.now)
+        ensures ok { IfOk result (λ added. statements_in (layout_view storage.now) (walk_of self.old)
+            (statements_view statements.now)
             ≡ (walk_of self.new, added)) }
     {
         let mut numbers = Vec::with_capacity(self.alloc, statements.len())?;

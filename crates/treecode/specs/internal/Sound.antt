@@ -1,5 +1,5 @@
 -- Nodes that are sound, and nodes that stand after others.
-use Rattle.std.specs.Prelude.{◌≡◌, ℕ, ◌≤◌, length}
+use Rattle.std.specs.Prelude.{◌≡◌, ◌≤◌, length}
 use Rattle.treecode.specs.Nodes.{Nodes}
 use Rattle.treecode.specs.Traits.{KeepTraits}
 use Rattle.treecode.specs.internal.Growth.{Grows}

@@ -1,4 +1,4 @@
-use Rattle.std.proofs.Common.{◌≡◌, List, [], length, map, ap, sym, ◌∙◌, subst, refl}
+use Rattle.std.proofs.Common.{List, map, ap, sym, ◌∙◌, subst}
 use Rattle.typed_trees.specs.declared.module.TypedProcedure.{TypedProcedure as Procedure}
 use Rattle.typed_trees.specs.Views.{module_view, procedure_view}
 use Rattle.layout.specs.Views.{layout_view}

@@ -1,4 +1,4 @@
-use Rattle.std.proofs.Common.{◌≡◌, ap, sym, ◌∙◌, subst}
+use Rattle.std.proofs.Common.{ap, sym, ◌∙◌, subst}
 use Rattle.typed_trees.specs.Views.{procedure_view}
 use Rattle.layout.specs.Views.{layout_view}
 use Rattle.treecode.specs.internal.Beside.{Outside, outside, walk_of}
