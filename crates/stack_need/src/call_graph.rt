@@ -46,7 +46,8 @@ fn callees_of(
     firsts: &[usize],
     calls: &[u32],
 ) -> Result<Vec<usize>, AllocError>
-    ensures { IfOk result (λ callees. callees.items ≡ filter_map (callee_at (site_view site.now) firsts.now) calls.now) }
+    ensures { IfOk result (λ callees. callees.items ≡ filter_map (callee_at
+        (site_view site.now) firsts.now) calls.now) }
 {
     let mut callees = Vec::new(alloc);
     for call in calls {
@@ -67,7 +68,8 @@ fn body_of(
 ) -> Result<Body, AllocError>
     requires { firsts.now ≡ first_numbers 1 (modules_at (site_view site.now)) }
     ensures { IfOk result (λ body. body_view body
-        ≡ capped (body_of_procedure (modules_at (site_view site.now)) site.now.number_of_module (procedure_view procedure.now))) }
+        ≡ capped (body_of_procedure (modules_at (site_view site.now)) site.now.number_of_module
+        (procedure_view procedure.now))) }
 {
     let calls = calls_in(alloc, &procedure.body)?;
     let callees = callees_of(alloc, site, firsts, calls.as_slice())?;
@@ -109,7 +111,8 @@ fn is_main(typed: &Typed) -> bool
 #[tactic(auto, using(crate::proofs::Graph::main_is))]
 fn main_body(alloc: Global, program: &Program<'_>, firsts: &[usize]) -> Result<Body, AllocError>
     requires { firsts.now ≡ first_numbers 1 (program_view program.now).modules }
-    ensures { IfOk result (λ body. body_view body ≡ capped (body_of_main (program_view program.now).modules)) }
+    ensures { IfOk result (λ body. body_view body ≡ capped (body_of_main
+        (program_view program.now).modules)) }
 {
     for (number_of_module, typed) in program.modules.iter().enumerate() {
         if is_main(typed) {

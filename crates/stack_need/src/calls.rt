@@ -67,7 +67,8 @@ fn expression_calls(calls: &mut Vec<u32>, expression: &TypedExpression) -> Resul
 #[cycle(expression)]
 #[tactic(auto, using(std::proofs::lemmas::List::append_assoc))]
 fn reference_calls(calls: &mut Vec<u32>, reference: &TypedReference) -> Result<(), AllocError>
-    ensures { OnOk result (calls.new.items ≡ calls.old.items ++ calls_in_reference (reference_view reference.now)) }
+    ensures { OnOk result (calls.new.items ≡ calls.old.items ++ calls_in_reference
+        (reference_view reference.now)) }
 {
     subscript_calls(calls, &reference.subscript)?;
     subscript_calls(calls, &reference.member_subscript)
@@ -76,7 +77,8 @@ fn reference_calls(calls: &mut Vec<u32>, reference: &TypedReference) -> Result<(
 // Adds the calls in a subscript.
 #[cycle(expression)]
 fn subscript_calls(calls: &mut Vec<u32>, subscript: &TypedSubscript) -> Result<(), AllocError>
-    ensures { OnOk result (calls.new.items ≡ calls.old.items ++ calls_in_subscript (subscript_view subscript.now)) }
+    ensures { OnOk result (calls.new.items ≡ calls.old.items ++ calls_in_subscript
+        (subscript_view subscript.now)) }
 {
     match subscript {
         TypedSubscript::Absent => Ok(()),
@@ -149,7 +151,8 @@ fn assignment_calls(calls: &mut Vec<u32>, assignment: &TypedAssignment) -> Resul
 fn move_calls(calls: &mut Vec<u32>, moved: &TypedMove) -> Result<(), AllocError>
     ensures { OnOk result (calls.new.items
         ≡ calls.old.items ++ (calls_in (expression_view moved.now.count)
-        ++ (calls_in (expression_view moved.now.source) ++ calls_in (expression_view moved.now.destination)))) }
+        ++ (calls_in (expression_view moved.now.source) ++ calls_in
+        (expression_view moved.now.destination)))) }
 {
     expression_calls(calls, &moved.count)?;
     expression_calls(calls, &moved.source)?;
@@ -184,7 +187,8 @@ fn step_calls(calls: &mut Vec<u32>, step: &Option<TypedExpression>) -> Result<()
 // Adds the calls in the head of an iterative DO.
 #[tactic(auto, using(std::proofs::lemmas::List::append_assoc))]
 fn iteration_calls(calls: &mut Vec<u32>, head: &TypedIteration) -> Result<(), AllocError>
-    ensures { OnOk result (calls.new.items ≡ calls.old.items ++ calls_in_iteration (iteration_view head.now)) }
+    ensures { OnOk result (calls.new.items ≡ calls.old.items ++ calls_in_iteration
+        (iteration_view head.now)) }
 {
     expression_calls(calls, &head.first)?;
     expression_calls(calls, &head.last)?;
@@ -195,7 +199,8 @@ fn iteration_calls(calls: &mut Vec<u32>, head: &TypedIteration) -> Result<(), Al
 #[cycle(statement)]
 #[tactic(auto, using(std::proofs::lemmas::List::append_assoc, typed_trees::specs::declared::statement::TypedStatement::the_lemmas, typed_trees::proofs::Views::statement_rows_are))]
 fn statement_calls(calls: &mut Vec<u32>, statement: &TypedStatement) -> Result<(), AllocError>
-    ensures { OnOk result (calls.new.items ≡ calls.old.items ++ calls_in_statement (statement_view statement.now)) }
+    ensures { OnOk result (calls.new.items ≡ calls.old.items ++ calls_in_statement
+        (statement_view statement.now)) }
 {
     match statement {
         TypedStatement::Label(_)
@@ -232,7 +237,8 @@ fn statement_calls(calls: &mut Vec<u32>, statement: &TypedStatement) -> Result<(
 fn if_calls(calls: &mut Vec<u32>, branch: &TypedIf) -> Result<(), AllocError>
     ensures { OnOk result (calls.new.items
         ≡ calls.old.items ++ (calls_in (expression_view branch.now.condition)
-        ++ (calls_in_statement (statement_view branch.now.body) ++ calls_in_else (else_view branch.now.otherwise)))) }
+        ++ (calls_in_statement (statement_view branch.now.body) ++ calls_in_else
+        (else_view branch.now.otherwise)))) }
 {
     expression_calls(calls, &branch.condition)?;
     statement_calls(calls, &branch.body)?;

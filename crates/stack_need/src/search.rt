@@ -122,7 +122,8 @@ impl<'a> Search<'a> {
     // Ends a visit, which was taken from the path.
     fn finish(&mut self, visit: Visit) -> Progress
         ensures graph { graph_view self.new ≡ graph_view self.old }
-        ensures state { (search_view self.new, result) ≡ finished (graph_view self.old) visit (search_view self.old) }
+        ensures state { (search_view self.new, result) ≡ finished (graph_view self.old) visit
+            (search_view self.old) }
     {
         let need = self.need_of_visit(visit);
         set_mark(&mut self.marks, visit.body, Mark::Done(need));
