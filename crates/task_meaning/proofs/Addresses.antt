@@ -131,7 +131,7 @@ dcx_go (suc count) r sound stand on rest =
 taken_for : (n number : ℕ) → number < 65536 → wrap (n + 65535 * negated number) ≡ wrap (n + number)
 taken_for n number small = omega (arith, small)
 
--- instructions that touch registers alone, and nothing behind them
+-- instructions that touch registers alone, and nothing after them
 pub registers_end :
     {A : Type 0} {outcome : Outcome A} {Good : A → SourceState → State → Type 0}
     {context : Context} {PartIs : (before : Facts) → Part → (from : ℕ) → (after : Facts) → (to : ℕ) → Type 0}

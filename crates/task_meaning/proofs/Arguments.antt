@@ -133,28 +133,30 @@ lies_in_word activation Byte found top low r memory ended lies room below size f
   where
     one_more : (low top : ℕ) → low ≡ top - 2 → activation.around.program.placement.stack.start + 2 ≤ top → low + 1 ≡ top - 1
     one_more low top place room = omega (arith, place, room)
+
     high_of : (high low : ℕ) → low < 256 → Rattle.isa8080.specs.State.high_byte (word high low) ≡ high
     high_of high low small = omega (arith, small)
 lies_in_word activation Address found top low r memory ended lies room below size flags small is kept place =
     let above = lies.above in
     let stack = lies.placed.stack_in_memory in
     let pushed : IsPushed top (word r.h r.l) (pushed_word top (word r.h r.l) memory)
-    = pushed_is_pushed top (word r.h r.l) memory (omega (arith, room)) (omega (arith, below, above, stack)) size in
-    (
+    = pushed_is_pushed top (word r.h r.l) memory (omega (arith, room)) (omega (arith, below, above, stack)) size in (
       ap (byte_at ended) place
-      ∙ kept.bytes (top - 2)
-      (pushed_is_not_owned activation (top - 2) (top - 2) lies (omega (arith, room)) (omega arith) (omega (arith, room, below)))
-      ∙ pushed.low ∙ low_of r.h r.l small ∙ is.1,
+          ∙ kept.bytes (top - 2)
+          (pushed_is_not_owned activation (top - 2) (top - 2) lies (omega (arith, room)) (omega arith) (omega (arith, room, below)))
+          ∙ pushed.low ∙ low_of r.h r.l small ∙ is.1,
       ap (byte_at ended) (one_more low top place room)
-      ∙ kept.bytes (top - 1)
-      (pushed_is_not_owned activation (top - 2) (top - 1) lies (omega (arith, room)) (omega arith) (omega (arith, room, below)))
-      ∙ pushed.high ∙ high_of r.h r.l small ∙ is.0,
+          ∙ kept.bytes (top - 1)
+          (pushed_is_not_owned activation (top - 2) (top - 1) lies (omega (arith, room)) (omega arith) (omega (arith, room, below)))
+          ∙ pushed.high ∙ high_of r.h r.l small ∙ is.0,
     )
   where
     one_more : (low top : ℕ) → low ≡ top - 2 → activation.around.program.placement.stack.start + 2 ≤ top → low + 1 ≡ top - 1
     one_more low top place room = omega (arith, place, room)
+
     high_of : (high low : ℕ) → low < 256 → Rattle.isa8080.specs.State.high_byte (word high low) ≡ high
     high_of high low small = omega (arith, small)
+
     low_of : (high low : ℕ) → low < 256 → Rattle.isa8080.specs.State.low_byte (word high low) ≡ low
     low_of high low small = omega (arith, small)
 
@@ -333,8 +335,8 @@ at_arguments {context = context} {top = top} {pushed = pushed} {need = need} {ba
               count = ap (λ n. suc n) count;
               lie = (
                 lies_in_word context.activation (type_of tree) found top (low + 2 * length (types_of nexts)) now memory_now ended lies start highest
-                after.ready.shares.is_memory.size (flag_byte_is_small now.flags) registers.l is_there passed.kept
-                (omega (arith, count, height, start)),
+                    after.ready.shares.is_memory.size (flag_byte_is_small now.flags) registers.l is_there passed.kept
+                    (omega (arith, count, height, start)),
                 passed.lie,
               );
               height = omega (arith, count, height, start);

@@ -75,6 +75,7 @@ call_size {context = context} {procedure = procedure} {from = from} {to = to} so
     by_kind (kinds.External name) there = sym there.stands.1
     by_kind kinds.Static there = sym there.stands.1
     by_kind kinds.Reentrant there = sym there.stands.1
+
     by_case : ((x : TreeProcedure) × (procedure < length context.site.tree.now.procedures.items)
         × (slice_get context.site.tree.now.procedures.items procedure ≡ Some x)
         × (get_or context.site.tree.now.procedures.items procedure x ≡ x))

@@ -280,7 +280,7 @@ unfolding keeps expression
 keeps_is site of = by (slice_get site.tree.now.expressions.items of.index)
   where
     by : (found : Option Expression)
-        → elim found [ | Some one ↦ one.traits.keeps | None ↦ record { a = false; de = false } ]
+        → elim found [ Some one ↦ one.traits.keeps | None ↦ record { a = false; de = false } ]
         ≡ (option_map_or (λ (one : Expression). one.traits) found no_traits).keeps
     by (Some one) = refl
     by None = refl

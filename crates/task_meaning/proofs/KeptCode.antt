@@ -187,7 +187,7 @@ module _ (nodes : Nodes) (storage : Storage) (keeps : KeepTraits nodes) where
       → reference_is_quiet nodes reference ≡ true
   reference_kept below less (IsPart {object = object} {first = first} {second = second} one two) kept =
       let both = sum_kept (keeps_of_subscript nodes first) (keeps_of_subscript nodes second)
-          (part_kept (home_at nodes.homes object) (keeps_of_subscript nodes first) (keeps_of_subscript nodes second) kept) in
+      (part_kept (home_at nodes.homes object) (keeps_of_subscript nodes first) (keeps_of_subscript nodes second) kept) in
       both_true _ _ (index_kept below less one both.0) (index_kept below less two both.1)
 
   -- a form, and one inside conversions that has the same low byte
@@ -315,10 +315,13 @@ module _ (nodes : Nodes) (storage : Storage) (keeps : KeepTraits nodes) where
     where
       one : LowStep limit form
       one = low_step less shape shape
+
       two : LowStep limit one.inner
       two = low_step one.less one.shape one.shape
+
       is_inner : memory_of_form nodes form ≡ memory_of_inner nodes two.inner
       is_inner = ap (λ (inside : ExpressionForm). memory_of_inner nodes (same_low_byte nodes inside)) one.is ∙ ap (memory_of_inner nodes) two.is
+
       by : (found : Option Reference) → memory_of_form nodes form ≡ found
           → Kept (option_map_or (keeps_of_address nodes) found keeps_none)
           → is_quiet_form nodes form ≡ true

@@ -116,6 +116,7 @@ and_does {context = context} {pushed = pushed} {top = top} {need = need} {to = t
         → LogicGiven context And from s r memory first second last number top base to
     by_bytes true here stand = other (AreBytes here)
     by_bytes false here stand = by_simple (with_simple (knowing context.site facts) operands) refl stand
+
     by_left : (found : Option ℕ) → number_of (knowing context.site facts) operands.left ≡ found
         → StepsStand context (PartDoes context) facts from (elim found [
           | Some n ↦ logic_with_number_steps (knowing context.site facts) And operands.right n pushed
@@ -135,6 +136,7 @@ and_does {context = context} {pushed = pushed} {top = top} {need = need} {to = t
         (number_below n (type_of first) words.one_is (number_small facts n sound words.one.is words.one.types here))
         words.two none less room (less_high (height_of first) (height_of second) need height) given going))
     by_left None here stand = by_bytes (is_of_bytes (knowing context.site facts) And operands) refl stand
+
     by_right : (found : Option ℕ) → number_of (knowing context.site facts) operands.right ≡ found
         → StepsStand context (PartDoes context) facts from (elim found [
           | Some n ↦ logic_with_number_steps (knowing context.site facts) And operands.left n pushed

@@ -35,7 +35,11 @@ without_more {script = script} {budget = budget} {more = more} {from = from} {ou
     let paid = lands.paid in
     record {
       told = record {
-        count = lands.count; end = lands.end; run = lands.run; paid = omega (arith, paid); spent = lands.spent;
+        count = lands.count;
+        end = lands.end;
+        run = lands.run;
+        paid = omega (arith, paid);
+        spent = lands.spent;
         is_good = lands.is_good;
       };
     }
@@ -98,8 +102,8 @@ pub at_store :
     (then_do (stored context.later context.activation.around tree number t) go) Good
 at_store {context = context} {pushed = pushed} {facts = facts} {found_facts = found_facts} {r = r} {memory = memory} {bound = bound} {is_wanted = is_wanted} {tree = tree} scalar from middle number target go does node types small fewer is_there stage rest =
     let carries : Carries context facts pushed (2 + 2 * height_of_target tree) 0 from middle (InRegister scalar number)
-        (stored context.later context.activation.around tree number)
-        (WasStored context found_facts scalar is_wanted number)
+    (stored context.later context.activation.around tree number)
+    (WasStored context found_facts scalar is_wanted number)
     = λ top base s r memory below room ready known asked.
     without_more (does bound number scalar tree node types small top base s r memory below room ready known asked) in
     at_carried from middle found_facts carries fewer is_there

@@ -40,8 +40,8 @@ pub first_there :
 first_there activation item more from size to same there =
     let parts = both_there (item ∷ []) more there in
     let here : parts.middle ≡ from + size =
-        past_one from (size_of item) size parts.middle same
-        (stands_size activation.layout activation.image (item ∷ []) from parts.middle parts.first.stands) in
+    past_one from (size_of item) size parts.middle same
+    (stands_size activation.layout activation.image (item ∷ []) from parts.middle parts.first.stands) in
     record { first = rw (sym here) parts.first; rest = rw (sym here) parts.second }
 
 with_word : (form : WordForm) (word : ℕ) → size_of_instruction (instruction_with form word) ≡ 3

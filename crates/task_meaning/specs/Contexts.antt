@@ -1,4 +1,5 @@
--- What the code of a body stands in: its module as it is typed and as tree code, an activation on the machine, and what
+-- What the code of a body stands in: its module as it is typed and as tree code, an activation on the
+-- machine, and what
 -- is known of the calls that it makes.
 use Rattle.std.specs.Prelude.{◌≡◌, ℕ, ◌+◌, ◌-◌, ◌*◌, ◌/◌, ◌%◌, ◌<◌, ◌≤◌, Bool, true, List, [], ◌∷◌, length, Option, Some, None, slice_get, All}
 use Rattle.mem80.specs.declared.memory.TheConstants.{MEMORY_SIZE}
@@ -34,8 +35,10 @@ use Rattle.code_facts.specs.Holding.{Distances, place_at}
 use Rattle.sites8080.specs.declared.site.Site.{Site}
 use Rattle.exprgen8080.specs.Emission.{call_items, has_routine, label_of_routine}
 
--- What a body is carried out in: its module and where that has its storage; which procedure's it is; the site of its
--- code; the routines that the module's code calls; what calls mean, and below which budget they are known to do so;
+-- What a body is carried out in: its module and where that has its storage; which procedure's it is; the
+-- site of its
+-- code; the routines that the module's code calls; what calls mean, and below which budget they are known
+-- to do so;
 -- and where the activation lies.
 pub record Context : Type 0 where
   pub typed : TypedModule
@@ -69,9 +72,11 @@ InWord Address value memory address =
 abbrev pub bytes_pushed : List ℕ → ℕ
 bytes_pushed values = 2 * (length values - 1)
 
--- arguments lie as a call has them: the last one in its register, the others in words from the stack pointer upwards,
+-- arguments lie as a call has them: the last one in its register, the others in words from the stack
+-- pointer upwards,
 -- the first one highest
-abbrev pub ArgumentsLie : List ScalarType → (values : List ℕ) → (top : ℕ) → Registers → (memory : List ℕ) → Type 0
+abbrev pub ArgumentsLie : List ScalarType → (values : List ℕ) → (top : ℕ) → Registers
+    → (memory : List ℕ) → Type 0
 ArgumentsLie [] [] top r memory = Unit {0}
 ArgumentsLie (scalar ∷ []) (value ∷ []) top r memory = InRegister scalar value r
 ArgumentsLie (scalar ∷ next ∷ scalars) (value ∷ values) top r memory =
@@ -83,7 +88,8 @@ abbrev pub ResultLies : Option ScalarType → (value : ℕ) → Registers → (m
 ResultLies None value r memory = Unit {0}
 ResultLies (Some scalar) value r memory = InRegister scalar value r
 
--- Calls from their CALL on: wherever one stands, with arguments as it has them, the machine does what the call means,
+-- Calls from their CALL on: wherever one stands, with arguments as it has them, the machine does what the
+-- call means,
 -- with the arguments taken from the stack, in runs of less than a budget.
 abbrev pub CallsDo : Context → Type 0
 CallsDo context =
@@ -97,10 +103,11 @@ CallsDo context =
     → IsReady context.activation top base s.memory s.frame r memory
     → ArgumentsLie heading.parameter_types values top r memory
     → Does context.activation.around.program.script s.budget 0 (at_place from r memory s.events)
-    (called_for context.later (callee_in context.activation.around procedure) values context.activation.around s)
+    (called_for context.later
+    (callee_in context.activation.around procedure) values context.activation.around s)
     (Arrives context.activation (top + bytes_pushed values) base (from + 3) (ResultLies heading.result))
 
--- Bytes of a state of the source that its program may look at are bytes.
+-- Each declared byte of a state of the source, and each byte of its frame, is below 256.
 pub record SourceFits (around : Surroundings) (s : SourceState) : Type 0 where
   pub memory : (address : ℕ) → is_declared around.program address ≡ true → byte_at s.memory address < 256
   pub frame : All (λ bytes. All (λ byte. byte < 256) bytes) s.frame
@@ -116,7 +123,8 @@ abbrev pub IsOfResult : Option ScalarType → (value : ℕ) → Type 0
 IsOfResult None value = Unit {0}
 IsOfResult (Some scalar) value = value < values_of scalar
 
--- Calls with arguments of the types of parameters give values of the types of results, and leave bytes in declared
+-- Calls with arguments of the types of parameters give values of the types of results, and leave bytes in
+-- declared
 -- memory and frames.
 abbrev pub CallsFit : Context → Type 0
 CallsFit context =
@@ -124,7 +132,8 @@ CallsFit context =
     → slice_get context.typed.procedures procedure ≡ Some heading
     → AreOfTypes heading.parameter_types values
     → SourceFits context.activation.around s
-    → called_for context.later (callee_in context.activation.around procedure) values context.activation.around s
+    → called_for context.later
+    (callee_in context.activation.around procedure) values context.activation.around s
     ≡ Gave found t
     → IsOfResult heading.result found × SourceFits context.activation.around t
 
@@ -136,7 +145,8 @@ pub record RoutineIsAt (activation : Activation) (routine : Routine) (entry : �
   pub stands : Stands layout activation.image items entry to
   pub has_bytes : entry < to
   pub low : activation.around.program.placement.code.start ≤ entry
-  pub high : to ≤ activation.around.program.placement.code.start + activation.around.program.placement.code.len
+  pub high : to ≤ activation.around.program.placement.code.start +
+      activation.around.program.placement.code.len
   pub is_routine : IsRoutine routine items
 
 -- the objects of a frame lie where the site has them

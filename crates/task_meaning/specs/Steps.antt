@@ -18,7 +18,8 @@ use Rattle.steps8080.specs.Writer.{jump_item, word_item}
 use Rattle.exprgen8080.specs.Emission.{after_test, call_items, has_routine, label_of_routine, test_items}
 use Rattle.task_meaning.specs.Contexts.{Context}
 
--- Steps stand from a place on, where this is known of the registers, up to another place, where that is known. What is
+-- Steps stand from a place on, where this is known of the registers, up to another place, where that is
+-- known. What is
 -- true of their parts is given.
 pub data StepsStand
     (context : Context)
@@ -43,7 +44,8 @@ pub data StepsStand
       → StepsStand context PartIs facts from (steps.Mark label ∷ others) last to
   RoutineThere : {facts last : Facts} {from to : ℕ} {routine : Routine} {others : List Step}
       → has_routine context.called routine ≡ true
-      → IsThere context.activation (jump_item CallTo (label_of_routine context.site routine) ∷ []) from (from + 3)
+      → IsThere context.activation (jump_item CallTo (label_of_routine context.site routine) ∷ []) from
+      (from + 3)
       → StepsStand context PartIs no_facts (from + 3) others last to
       → StepsStand context PartIs facts from (steps.CallRoutine routine ∷ others) last to
   CallThere : {facts last : Facts} {from middle to : ℕ} {procedure : ℕ} {others : List Step}

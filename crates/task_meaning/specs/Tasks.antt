@@ -32,8 +32,10 @@ use Rattle.task_meaning.specs.Contexts.{Context, InRegister, ResultLies, distanc
 abbrev pub Know : Context → Facts → Registers → (memory : List ℕ) → Type 0
 Know context facts r memory = FactsHold context.activation (distances_in context) facts r memory
 
--- Code from one place to another, with so many bytes pushed and room for as many as it needs, does what is meant where
--- this is known and something holds at its start, in so many steps more than it spends. What holds at its end is said beside registers and memory at its start.
+-- Code from one place to another, with so many bytes pushed and room for as many as it needs, does what is
+-- meant where
+-- this is known and something holds at its start, in so many steps more than it spends. What holds at its
+-- end is said beside registers and memory at its start.
 abbrev pub Carries :
     {A : Type 0} → Context → (before : Facts) → (pushed need more from to : ℕ)
     → (Asked : Registers → Type 0)
@@ -54,8 +56,9 @@ Carries context before pushed need more from to Asked meant Holds =
 abbrev pub Nothing : Registers → Type 0
 Nothing r = Unit {0}
 
--- all registers but A, the flags and the place are the same, and the memory is
-pub record ChangesAOnly (r : Registers) (memory : List ℕ) (now : Registers) (memory_now : List ℕ) : Type 0 where
+-- B, C, D, E, H and L are the same, and the memory is
+pub record ChangesAOnly (r : Registers) (memory : List ℕ) (now : Registers)
+    (memory_now : List ℕ) : Type 0 where
   pub b : now.b ≡ r.b
   pub c : now.c ≡ r.c
   pub d : now.d ≡ r.d
@@ -123,7 +126,8 @@ pub record AddressIsGiven
 -- a value was stored; where it is wanted it is in its register still
 pub record IsStored
     (context : Context) (after : Facts) (from : ScalarType) (is_wanted : Bool) (stored_value : ℕ)
-    (r : Registers) (memory : List ℕ) (found : Unit {0}) (now : Registers) (memory_now : List ℕ) : Type 0 where
+    (r : Registers) (memory : List ℕ) (found : Unit {0}) (now : Registers)
+    (memory_now : List ℕ) : Type 0 where
   pub known : Know context after now memory_now
   pub wanted : is_wanted ≡ true → InRegister from stored_value now
 
@@ -134,9 +138,9 @@ pub record ResultIsGiven
   pub lies : ResultLies result found now memory_now
   pub known : Know context after now memory_now
 
--- Where code that jumps by a condition comes to: where the lowest bit of the value is 1 (or 0), to an instruction whose
--- step leads to a label, and elsewhere to its end. What is known at its end is known at the label too where the code has
--- one jump alone. So that step is one beside those that pay for what the value spends.
+-- Where code that jumps by a condition comes to: where the lowest bit of the value is 1 (or 0), to an instruction
+-- whose step leads to a label, and elsewhere to its end. What is known at its end is known at the label too where that
+-- is so at each of its jumps. So that step is one beside those that pay for what the value spends.
 pub data Parts
     (context : Context) (after : Facts) (tree : TypedExpression) (label : LabelNumber) (sense : Bool)
     (top : ℕ) (base : List ℕ) (to : ℕ) (found : ℕ) (t : SourceState) (end : State) : Type 0 where
@@ -160,9 +164,11 @@ IsReferred context (PartOf number first member offset second) =
     IsSomeAnd (slice_get context.typed.objects number)
     (λ (object : TypedObject). IsSeen context.typed context.within object.home)
 
--- The code of each task. Two bytes are needed for each level of height, and for a store two more; a store takes a
+-- The code of each task. Two bytes are needed for each level of height, and for a store two more; a store
+-- takes a
 -- step more than it spends.
-abbrev pub ByteDoes : Context → (before : Facts) → (number : ExpressionNumber) → (pushed from : ℕ) → (after : Facts) → (to : ℕ) → Type 0
+abbrev pub ByteDoes : Context → (before : Facts) → (number : ExpressionNumber) → (pushed from : ℕ)
+    → (after : Facts) → (to : ℕ) → Type 0
 ByteDoes context before number pushed from after to =
     (bound : ℕ) (tree : TypedExpression)
     → IsExpression (nodes_in context) context.storage bound number.index tree
@@ -171,7 +177,8 @@ ByteDoes context before number pushed from after to =
     (value context.later context.activation.around tree)
     (ByteIsGiven context after number (type_of tree))
 
-abbrev pub WordDoes : Context → (before : Facts) → (number : ExpressionNumber) → (pushed from : ℕ) → (after : Facts) → (to : ℕ) → Type 0
+abbrev pub WordDoes : Context → (before : Facts) → (number : ExpressionNumber) → (pushed from : ℕ)
+    → (after : Facts) → (to : ℕ) → Type 0
 WordDoes context before number pushed from after to =
     (bound : ℕ) (tree : TypedExpression)
     → IsExpression (nodes_in context) context.storage bound number.index tree
@@ -180,7 +187,8 @@ WordDoes context before number pushed from after to =
     (value context.later context.activation.around tree)
     (WordIsGiven context after number (type_of tree))
 
-abbrev pub EffectsDo : Context → (before : Facts) → (number : ExpressionNumber) → (pushed from : ℕ) → (after : Facts) → (to : ℕ) → Type 0
+abbrev pub EffectsDo : Context → (before : Facts) → (number : ExpressionNumber) → (pushed from : ℕ)
+    → (after : Facts) → (to : ℕ) → Type 0
 EffectsDo context before number pushed from after to =
     (bound : ℕ) (tree : TypedExpression)
     → IsExpression (nodes_in context) context.storage bound number.index tree
@@ -189,7 +197,8 @@ EffectsDo context before number pushed from after to =
     (value context.later context.activation.around tree)
     (EffectsAreGiven context after number)
 
-abbrev pub AddressDoes : Context → (before : Facts) → Reference → (pushed from : ℕ) → (after : Facts) → (to : ℕ) → Type 0
+abbrev pub AddressDoes : Context → (before : Facts) → Reference → (pushed from : ℕ) → (after : Facts)
+    → (to : ℕ) → Type 0
 AddressDoes context before reference pushed from after to =
     (bound : ℕ) (tree : TypedReference)
     → IsReference (nodes_in context) context.storage bound reference tree
@@ -228,22 +237,29 @@ StoreDoes context before target is_wanted pushed from after to =
     (IsStored context after scalar is_wanted number)
 
 abbrev pub CallDoes :
-    Context → (before : Facts) → (procedure : ℕ) → Range → (pushed from : ℕ) → (after : Facts) → (to : ℕ) → Type 0
+    Context → (before : Facts) → (procedure : ℕ) → Range → (pushed from : ℕ) → (after : Facts)
+    → (to : ℕ) → Type 0
 CallDoes context before procedure arguments pushed from after to =
     (bound : ℕ) (result : Option ScalarType) (trees : TypedArguments)
     → AreArguments (nodes_in context) context.storage bound arguments.first arguments.count trees
     → Takes context.typed procedure result trees
     → TypesHoldInArguments context.typed context.within trees
-    → Carries context before pushed (2 * (1 + count_of_arguments trees + height_of_arguments trees)) 0 from to Nothing
+    → Carries context before pushed (2 *
+    (1 + count_of_arguments trees + height_of_arguments trees)) 0 from to Nothing
     (λ s. then_do (values context.later context.activation.around trees s)
     (λ given t.
-    called_for context.later (callee_in context.activation.around procedure) given context.activation.around t))
+    called_for context.later
+    (callee_in context.activation.around procedure) given context.activation.around t))
     (ResultIsGiven context after result)
 
--- code from one place to another carries out a task where so many bytes are pushed, with this known before and after it
-abbrev pub TaskDoes : Context → (before : Facts) → Task → (pushed from : ℕ) → (after : Facts) → (to : ℕ) → Type 0
-TaskDoes context before (tasks.Byte number) pushed from after to = ByteDoes context before number pushed from after to
-TaskDoes context before (tasks.Word number) pushed from after to = WordDoes context before number pushed from after to
+-- code from one place to another carries out a task where so many bytes are pushed, with this known before
+-- and after it
+abbrev pub TaskDoes : Context → (before : Facts) → Task → (pushed from : ℕ) → (after : Facts) → (to : ℕ)
+    → Type 0
+TaskDoes context before (tasks.Byte number) pushed from after to =
+    ByteDoes context before number pushed from after to
+TaskDoes context before (tasks.Word number) pushed from after to =
+    WordDoes context before number pushed from after to
 TaskDoes context before (tasks.Effects number) pushed from after to =
     EffectsDo context before number pushed from after to
 TaskDoes context before (tasks.Address reference) pushed from after to =
