@@ -1,5 +1,5 @@
 -- Operands of which the second may be evaluated first.
-use Rattle.std.proofs.Common.{◌≡◌, ◌||◌, ◌&&◌, ℕ, true, Option, Some, None, is_some, subst, refl, sym, ap, ◌∙◌}
+use Rattle.std.proofs.Common.{◌≡◌, ◌||◌, ◌&&◌, ℕ, true, Option, Some, None, is_some, subst, refl, sym, ap, ◌∙◌, length}
 use Rattle.std.proofs.lemmas.Bool.{and_parts}
 use Rattle.trees.specs.declared.declaration.ScalarType.{ScalarType}
 use Rattle.trees.specs.declared.declaration.ScalarType.TheVariants.{Address}
@@ -40,7 +40,7 @@ Tells address (Some place) scalar outcome =
 pub known_gives : (around : Surroundings) (nodes : Nodes) (storage : Storage) (address : Place → ℕ)
     (resolves : Resolves around nodes.homes storage address) (later : Later) (tree : TypedExpression)
     (place : Place)
-    → HaveOperands tree → known_value nodes.homes storage tree ≡ Some place
+    → HaveOperands (length storage.lists) tree → known_value nodes.homes storage tree ≡ Some place
     → (s : State) → value later around tree s ≡ Gave (address place) s
 known_gives around nodes storage address resolves later tree place fit is =
     (subst (λ (one : Option Place). Tells address one (type_of tree) (λ s. value later around tree s)) is
@@ -57,7 +57,7 @@ module _ (nodes : Nodes) (storage : Storage) (keeps : KeepTraits nodes) (around 
       {first second : TypedExpression}
       → IsExpression nodes storage left_bound left first
       → IsExpression nodes storage right_bound right second
-      → HaveOperands first
+      → HaveOperands (length storage.lists) first
       → may_exchange nodes (record { index = left }) (record { index = right }) ≡ true
       → (go : ℕ → ℕ → State → Outcome A) (s : State)
       → AreAlike (in_order (of first) (of second) go s) (exchanged (of first) (of second) go s)
@@ -90,7 +90,7 @@ module _ (nodes : Nodes) (storage : Storage) (keeps : KeepTraits nodes) (around 
   pub known_second_exchanged : {A : Type 0} {bound right : ℕ} {second : TypedExpression}
       (first : TypedExpression) (place : Place)
       → IsExpression nodes storage bound right second
-      → HaveOperands second
+      → HaveOperands (length storage.lists) second
       → known_at nodes (record { index = right }) ≡ Some place
       → (go : ℕ → ℕ → State → Outcome A) (s : State)
       → in_order (of first) (of second) go s ≡ exchanged (of first) (of second) go s

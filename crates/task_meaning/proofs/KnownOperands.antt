@@ -1,6 +1,6 @@
 -- What is known of expressions at a site: values that are known but for where things lie, their range, and operands
 -- that may be evaluated in the other order.
-use Rattle.std.proofs.Common.{◌≡◌, ℕ, ◌+◌, ◌-◌, ◌*◌, ◌/◌, ◌%◌, ◌^◌, ◌<◌, ◌≤◌, ◌==◌, Bool, true, false, ◌&&◌, ◌||◌, not, nat_lt, nat_le, if◌then◌else◌, Option, Some, None, is_some, option_map, slice_get, List, bit_and, refl, sym, ap, ◌∙◌, subst, arith}
+use Rattle.std.proofs.Common.{◌≡◌, ℕ, ◌+◌, ◌-◌, ◌*◌, ◌/◌, ◌%◌, ◌^◌, ◌<◌, ◌≤◌, ◌==◌, Bool, true, false, ◌&&◌, ◌||◌, not, nat_lt, nat_le, if◌then◌else◌, Option, Some, None, is_some, option_map, slice_get, List, bit_and, refl, sym, ap, ◌∙◌, subst, arith, length}
 use Rattle.std.specs.Option.{option_and_then, option_map_or}
 use Rattle.std.proofs.lemmas.Nat.{and_le_l, or_of_8, or_of_16, xor_of_8, xor_of_16}
 use Rattle.trees.specs.declared.declaration.ScalarType.{ScalarType}
@@ -50,11 +50,11 @@ use Rattle.task_meaning.specs.Contexts.{Context, IsSound, NumbersAreWords, nodes
 -- expressions whose types hold have the operands that their operators ask for
 mutual
   pub have_operands : (typed : TypedModule) (within : Within) (tree : TypedExpression)
-      → TypesHold typed within tree → HaveOperands tree
+      → TypesHold typed within tree → HaveOperands (length typed.constants.lists) tree
   have_operands typed within (NumberNode scalar of origin) types = tt
   have_operands typed within (ValueNode scalar reference) types = part_has_operands typed within reference types.1
   have_operands typed within (LocationNode reference) types = part_has_operands typed within reference types.1
-  have_operands typed within (ListNode list) types = tt
+  have_operands typed within (ListNode list) types = types
   have_operands typed within (ConversionNode scalar inner) types = have_operands typed within inner types
   have_operands typed within (AssignmentNode target inner) types = have_operands typed within inner types.0
   have_operands typed within (UnaryNode scalar operator operand) types = have_operands typed within operand types.0
@@ -67,12 +67,12 @@ mutual
   have_operands typed within (InputNode port) types = tt
 
   part_has_operands : (typed : TypedModule) (within : Within) (part : TypedReference)
-      → TypesHoldInReference typed within part → PartHasOperands part
+      → TypesHoldInReference typed within part → PartHasOperands (length typed.constants.lists) part
   part_has_operands typed within (PartOf object subscript member offset member_subscript) types =
       (index_has_operands typed within subscript types.0, index_has_operands typed within member_subscript types.1)
 
   index_has_operands : (typed : TypedModule) (within : Within) (subscript : Subscript)
-      → TypesHoldInSubscript typed within subscript → SubscriptHasOperands subscript
+      → TypesHoldInSubscript typed within subscript → SubscriptHasOperands (length typed.constants.lists) subscript
   index_has_operands typed within NoSubscript types = tt
   index_has_operands typed within (At stride count index) types = have_operands typed within index types.0
 
@@ -103,7 +103,7 @@ pub known_is :
     → value context.later context.activation.around tree s ≡ Gave (place_at context.activation.layout place) s
 known_is {context = context} {of = of} {tree = tree} facts place sound is types here s =
     known_gives context.activation.around (nodes_in context) context.storage (place_at context.activation.layout)
-    sound.resolves context.later tree place (have_operands context.typed context.within tree types)
+    sound.resolves context.later tree place (subst (λ (lists : ℕ). HaveOperands lists tree) (sym sound.lists) (have_operands context.typed context.within tree types))
     (sym (known_kept (nodes_in context) context.storage sound.lowered.traits is) ∙ sym (known_same context facts of) ∙ here)
     s
 
@@ -181,7 +181,7 @@ pub operands_may :
     (exchanged (λ (t : State). value context.later context.activation.around first t) (λ (t : State). value context.later context.activation.around second t) go s)
 operands_may {context = context} {left = left} {right = right} {first = first} facts sound one two types may go s =
     operands_exchanged (nodes_in context) context.storage sound.lowered.traits context.activation.around
-    (place_at context.activation.layout) sound.resolves context.later one two (have_operands context.typed context.within first types)
+    (place_at context.activation.layout) sound.resolves context.later one two (subst (λ (lists : ℕ). HaveOperands lists first) (sym sound.lists) (have_operands context.typed context.within first types))
     (sym (may_same context facts left right) ∙ may) go s
 
 -- what does one of two outcomes that are alike does the other

@@ -1,5 +1,5 @@
 -- What the code asks of nodes, in the words of trees.
-use Rattle.std.proofs.Common.{◌≡◌, ℕ, ◌&&◌, ◌||◌, true, false, Option, Some, None, is_some, slice_get, refl, sym, ap, ◌∙◌, List}
+use Rattle.std.proofs.Common.{◌≡◌, ℕ, ◌&&◌, ◌||◌, true, false, Option, Some, None, is_some, slice_get, refl, sym, ap, ◌∙◌, List, length, subst}
 use Rattle.std.specs.Option.{option_map_or}
 use Rattle.typed_trees.specs.TypedTrees.{TypedModule, TypedExpression, NumberNode, ValueNode, LocationNode, ListNode, ConversionNode, AssignmentNode, UnaryNode, BinaryNode, CallNode, FunctionNode, ShiftNode, InputNode, TypedReference, PartOf, Subscript, NoSubscript, At}
 use Rattle.typed_trees.specs.WellTyped.{TypesHold, TypesHoldInReference, TypesHoldInSubscript, Within}
@@ -37,11 +37,11 @@ use Rattle.task_meaning.proofs.Stages.{does_same}
 mutual
   pub have_operands : (typed : TypedModule) (within : Within) (tree : TypedExpression)
       → TypesHold typed within tree
-      → HaveOperands tree
+      → HaveOperands (length typed.constants.lists) tree
   have_operands typed within (NumberNode scalar number origin) hold = tt
   have_operands typed within (ValueNode scalar reference) hold = part_has_operands typed within reference hold.1
   have_operands typed within (LocationNode reference) hold = part_has_operands typed within reference hold.1
-  have_operands typed within (ListNode list) hold = tt
+  have_operands typed within (ListNode list) hold = hold
   have_operands typed within (ConversionNode scalar inner) hold = have_operands typed within inner hold
   have_operands typed within (AssignmentNode target inner) hold = have_operands typed within inner hold.0
   have_operands typed within (UnaryNode scalar operator operand) hold = have_operands typed within operand hold.0
@@ -61,7 +61,7 @@ mutual
 
   pub part_has_operands : (typed : TypedModule) (within : Within) (part : TypedReference)
       → TypesHoldInReference typed within part
-      → PartHasOperands part
+      → PartHasOperands (length typed.constants.lists) part
   part_has_operands typed within (PartOf object subscript member offset member_subscript) hold = (
     subscript_has_operands typed within subscript hold.0,
     subscript_has_operands typed within member_subscript hold.1,
@@ -69,7 +69,7 @@ mutual
 
   pub subscript_has_operands : (typed : TypedModule) (within : Within) (subscript : Subscript)
       → TypesHoldInSubscript typed within subscript
-      → SubscriptHasOperands subscript
+      → SubscriptHasOperands (length typed.constants.lists) subscript
   subscript_has_operands typed within NoSubscript hold = tt
   subscript_has_operands typed within (At stride count index) hold = have_operands typed within index hold.0
 
@@ -155,7 +155,7 @@ pub known_means :
     → (s : SourceState) → value_in context tree s ≡ Gave (place_at context.activation.layout place) s
 known_means {context = context} {of = of} {tree = tree} facts place sound node types is s =
     known_gives context.activation.around (nodes_in context) context.storage (place_at context.activation.layout)
-    sound.resolves context.later tree place (have_operands context.typed context.within tree types)
+    sound.resolves context.later tree place (subst (λ (lists : ℕ). HaveOperands lists tree) (sym sound.lists) (have_operands context.typed context.within tree types))
     (sym (known_kept (nodes_in context) context.storage sound.lowered.traits node)
     ∙ sym (known_is (knowing context.site facts) of) ∙ is) s
 
@@ -203,7 +203,7 @@ does_exchanged {context = context} {left = left} {right = right} {first = first}
     (exchanged (value_in context first) (value_in context second) go s)
     (operands_exchanged (nodes_in context) context.storage sound.lowered.traits context.activation.around
     (place_at context.activation.layout) sound.resolves context.later one two
-    (have_operands context.typed context.within first types)
+    (subst (λ (lists : ℕ). HaveOperands lists first) (sym sound.lists) (have_operands context.typed context.within first types))
     (sym (exchange_is (knowing context.site facts) left right) ∙ may) go s)
     does
 

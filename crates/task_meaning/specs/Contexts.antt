@@ -178,6 +178,7 @@ BasesStandBefore typed =
 pub record IsSound (context : Context) : Type 0 where
   pub lowered : IsLowered context.typed context.storage context.site.tree.now
   pub types : IsWellTyped context.typed
+  pub lists : length context.storage.lists ≡ length context.typed.constants.lists
   pub numbers : NumbersAreWords (nodes_in context)
   pub is_module :
       slice_get context.activation.around.program.modules context.activation.around.number_of_module

@@ -1,5 +1,5 @@
 -- What an expression with a known value means: that value, and no change of the state.
-use Rattle.std.proofs.Common.{◌≡◌, ℕ, ◌+◌, ◌-◌, ◌*◌, ◌%◌, ◌<◌, ◌&&◌, List, Option, Some, None, option_map, refl, sym, ap, ◌∙◌, arith}
+use Rattle.std.proofs.Common.{◌≡◌, ℕ, ◌+◌, ◌-◌, ◌*◌, ◌%◌, ◌<◌, ◌&&◌, List, Option, Some, None, option_map, refl, sym, ap, ◌∙◌, arith, length}
 use Rattle.std.specs.Option.{option_and_then}
 use Rattle.std.proofs.lemmas.Nat.{mul-mod_second}
 use Rattle.trees.specs.declared.declaration.ScalarType.{ScalarType}
@@ -363,13 +363,13 @@ module _ (around : Surroundings) (starts : List Home) (storage : Storage) (addre
   module _ (later : Later) where
     mutual
       -- an expression with a known value gives it, and leaves the state
-      pub tells : (tree : TypedExpression) → HaveOperands tree
+      pub tells : (tree : TypedExpression) → HaveOperands (length storage.lists) tree
           → Tells (known_value starts storage tree) (type_of tree) (λ s. value later around tree s)
       tells (NumberNode scalar number origin) fit =
           ((λ (s : State). give s (sym (resolves.number number))), tt)
       tells (ValueNode scalar reference) fit = tt
       tells (LocationNode reference) fit = tells_part reference fit
-      tells (ListNode list) fit = ((λ (s : State). give s (resolves.list list)), refl)
+      tells (ListNode list) fit = ((λ (s : State). give s (resolves.list list fit)), refl)
       tells (ConversionNode scalar inner) fit =
           tells_conversion scalar _ (known_value starts storage inner) (λ s. value later around inner s)
           (tells inner fit)
@@ -394,7 +394,7 @@ module _ (around : Surroundings) (starts : List Home) (storage : Storage) (addre
           (tells count fit.1)
       tells (InputNode port) fit = tt
 
-      tells_part : (reference : TypedReference) → PartHasOperands reference
+      tells_part : (reference : TypedReference) → PartHasOperands (length storage.lists) reference
           → Tells (known_place starts storage reference) Address
           (λ s. then_do (located later around reference s) (λ place t. Gave (address_in_memory place) t))
       tells_part (PartOf object subscript member offset member_subscript) fit =
@@ -402,7 +402,7 @@ module _ (around : Surroundings) (starts : List Home) (storage : Storage) (addre
           (known_subscript starts storage subscript) (known_subscript starts storage member_subscript) refl
           (tells_subscript subscript fit.0) (tells_subscript member_subscript fit.1) member
 
-      tells_subscript : (subscript : Subscript) → SubscriptHasOperands subscript
+      tells_subscript : (subscript : Subscript) → SubscriptHasOperands (length storage.lists) subscript
           → TellsBytes (known_subscript starts storage subscript) (λ s. displacement later around subscript s)
       tells_subscript NoSubscript fit = (no_displacement, refl, (λ (s : State). refl))
       tells_subscript (At stride count index) fit =

@@ -1,5 +1,5 @@
 -- What is asked of a placement and of typed trees so that known values are what expressions mean.
-use Rattle.std.specs.Prelude.{◌≡◌, ℕ, ◌+◌, ◌%◌, ◌<◌, Bool, List, None}
+use Rattle.std.specs.Prelude.{◌≡◌, ℕ, ◌+◌, ◌%◌, ◌<◌, Bool, List, length, None}
 use Rattle.mem80.specs.declared.memory.TheConstants.{MEMORY_SIZE}
 use Rattle.typed_trees.specs.ExpressionTypes.{type_of}
 use Rattle.typed_trees.specs.TypedTrees.{TypedExpression, NumberNode, ValueNode, LocationNode, ListNode, ConversionNode, AssignmentNode, UnaryNode, BinaryNode, CallNode, FunctionNode, ShiftNode, InputNode, TypedReference, PartOf, Subscript, NoSubscript, At}
@@ -22,7 +22,7 @@ pub record Resolves
   pub below : (place : Place) → number_of_place place ≡ None → address place < 65536
   pub after : (place : Place) (distance : ℕ) → address (place_after place distance)
       ≡ (address place + distance) % 65536
-  pub list : (list : ℕ) → address_of_list around list ≡ address (Code (offset_of_list storage list))
+  pub list : (list : ℕ) → list < length storage.lists → address_of_list around list ≡ address (Code (offset_of_list storage list))
   pub object :
       (object : ℕ) (place : Place) (bytes : ℕ) (is_inside : Bool) (s : State)
       → home_at starts object ≡ homes.Static place
@@ -30,26 +30,26 @@ pub record Resolves
       ≡ Gave (InMemory ((address place + bytes) % MEMORY_SIZE)) s
 
 abbrev mutual
-  -- the operands of each operator in an expression are of its type
-  pub HaveOperands : TypedExpression → Type 0
-  HaveOperands (NumberNode scalar number origin) = Unit {0}
-  HaveOperands (ValueNode scalar reference) = PartHasOperands reference
-  HaveOperands (LocationNode reference) = PartHasOperands reference
-  HaveOperands (ListNode list) = Unit {0}
-  HaveOperands (ConversionNode scalar inner) = HaveOperands inner
-  HaveOperands (AssignmentNode target inner) = HaveOperands inner
-  HaveOperands (UnaryNode scalar operator operand) = HaveOperands operand
-  HaveOperands (BinaryNode operands operator left right) =
-      (type_of left ≡ operands) × (type_of right ≡ operands) × HaveOperands left × HaveOperands right
-  HaveOperands (CallNode procedure scalar given) = Unit {0}
-  HaveOperands (FunctionNode function operand) = HaveOperands operand
-  HaveOperands (ShiftNode scalar function moved count) = HaveOperands moved × HaveOperands count
-  HaveOperands (InputNode port) = Unit {0}
+  -- The operands of each operator in an expression are of its type, and its constant lists are among so many.
+  pub HaveOperands : (lists : ℕ) → TypedExpression → Type 0
+  HaveOperands lists (NumberNode scalar number origin) = Unit {0}
+  HaveOperands lists (ValueNode scalar reference) = PartHasOperands lists reference
+  HaveOperands lists (LocationNode reference) = PartHasOperands lists reference
+  HaveOperands lists (ListNode list) = list < lists
+  HaveOperands lists (ConversionNode scalar inner) = HaveOperands lists inner
+  HaveOperands lists (AssignmentNode target inner) = HaveOperands lists inner
+  HaveOperands lists (UnaryNode scalar operator operand) = HaveOperands lists operand
+  HaveOperands lists (BinaryNode operands operator left right) =
+      (type_of left ≡ operands) × (type_of right ≡ operands) × HaveOperands lists left × HaveOperands lists right
+  HaveOperands lists (CallNode procedure scalar given) = Unit {0}
+  HaveOperands lists (FunctionNode function operand) = HaveOperands lists operand
+  HaveOperands lists (ShiftNode scalar function moved count) = HaveOperands lists moved × HaveOperands lists count
+  HaveOperands lists (InputNode port) = Unit {0}
 
-  pub PartHasOperands : TypedReference → Type 0
-  PartHasOperands (PartOf object subscript member offset member_subscript) =
-      SubscriptHasOperands subscript × SubscriptHasOperands member_subscript
+  pub PartHasOperands : (lists : ℕ) → TypedReference → Type 0
+  PartHasOperands lists (PartOf object subscript member offset member_subscript) =
+      SubscriptHasOperands lists subscript × SubscriptHasOperands lists member_subscript
 
-  pub SubscriptHasOperands : Subscript → Type 0
-  SubscriptHasOperands NoSubscript = Unit {0}
-  SubscriptHasOperands (At stride count index) = HaveOperands index
+  pub SubscriptHasOperands : (lists : ℕ) → Subscript → Type 0
+  SubscriptHasOperands lists NoSubscript = Unit {0}
+  SubscriptHasOperands lists (At stride count index) = HaveOperands lists index
