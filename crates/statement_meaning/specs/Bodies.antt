@@ -1,5 +1,5 @@
 -- A body whose code is carried out, and the ways that lead out of a statement of it.
-use Rattle.std.specs.Prelude.{◌≡◌, ◌≢◌, ℕ, ◌+◌, ◌*◌, ◌<◌, ◌≤◌, true, List, Option, Some, None, AllPairs, slice_get}
+use Rattle.std.specs.Prelude.{◌≡◌, ◌≢◌, ℕ, ◌<◌, ◌≤◌, true, List, Some, None, AllPairs, slice_get}
 use Rattle.asm8080.specs.declared.item.Item.{Item}
 use Rattle.typed_trees.specs.WellTyped.{Within, WithinProcedure, WithinMain}
 use Rattle.meaning.specs.Meaning.{later_by}
