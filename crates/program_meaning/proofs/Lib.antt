@@ -1,2 +1,4 @@
 pub mod Agreeing
 pub mod Renumbered
+pub mod Homes
+pub mod Resolving
