@@ -31,7 +31,7 @@ use Rattle.treecode.specs.declared.procedure.TreeProcedure.{TreeProcedure}
 use Rattle.treecode.specs.Lowered.{IsLowered}
 use Rattle.treecode.specs.Nodes.{home_at, nodes_of}
 use Rattle.treecode.specs.Resolved.{Resolves}
-use Rattle.frames.specs.Frames.{HasNothing, IsPlanOf}
+use Rattle.frames.specs.Frames.{HasNothing}
 use Rattle.code_meaning.specs.Activations.{Activation, IsThere, PlacementLies}
 use Rattle.code_facts.specs.Holding.{place_at}
 use Rattle.steps8080.specs.Facts.{no_facts}
@@ -39,7 +39,8 @@ use Rattle.exprgen8080.specs.Emission.{has_routine, module_label_of_routine}
 use Rattle.statements8080.specs.declared.body.Body.{Body}
 use Rattle.codegen8080.specs.declared.meeting.Here.{Here}
 use Rattle.codegen8080.specs.Generated.{AreCarriedOut, IsListCarriedOut}
-use Rattle.codegen8080.specs.Procedures.{end_steps, entry_steps}
+use Rattle.codegen8080.specs.Modules.{IsEndCode, IsFrameOf}
+use Rattle.codegen8080.specs.Procedures.{entry_steps}
 use Rattle.task_meaning.specs.Contexts.{BasesStandBefore, NumbersAreWords, RoutineIsAt}
 use Rattle.procedure_meaning.specs.Calls.{Entries}
 
@@ -76,17 +77,12 @@ bare code = record {
 abbrev pub at_start : Here
 at_start = record { facts = no_facts; goes_on = true }
 
--- items of the end of a procedure, where that can be reached
-abbrev pub EndIs : (body : Body) → (called : List Bool) → (reached : Bool) → Here → List Item → Type 0
-EndIs body called true here list = (last : Here) × AreCarriedOut body called here None (end_steps body) list last
-EndIs body called false here list = list ≡ []
-
 -- the code of a procedure stands at its entry: how it begins, its body, and its end
 pub record ProcedureStands (code : ModuleCode) (procedure : TreeProcedure) (entry : ℕ) : Type 0 where
   pub body : Body
   pub tree : body.tree ≡ code.tree
   pub is_procedure : body.procedure.now ≡ procedure
-  pub frame : IsPlanOf procedure body.frame.now
+  pub frame : IsFrameOf procedure body.frame.now
   pub first : ℕ
   pub begins : List Item
   pub begun : Here
@@ -95,7 +91,7 @@ pub record ProcedureStands (code : ModuleCode) (procedure : TreeProcedure) (entr
   pub last : Here
   pub list_written : IsListCarriedOut body code.called begun.facts procedure.body statements last
   pub ends : List Item
-  pub end_written : EndIs body code.called procedure.reaches_its_end last ends
+  pub end_written : IsEndCode body code.called last procedure.reaches_its_end ends
   pub to : ℕ
   pub there : IsThere (bare code) (begins ++ (statements ++ ends)) entry to
 

@@ -2,3 +2,4 @@ pub mod Agreeing
 pub mod Renumbered
 pub mod Homes
 pub mod Resolving
+pub mod CodeLies
