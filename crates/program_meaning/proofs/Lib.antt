@@ -3,3 +3,4 @@ pub mod Renumbered
 pub mod Homes
 pub mod Resolving
 pub mod CodeLies
+pub mod ModuleStands
