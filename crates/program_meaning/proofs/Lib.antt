@@ -4,3 +4,4 @@ pub mod Homes
 pub mod Resolving
 pub mod CodeLies
 pub mod ModuleStands
+pub mod Shared
