@@ -5,3 +5,4 @@ pub mod Resolving
 pub mod CodeLies
 pub mod ModuleStands
 pub mod Shared
+pub mod Marks

@@ -51,7 +51,7 @@ from_zero : (number : ℕ) → 0 + number ≡ number
 from_zero number = omega arith
 
 -- it is not EXTERNAL
-abbrev IsOwn : ProcedureKind → Type 0
+abbrev pub IsOwn : ProcedureKind → Type 0
 IsOwn kind = (name : ℕ) → kind ≢ kinds.External name
 
 module _ (code : ModuleCode) where

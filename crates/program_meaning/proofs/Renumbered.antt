@@ -23,26 +23,26 @@ pub record LaysOut (written : Written) (own layout : Layout) : Type 0 where
   pub starts : (segment : Segment) → own.address_of (InSegment segment) ≡ layout.address_of (InSegment segment)
 
 -- what a list that begins with an item begins with
-record InFront (item : Option Item) (others : Option (List Item)) (made : List Item) : Type 0 where
-  first : Item
-  more : List Item
-  item_is : item ≡ Some first
-  others_are : others ≡ Some more
-  made_is : made ≡ first ∷ more
+pub record InFront (item : Option Item) (others : Option (List Item)) (made : List Item) : Type 0 where
+  pub first : Item
+  pub more : List Item
+  pub item_is : item ≡ Some first
+  pub others_are : others ≡ Some more
+  pub made_is : made ≡ first ∷ more
 
-front_of : (item : Option Item) (others : Option (List Item)) (made : List Item) → in_front item others ≡ Some made
+pub front_of : (item : Option Item) (others : Option (List Item)) (made : List Item) → in_front item others ≡ Some made
     → InFront item others made
 front_of (Some item) (Some others) made is =
     record { first = item; more = others; item_is = refl; others_are = refl; made_is = cc }
 front_of (Some item) None made is = absurd (cc)
 front_of None others made is = absurd (cc)
 
-record Mapped {A B : Type 0} (f : A → B) (found : Option A) (made : B) : Type 0 where
-  given : A
-  found_is : found ≡ Some given
-  made_is : made ≡ f given
+pub record Mapped {A B : Type 0} (f : A → B) (found : Option A) (made : B) : Type 0 where
+  pub given : A
+  pub found_is : found ≡ Some given
+  pub made_is : made ≡ f given
 
-mapped : {A B : Type 0} (f : A → B) (found : Option A) (made : B) → option_map f found ≡ Some made → Mapped f found made
+pub mapped : {A B : Type 0} (f : A → B) (found : Option A) (made : B) → option_map f found ≡ Some made → Mapped f found made
 mapped f (Some given) made is = record { given = given; found_is = refl; made_is = cc }
 mapped f None made is = absurd (cc)
 
