@@ -6,3 +6,4 @@ pub mod CodeLies
 pub mod ModuleStands
 pub mod Shared
 pub mod Marks
+pub mod Entering
