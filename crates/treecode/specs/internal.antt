@@ -7,3 +7,4 @@ pub mod Beside
 pub mod Sound
 pub mod Completed
 pub mod Gathered
+pub mod Placed
