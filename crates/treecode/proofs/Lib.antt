@@ -24,3 +24,4 @@ pub mod ContentLoops
 pub mod PlacedTables
 pub mod PlacedLaws
 pub mod FrameVariables
+pub mod Words
