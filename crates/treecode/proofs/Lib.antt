@@ -25,3 +25,4 @@ pub mod PlacedTables
 pub mod PlacedLaws
 pub mod FrameVariables
 pub mod Words
+pub mod Below
