@@ -1,20 +1,26 @@
 -- The parts of an expression or a statement have lower numbers than itself, and the items of a list stand in the
 -- table: that is what the walk over a body tests at each step.
-use Rattle.std.proofs.Common.{◌≡◌, ℕ, zero, suc, ◌+◌, ◌<◌, Bool, List, length, Option, Some, None, slice_get, cond, sym, ap, ◌∙◌, subst, arith}
+use Rattle.std.proofs.Common.{◌≡◌, ℕ, zero, suc, ◌+◌, ◌<◌, ◌≤◌, Bool, List, length, Option, Some, None, slice_get, cond, sym, ap, ◌∙◌, subst, arith}
 use Rattle.std.specs.Option.{option_and_then}
 use Rattle.std.proofs.lemmas.Bool.{lt-ltb}
 use Rattle.std.proofs.lemmas.Option.{same_Some}
 use Rattle.typed_trees.specs.TypedTrees.{TypedExpression, TypedElse, TypedList, TypedProcedure, TypedStatement, TypedStatements}
 use Rattle.layout.specs.Storage.{Storage}
 use Rattle.treecode.specs.declared.expression.Expression.{Expression}
+use Rattle.treecode.specs.declared.expression.ExpressionNumber.{ExpressionNumber}
 use Rattle.treecode.specs.declared.lists.Range.{Range}
 use Rattle.treecode.specs.declared.procedure.TreeProcedure.{TreeProcedure}
+use Rattle.treecode.specs.declared.reference.Reference.{Reference}
+use Rattle.treecode.specs.declared.reference.Subscript.{Subscript}
+use Rattle.treecode.specs.declared.reference.Target.{Target}
+use Rattle.treecode.specs.declared.reference.Target.TheVariants as targets
 use Rattle.treecode.specs.declared.statement.Statement.{Statement}
 use Rattle.treecode.specs.declared.statement.Statement.TheVariants as statements
 use Rattle.treecode.specs.declared.statement.StatementNumber.{StatementNumber}
 use Rattle.treecode.specs.Lowered.{HasBody, IsExpression, IsNode, IsStatement, IsStatementNode, IsStatementForm, IsLabel, IsNull, IsAssignment, IsCall, IsMove, IsReturn, IsHalt, IsGoto, IsIf, IsDo, IsWhile, IsIterate, IsCase, IsElse, IsNoElse, IsSomeElse, AreStatements, AreNoStatements, AreMoreStatements, IsList, IsListOf}
 use Rattle.treecode.specs.Nodes.{Nodes, item_of}
-use Rattle.treecode.specs.internal.Rising.{PartsAreBelow}
+use Rattle.treecode.specs.Queries.{number_bound, reference_bound, subscript_bound, target_bound}
+use Rattle.treecode.specs.internal.Rising.{PartsAreBelow, ReferenceIsBelow, SubscriptIsBelow, TargetIsBelow}
 use Rattle.treecode.proofs.AddedExpressions.{parts_below}
 
 -- each of so many statements in a row stands in the table of lists, and has a number below a bound
@@ -127,3 +133,28 @@ pub body_below : {nodes : Nodes} {storage : Storage} {procedure : TreeProcedure}
     → HasBody nodes storage procedure tree
     → ItemsAreBelow nodes (length nodes.statements) procedure.body
 body_below has_body = list_below has_body.body
+
+-- the bounds by which tasks rank: that of a part is no greater than the number of what it is a part of
+pub number_bound_below : (number : ExpressionNumber) (bound : ℕ) → number.index < bound → number_bound number ≤ bound
+number_bound_below number bound below = omega arith
+
+subscript_bound_below : (subscript : Option Subscript) (bound : ℕ) → SubscriptIsBelow bound subscript
+    → subscript_bound subscript ≤ bound
+subscript_bound_below None bound below = omega arith
+subscript_bound_below (Some subscript) bound below = number_bound_below subscript.index bound below
+
+pub reference_bound_below : (reference : Reference) (bound : ℕ) → ReferenceIsBelow bound reference
+    → reference_bound reference ≤ bound
+reference_bound_below reference bound below =
+    let first : _ = subscript_bound_below reference.subscript bound below.0 in
+    let second : _ = subscript_bound_below reference.member_subscript bound below.1 in
+    omega arith
+
+pub target_bound_below : (target : Target) (bound : ℕ) → TargetIsBelow bound target → target_bound target ≤ bound
+target_bound_below (targets.Stored from to reference) bound below = reference_bound_below reference bound below
+target_bound_below (targets.Sent from port) bound below = omega arith
+
+-- what is no greater than the number of an expression is below its own bound, unless the table is full
+pub below_own_bound : (number : ExpressionNumber) (bound : ℕ) → number.index < 4294967295 → bound ≤ number.index
+    → bound < number_bound number
+below_own_bound number bound room below = omega arith
