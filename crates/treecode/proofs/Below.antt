@@ -20,7 +20,7 @@ use Rattle.treecode.specs.declared.statement.StatementNumber.{StatementNumber}
 use Rattle.treecode.specs.Lowered.{HasBody, IsExpression, IsNode, IsStatement, IsStatementNode, IsStatementForm, IsLabel, IsNull, IsAssignment, IsCall, IsMove, IsReturn, IsHalt, IsGoto, IsIf, IsDo, IsWhile, IsIterate, IsCase, IsElse, IsNoElse, IsSomeElse, AreStatements, AreNoStatements, AreMoreStatements, IsList, IsListOf}
 use Rattle.treecode.specs.Nodes.{Nodes, item_of}
 use Rattle.treecode.specs.Queries.{number_bound, reference_bound, subscript_bound, target_bound}
-use Rattle.treecode.specs.internal.Rising.{PartsAreBelow, ReferenceIsBelow, SubscriptIsBelow, TargetIsBelow}
+pub use Rattle.treecode.specs.internal.Rising.{PartsAreBelow, ReferenceIsBelow, SubscriptIsBelow, TargetIsBelow}
 use Rattle.treecode.proofs.AddedExpressions.{parts_below}
 
 -- each of so many statements in a row stands in the table of lists, and has a number below a bound
