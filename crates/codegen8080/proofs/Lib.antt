@@ -3,3 +3,4 @@ pub mod KeptSegments
 pub mod NewNames
 pub mod Planning
 pub mod Driving
+pub mod BodyParts

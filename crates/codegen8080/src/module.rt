@@ -1,7 +1,12 @@
 //! Modules of tree code as object modules.
 
-ghost use Rattle.std.specs.Prelude.{IfOk};
+ghost use Rattle.std.specs.Prelude.{◌≡◌, ◌+◌, IfOk, OnOk};
+ghost use Rattle.exprgen8080.specs.Emitted.{IsEmpty};
+ghost use Rattle.codegen8080.specs.Modules.{IsCodeOfMain, IsCodeWritten, content_items, contents_items, has_main};
+ghost use Rattle.codegen8080.specs.internal.Bodies.{AddsCalled, AddsCodeOfMain, AddsOwnCode, AddsProcedures};
 ghost use Rattle.codegen8080.specs.internal.Segments.{KeepsFixes};
+ghost use Rattle.runtime8080.specs.declared.routine.Routine.{Routine as RoutineName};
+ghost use Rattle.steps8080.specs.Writer.{Writes};
 
 use crate::bodies::{put_main, put_procedure};
 use crate::fault::Fault;
@@ -11,8 +16,9 @@ use crate::object::object_of;
 use exprgen8080::{Externals, Finished, LabelNumber, ROUTINES, Writer, routine_label};
 use failure::Failure;
 use object_modules::ObjectModule;
+use runtime8080::Routine;
 use std::alloc::{AllocError, Global};
-use treecode::{Content, TreeModule};
+use treecode::{Content, TreeModule, TreeProcedure};
 
 // The code of a module, and the label of its main program.
 struct ModuleCode {
@@ -21,7 +27,9 @@ struct ModuleCode {
 }
 
 // Adds what stands in a segment.
-fn put_content(writer: &mut Writer, content: Content) -> Result<(), AllocError> {
+fn put_content(writer: &mut Writer, content: Content) -> Result<(), AllocError>
+    ensures { OnOk result (Writes writer.old writer.new (content_items content)) }
+{
     match content {
         Content::Byte(value) => writer.byte(value),
         Content::Word(place) => writer.address(place),
@@ -30,29 +38,86 @@ fn put_content(writer: &mut Writer, content: Content) -> Result<(), AllocError> 
 }
 
 // Adds what stands in a segment, from its start on.
-fn put_contents(writer: &mut Writer, contents: &[Content]) -> Result<(), AllocError> {
-    for content in contents {
+fn put_contents(writer: &mut Writer, contents: &[Content]) -> Result<(), AllocError>
+    ensures { OnOk result (Writes writer.old writer.new (contents_items contents.now)) }
+{
+    let mut left = contents;
+    while let [content, others @ ..] = left {
         put_content(writer, *content)?;
+        left = others;
     }
     Ok(())
 }
 
 // Whether a module has a main program: a statement at its outer level.
-fn is_main(tree: &TreeModule) -> bool {
+fn is_main(tree: &TreeModule) -> bool
+    ensures { result ≡ has_main tree.now }
+{
     tree.main.body.count > 0
 }
 
-// Adds the code of all procedures.
+// The number after another one. Fails where there is none.
+fn next_number(number: u32) -> Result<u32, AllocError>
+    ensures { IfOk result (λ next. next ≡ number + 1) }
+{
+    match number.checked_add(1) {
+        Some(next) => Ok(next),
+        None => Err(AllocError),
+    }
+}
+
+// Adds the code of procedures, which are numbered from 0 on.
 fn put_procedures(
     alloc: Global,
     generator: &mut Generator,
     tree: &TreeModule,
-) -> Result<(), AllocError> {
-    let count = u32::try_from(tree.procedures.len()).unwrap_or(u32::MAX);
-    for number in 0..count {
-        put_procedure(alloc, generator, tree, number)?;
+    procedures: &[TreeProcedure],
+) -> Result<(), AllocError>
+    ensures { OnOk result (AddsProcedures tree.now 0 procedures.now generator.old generator.new) }
+{
+    let mut left = procedures;
+    let mut number = 0;
+    while let [procedure, others @ ..] = left {
+        put_procedure(alloc, generator, tree, procedure, number)?;
+        number = next_number(number)?;
+        left = others;
     }
     Ok(())
+}
+
+// Adds the code of a main program, from a label on, where there is one.
+fn put_main_if_any(
+    alloc: Global,
+    generator: &mut Generator,
+    tree: &TreeModule,
+    start: LabelNumber,
+) -> Result<(), AllocError>
+    ensures { OnOk result (AddsCodeOfMain tree.now start.index generator.old generator.new) }
+{
+    if is_main(tree) {
+        put_main(alloc, generator, tree, start)
+    } else {
+        Ok(())
+    }
+}
+
+// Adds a routine where it is called.
+fn with_called(
+    writer: Writer,
+    tree: &TreeModule,
+    is_called: &[bool],
+    index: usize,
+    routine: Routine,
+) -> Result<Writer, AllocError>
+    ensures { IfOk result (λ after. AddsCalled tree.now is_called.now index routine writer after) }
+{
+    match is_called.get(index) {
+        Some(true) => {
+            let label = routine_label(tree, (index % 256) as u32);
+            writer.with_routine(routine, label)
+        }
+        _ => Ok(writer),
+    }
 }
 
 // Adds the routines that are called.
@@ -63,23 +128,31 @@ fn with_routines(
 ) -> Result<Writer, AllocError> {
     let mut writer = writer;
     for (index, routine) in ROUTINES.iter().enumerate() {
-        if let Some(true) = is_called.get(index) {
-            let label = routine_label(tree, (index % 256) as u32);
-            writer = writer.with_routine(*routine, label)?;
-        }
+        writer = with_called(writer, tree, is_called, index, *routine)?;
     }
     Ok(writer)
+}
+
+// Adds the constants of a module, its main program and its procedures. Gives the label of the main program.
+fn put_own_code(
+    alloc: Global,
+    generator: &mut Generator,
+    tree: &TreeModule,
+) -> Result<LabelNumber, AllocError>
+    requires { IsEmpty tree.now generator.old.emission }
+    ensures { IfOk result (λ start. AddsOwnCode tree.now start.index generator.old generator.new) }
+{
+    put_contents(&mut generator.emission.writer, tree.constants.as_slice())?;
+    let start = generator.emission.steps.label();
+    put_main_if_any(alloc, generator, tree, start)?;
+    put_procedures(alloc, generator, tree, tree.procedures.as_slice())?;
+    Ok(start)
 }
 
 // The code segment of a module: its constants, its main program, its procedures and the routines that these call.
 fn code_of(alloc: Global, tree: &TreeModule) -> Result<ModuleCode, AllocError> {
     let mut generator = Generator::new(alloc, tree)?;
-    put_contents(&mut generator.emission.writer, tree.constants.as_slice())?;
-    let start = generator.emission.steps.label();
-    if is_main(tree) {
-        put_main(alloc, &mut generator, tree, start)?;
-    }
-    put_procedures(alloc, &mut generator, tree)?;
+    let start = put_own_code(alloc, &mut generator, tree)?;
     let (writer, is_called) = generator.into_emission().into_code();
     Ok(ModuleCode {
         writer: with_routines(writer, tree, is_called.as_slice())?,
