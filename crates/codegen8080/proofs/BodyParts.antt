@@ -154,7 +154,7 @@ plain_is :
 plain_is (PlainWritten NoneWritten) = refl
 
 -- the code of the end of a procedure where more routines are called
-end_kept :
+pub end_kept :
     (body : Body) (called wider : List Bool) (here : Here) (is_reached : Bool) (list : List Item)
     → HasAll called wider
     → IsEndCode body called here is_reached list

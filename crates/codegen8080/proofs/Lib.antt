@@ -4,3 +4,4 @@ pub mod NewNames
 pub mod Planning
 pub mod Driving
 pub mod BodyParts
+pub mod ModuleParts

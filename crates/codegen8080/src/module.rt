@@ -1,11 +1,9 @@
 //! Modules of tree code as object modules.
 
-ghost use Rattle.std.specs.Prelude.{◌≡◌, ◌+◌, IfOk, OnOk};
-ghost use Rattle.exprgen8080.specs.Emitted.{IsEmpty};
-ghost use Rattle.codegen8080.specs.Modules.{IsCodeOfMain, IsCodeWritten, content_items, contents_items, has_main};
-ghost use Rattle.codegen8080.specs.internal.Bodies.{AddsCalled, AddsCodeOfMain, AddsOwnCode, AddsProcedures};
+ghost use Rattle.std.specs.Prelude.{◌≡◌, ◌+◌, false, slice_index_or, IfOk, OnOk};
+ghost use Rattle.codegen8080.specs.Modules.{IsCodeWritten, all_routines, content_items, contents_items, has_main};
+ghost use Rattle.codegen8080.specs.internal.Bodies.{AddsCalled, AddsCodeOfMain, AddsOwnCode, AddsProcedures, AddsRoutines, first_routines, last_routines, next_routines};
 ghost use Rattle.codegen8080.specs.internal.Segments.{KeepsFixes};
-ghost use Rattle.runtime8080.specs.declared.routine.Routine.{Routine as RoutineName};
 ghost use Rattle.steps8080.specs.Writer.{Writes};
 
 use crate::bodies::{put_main, put_procedure};
@@ -13,7 +11,7 @@ use crate::fault::Fault;
 use crate::generator::Generator;
 use crate::names::{listed_names, with_publics};
 use crate::object::object_of;
-use exprgen8080::{Externals, Finished, LabelNumber, ROUTINES, Writer, routine_label};
+use exprgen8080::{Externals, Finished, LabelNumber, Writer, routine_label};
 use failure::Failure;
 use object_modules::ObjectModule;
 use runtime8080::Routine;
@@ -38,6 +36,7 @@ fn put_content(writer: &mut Writer, content: Content) -> Result<(), AllocError>
 }
 
 // Adds what stands in a segment, from its start on.
+#[tactic(auto, using(crate::proofs::ModuleParts::putting_begins, crate::proofs::ModuleParts::putting_ends))]
 fn put_contents(writer: &mut Writer, contents: &[Content]) -> Result<(), AllocError>
     ensures { OnOk result (Writes writer.old writer.new (contents_items contents.now)) }
 {
@@ -67,6 +66,7 @@ fn next_number(number: u32) -> Result<u32, AllocError>
 }
 
 // Adds the code of procedures, which are numbered from 0 on.
+#[tactic(auto, using(crate::proofs::ModuleParts::procedures_begin))]
 fn put_procedures(
     alloc: Global,
     generator: &mut Generator,
@@ -86,6 +86,7 @@ fn put_procedures(
 }
 
 // Adds the code of a main program, from a label on, where there is one.
+#[tactic(auto, using(crate::proofs::ModuleParts::main_there, crate::proofs::ModuleParts::no_main_there))]
 fn put_main_if_any(
     alloc: Global,
     generator: &mut Generator,
@@ -101,23 +102,73 @@ fn put_main_if_any(
     }
 }
 
-// Adds a routine where it is called.
+// Whether the routine of an index is called.
+fn is_called_at(is_called: &[bool], index: u32) -> bool
+    ensures { result ≡ slice_index_or is_called.now index false }
+{
+    match is_called.get(index as usize) {
+        Some(is_called) => *is_called,
+        None => false,
+    }
+}
+
+// Adds a routine, by its place among them, where it is called.
 fn with_called(
     writer: Writer,
     tree: &TreeModule,
     is_called: &[bool],
-    index: usize,
+    index: u32,
     routine: Routine,
 ) -> Result<Writer, AllocError>
     ensures { IfOk result (λ after. AddsCalled tree.now is_called.now index routine writer after) }
 {
-    match is_called.get(index) {
-        Some(true) => {
-            let label = routine_label(tree, (index % 256) as u32);
-            writer.with_routine(routine, label)
-        }
-        _ => Ok(writer),
+    if is_called_at(is_called, index) {
+        writer.with_routine(routine, routine_label(tree, index))
+    } else {
+        Ok(writer)
     }
+}
+
+// Adds the routines of arithmetic that are called.
+fn with_arithmetic(
+    writer: Writer,
+    tree: &TreeModule,
+    is_called: &[bool],
+) -> Result<Writer, AllocError>
+    ensures { IfOk result (λ after. AddsRoutines tree.now is_called.now first_routines writer after) }
+{
+    let writer = with_called(writer, tree, is_called, 0, Routine::Multiply)?;
+    let writer = with_called(writer, tree, is_called, 1, Routine::Divide)?;
+    let writer = with_called(writer, tree, is_called, 2, Routine::ShiftLeftByte)?;
+    Ok(writer)
+}
+
+// Adds the other shifts that are called.
+fn with_shifts(
+    writer: Writer,
+    tree: &TreeModule,
+    is_called: &[bool],
+) -> Result<Writer, AllocError>
+    ensures { IfOk result (λ after. AddsRoutines tree.now is_called.now next_routines writer after) }
+{
+    let writer = with_called(writer, tree, is_called, 3, Routine::ShiftRightByte)?;
+    let writer = with_called(writer, tree, is_called, 4, Routine::ShiftLeftAddress)?;
+    let writer = with_called(writer, tree, is_called, 5, Routine::ShiftRightAddress)?;
+    Ok(writer)
+}
+
+// Adds the rotations and MOVE, where they are called.
+fn with_others(
+    writer: Writer,
+    tree: &TreeModule,
+    is_called: &[bool],
+) -> Result<Writer, AllocError>
+    ensures { IfOk result (λ after. AddsRoutines tree.now is_called.now last_routines writer after) }
+{
+    let writer = with_called(writer, tree, is_called, 6, Routine::RotateLeft)?;
+    let writer = with_called(writer, tree, is_called, 7, Routine::RotateRight)?;
+    let writer = with_called(writer, tree, is_called, 8, Routine::Move)?;
+    Ok(writer)
 }
 
 // Adds the routines that are called.
@@ -125,11 +176,12 @@ fn with_routines(
     writer: Writer,
     tree: &TreeModule,
     is_called: &[bool],
-) -> Result<Writer, AllocError> {
-    let mut writer = writer;
-    for (index, routine) in ROUTINES.iter().enumerate() {
-        writer = with_called(writer, tree, is_called, index, *routine)?;
-    }
+) -> Result<Writer, AllocError>
+    ensures { IfOk result (λ after. AddsRoutines tree.now is_called.now all_routines writer after) }
+{
+    let writer = with_arithmetic(writer, tree, is_called)?;
+    let writer = with_shifts(writer, tree, is_called)?;
+    let writer = with_others(writer, tree, is_called)?;
     Ok(writer)
 }
 
@@ -139,7 +191,6 @@ fn put_own_code(
     generator: &mut Generator,
     tree: &TreeModule,
 ) -> Result<LabelNumber, AllocError>
-    requires { IsEmpty tree.now generator.old.emission }
     ensures { IfOk result (λ start. AddsOwnCode tree.now start.index generator.old generator.new) }
 {
     put_contents(&mut generator.emission.writer, tree.constants.as_slice())?;
@@ -150,14 +201,14 @@ fn put_own_code(
 }
 
 // The code segment of a module: its constants, its main program, its procedures and the routines that these call.
-fn code_of(alloc: Global, tree: &TreeModule) -> Result<ModuleCode, AllocError> {
+fn code_of(alloc: Global, tree: &TreeModule) -> Result<ModuleCode, AllocError>
+    ensures { IfOk result (λ code. IsCodeWritten tree.now code.start.index code.writer) }
+{
     let mut generator = Generator::new(alloc, tree)?;
     let start = put_own_code(alloc, &mut generator, tree)?;
     let (writer, is_called) = generator.into_emission().into_code();
-    Ok(ModuleCode {
-        writer: with_routines(writer, tree, is_called.as_slice())?,
-        start,
-    })
+    let writer = with_routines(writer, tree, is_called.as_slice())?;
+    Ok(ModuleCode { writer, start })
 }
 
 // The data segment of a module, which shares the names of other modules with its code.

@@ -1,16 +1,18 @@
 -- What is added for the parts of a module's code.
-use Rattle.std.specs.Prelude.{◌≡◌, ℕ, ◌%◌, Bool, true, false, List, None, slice_index_or}
+use Rattle.std.specs.Prelude.{◌≡◌, ℕ, Bool, true, false, List, [], ◌∷◌, ◌++◌, None, slice_index_or}
 use Rattle.asm8080.specs.declared.item.Item.{Item}
 use Rattle.runtime8080.specs.declared.routine.Routine.{Routine}
+use Rattle.runtime8080.specs.declared.routine.Routine.TheVariants as names
 use Rattle.treecode.specs.declared.module.TreeModule.{TreeModule}
 use Rattle.treecode.specs.declared.procedure.TreeProcedure.{TreeProcedure}
+use Rattle.steps8080.specs.Externals.{Extends}
 use Rattle.steps8080.specs.Writer.{Written, WritesRoutine}
 use Rattle.exprgen8080.specs.Emission.{module_routine_label}
 use Rattle.statements8080.specs.declared.body.Body.{Body}
 use Rattle.codegen8080.specs.declared.generator.Generator.{Generator}
 use Rattle.codegen8080.specs.Driven.{AddsCode, here_of}
 use Rattle.codegen8080.specs.Generated.{AreCarriedOut}
-use Rattle.codegen8080.specs.Modules.{AreCodeOf, IsCodeOf, IsCodeOfMain, IsEndCode, IsMainCode, IsOwnCode, IsProcedureCode, has_main}
+use Rattle.codegen8080.specs.Modules.{AreCodeOf, AreRoutines, IsCodeOf, IsCodeOfMain, IsEndCode, IsMainCode, IsOwnCode, IsProcedureCode, has_main}
 use Rattle.codegen8080.specs.Procedures.{entry_steps}
 
 -- code of the beginning of a procedure, with labels from any number on
@@ -66,4 +68,23 @@ AddsRoutineIf tree index routine before after false = after ≡ before
 abbrev pub AddsCalled :
     TreeModule → (called : List Bool) → (index : ℕ) → Routine → (before after : Written) → Type 0
 AddsCalled tree called index routine before after =
-    AddsRoutineIf tree (index % 256) routine before after (slice_index_or called index false)
+    AddsRoutineIf tree index routine before after (slice_index_or called index false)
+
+-- routines are added that are called, of these
+pub record AddsRoutines
+    (tree : TreeModule) (called : List Bool) (routines : List Routine) (before after : Written) : Type 0 where
+  pub list : List Item
+  pub added : after.code.items ≡ before.code.items ++ list
+  pub are : AreRoutines tree called after routines list
+  pub labels : Extends before.labels after.labels
+  pub externals : Extends before.externals after.externals
+
+-- the routines in three parts
+abbrev pub first_routines : List Routine
+first_routines = names.Multiply ∷ names.Divide ∷ names.ShiftLeftByte ∷ []
+
+abbrev pub next_routines : List Routine
+next_routines = names.ShiftRightByte ∷ names.ShiftLeftAddress ∷ names.ShiftRightAddress ∷ []
+
+abbrev pub last_routines : List Routine
+last_routines = names.RotateLeft ∷ names.RotateRight ∷ names.Move ∷ []
