@@ -1,7 +1,6 @@
 -- What the object module of a module is: the items of its code and of its data, how these are bytes of its segments, and
 -- its names.
 use Rattle.std.specs.Prelude.{◌≡◌, ℕ, suc, nat_lt, Bool, true, false, if◌then◌else◌, List, [], ◌∷◌, ◌++◌, flat_map, Option, Some, None, slice_get}
-use Rattle.std.specs.Borrow.{Bor}
 use Rattle.isa8080.specs.declared.instr.Instr.TheVariants.{Hlt}
 use Rattle.isa8080.specs.declared.instr.Pair.TheVariants.{Sp}
 use Rattle.object_modules.specs.declared.segment.Alignment.TheVariants.{Byte as OnByte}
@@ -57,20 +56,20 @@ abbrev pub has_main : TreeModule → Bool
 has_main tree = nat_lt 0 tree.main.body.count
 
 -- The code of a main program, from its label on: the stack begins at its end, and after its statements the machine halts.
-pub record IsMainCode (tree : Bor TreeModule) (called : List Bool) (start : ℕ) (list : List Item) : Type 0 where
+pub record IsMainCode (tree : TreeModule) (called : List Bool) (start : ℕ) (list : List Item) : Type 0 where
   pub body : Body
-  pub tree_is : body.tree ≡ tree
-  pub procedure_is : body.procedure.now ≡ tree.now.main
+  pub tree_is : body.tree.now ≡ tree
+  pub procedure_is : body.procedure.now ≡ tree.main
   pub frame : HasNothing body.frame.now
   pub statements : List Item
   pub last : Here
-  pub written : IsListCarriedOut body called no_facts tree.now.main.body statements last
+  pub written : IsListCarriedOut body called no_facts tree.main.body statements last
   pub list_is :
       list
       ≡ items.Mark start ∷ stack_end_item (LoadPair Sp) ∷ (statements ++ (items.Plain Hlt ∷ []))
 
 -- where there is one
-abbrev pub IsCodeOfMain : Bor TreeModule → (called : List Bool) → (start : ℕ) → (is_there : Bool) → List Item → Type 0
+abbrev pub IsCodeOfMain : TreeModule → (called : List Bool) → (start : ℕ) → (is_there : Bool) → List Item → Type 0
 IsCodeOfMain tree called start true list = IsMainCode tree called start list
 IsCodeOfMain tree called start false list = list ≡ []
 
@@ -88,10 +87,10 @@ IsEndCode body called here false list = list ≡ []
 
 -- The code of a procedure, from its label on: how it begins, its statements, and how it ends.
 pub record IsProcedureCode
-    (tree : Bor TreeModule) (called : List Bool) (number : ℕ) (procedure : TreeProcedure) (list : List Item) :
+    (tree : TreeModule) (called : List Bool) (number : ℕ) (procedure : TreeProcedure) (list : List Item) :
     Type 0 where
   pub body : Body
-  pub tree_is : body.tree ≡ tree
+  pub tree_is : body.tree.now ≡ tree
   pub procedure_is : body.procedure.now ≡ procedure
   pub frame : IsFrameOf procedure body.frame.now
   pub first : ℕ
@@ -109,13 +108,13 @@ pub record IsProcedureCode
 
 -- one that is not EXTERNAL
 abbrev pub IsCodeOf :
-    Bor TreeModule → (called : List Bool) → (number : ℕ) → TreeProcedure → ProcedureKind → List Item → Type 0
+    TreeModule → (called : List Bool) → (number : ℕ) → TreeProcedure → ProcedureKind → List Item → Type 0
 IsCodeOf tree called number procedure (kinds.External name) list = list ≡ []
 IsCodeOf tree called number procedure kind list = IsProcedureCode tree called number procedure list
 
 -- the code of procedures one after another, which are numbered from here on
 abbrev pub AreCodeOf :
-    Bor TreeModule → (called : List Bool) → (number : ℕ) → List TreeProcedure → List Item → Type 0
+    TreeModule → (called : List Bool) → (number : ℕ) → List TreeProcedure → List Item → Type 0
 AreCodeOf tree called number [] list = list ≡ []
 AreCodeOf tree called number (procedure ∷ others) list =
     (first : List Item)
@@ -125,12 +124,12 @@ AreCodeOf tree called number (procedure ∷ others) list =
     × (list ≡ first ++ more)
 
 -- what a code segment begins with: the constants, the main program and the procedures
-pub record IsOwnCode (tree : Bor TreeModule) (called : List Bool) (start : ℕ) (list : List Item) : Type 0 where
+pub record IsOwnCode (tree : TreeModule) (called : List Bool) (start : ℕ) (list : List Item) : Type 0 where
   pub main : List Item
   pub procedures : List Item
-  pub main_is : IsCodeOfMain tree called start (has_main tree.now) main
-  pub procedures_are : AreCodeOf tree called 0 tree.now.procedures.items procedures
-  pub list_is : list ≡ contents_items tree.now.constants.items ++ (main ++ procedures)
+  pub main_is : IsCodeOfMain tree called start (has_main tree) main
+  pub procedures_are : AreCodeOf tree called 0 tree.procedures.items procedures
+  pub list_is : list ≡ contents_items tree.constants.items ++ (main ++ procedures)
 
 -- the routines in the order in which they stand
 abbrev pub all_routines : List Routine
@@ -176,14 +175,14 @@ AreRoutines tree called written (routine ∷ others) list =
 
 -- Code as it was written: its items are those of the module, by the numbers that the code has for labels and names, and
 -- the routines that are called.
-pub record IsCodeWritten (tree : Bor TreeModule) (start : ℕ) (written : Written) : Type 0 where
+pub record IsCodeWritten (tree : TreeModule) (start : ℕ) (written : Written) : Type 0 where
   pub called : List Bool
   pub own : List Item
   pub made : List Item
   pub listed : List Item
   pub own_is : IsOwnCode tree called start own
   pub same : numbered written own ≡ Some made
-  pub listed_are : AreRoutines tree.now called written all_routines listed
+  pub listed_are : AreRoutines tree called written all_routines listed
   pub items_are : written.code.items ≡ made ++ listed
 
 -- What was written is a segment of an object module, with these targets of its fixes: its bytes, resolved, are the items
@@ -244,9 +243,9 @@ ArePublicsOf written bytes (name ∷ names) (public ∷ publics) =
 ArePublicsOf written bytes names publics = ⊥
 
 -- The object module of a module.
-pub record IsGenerated (tree : Bor TreeModule) (object : ObjectModule) : Type 0 where
+pub record IsGenerated (tree : TreeModule) (object : ObjectModule) : Type 0 where
   -- its name is that of the module
-  pub name : object.name ≡ tree.now.name
+  pub name : object.name ≡ tree.name
   -- the label of the main program, the code as it was written, and its bytes
   pub start_label : ℕ
   pub code : Written
@@ -255,19 +254,19 @@ pub record IsGenerated (tree : Bor TreeModule) (object : ObjectModule) : Type 0 
   -- the data as they were written, and their bytes
   pub variables : Written
   pub variable_bytes : Assembled
-  pub variables_are : numbered variables (contents_items tree.now.variables.items) ≡ Some variables.code.items
+  pub variables_are : numbered variables (contents_items tree.variables.items) ≡ Some variables.code.items
   -- both know the same names, by the same numbers
   pub grown : Extends code.externals variables.externals
   -- the external names are those that code or data refer to, in the order of the text
-  pub externals : object.externals ≡ used_names variables.externals tree.now.externals.items
+  pub externals : object.externals ≡ used_names variables.externals tree.externals.items
   pub to : Target → Target
-  pub targets : AreTargets tree.now.externals.items variables.externals object.externals to
+  pub targets : AreTargets tree.externals.items variables.externals object.externals to
   -- the segments
   pub code_segment : IsSegmentOf code code_bytes to object.code
   pub data_segment : IsSegmentOf variables variable_bytes to object.data_places
   pub stack : object.stack_length ≡ 0
   -- the PUBLIC names, in the order of the text
-  pub publics : ArePublicsOf code code_bytes tree.now.publics.items object.publics
+  pub publics : ArePublicsOf code code_bytes tree.publics.items object.publics
   -- a module with a main program starts where that begins
   pub start : object.start
-      ≡ (if has_main tree.now then Some (place_of_label code code_bytes start_label) else None)
+      ≡ (if has_main tree then Some (place_of_label code code_bytes start_label) else None)

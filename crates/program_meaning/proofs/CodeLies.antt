@@ -75,7 +75,7 @@ module _
     of_code = written_layout plan merged linked to written
 
     abbrev own : Layout
-    own = module_layout plan merged linked to written module_is.tree.now.externals.items
+    own = module_layout plan merged linked to written module_is.tree.externals.items
 
     abbrev base : ℕ
     base = piece_base (plan_of plan) linked.start segments.Code

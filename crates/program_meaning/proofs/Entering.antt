@@ -131,10 +131,10 @@ module _
     pub has_heading :
         (number : ℕ) (module_is : ModuleIs plan modules objects merged before after number)
         (index : ℕ) (procedure : TreeProcedure)
-        → slice_get module_is.tree.now.procedures.items index ≡ Some procedure
+        → slice_get module_is.tree.procedures.items index ≡ Some procedure
         → HasHeading number module_is index procedure
     has_heading number module_is index procedure there =
-        let within = slice_get_within module_is.tree.now.procedures.items index procedure there in
+        let within = slice_get_within module_is.tree.procedures.items index procedure there in
         let count = module_is.lowered.procedure_count in
         some_within module_is.typed.procedures index (omega (arith, within, count))
         (λ heading found. record {
@@ -150,7 +150,7 @@ module _
     pub label_lies :
         (number : ℕ) (module_is : ModuleIs plan modules objects merged before after number)
         (index : ℕ) (procedure : TreeProcedure)
-        → slice_get module_is.tree.now.procedures.items index ≡ Some procedure
+        → slice_get module_is.tree.procedures.items index ≡ Some procedure
         → IsOwn procedure.kind
         → (piece_base (plan_of plan) module_is.at.linked.start segments.Code
         + place_of_label module_is.generated.code module_is.generated.code_bytes index) % MEMORY_SIZE
@@ -159,13 +159,13 @@ module _
         let generated = module_is.generated in
         let written : Written = generated.code in
         let of = generated.code_is in
-        let procedures = procedures_bound module_is.tree of.called 0 index module_is.tree.now.procedures.items procedure
+        let procedures = procedures_bound module_is.tree of.called 0 index module_is.tree.procedures.items procedure
         of.own_is.procedures of.own_is.procedures_are there own in
         let from_zero : 0 + index ≡ index = omega arith in
         let in_own : is_bound index of.own ≡ true =
         subst (λ list. is_bound index list ≡ true) (sym of.own_is.list_is)
-        (bound_in_parts index (contents_items module_is.tree.now.constants.items) (of.own_is.main ++ of.own_is.procedures)
-        ∙ or_right (is_bound index (contents_items module_is.tree.now.constants.items)) (is_bound index (of.own_is.main ++ of.own_is.procedures))
+        (bound_in_parts index (contents_items module_is.tree.constants.items) (of.own_is.main ++ of.own_is.procedures)
+        ∙ or_right (is_bound index (contents_items module_is.tree.constants.items)) (is_bound index (of.own_is.main ++ of.own_is.procedures))
         (bound_in_parts index of.own_is.main of.own_is.procedures
         ∙ or_right (is_bound index of.own_is.main) (is_bound index of.own_is.procedures)
         (ap (λ n. is_bound n of.own_is.procedures) (sym from_zero) ∙ procedures))) in
@@ -219,10 +219,10 @@ module _
           let lists : ListsGlobals module_is.typed =
           of_all ListsGlobals modules number module_is.typed (recursion_from_All ListsGlobals modules is.globals) module_is.found in
           let name : PublicName = record { name = public.name; place = Procedure index } in
-          let named = public_in module_is.typed module_is.tree.now.homes.items index public lists in_typed visible in
-          let in_tree : slice_get module_is.tree.now.publics.items named.index ≡ Some name =
+          let named = public_in module_is.typed module_is.tree.homes.items index public lists in_typed visible in
+          let in_tree : slice_get module_is.tree.publics.items named.index ≡ Some name =
           ap (λ (names : List PublicName). slice_get names named.index) module_is.lowered.publics ∙ named.found in
-          let one = public_found module_is.generated.code module_is.generated.code_bytes module_is.tree.now.publics.items
+          let one = public_found module_is.generated.code module_is.generated.code_bytes module_is.tree.publics.items
           (module_is.at.linked.object).publics named.index name module_is.generated.publics in_tree in
           let lies = public_lies plan modules objects merged image before after is number one.at module_is.typed one.public module_is.at one.found in
           let offset : ℕ = place_of_label module_is.generated.code module_is.generated.code_bytes index in
@@ -230,7 +230,7 @@ module _
           ≡ (piece_base (plan_of plan) module_is.at.linked.start segments.Code + offset) % MEMORY_SIZE =
           subst (λ (given : Public). address_of_public (plan_of plan) (public_named merged.publics given.name)
           ≡ (piece_base (plan_of plan) module_is.at.linked.start given.segment + given.offset) % MEMORY_SIZE) one.is lies.address in
-          some_within module_is.tree.now.procedures.items index (short module_is in_typed)
+          some_within module_is.tree.procedures.items index (short module_is in_typed)
           (λ procedure procedure_there.
           own_entry number module_is index given.1
           ∙ sym (label_lies number module_is index procedure procedure_there
@@ -242,7 +242,7 @@ module _
           short :
               (module_is : ModuleIs plan modules objects merged before after number)
               → slice_get module_is.typed.procedures index ≡ Some public
-              → index < length module_is.tree.now.procedures.items
+              → index < length module_is.tree.procedures.items
           short module_is in_typed =
               let within = slice_get_within module_is.typed.procedures index public in_typed in
               let count = module_is.lowered.procedure_count in
@@ -273,7 +273,7 @@ module _
       pub external_goes :
           (number : ℕ) (module_is : ModuleIs plan modules objects merged before after number) (script : List (List ℕ))
           (index name : ℕ) (procedure : TreeProcedure) (place : InProgram)
-          → slice_get module_is.tree.now.procedures.items index ≡ Some procedure
+          → slice_get module_is.tree.procedures.items index ≡ Some procedure
           → procedure.kind ≡ kinds.External name
           → callee_in
           (surroundings_in (code_of plan modules objects merged image before after is number module_is script) 0) index
@@ -296,7 +296,7 @@ module _
           ∙ ap (λ visibility. procedure_meant modules (record { number_of_module = number; number = index }) heading.heading visibility)
           external.visibility)
           ∙ callee in
-          let named : name_at module_is.tree.now.externals.items name ≡ heading.heading.name =
+          let named : name_at module_is.tree.externals.items name ≡ heading.heading.name =
           ap (λ names. name_at names name) module_is.lowered.externals
           ∙ (ap (name_at (externals_of module_is.typed)) (sym external.name_is)
           ∙ external_named module_is.typed index heading.heading lists heading.found external.visibility) in

@@ -8,7 +8,6 @@ use Rattle.asm8080.specs.declared.item.Item.{Item}
 use Rattle.asm8080.specs.declared.item.Item.TheVariants.{Plain, WithWord, Byte, Address, Gap, Mark}
 use Rattle.asm8080.specs.Items.{KnowsLabels, is_bound, marks}
 use Rattle.asm8080.proofs.Parts.{bound_in_parts}
-use Rattle.std.specs.Borrow.{Bor}
 use Rattle.treecode.specs.declared.module.TreeModule.{TreeModule}
 use Rattle.treecode.specs.declared.procedure.ProcedureKind.{ProcedureKind}
 use Rattle.treecode.specs.declared.procedure.ProcedureKind.TheVariants as kinds
@@ -29,7 +28,7 @@ or_right false other is = is
 
 -- a procedure's code binds its label
 bound_by_code :
-    (tree : Bor TreeModule) (called : List Bool) (number : ℕ) (procedure : TreeProcedure) (list : List Item)
+    (tree : TreeModule) (called : List Bool) (number : ℕ) (procedure : TreeProcedure) (list : List Item)
     → IsProcedureCode tree called number procedure list
     → is_bound number list ≡ true
 bound_by_code tree called number procedure list is =
@@ -37,7 +36,7 @@ bound_by_code tree called number procedure list is =
     (or_left (marks number (Mark number)) (is_bound number (is.beginning ++ (is.statements ++ is.ending))) (eq-eqb number number refl))
 
 bound_by_kind :
-    (tree : Bor TreeModule) (called : List Bool) (number : ℕ) (procedure : TreeProcedure) (kind : ProcedureKind)
+    (tree : TreeModule) (called : List Bool) (number : ℕ) (procedure : TreeProcedure) (kind : ProcedureKind)
     (list : List Item)
     → IsOwn kind
     → IsCodeOf tree called number procedure kind list
@@ -47,7 +46,7 @@ bound_by_kind tree called number procedure kinds.Static list own is = bound_by_c
 bound_by_kind tree called number procedure kinds.Reentrant list own is = bound_by_code tree called number procedure list is
 
 pub procedures_bound :
-    (tree : Bor TreeModule) (called : List Bool) (first index : ℕ) (all : List TreeProcedure)
+    (tree : TreeModule) (called : List Bool) (first index : ℕ) (all : List TreeProcedure)
     (procedure : TreeProcedure) (list : List Item)
     → AreCodeOf tree called first all list
     → slice_get all index ≡ Some procedure

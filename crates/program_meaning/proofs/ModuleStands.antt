@@ -58,7 +58,7 @@ module _ (code : ModuleCode) where
   -- a procedure stands at its label
   procedure_stands :
       (number : ℕ) (procedure : TreeProcedure) (list : List Item) (from to : ℕ)
-      → IsProcedureCode code.tree code.called number procedure list
+      → IsProcedureCode code.tree.now code.called number procedure list
       → IsThere (bare code) list from to
       → ProcedureStands code procedure (code.layout.place_of number)
   procedure_stands number procedure list from to is there =
@@ -85,7 +85,7 @@ module _ (code : ModuleCode) where
   by_kind :
       (number : ℕ) (procedure : TreeProcedure) (kind : ProcedureKind) (list : List Item) (from to : ℕ)
       → IsOwn kind
-      → IsCodeOf code.tree code.called number procedure kind list
+      → IsCodeOf code.tree.now code.called number procedure kind list
       → IsThere (bare code) list from to
       → ProcedureStands code procedure (code.layout.place_of number)
   by_kind number procedure (kinds.External name) list from to own is there = absurd (own name refl)
@@ -95,7 +95,7 @@ module _ (code : ModuleCode) where
   -- each of the procedures that are numbered from one on does
   procedures_stand :
       (first index : ℕ) (all : List TreeProcedure) (procedure : TreeProcedure) (list : List Item) (from to : ℕ)
-      → AreCodeOf code.tree code.called first all list
+      → AreCodeOf code.tree.now code.called first all list
       → IsThere (bare code) list from to
       → slice_get all index ≡ Some procedure
       → IsOwn procedure.kind
@@ -118,7 +118,7 @@ module _ (code : ModuleCode) where
   -- the main program stands at its label
   main_stands :
       (start : ℕ) (list : List Item) (from to : ℕ)
-      → IsMainCode code.tree code.called start list
+      → IsMainCode code.tree.now code.called start list
       → IsThere (bare code) list from to
       → MainStands code (code.layout.place_of start)
   main_stands start list from to is there =
@@ -246,9 +246,9 @@ module _
       number = number;
       typed = module_is.typed;
       storage = module_is.storage;
-      tree = module_is.tree;
+      tree = record { ref_ptr = (0, 0); now = module_is.tree };
       called = module_is.generated.code_is.called;
-      layout = module_layout plan merged linked module_is.generated.to written module_is.tree.now.externals.items;
+      layout = module_layout plan merged linked module_is.generated.to written module_is.tree.externals.items;
     }
 
     lays : LaysOut written code_of.layout of_code
@@ -275,7 +275,7 @@ module _
           low = halves.first.low;
           high = halves.first.high;
         } in
-        let contents = both_there (contents_items module_is.tree.now.constants.items) (own.main ++ own.procedures)
+        let contents = both_there (contents_items module_is.tree.constants.items) (own.main ++ own.procedures)
         (subst (λ list. IsThere (bare code_of) list base halves.middle) own.list_is named) in
         let parts = both_there own.main own.procedures contents.second in
         record {
@@ -285,7 +285,7 @@ module _
               parts.first;
           procedures = λ procedure_number procedure found is_own.
               subst (λ at. ProcedureStands code_of procedure (code_of.layout.place_of at)) (from_zero procedure_number)
-              (procedures_stand code_of 0 procedure_number module_is.tree.now.procedures.items procedure own.procedures
+              (procedures_stand code_of 0 procedure_number module_is.tree.procedures.items procedure own.procedures
               parts.middle halves.middle own.procedures_are parts.second found is_own);
           routines = λ routine called.
               routines_stand code_of written of_code lays all_routines (index_of_routine routine) routine of.listed

@@ -87,7 +87,7 @@ module _
     linked = module_is.at.linked
 
     abbrev names : List ExternalName
-    names = module_is.tree.now.externals.items
+    names = module_is.tree.externals.items
 
     abbrev own : Layout
     own = module_layout plan merged linked module_is.generated.to module_is.generated.code names
@@ -118,7 +118,7 @@ module _
     module_there f default = ap (λ found. option_map_or f found default) module_is.found
 
     abbrev starts : List Home
-    starts = module_is.tree.now.homes.items
+    starts = module_is.tree.homes.items
 
     -- an object begins at the address of its place
     object_begins : (object : ℕ) (place : Place) → home_at starts object ≡ Static place

@@ -16,7 +16,7 @@ abbrev pub layout_of :
     → ModuleIs plan modules objects merged before after number → Layout
 layout_of {plan = plan} {merged = merged} module_is =
     module_layout plan merged module_is.at.linked module_is.generated.to module_is.generated.code
-    module_is.tree.now.externals.items
+    module_is.tree.externals.items
 
 -- each module of a program, by its number
 pub record ModulesAre

@@ -1,7 +1,6 @@
 -- A module of a program whose object module is linked, placed and loaded: how it was typed, lowered and generated, and
 -- where the labels and targets of its code lie then.
 use Rattle.std.specs.Prelude.{◌≡◌, ℕ, List, Some, slice_get}
-use Rattle.std.specs.Borrow.{Bor}
 use Rattle.std.specs.Option.{option_map_or}
 use Rattle.object_modules.specs.declared.segment.Target.{Target}
 use Rattle.object_modules.specs.declared.segment.Target.TheVariants.{InSegment, External}
@@ -31,11 +30,11 @@ pub record ModuleIs
     (before after : List ℕ) (number : ℕ) : Type 0 where
   pub typed : TypedModule
   pub storage : Storage
-  pub tree : Bor TreeModule
+  pub tree : TreeModule
   pub found : slice_get modules number ≡ Some typed
   pub at : IsLinked plan modules objects merged before after number typed
   pub laid : IsLaidOut typed storage
-  pub lowered : IsLowered typed storage tree.now
+  pub lowered : IsLowered typed storage tree
   pub generated : IsGenerated tree at.linked.object
 
 -- where labels lie by the numbers of the code, and its targets
