@@ -1,3 +1,4 @@
 pub mod Calls
 pub mod Modules
+pub mod Contexts
 pub mod Procedures

@@ -1,11 +1,12 @@
 -- Where the code of a module of a program lies, and what is true of the module.
-use Rattle.std.specs.Prelude.{◌≡◌, ◌≢◌, ℕ, ◌<◌, ◌+◌, true, false, Bool, List, ◌++◌, [], ◌∷◌, Some, None, length, slice_get}
+use Rattle.std.specs.Prelude.{◌≡◌, ◌≢◌, ℕ, ◌<◌, ◌+◌, true, false, All, Bool, List, ◌++◌, [], ◌∷◌, Some, None, length, slice_get}
 use Rattle.std.specs.Borrow.{Bor}
 use Rattle.mem80.specs.declared.memory.TheConstants.{MEMORY_SIZE}
 use Rattle.object_modules.specs.declared.segment.Segment.TheVariants.{Stack}
 use Rattle.object_modules.specs.declared.segment.Target.TheVariants.{InSegment, External}
 use Rattle.ports.specs.Input.{IsScript}
 use Rattle.typed_trees.specs.Frames.{FramesFit, ParametersFit}
+use Rattle.typed_trees.specs.Globals.{ListsGlobals}
 use Rattle.typed_trees.specs.Jumps.{JumpsAreSound}
 use Rattle.typed_trees.specs.TypedTrees.{TypedModule}
 use Rattle.typed_trees.specs.WellTyped.{IsWellTyped}
@@ -118,6 +119,7 @@ pub record MainStands (code : ModuleCode) (start : ℕ) : Type 0 where
 pub record ModuleLies (code : ModuleCode) (entries : Entries) : Type 0 where
   pub is_module : slice_get code.program.modules code.number ≡ Some code.typed
   pub joined : IsJoined code.program.modules
+  pub globals : All ListsGlobals code.program.modules
   pub types : IsWellTyped code.typed
   pub jumps : JumpsAreSound code.typed
   pub frames : FramesFit code.typed
