@@ -18,6 +18,7 @@ use Rattle.meaning.specs.Meaning.{Later, called, called_for, callee_in, charged,
 use Rattle.meaning.specs.Outcomes.{State as SourceState, More, Outside, Outcome, Gave, Stopped, taking_one}
 use Rattle.meaning.proofs.AgreementStatements.{call_is}
 use Rattle.isa8080.specs.declared.instr.Instr.TheVariants.{Call}
+use Rattle.isa8080.specs.declared.registers.Status.TheVariants.{Running}
 use Rattle.isa8080.specs.Act.{act}
 use Rattle.isa8080.specs.State.{HoldBytes, Registers, State, high_byte, low_byte, two_less, wrap}
 use Rattle.isa8080.specs.Step.{running, step_of}
@@ -30,7 +31,7 @@ use Rattle.std.specs.Borrow.{Bor}
 use Rattle.frames.specs.declared.frame_plan.FramePlan.{FramePlan}
 use Rattle.exprgen8080.specs.Emission.{call_items}
 use Rattle.code_meaning.specs.Activations.{Activation, Arrives, HasRoom, IsReady, IsThere, IsVariable, LiesWell, Owns, FrameLies}
-use Rattle.code_meaning.specs.Landing.{Does, IsLeft, at_place}
+use Rattle.code_meaning.specs.Landing.{Does, IsLeft, Lands, at_place}
 use Rattle.code_meaning.proofs.FirstItems.{word_step}
 use Rattle.code_meaning.proofs.Landing.{after_paid_step, gives, landed}
 use Rattle.code_meaning.proofs.Owning.{keeps_both, keeps_wider, owns_more}
@@ -105,12 +106,12 @@ one_of budget some = omega (arith, some)
 
 -- a part that takes one of the budget: what follows may be paid by a step
 taking_does :
-    {A : Type 0} {script : List (List ℕ)} {r : Registers} {memory : List ℕ} {from : ℕ}
-    {Good : A → SourceState → State → Type 0} (s : SourceState) (go : SourceState → Outcome A)
+    {A : Type 0} {script : List (List ℕ)} {Good : A → SourceState → State → Type 0} (from : ℕ) (r : Registers)
+    (memory : List ℕ) (s : SourceState) (go : SourceState → Outcome A)
     → ((b : ℕ) → suc b ≡ s.budget
     → Does script (suc b) 0 (at_place from r memory s.events) (go (record s { budget = b })) Good)
     → Does script s.budget 0 (at_place from r memory s.events) (taking_one s go) Good
-taking_does {A = A} {script = script} {r = r} {memory = memory} {from = from} {Good = Good} s go rest =
+taking_does {A = A} {script = script} {Good = Good} from r memory s go rest =
     by_test (s.budget == 0) refl
   where
     by_test : (test : Bool) → (s.budget == 0) ≡ test
@@ -121,11 +122,11 @@ taking_does {A = A} {script = script} {r = r} {memory = memory} {from = from} {G
         record {
           told =
               subst (λ (budget : ℕ).
-              Rattle.code_meaning.specs.Landing.Lands script budget 0 (at_place from r memory s.events) 0
-              (IsLeft Rattle.isa8080.specs.declared.registers.Status.TheVariants.Running s.events))
+              Lands script budget 0 (at_place from r memory s.events) 0
+              (IsLeft Running s.events))
               (sym zero)
               (landed script 0 (at_place from r memory s.events)
-              (IsLeft Rattle.isa8080.specs.declared.registers.Status.TheVariants.Running s.events)
+              (IsLeft Running s.events)
               (record { status_is = refl; events_are = refl }));
         }
     by_test false some =
@@ -230,7 +231,15 @@ pub calls_do :
     → CallsDo (context_in code within frame bound (suc number) room shape)
 calls_do code entries within frame bound number room shape lies known bounded well procedure from top bytes heading values base s r memory is below there has few ready lie =
     does_same (called (later_by bound) callee.at values (surroundings_in code room) s) meant
-    (taking_does s _ (λ b paid.
+    (taking_does from r memory s
+    (λ t.
+    option_map_or
+    (λ (found : TypedModule × TypedProcedure).
+    charged (charge_of found.1)
+    (record (surroundings_in code room) { number_of_module = (callee.at).number_of_module }) t
+    (λ around u. entered (later_by bound) found.0 (callee.at).number found.1 values around u))
+    (procedure_at code.program.modules callee.at) (Gave 0 t))
+    (λ b paid.
     does_same (charged (charge_of callee.found)
     (record (surroundings_in code room) { number_of_module = (callee.at).number_of_module }) (record s { budget = b })
     (λ around u. entered (later_by bound) callee.typed (callee.at).number callee.found values around u))
