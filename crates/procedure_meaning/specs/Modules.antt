@@ -8,7 +8,7 @@ use Rattle.ports.specs.Input.{IsScript}
 use Rattle.typed_trees.specs.Frames.{FramesFit, ParametersFit}
 use Rattle.typed_trees.specs.Globals.{ListsGlobals}
 use Rattle.typed_trees.specs.Jumps.{JumpsAreSound}
-use Rattle.typed_trees.specs.TypedTrees.{TypedModule}
+use Rattle.typed_trees.specs.TypedTrees.{InFrame, TypedModule, TypedObject, TypedProcedure}
 use Rattle.typed_trees.specs.WellTyped.{IsWellTyped}
 use Rattle.layout.specs.Joined.{InProgram, IsJoined}
 use Rattle.layout.specs.Storage.{Storage}
@@ -33,6 +33,7 @@ use Rattle.treecode.specs.Lowered.{IsLowered}
 use Rattle.treecode.specs.Nodes.{home_at, nodes_of}
 use Rattle.treecode.specs.Resolved.{Resolves}
 use Rattle.frames.specs.Frames.{HasNothing, IsPlanOf}
+use Rattle.procedure_frames.specs.internal.Objects.{TakeBytes}
 use Rattle.code_meaning.specs.Activations.{Activation, IsThere, PlacementLies}
 use Rattle.code_facts.specs.Holding.{place_at}
 use Rattle.steps8080.specs.Facts.{no_facts}
@@ -115,6 +116,15 @@ pub record MainStands (code : ModuleCode) (start : ℕ) : Type 0 where
       IsThere (bare code)
       (items.WithWord (LoadPair Sp) (AtTarget (InSegment Stack) 0) ∷ (statements ++ (items.Plain Hlt ∷ []))) start to
 
+-- objects live in the frames of REENTRANT procedures alone
+abbrev pub FramesAreReentrant : TypedModule → Type 0
+FramesAreReentrant typed =
+    (object number : ℕ) (found : TypedObject) (heading : TypedProcedure)
+    → slice_get typed.objects object ≡ Some found
+    → slice_get typed.procedures number ≡ Some heading
+    → found.home ≡ InFrame number
+    → heading.is_reentrant ≡ true
+
 -- What is true of a module of a program and of where its code lies, where the entries of procedures are these.
 pub record ModuleLies (code : ModuleCode) (entries : Entries) : Type 0 where
   pub is_module : slice_get code.program.modules code.number ≡ Some code.typed
@@ -124,6 +134,8 @@ pub record ModuleLies (code : ModuleCode) (entries : Entries) : Type 0 where
   pub jumps : JumpsAreSound code.typed
   pub frames : FramesFit code.typed
   pub parameters : ParametersFit code.typed
+  pub reentrant : FramesAreReentrant code.typed
+  pub sized : TakeBytes code.typed
   pub bases : BasesStandBefore code.typed
   pub lists : length code.storage.lists ≡ length code.typed.constants.lists
   pub lowered : IsLowered code.typed code.storage code.tree.now
