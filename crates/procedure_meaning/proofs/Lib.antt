@@ -5,3 +5,4 @@ pub mod CallInstructions
 pub mod Ends
 pub mod Parts
 pub mod Soundness
+pub mod ProcedureCalls

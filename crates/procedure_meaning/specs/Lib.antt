@@ -2,3 +2,4 @@ pub mod Calls
 pub mod Modules
 pub mod Contexts
 pub mod Procedures
+pub mod Premises
