@@ -136,7 +136,7 @@ taking_does {A = A} {script = script} {Good = Good} from r memory s go rest =
         paid (rest (s.budget - 1) paid)
 
 -- where a charge finds room
-charged_does :
+pub charged_does :
     {A : Type 0} {script : List (List ℕ)} {budget : ℕ} {from : State} {Good : A → SourceState → State → Type 0}
     (charge : ℕ) (around : Surroundings) (s : SourceState) (go : Surroundings → SourceState → Outcome A)
     → (charge ≤ around.room → Does script budget 0 from (go (record around { room = around.room - charge }) s) Good)

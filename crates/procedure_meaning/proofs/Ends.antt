@@ -33,13 +33,13 @@ use Rattle.task_meaning.proofs.Rules.{ready_with_registers}
 use Rattle.statement_meaning.specs.Bodies.{BodyContext, ReturnStands}
 
 -- a planned instruction, and what follows it
-record IsPlainFirst
+pub record IsPlainFirst
     (at : BodyContext) (i : Instr) (others : List Planned) (list : List Item) : Type 0 where
-  more : List Item
-  is : list ≡ items.Plain i ∷ more
-  here : Here
-  last : Here
-  written : AreCarriedOut at.body at.context.called here None others more last
+  pub more : List Item
+  pub is : list ≡ items.Plain i ∷ more
+  pub here : Here
+  pub last : Here
+  pub written : AreCarriedOut at.body at.context.called here None others more last
 
 instruction_written :
     (at : BodyContext) {facts known : Facts} (i : Instr) {list : List Item}
@@ -47,7 +47,7 @@ instruction_written :
     → list ≡ items.Plain i ∷ []
 instruction_written at i (PlainWritten NoneWritten) = refl
 
-plain_planned :
+pub plain_planned :
     (at : BodyContext) {here last : Here} (i : Instr) (others : List Planned) {list : List Item}
     → AreCarriedOut at.body at.context.called here None (plain i ∷ others) list last
     → IsPlainFirst at i others list

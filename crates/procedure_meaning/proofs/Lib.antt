@@ -6,3 +6,6 @@ pub mod Ends
 pub mod Parts
 pub mod Soundness
 pub mod ProcedureCalls
+pub mod StaticReturns
+pub mod KnownCalls
+pub mod Main

@@ -3,3 +3,4 @@ pub mod Modules
 pub mod Contexts
 pub mod Procedures
 pub mod Premises
+pub mod Main
