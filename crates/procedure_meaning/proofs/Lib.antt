@@ -9,3 +9,5 @@ pub mod ProcedureCalls
 pub mod StaticReturns
 pub mod KnownCalls
 pub mod Main
+pub mod Puts
+pub mod Planned
