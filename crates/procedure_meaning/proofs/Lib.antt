@@ -1,0 +1,14 @@
+pub mod Trees
+pub mod Ways
+pub mod Labels
+pub mod Callees
+pub mod CallInstructions
+pub mod Ends
+pub mod Parts
+pub mod Soundness
+pub mod ProcedureCalls
+pub mod StaticReturns
+pub mod KnownCalls
+pub mod Main
+pub mod Puts
+pub mod Planned

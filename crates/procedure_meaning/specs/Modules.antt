@@ -1,13 +1,14 @@
 -- Where the code of a module of a program lies, and what is true of the module.
-use Rattle.std.specs.Prelude.{◌≡◌, ◌≢◌, ℕ, ◌<◌, ◌+◌, true, false, Bool, List, ◌++◌, [], ◌∷◌, Some, None, length, slice_get}
+use Rattle.std.specs.Prelude.{◌≡◌, ◌≢◌, ℕ, ◌<◌, ◌+◌, true, false, All, Bool, List, ◌++◌, [], ◌∷◌, Some, None, length, slice_get}
 use Rattle.std.specs.Borrow.{Bor}
 use Rattle.mem80.specs.declared.memory.TheConstants.{MEMORY_SIZE}
 use Rattle.object_modules.specs.declared.segment.Segment.TheVariants.{Stack}
 use Rattle.object_modules.specs.declared.segment.Target.TheVariants.{InSegment, External}
 use Rattle.ports.specs.Input.{IsScript}
 use Rattle.typed_trees.specs.Frames.{FramesFit, ParametersFit}
+use Rattle.typed_trees.specs.Globals.{ListsGlobals}
 use Rattle.typed_trees.specs.Jumps.{JumpsAreSound}
-use Rattle.typed_trees.specs.TypedTrees.{TypedModule}
+use Rattle.typed_trees.specs.TypedTrees.{InFrame, TypedModule, TypedObject, TypedProcedure}
 use Rattle.typed_trees.specs.WellTyped.{IsWellTyped}
 use Rattle.layout.specs.Joined.{InProgram, IsJoined}
 use Rattle.layout.specs.Storage.{Storage}
@@ -31,7 +32,8 @@ use Rattle.treecode.specs.declared.procedure.TreeProcedure.{TreeProcedure}
 use Rattle.treecode.specs.Lowered.{IsLowered}
 use Rattle.treecode.specs.Nodes.{home_at, nodes_of}
 use Rattle.treecode.specs.Resolved.{Resolves}
-use Rattle.frames.specs.Frames.{HasNothing}
+use Rattle.frames.specs.Frames.{HasNothing, IsPlanOf}
+use Rattle.procedure_frames.specs.internal.Objects.{TakeBytes}
 use Rattle.code_meaning.specs.Activations.{Activation, IsThere, PlacementLies}
 use Rattle.code_facts.specs.Holding.{place_at}
 use Rattle.steps8080.specs.Facts.{no_facts}
@@ -39,8 +41,7 @@ use Rattle.exprgen8080.specs.Emission.{has_routine, module_label_of_routine}
 use Rattle.statements8080.specs.declared.body.Body.{Body}
 use Rattle.codegen8080.specs.declared.meeting.Here.{Here}
 use Rattle.codegen8080.specs.Generated.{AreCarriedOut, IsListCarriedOut}
-use Rattle.codegen8080.specs.Modules.{IsEndCode, IsFrameOf}
-use Rattle.codegen8080.specs.Procedures.{entry_steps}
+use Rattle.codegen8080.specs.Procedures.{end_steps, entry_steps}
 use Rattle.task_meaning.specs.Contexts.{BasesStandBefore, NumbersAreWords, RoutineIsAt}
 use Rattle.procedure_meaning.specs.Calls.{Entries}
 
@@ -77,12 +78,17 @@ bare code = record {
 abbrev pub at_start : Here
 at_start = record { facts = no_facts; goes_on = true }
 
+-- items of the end of a procedure, where that can be reached
+abbrev pub EndIs : (body : Body) → (called : List Bool) → (reached : Bool) → Here → List Item → Type 0
+EndIs body called true here list = (last : Here) × AreCarriedOut body called here None (end_steps body) list last
+EndIs body called false here list = list ≡ []
+
 -- the code of a procedure stands at its entry: how it begins, its body, and its end
 pub record ProcedureStands (code : ModuleCode) (procedure : TreeProcedure) (entry : ℕ) : Type 0 where
   pub body : Body
-  pub tree : body.tree ≡ code.tree
+  pub tree : body.tree.now ≡ code.tree.now
   pub is_procedure : body.procedure.now ≡ procedure
-  pub frame : IsFrameOf procedure body.frame.now
+  pub frame : procedure.kind ≡ kinds.Reentrant → IsPlanOf procedure body.frame.now
   pub first : ℕ
   pub begins : List Item
   pub begun : Here
@@ -91,7 +97,7 @@ pub record ProcedureStands (code : ModuleCode) (procedure : TreeProcedure) (entr
   pub last : Here
   pub list_written : IsListCarriedOut body code.called begun.facts procedure.body statements last
   pub ends : List Item
-  pub end_written : IsEndCode body code.called last procedure.reaches_its_end ends
+  pub end_written : EndIs body code.called procedure.reaches_its_end last ends
   pub to : ℕ
   pub there : IsThere (bare code) (begins ++ (statements ++ ends)) entry to
 
@@ -99,7 +105,7 @@ pub record ProcedureStands (code : ModuleCode) (procedure : TreeProcedure) (entr
 -- statements, and the machine halts.
 pub record MainStands (code : ModuleCode) (start : ℕ) : Type 0 where
   pub body : Body
-  pub tree : body.tree ≡ code.tree
+  pub tree : body.tree.now ≡ code.tree.now
   pub is_main : body.procedure.now ≡ code.tree.now.main
   pub frame : HasNothing body.frame.now
   pub statements : List Item
@@ -110,14 +116,26 @@ pub record MainStands (code : ModuleCode) (start : ℕ) : Type 0 where
       IsThere (bare code)
       (items.WithWord (LoadPair Sp) (AtTarget (InSegment Stack) 0) ∷ (statements ++ (items.Plain Hlt ∷ []))) start to
 
+-- objects live in the frames of REENTRANT procedures alone
+abbrev pub FramesAreReentrant : TypedModule → Type 0
+FramesAreReentrant typed =
+    (object number : ℕ) (found : TypedObject) (heading : TypedProcedure)
+    → slice_get typed.objects object ≡ Some found
+    → slice_get typed.procedures number ≡ Some heading
+    → found.home ≡ InFrame number
+    → heading.is_reentrant ≡ true
+
 -- What is true of a module of a program and of where its code lies, where the entries of procedures are these.
 pub record ModuleLies (code : ModuleCode) (entries : Entries) : Type 0 where
   pub is_module : slice_get code.program.modules code.number ≡ Some code.typed
   pub joined : IsJoined code.program.modules
+  pub globals : All ListsGlobals code.program.modules
   pub types : IsWellTyped code.typed
   pub jumps : JumpsAreSound code.typed
   pub frames : FramesFit code.typed
   pub parameters : ParametersFit code.typed
+  pub reentrant : FramesAreReentrant code.typed
+  pub sized : TakeBytes code.typed
   pub bases : BasesStandBefore code.typed
   pub lists : length code.storage.lists ≡ length code.typed.constants.lists
   pub lowered : IsLowered code.typed code.storage code.tree.now
