@@ -51,7 +51,9 @@ pub mod LogicAnd
 pub mod KeptInside
 pub mod BytesInMemory
 pub mod Words
+pub mod ReadPlaces
 pub mod BytesAsked
+pub mod LocatedBytes
 pub mod ByteOperations
 pub mod Answers
 pub mod ByteComparisons
