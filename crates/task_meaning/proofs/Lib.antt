@@ -54,6 +54,7 @@ pub mod Words
 pub mod ReadPlaces
 pub mod BytesAsked
 pub mod LocatedBytes
+pub mod HighBytes
 pub mod ByteOperations
 pub mod Answers
 pub mod ByteComparisons
@@ -76,3 +77,5 @@ pub mod TwoBytes
 pub mod Zeros
 pub mod ZeroLaws
 pub mod EmbeddedBytes
+pub mod GivenPairs
+pub mod AskedOfBytes
