@@ -1,5 +1,4 @@
 -- What the laws of comparisons and branches ask is met.
-use Rattle.std.proofs.Common.{◌≡◌, ℕ}
 use Rattle.task_meaning.specs.Contexts.{Context, IsSound}
 use Rattle.task_meaning.proofs.BytesAsked.{BytesAsked}
 use Rattle.task_meaning.proofs.GivenPairs.{pairs_given}

@@ -1,8 +1,8 @@
 -- Two operands come into HL and DE, as comparisons ask for them.
-use Rattle.std.proofs.Common.{◌≡◌, ℕ, ◌+◌, ◌*◌, ◌/◌, ◌%◌, ◌<◌, ◌≤◌, max, Bool, List, [], ◌++◌, refl, sym, ap, subst, ◌∙◌, arith}
+use Rattle.std.proofs.Common.{ℕ, List, [], refl, sym, subst, arith}
 use Rattle.std.proofs.lemmas.List.{append-nil}
-use Rattle.meaning.specs.Outcomes.{State as SourceState, Gave}
-use Rattle.isa8080.specs.State.{HoldBytes, Registers}
+use Rattle.meaning.specs.Outcomes.{Gave}
+use Rattle.isa8080.specs.State.{Registers}
 use Rattle.steps8080.specs.declared.step.Step.{Step}
 use Rattle.code_meaning.proofs.Landing.{gives}
 use Rattle.operands8080.specs.declared.pairs.PairOrder.{PairOrder}
@@ -13,7 +13,7 @@ use Rattle.task_meaning.specs.Contexts.{Context, IsSound}
 use Rattle.task_meaning.specs.Steps.{StepsStand}
 use Rattle.task_meaning.specs.Tasks.{PartDoes}
 use Rattle.task_meaning.proofs.Addresses.{nothing_goes}
-use Rattle.task_meaning.proofs.BytesAsked.{PairIsGiven, PairLies, PairsGiven}
+use Rattle.task_meaning.proofs.BytesAsked.{PairLies, PairsGiven}
 use Rattle.task_meaning.proofs.PairedWords.{pair_below}
 use Rattle.task_meaning.proofs.Pairs.{HasPair, pair_then}
 

@@ -1,5 +1,5 @@
 -- The high byte of an ADDRESS comes into A; and a word that an ADDRESS expression is lies in memory.
-use Rattle.std.proofs.Common.{◌≡◌, ℕ, ◌+◌, ◌*◌, ◌/◌, ◌%◌, ◌<◌, ◌≤◌, ◌⊎◌, inl, inr, Bool, true, false, if◌then◌else◌, List, [], ◌∷◌, Option, Some, None, option_map, refl, sym, ap, subst, ◌∙◌, arith}
+use Rattle.std.proofs.Common.{◌≡◌, ℕ, ◌+◌, ◌*◌, ◌/◌, ◌≤◌, ◌⊎◌, inl, inr, Bool, true, false, if◌then◌else◌, List, [], ◌∷◌, Option, Some, None, option_map, refl, sym, ap, subst, ◌∙◌, arith}
 use Rattle.std.specs.Option.{option_and_then}
 use Rattle.mem80.specs.Memory.{byte_at}
 use Rattle.trees.specs.declared.declaration.ScalarType.{ScalarType}
@@ -9,7 +9,7 @@ use Rattle.typed_trees.specs.ExpressionTypes.{type_of}
 use Rattle.typed_trees.specs.TypedTrees.{TypedExpression, TypedReference, ValueNode}
 use Rattle.typed_trees.specs.WellTyped.{TypesHold}
 use Rattle.meaning.specs.Access.{Place as SourcePlace, next_place, read_scalar}
-use Rattle.meaning.specs.Outcomes.{State as SourceState, Outcome, Gave, Stopped, then_do}
+use Rattle.meaning.specs.Outcomes.{State as SourceState, Outcome, Gave, then_do}
 use Rattle.isa8080.specs.declared.instr.Register.TheVariants as registers
 use Rattle.isa8080.specs.State.{Registers, State, word, wrap}
 use Rattle.treecode.specs.declared.expression.Expression.{Expression}
@@ -22,19 +22,17 @@ use Rattle.treecode.specs.declared.reference.Reference.{Reference}
 use Rattle.treecode.specs.Homes.{place_after}
 use Rattle.treecode.specs.Lowered.{IsExpression, IsForm, IsReference, IsValue}
 use Rattle.code_meaning.specs.Landing.{Does, at_place}
-use Rattle.code_meaning.specs.Activations.{Arrives, IsReady}
+use Rattle.code_meaning.specs.Activations.{Arrives}
 use Rattle.code_meaning.proofs.Landing.{gives}
 use Rattle.code_facts.specs.Holding.{IsSteady, place_at}
 use Rattle.code_facts.proofs.Places.{location_after_is}
 use Rattle.steps8080.specs.declared.facts.Facts.{Facts}
-use Rattle.steps8080.specs.declared.step.Step.{Step}
 use Rattle.steps8080.specs.declared.step.Step.TheVariants.{Plain}
 use Rattle.steps8080.specs.declared.step.Task.TheVariants as tasks
-use Rattle.steps8080.specs.Instructions.{copy, load}
+use Rattle.steps8080.specs.Instructions.{load}
 use Rattle.steps8080.specs.Step.{part}
 use Rattle.quiet_expressions.specs.internal.Evaluations.{GoesOutside}
 use Rattle.sites8080.specs.Queries.{direct, location_of, place_in_memory, reference_after}
-use Rattle.sites8080.specs.Site.{expression}
 use Rattle.sites8080.specs.Widths.{direct_word, high_byte_in_memory, is_word_in_hl, word_in_memory, word_of}
 use Rattle.relations8080.specs.WordRelations.{high_by_hl_steps, high_byte_steps, load_a_steps}
 use Rattle.exprgen8080.specs.Emission.{knowing}
@@ -48,7 +46,7 @@ use Rattle.task_meaning.proofs.LocatedBytes.{high_found, high_stops, next_lies, 
 use Rattle.task_meaning.proofs.Located.{located_in}
 use Rattle.task_meaning.proofs.LocationBytes.{load_a_goes}
 use Rattle.task_meaning.proofs.NextBytes.{next_part}
-use Rattle.task_meaning.proofs.Nodes.{NodeOf, node_of}
+use Rattle.task_meaning.proofs.Nodes.{node_of}
 use Rattle.task_meaning.proofs.ReadPlaces.{HighIsAt, WordIsAt, does_outside, word_found}
 use Rattle.task_meaning.proofs.Rules.{GoesOn, room_for}
 use Rattle.task_meaning.proofs.SiteNodes.{value_in}

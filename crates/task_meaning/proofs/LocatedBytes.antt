@@ -1,6 +1,5 @@
 -- The low byte of an expression that lies in memory: it lies at the place of the part of an object that the tree names.
-use Rattle.std.proofs.Common.{◌≡◌, ◌&&◌, ℕ, ◌+◌, ◌*◌, ◌/◌, ◌%◌, ◌<◌, ◌≤◌, ◌⊎◌, inl, inr, List, Option, Some, None, refl, sym, ap, subst, ◌∙◌, arith}
-use Rattle.std.specs.Prelude.{slice_get}
+use Rattle.std.proofs.Common.{◌≡◌, ◌&&◌, ℕ, ◌+◌, ◌*◌, ◌/◌, ◌%◌, ◌<◌, ◌≤◌, ◌⊎◌, inl, inr, List, Option, Some, refl, sym, ap, subst, ◌∙◌, arith}
 use Rattle.std.specs.Option.{option_and_then, option_map_or}
 use Rattle.mem80.specs.declared.memory.TheConstants.{MEMORY_SIZE}
 use Rattle.mem80.specs.Memory.{byte_at}
@@ -12,10 +11,10 @@ use Rattle.typed_trees.specs.ExpressionTypes.{type_of}
 use Rattle.typed_trees.specs.TypedTrees.{BasedOn, ConversionNode, Elsewhere, FunctionNode, Home, InConstants, InData, InFrame, Nowhere, PartOf, Placed, TypedExpression, TypedReference, ValueNode}
 use Rattle.typed_trees.specs.WellTyped.{RefersToScalar, TypesHold, TypesHoldInReference}
 use Rattle.meaning.specs.Access.{InMemory, InTheFrame, Place, Surroundings, home_of, next_place, place_in, place_of, read_scalar}
-use Rattle.meaning.specs.Meaning.{Displacement, based_place, displacement, value}
+use Rattle.meaning.specs.Meaning.{Displacement, based_place, displacement}
 use Rattle.meaning.specs.Outcomes.{State as SourceState, Outcome, Gave, Stop, Stopped, then_do}
-use Rattle.meaning.specs.Values.{as_type, function_of, values_of}
-use Rattle.isa8080.specs.State.{Registers, State, word}
+use Rattle.meaning.specs.Values.{as_type, values_of}
+use Rattle.isa8080.specs.State.{Registers, State}
 use Rattle.treecode.specs.declared.expression.Expression.{Expression}
 use Rattle.treecode.specs.declared.expression.ExpressionForm.{ExpressionForm}
 use Rattle.treecode.specs.declared.expression.ExpressionForm.TheVariants as forms
@@ -32,7 +31,7 @@ use Rattle.quiet_expressions.specs.internal.Evaluations.{GoesOutside}
 use Rattle.sites8080.specs.Queries.{memory, reference_after}
 use Rattle.exprgen8080.specs.Emission.{knowing}
 use Rattle.task_meaning.specs.Contexts.{Context, IsSound, nodes_in}
-use Rattle.task_meaning.specs.Tasks.{AddressDoes, AddressIsGiven, IsReferred, address_on_machine}
+use Rattle.task_meaning.specs.Tasks.{AddressIsGiven, IsReferred, address_on_machine}
 use Rattle.task_meaning.proofs.BytesAsked.{ByteIsAtHl, LocatesBytes}
 use Rattle.task_meaning.proofs.BytesInMemory.{memory_same}
 use Rattle.task_meaning.proofs.ByteForms.{type_byte, type_small}

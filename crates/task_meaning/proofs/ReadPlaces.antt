@@ -1,6 +1,5 @@
 -- What is read at places, on both sides: the bytes of the machine's memory, or the read goes outside the language.
 use Rattle.std.proofs.Common.{◌≡◌, ℕ, ◌+◌, ◌*◌, ◌/◌, ◌%◌, ◌<◌, ◌≤◌, ◌⊎◌, inl, inr, Bool, true, false, if◌then◌else◌, List, refl, sym, ap, ◌∙◌, arith}
-use Rattle.mem80.specs.declared.memory.TheConstants.{MEMORY_SIZE}
 use Rattle.mem80.specs.Memory.{byte_at}
 use Rattle.mem80.proofs.MemoryLemmas.{byte_small}
 use Rattle.trees.specs.declared.declaration.ScalarType.{ScalarType}
@@ -18,7 +17,7 @@ use Rattle.quiet_expressions.specs.internal.Evaluations.{GoesOutside}
 use Rattle.task_meaning.specs.Contexts.{Context, IsSound}
 use Rattle.task_meaning.specs.Tasks.{address_on_machine}
 use Rattle.task_meaning.proofs.Reading.{FitsIn, frame_is, of_frame}
-use Rattle.task_meaning.proofs.WordWriting.{first_fits, next_address, second_fits}
+use Rattle.task_meaning.proofs.WordWriting.{first_fits, second_fits}
 
 -- what goes outside is done by any machine
 pub does_outside :
