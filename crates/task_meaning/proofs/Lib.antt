@@ -34,6 +34,8 @@ pub mod Sends
 pub mod WordWriting
 pub mod WordStores
 pub mod ComputedWordStores
+pub mod StoreRules
+pub mod NearStores
 pub mod NextBytes
 pub mod Ranges
 pub mod Pairs
