@@ -36,6 +36,7 @@ pub mod WordStores
 pub mod ComputedWordStores
 pub mod StoreRules
 pub mod NearStores
+pub mod StoreLaws
 pub mod NextBytes
 pub mod Ranges
 pub mod Pairs
