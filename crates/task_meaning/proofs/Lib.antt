@@ -82,3 +82,4 @@ pub mod ZeroLaws
 pub mod EmbeddedBytes
 pub mod GivenPairs
 pub mod AskedOfBytes
+pub mod CarriedOut
