@@ -1,5 +1,5 @@
 -- Each kind of task is carried out by its steps, where values and addresses are.
-use Rattle.std.proofs.Common.{◌≡◌, ℕ, Bool}
+use Rattle.std.proofs.Common.{ℕ, Bool}
 use Rattle.treecode.specs.declared.expression.ExpressionNumber.{ExpressionNumber}
 use Rattle.treecode.specs.declared.reference.Reference.{Reference}
 use Rattle.steps8080.specs.declared.facts.Facts.{Facts}

@@ -5,10 +5,10 @@ use Rattle.mem80.specs.Memory.{byte_at, word_at}
 use Rattle.ports.specs.declared.event.Event.{Event}
 use Rattle.trees.specs.declared.declaration.ScalarType.TheVariants.{Address}
 use Rattle.meaning.specs.Access.{Place as SourcePlace, write_scalar}
-use Rattle.meaning.specs.Outcomes.{State as SourceState, Outcome, Gave, then_do}
+use Rattle.meaning.specs.Outcomes.{State as SourceState, Outcome, then_do}
 use Rattle.isa8080.specs.declared.instr.Instr.TheVariants.{Pop, Push}
 use Rattle.isa8080.specs.declared.instr.StackPair.{StackPair}
-use Rattle.isa8080.specs.declared.instr.StackPair.TheVariants.{StackBc, StackDe, StackHl}
+use Rattle.isa8080.specs.declared.instr.StackPair.TheVariants.{StackBc, StackHl}
 use Rattle.isa8080.specs.Act.{act}
 use Rattle.isa8080.specs.State.{Registers, State, high_byte, low_byte, one_less, pushed_of, two_less, word, wrap}
 use Rattle.machine_runs.proofs.Kept.{byte_kept}

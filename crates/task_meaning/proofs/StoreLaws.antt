@@ -1,10 +1,8 @@
 -- The code of stores, for each target.
-use Rattle.std.proofs.Common.{◌≡◌, ℕ, ◌+◌, ◌*◌, ◌/◌, ◌%◌, ◌<◌, ◌≤◌, ◌==◌, Bool, true, false, ◌&&◌, not, if◌then◌else◌, List, [], ◌∷◌, ◌++◌, Option, Some, None, slice_set, refl, sym, ap, subst, ◌∙◌, arith}
+use Rattle.std.proofs.Common.{◌≡◌, ℕ, ◌+◌, ◌*◌, ◌/◌, ◌%◌, ◌<◌, ◌==◌, Bool, true, false, ◌&&◌, not, if◌then◌else◌, List, [], ◌∷◌, ◌++◌, Option, Some, None, slice_set, refl, sym, ap, subst, ◌∙◌, arith}
 use Rattle.std.proofs.lemmas.Bool.{eqb-true}
 use Rattle.std.proofs.lemmas.List.{append_assoc}
 use Rattle.mem80.specs.declared.memory.TheConstants.{MEMORY_SIZE}
-use Rattle.mem80.specs.Memory.{byte_at}
-use Rattle.asm8080.proofs.Segments.{left_true, right_true}
 use Rattle.trees.specs.declared.declaration.ScalarType.{ScalarType}
 use Rattle.trees.specs.declared.declaration.ScalarType.TheVariants.{Byte, Address}
 use Rattle.typed_trees.specs.Charge.{height_of_reference}
@@ -13,7 +11,7 @@ use Rattle.typed_trees.specs.WellTyped.{RefersToScalar, TypesHoldInReference}
 use Rattle.meaning.specs.Access.{Place as SourcePlace, write_byte, write_scalar}
 use Rattle.meaning.specs.Outcomes.{State as SourceState, Outcome, Gave, then_do}
 use Rattle.meaning.specs.Values.{as_type, values_of}
-use Rattle.isa8080.specs.declared.instr.Instr.TheVariants.{Inx, MovToMemory, Mvi, Xchg}
+use Rattle.isa8080.specs.declared.instr.Instr.TheVariants.{Inx, MovToMemory, Mvi}
 use Rattle.isa8080.specs.declared.instr.Operand.TheVariants.{M}
 use Rattle.isa8080.specs.declared.instr.Pair.TheVariants.{Hl}
 use Rattle.isa8080.specs.declared.instr.Register.TheVariants as registers
@@ -27,9 +25,9 @@ use Rattle.treecode.specs.declared.reference.Target.{Target}
 use Rattle.treecode.specs.declared.reference.Target.TheVariants.{Sent, Stored}
 use Rattle.treecode.specs.Lowered.{IsReference, IsStored as IsStoredIn}
 use Rattle.code_meaning.specs.Landing.{Does, at_place}
-use Rattle.code_meaning.specs.Activations.{Arrives, HasRoom, IsReady}
+use Rattle.code_meaning.specs.Activations.{Arrives, HasRoom}
 use Rattle.code_meaning.proofs.Landing.{gives}
-use Rattle.code_facts.specs.Holding.{location_at, place_at}
+use Rattle.code_facts.specs.Holding.{location_at}
 use Rattle.code_facts.proofs.Steady.{address_asks}
 use Rattle.steps8080.specs.declared.facts.Facts.{Facts}
 use Rattle.steps8080.specs.declared.step.Step.{Step}
@@ -42,11 +40,11 @@ use Rattle.sites8080.specs.Site.{distance}
 use Rattle.operands8080.specs.declared.stores.Goal.{Goal}
 use Rattle.operands8080.specs.declared.stores.Near.{Near}
 use Rattle.operands8080.specs.declared.stores.Near.TheVariants.{First, Second}
-use Rattle.operands8080.specs.Stores.{address_beside_a_steps, address_beside_de_steps, byte_is_here_steps, exchange_near, goal_of, goal_steps, high_byte_steps, near_at, store_a_at_steps, store_a_steps, store_extended_steps, store_hl_at_steps, store_low_byte_at_steps, store_low_byte_steps, store_near_steps, store_steps, store_word_steps, value_back_steps, word_is_here_steps, word_near}
+use Rattle.operands8080.specs.Stores.{address_beside_de_steps, byte_is_here_steps, exchange_near, goal_of, goal_steps, high_byte_steps, store_a_at_steps, store_a_steps, store_extended_steps, store_hl_at_steps, store_low_byte_at_steps, store_low_byte_steps, store_near_steps, store_steps, store_word_steps, value_back_steps, word_is_here_steps, word_near}
 use Rattle.exprgen8080.specs.Emission.{knowing}
 use Rattle.task_meaning.specs.Contexts.{Context, InRegister, IsSound, distances_in, nodes_in}
-use Rattle.task_meaning.specs.Steps.{HoldsThere, NoneThere, PlainThere, StepsStand, WordThere}
-use Rattle.task_meaning.specs.Tasks.{Carries, IsReferred, IsStored, PartDoes, StoreDoes, address_on_machine}
+use Rattle.task_meaning.specs.Steps.{HoldsThere, PlainThere, StepsStand}
+use Rattle.task_meaning.specs.Tasks.{Carries, IsStored, PartDoes, StoreDoes, address_on_machine}
 use Rattle.task_meaning.proofs.Addresses.{nothing_goes}
 use Rattle.task_meaning.proofs.Fitting.{located_fits, refers_is_referred}
 use Rattle.task_meaning.proofs.Loads.{LiesThere, given_last, lies_there}

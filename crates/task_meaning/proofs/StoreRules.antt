@@ -2,10 +2,10 @@
 use Rattle.std.proofs.Common.{◌≡◌, ◌≢◌, ℕ, ◌+◌, ◌-◌, ◌*◌, ◌/◌, ◌%◌, ◌<◌, ◌≤◌, Bool, true, false, if◌then◌else◌, List, [], ◌∷◌, ◌++◌, length, Option, Some, None, slice_set, refl, sym, ap, subst, ◌∙◌, arith}
 use Rattle.std.proofs.lemmas.List.{length-set}
 use Rattle.mem80.specs.declared.memory.TheConstants.{MEMORY_SIZE}
-use Rattle.mem80.specs.Memory.{IsMemory, byte_at}
+use Rattle.mem80.specs.Memory.{byte_at}
 use Rattle.ports.specs.declared.event.Event.{Event}
 use Rattle.trees.specs.declared.declaration.ScalarType.{ScalarType}
-use Rattle.trees.specs.declared.declaration.ScalarType.TheVariants.{Byte, Address}
+use Rattle.trees.specs.declared.declaration.ScalarType.TheVariants.{Address}
 use Rattle.typed_trees.specs.Charge.{height_of_reference}
 use Rattle.typed_trees.specs.TypedTrees.{TypedReference}
 use Rattle.typed_trees.specs.WellTyped.{TypesHoldInReference}
@@ -30,7 +30,7 @@ use Rattle.treecode.specs.Lowered.{IsReference}
 use Rattle.code_meaning.specs.Landing.{Does, at_place}
 use Rattle.code_meaning.specs.Activations.{Activation, HasRoom, IsReady}
 use Rattle.code_facts.specs.Asking.{Asks, IsSteadyByte}
-use Rattle.code_facts.specs.Holding.{ByteHolds, IsSteady, WordHolds, location_at, place_at}
+use Rattle.code_facts.specs.Holding.{IsSteady, location_at, place_at}
 use Rattle.steps8080.specs.declared.facts.Facts.{Facts}
 use Rattle.steps8080.specs.declared.step.Step.{Step}
 use Rattle.steps8080.specs.declared.step.Step.TheVariants.{Plain, Word}
@@ -43,7 +43,7 @@ use Rattle.exprgen8080.specs.Emission.{knowing}
 use Rattle.task_meaning.specs.Contexts.{Context, IsSound, distances_in, nodes_in}
 use Rattle.task_meaning.specs.Steps.{PartThere, PlainThere, StepsStand, WordThere}
 use Rattle.task_meaning.specs.Tasks.{IsReferred, Know, PartDoes, address_on_machine}
-use Rattle.task_meaning.proofs.Loads.{LiesThere, lies_there}
+use Rattle.task_meaning.proofs.Loads.{lies_there}
 use Rattle.task_meaning.proofs.Located.{located_in}
 use Rattle.task_meaning.proofs.Reading.{FitsIn}
 use Rattle.task_meaning.proofs.Rules.{GoesOn, more_pushed, plain_goes, pop_goes, push_goes, pushed_word_small, registers_go, room_for}
