@@ -57,7 +57,7 @@ pub mod Words
 pub mod ReadPlaces
 pub mod BytesAsked
 pub mod LocatedBytes
-pub mod HighBytes
+pub mod HighBytesAsked
 pub mod ByteOperations
 pub mod Answers
 pub mod ByteComparisons
