@@ -13,6 +13,7 @@ use Rattle.isa8080.specs.State.{Registers, State, wrap}
 use Rattle.code_meaning.specs.Landing.{Does}
 use Rattle.code_meaning.specs.Activations.{IsReady}
 use Rattle.code_facts.specs.Holding.{IsSteady}
+use Rattle.code_facts.proofs.Steady.{declared_is_steady}
 use Rattle.quiet_expressions.specs.internal.Evaluations.{GoesOutside}
 use Rattle.task_meaning.specs.Contexts.{Context, IsSound}
 use Rattle.task_meaning.specs.Tasks.{address_on_machine}
@@ -75,7 +76,7 @@ byte_found {context = context} {memory = memory} (InMemory address) t sound read
         × ((if declared then Gave (byte_at t.memory address) t else Stopped (Outside UndeclaredByte) t)
         ≡ Gave (byte_at memory address) t))
         ⊎ GoesOutside (if declared then Gave (byte_at t.memory address) t else Stopped (Outside UndeclaredByte) t)
-    by_test true is = inl (inl is, ap (λ (n : ℕ). Gave n t) (sym (ready.shares.declared address is)))
+    by_test true is = inl (declared_is_steady context.activation address sound.lies is, ap (λ (n : ℕ). Gave n t) (sym (ready.shares.declared address is)))
     by_test false is = inr tt
 byte_found {context = context} {memory = memory} (InTheFrame object offset true) t sound ready fits =
     let within : offset + 1 ≤ context.activation.size object = fits refl in

@@ -266,7 +266,7 @@ pub room_for :
     → HasRoom activation top pushed less
 room_for less is_less room =
     let enough = room.enough in
-    record { depth = room.depth; enough = omega (arith, enough, is_less) }
+    record { depth = room.depth; even = room.even; enough = omega (arith, enough, is_less) }
 
 -- how many bytes are pushed after a PUSH: less than there are in memory
 pub more_pushed :
@@ -278,11 +278,13 @@ pub more_pushed :
     → HasRoom activation (top - 2) ((pushed + 2) % 65536) less
 more_pushed less lies some is_less room =
     let depth = room.depth in
+    let even = room.even in
     let enough = room.enough in
     let above = lies.above in
     let stack = lies.placed.stack_in_memory in
     record {
       depth = omega (arith, depth, enough, above, stack, some, is_less);
+      even = omega (arith, even);
       enough = omega (arith, enough, is_less);
     }
 
