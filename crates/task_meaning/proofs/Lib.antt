@@ -32,8 +32,6 @@ pub mod Stores
 pub mod StaticStores
 pub mod Sends
 pub mod WordWriting
-pub mod WordStores
-pub mod ComputedWordStores
 pub mod StoreRules
 pub mod NearStores
 pub mod StoreLaws

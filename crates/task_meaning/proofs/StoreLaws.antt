@@ -54,15 +54,17 @@ use Rattle.task_meaning.proofs.NearStores.{near_address, near_stored}
 use Rattle.task_meaning.proofs.Rules.{GoesOn, holds_go, registers_go}
 use Rattle.task_meaning.proofs.Sends.{send_law}
 use Rattle.task_meaning.proofs.Stages.{does_same}
-use Rattle.task_meaning.proofs.StaticStores.{byte_store_law, sta_stores}
+use Rattle.task_meaning.proofs.StaticStores.{sta_stores}
 use Rattle.task_meaning.proofs.StoreRules.{ByteLiesAt, PlaceLies, WordLiesAt, beside_a_then, beside_de_then, byte_known_at, further, one_stored, place_lies, shld_then, two_stored, word_known_at}
-use Rattle.task_meaning.proofs.WordStores.{static_word_store_law}
 
 byte_low : (n : ℕ) → n < 256 → n ≡ n % 65536 % 256
 byte_low n small = omega (arith, small)
 
 byte_high : (n : ℕ) → n < 256 → 0 ≡ n % 65536 / 256
 byte_high n small = omega (arith, small)
+
+byte_twice : (n : ℕ) → n < 256 → n ≡ n % 256 % 256
+byte_twice n small = omega (arith, small)
 
 low_twice : (n : ℕ) → n % 256 ≡ n % 256 % 256
 low_twice n = omega arith
@@ -188,6 +190,28 @@ module _
   word_here_ends of r memory place stored u now left wanted lies h l word_is (HoldsThere ends) on =
       nothing_goes now ends (holds_go on (word_known_at context the_location place stored left now lies h l word_is))
       (λ final. stored_ends of r memory u now left wanted final)
+
+  -- a BYTE in A goes to a BYTE at an address that is computed
+  byte_at_computed :
+      RefersToScalar context.typed context.within Byte tree
+      → number < 256
+      → StepsStand context (PartDoes context) facts from (store_a_at_steps (the_goal Byte) pushed) last to
+      → Goes Byte Byte
+  byte_at_computed refers small stand top base s r memory less room ready known asked =
+      let program = context.activation.around.program in
+      beside_a_then facts Byte (Plain (MovToMemory registers.A) ∷ [])
+      (λ place t. write_byte program place (number % 256 % 256) t) from s r memory sound stand is (refers_is_referred context Byte tree refers)
+      types less room (omega arith) (record { ready = ready; known = known })
+      (λ place t now ended middle found same a hl stands on.
+      does_same _ (sym (given_last (write_byte program place (number % 256 % 256) t)))
+      (one_stored (MovToMemory registers.A) [] (λ done u. Gave done u) place (number % 256 % 256) t
+      now ended sound (omega arith) hl (located_fits context Byte tree place s t sound refers same)
+      (λ n memory. ap (λ (b : ℕ). at_place n now (slice_set memory (word now.h now.l) b) t.events) (a ∙ asked ∙ byte_twice number small))
+      (λ steady. address_asks context.activation (distances_in context) found.address_in_hl now.h now.l on.known.address_holds steady)
+      stands on
+      (λ u left then_middle then_found lies ends final.
+      nothing_goes now ends final
+      (λ done. stored_ends Byte r memory u now left (λ wanted. a ∙ asked) done))))
 
   -- a BYTE in A goes to an ADDRESS at an address that is computed
   byte_to_word_at :
@@ -351,6 +375,60 @@ module _
       (λ place t. write_scalar context.activation.around.program scalar place n t)) (lies.means s))
       (does_same _ (sym (given_last (write_scalar context.activation.around.program scalar lies.place n s))) does)
 
+  byte_at_static :
+      (static : Place)
+      → RefersToScalar context.typed context.within Byte tree
+      → number < 256
+      → the_location ≡ Some (locations.Static static)
+      → StepsStand context (PartDoes context) facts from (Word StoreA static ∷ []) last to
+      → Goes Byte Byte
+  byte_at_static static refers small told stand top base s r memory less room ready known asked =
+      let lies = lies_there facts (locations.Static static) sound is (refers_is_referred context Byte tree refers) types told in
+      at_known_place Byte (number % 256) s (locations.Static static) lies
+      (sta_stores (λ done u. Gave done u) static lies.place (number % 256 % 256) s r memory sound (omega arith)
+      (asked ∙ byte_twice number small) lies.is_at (located_fits context Byte tree lies.place s s sound refers (lies.means s)) stand
+      (record { ready = ready; known = known })
+      (λ u left final. stored_ends Byte r memory u r left (λ wanted. asked) final))
+
+  -- a BYTE in A goes to a BYTE
+  byte_goes :
+      RefersToScalar context.typed context.within Byte tree
+      → number < 256
+      → StepsStand context (PartDoes context) facts from (store_a_steps (knowing context.site facts) (the_goal Byte) pushed) last to
+      → Goes Byte Byte
+  byte_goes refers small stand = by the_location refl stand
+    where
+      by : (location : Option Location) → the_location ≡ location
+          → StepsStand context (PartDoes context) facts from
+          (elim location [
+            | None ↦ store_a_at_steps (the_goal Byte) pushed
+            | Some location ↦ elim location [
+              | locations.Static place ↦ Word StoreA place ∷ []
+              | locations.Frame variable offset ↦ store_a_at_steps (the_goal Byte) pushed
+            ]
+          ]) last to
+          → Goes Byte Byte
+      by None told stands = byte_at_computed refers small stands
+      by (Some (locations.Frame variable offset)) told stands = byte_at_computed refers small stands
+      by (Some (locations.Static place)) told stands = byte_at_static place refers small told stands
+
+  word_at_static :
+      (static : Place)
+      → RefersToScalar context.typed context.within Address tree
+      → number < 65536
+      → the_location ≡ Some (locations.Static static)
+      → StepsStand context (PartDoes context) facts from (Word StoreHl static ∷ []) last to
+      → Goes Address Address
+  word_at_static static refers small told stand top base s r memory less room ready known asked =
+      let lies = lies_there facts (locations.Static static) sound is (refers_is_referred context Address tree refers) types told in
+      at_known_place Address (number % 65536) s (locations.Static static) lies
+      (shld_then [] (λ done u. Gave done u) static lies.place (number % 65536) s r memory sound (omega arith)
+      (asked.0 ∙ ap (λ (n : ℕ). n / 256) (whole number small)) (asked.1 ∙ ap (λ (n : ℕ). n % 256) (whole number small)) lies.is_at
+      (located_fits context Address tree lies.place s s sound refers (lies.means s)) stand (record { ready = ready; known = known })
+      (λ u left middle found word_is ends on.
+      nothing_goes r ends on
+      (λ final. stored_ends Address r memory u r left (λ wanted. asked) final)))
+
   low_byte_at_static :
       (static : Place)
       → RefersToScalar context.typed context.within Byte tree
@@ -494,7 +572,7 @@ module _
           ]) last to
           → Goes Address Address
       by None told stands = word_at refers small stands
-      by (Some (locations.Static place)) told stands = static_word_store_law is_wanted place sound told stands is refers types small
+      by (Some (locations.Static place)) told stands = word_at_static place refers small told stands
       by (Some (locations.Frame variable offset)) told stands =
           by_near variable offset told (word_near (knowing context.site facts) (locations.Frame variable offset) pushed) refl stands
 
@@ -630,7 +708,8 @@ store_does context {facts = facts} {last = last} {pushed = pushed} {from = from}
         (λ s. then_do (located_in context part s)
         (λ place t. write_scalar context.activation.around.program scalar place (as_type scalar number) t))
         (IsStored context last of is_wanted number)
-    by Byte Byte less refers stands = byte_store_law is_wanted sound stands is refers types.2 less
+    by Byte Byte less refers stands =
+        byte_goes context facts last reference pushed from to bound number part is_wanted sound is types.2 refers less stands
     by Byte Address less refers stands =
         byte_to_word_goes context facts last reference pushed from to bound number part is_wanted sound is types.2 refers less stands
     by Address Byte less refers stands =
