@@ -21,6 +21,7 @@ pub mod Bases
 pub mod BaseCode
 pub mod Subscripts
 pub mod Products
+pub mod Strides
 pub mod SecondSubscripts
 pub mod Located
 pub mod Fitting
@@ -74,3 +75,4 @@ pub mod TwoBytes
 pub mod Zeros
 pub mod ZeroLaws
 pub mod EmbeddedBytes
+pub mod AddressLaws
