@@ -76,3 +76,5 @@ pub mod Zeros
 pub mod ZeroLaws
 pub mod EmbeddedBytes
 pub mod AddressLaws
+pub mod StaticPlaces
+pub mod WordValues
