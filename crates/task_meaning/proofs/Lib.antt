@@ -78,3 +78,5 @@ pub mod EmbeddedBytes
 pub mod AddressLaws
 pub mod StaticPlaces
 pub mod WordValues
+pub mod DirectWords
+pub mod SimpleLogic
