@@ -40,7 +40,7 @@ IsEither Or = Unit {0}
 IsEither ExclusiveOr = Unit {0}
 IsEither operation = ⊥
 
-either_logic : (operation : Operation) → IsEither operation → IsLogic operation
+pub either_logic : (operation : Operation) → IsEither operation → IsLogic operation
 either_logic Or is = tt
 either_logic ExclusiveOr is = tt
 either_logic operation is = absurd is
