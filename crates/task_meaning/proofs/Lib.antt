@@ -80,3 +80,4 @@ pub mod StaticPlaces
 pub mod WordValues
 pub mod DirectWords
 pub mod SimpleLogic
+pub mod AndNumbers
