@@ -81,3 +81,4 @@ pub mod WordValues
 pub mod DirectWords
 pub mod SimpleLogic
 pub mod AndNumbers
+pub mod AndBytes
