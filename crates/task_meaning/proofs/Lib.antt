@@ -52,7 +52,10 @@ pub mod LogicAnd
 pub mod KeptInside
 pub mod BytesInMemory
 pub mod Words
+pub mod ReadPlaces
 pub mod BytesAsked
+pub mod LocatedBytes
+pub mod HighBytes
 pub mod ByteOperations
 pub mod Answers
 pub mod ByteComparisons
@@ -82,3 +85,5 @@ pub mod DirectWords
 pub mod SimpleLogic
 pub mod AndNumbers
 pub mod AndBytes
+pub mod GivenPairs
+pub mod AskedOfBytes
