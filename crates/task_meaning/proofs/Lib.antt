@@ -87,3 +87,4 @@ pub mod AndNumbers
 pub mod AndBytes
 pub mod GivenPairs
 pub mod AskedOfBytes
+pub mod ExtendedBytes
