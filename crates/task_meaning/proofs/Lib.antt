@@ -88,3 +88,4 @@ pub mod AndBytes
 pub mod GivenPairs
 pub mod AskedOfBytes
 pub mod ExtendedBytes
+pub mod RightShifts
