@@ -68,7 +68,7 @@ use Rattle.task_meaning.proofs.SiteNodes.{value_in}
 use Rattle.task_meaning.proofs.Stages.{does_same}
 use Rattle.task_meaning.proofs.Located.{located_in}
 use Rattle.task_meaning.proofs.Values.{KeepsThem, word_given}
-use Rattle.task_meaning.proofs.Words.{IsCarriedOut}
+use Rattle.task_meaning.proofs.CarriedWords.{IsCarriedOut}
 
 -- HL is the byte at an address with zeros added; A and DE are what they were
 pub record ExtendedBeside (memory : List ℕ) (address : ℕ) (r now : Registers) : Type 0 where

@@ -51,6 +51,7 @@ pub mod LogicPairs
 pub mod LogicAnd
 pub mod KeptInside
 pub mod BytesInMemory
+pub mod CarriedWords
 pub mod Words
 pub mod ReadPlaces
 pub mod BytesAsked
@@ -89,3 +90,4 @@ pub mod GivenPairs
 pub mod AskedOfBytes
 pub mod ExtendedBytes
 pub mod RightShifts
+pub mod WordLaws

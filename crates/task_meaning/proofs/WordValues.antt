@@ -50,7 +50,7 @@ use Rattle.task_meaning.proofs.StaticPlaces.{static_location}
 use Rattle.task_meaning.proofs.Values.{then_does_where, word_ends, word_given}
 use Rattle.task_meaning.proofs.WordArithmetic.{has_word, word_below}
 use Rattle.task_meaning.proofs.WordRoutines.{word_given_by}
-use Rattle.task_meaning.proofs.Words.{IsCarriedOut}
+use Rattle.task_meaning.proofs.CarriedWords.{IsCarriedOut}
 
 -- what holds at the end of code, in other words
 pub ends_with :
