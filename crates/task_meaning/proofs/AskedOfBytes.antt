@@ -2,7 +2,7 @@
 use Rattle.task_meaning.specs.Contexts.{Context, IsSound}
 use Rattle.task_meaning.proofs.BytesAsked.{BytesAsked}
 use Rattle.task_meaning.proofs.GivenPairs.{pairs_given}
-use Rattle.task_meaning.proofs.HighBytes.{high_bytes_given, words_at_places}
+use Rattle.task_meaning.proofs.HighBytesAsked.{high_bytes_given, words_at_places}
 use Rattle.task_meaning.proofs.LocatedBytes.{locates_bytes}
 use Rattle.task_meaning.proofs.Ranges.{fits_means, ready_fits, value_fits}
 use Rattle.task_meaning.proofs.ZeroLaws.{zeros_shown}

@@ -97,7 +97,7 @@ twice_low : (n : ℕ) → n < 256 → n ≡ n % 256 % 256
 twice_low n small = omega (arith, small)
 
 -- STA at the place of a byte
-sta_stores :
+pub sta_stores :
     {A : Type 0} {Good : A → SourceState → State → Type 0}
     {context : Context} {facts last : Facts} {top from to : ℕ} {base : List ℕ}
     (go : Unit {0} → SourceState → Outcome A) (static : Place) (place : SourcePlace) (byte : ℕ) (t : SourceState) (r : Registers)
