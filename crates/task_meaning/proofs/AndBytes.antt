@@ -1,5 +1,5 @@
 -- AND of two ADDRESSes of which one is below 256: it is one of bytes.
-use Rattle.std.proofs.Common.{◌≡◌, ℕ, ◌+◌, ◌*◌, ◌%◌, ◌<◌, ◌≤◌, ◌⊎◌, inl, inr, max, Bool, true, false, ◌||◌, List, [], ◌∷◌, ◌++◌, Option, Some, None, option_map, slice_get, length, bit_and, refl, sym, ap, ◌∙◌, subst, arith}
+use Rattle.std.proofs.Common.{◌≡◌, ℕ, ◌+◌, ◌*◌, ◌%◌, ◌<◌, ◌≤◌, ◌⊎◌, inl, inr, max, Bool, true, false, ◌||◌, List, ◌++◌, Option, Some, None, option_map, length, bit_and, refl, ap, subst, arith}
 use Rattle.std.proofs.lemmas.Option.{slice_get_past}
 use Rattle.std.proofs.lemmas.Nat.{and_le_l}
 use lib.Bits.{and_le_r}
@@ -7,7 +7,7 @@ use Rattle.trees.specs.declared.declaration.ScalarType.TheVariants.{Address}
 use Rattle.trees.specs.declared.expression.BinaryOperator.TheVariants as operators
 use Rattle.typed_trees.specs.Charge.{height_of}
 use Rattle.typed_trees.specs.TypedTrees.{BinaryNode, TypedExpression}
-use Rattle.meaning.specs.Outcomes.{State as SourceState, Gave, Stopped, then_do}
+use Rattle.meaning.specs.Outcomes.{State as SourceState, Gave, then_do}
 use Rattle.isa8080.specs.declared.instr.Operation.TheVariants.{And}
 use Rattle.isa8080.specs.State.{Registers}
 use Rattle.treecode.specs.declared.expression.Expression.{Expression}
@@ -19,7 +19,6 @@ use Rattle.code_meaning.specs.Activations.{Arrives, HasRoom}
 use Rattle.steps8080.specs.declared.facts.Facts.{Facts}
 use Rattle.steps8080.specs.Instructions.{low}
 use Rattle.steps8080.specs.Step.{extension_steps}
-use Rattle.sites8080.specs.declared.site.Site.{Site}
 use Rattle.sites8080.specs.Site.{expression}
 use Rattle.sites8080.specs.Queries.{is_free, keeps, number as number_of}
 use Rattle.sites8080.specs.Widths.{fits_byte, low_number}
@@ -39,7 +38,7 @@ use Rattle.task_meaning.proofs.Loads.{given_last}
 use Rattle.task_meaning.proofs.Rules.{GoesOn, Parted, split}
 use Rattle.task_meaning.proofs.SiteNodes.{value_in}
 use Rattle.task_meaning.proofs.Stages.{at_carried, script_of}
-use Rattle.task_meaning.proofs.TwoBytes.{of_both, two_bytes}
+use Rattle.task_meaning.proofs.TwoBytes.{two_bytes}
 use Rattle.task_meaning.proofs.WordSums.{TwoWords}
 
 -- a number of no expression: nothing is said of what its code leaves alone

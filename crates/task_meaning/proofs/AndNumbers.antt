@@ -1,18 +1,15 @@
 -- AND of an ADDRESS and a number in HL, of which a byte may be 0.
-use Rattle.std.proofs.Common.{◌≡◌, ℕ, ◌+◌, ◌*◌, ◌/◌, ◌%◌, ◌<◌, ◌≤◌, ◌==◌, nat_lt, Bool, true, false, if◌then◌else◌, List, [], ◌∷◌, ◌++◌, bit_and, bit_xor, refl, sym, ap, ◌∙◌, subst, arith}
+use Rattle.std.proofs.Common.{◌≡◌, ℕ, ◌*◌, ◌/◌, ◌%◌, ◌<◌, ◌≤◌, ◌==◌, nat_lt, Bool, true, false, if◌then◌else◌, List, [], ◌∷◌, ◌++◌, bit_and, refl, sym, ap, ◌∙◌, subst, arith}
 use Rattle.std.proofs.lemmas.Bool.{eqb-true, ltb-true}
 use Rattle.std.proofs.lemmas.List.{append_assoc}
+use lib.Bits.{and_le_r}
 use Rattle.std.specs.Int.Bits.{xor_self, and_zero_r}
-use Rattle.trees.specs.declared.declaration.ScalarType.{ScalarType}
 use Rattle.trees.specs.declared.declaration.ScalarType.TheVariants.{Address}
 use Rattle.typed_trees.specs.Charge.{height_of}
 use Rattle.typed_trees.specs.ExpressionTypes.{type_of}
 use Rattle.typed_trees.specs.TypedTrees.{TypedExpression}
 use Rattle.typed_trees.specs.WellTyped.{TypesHold}
-use Rattle.meaning.specs.Meaning.{value}
 use Rattle.meaning.specs.Outcomes.{State as SourceState, Gave, then_do}
-use Rattle.meaning.specs.Values.{values_of}
-use Rattle.isa8080.specs.declared.instr.Instr.{Instr}
 use Rattle.isa8080.specs.declared.instr.Instr.TheVariants.{AccumulateImmediate}
 use Rattle.isa8080.specs.declared.instr.Operation.TheVariants.{And}
 use Rattle.isa8080.specs.declared.instr.Register.TheVariants.{A, H, L}
@@ -37,7 +34,7 @@ use Rattle.task_meaning.specs.Contexts.{Context, IsSound, nodes_in}
 use Rattle.task_meaning.specs.Steps.{StepsStand, PartThere}
 use Rattle.task_meaning.specs.Tasks.{Carries, Nothing, PartDoes, WordIsGiven}
 use Rattle.task_meaning.proofs.BytesAsked.{HighIsGiven}
-use Rattle.task_meaning.proofs.LogicNumbers.{and_full, bits_high, bits_low, bits_small, halves_do}
+use Rattle.task_meaning.proofs.LogicNumbers.{and_full, bits_high, bits_low, halves_do}
 use Rattle.task_meaning.proofs.PairedWords.{kept_none}
 use Rattle.task_meaning.proofs.Pairs.{IsOperand}
 use Rattle.task_meaning.proofs.RegisterCode.{effect}
@@ -70,7 +67,7 @@ all_low : (n : ℕ) → n < 256 → n ≡ n % 256
 all_low n small = omega (arith, small)
 
 and_under : (x n limit : ℕ) → n < limit → bit_and x n < limit
-and_under x n limit small = let less : bit_and x n ≤ n = lib.Bits.and_le_r x n in omega (arith, less, small)
+and_under x n limit small = let less : bit_and x n ≤ n = and_le_r x n in omega (arith, less, small)
 
 -- a byte in A comes into HL
 extended : (n : ℕ) (now : Registers) → n < 256 → now.a ≡ n → HasWord n (effect (copy L A ∷ set H 0 ∷ []) now)

@@ -1,12 +1,10 @@
 -- Operations of a word in memory, at a known place, and the word in HL.
-use Rattle.std.proofs.Common.{◌≡◌, ℕ, ◌+◌, ◌-◌, ◌*◌, ◌/◌, ◌%◌, ◌<◌, ◌≤◌, max, Bool, true, false, List, [], ◌∷◌, Option, Some, None, if◌then◌else◌, refl, sym, ap, ◌∙◌, subst, arith}
-use Rattle.std.proofs.lemmas.Bool.{false≢true}
+use Rattle.std.proofs.Common.{◌≡◌, ℕ, ◌+◌, ◌-◌, ◌/◌, ◌%◌, ◌<◌, Bool, true, false, List, [], ◌∷◌, Option, Some, None, if◌then◌else◌, refl, sym, ◌∙◌, subst, arith}
 use Rattle.mem80.specs.Memory.{byte_at}
 use Rattle.trees.specs.declared.declaration.ScalarType.{ScalarType}
 use Rattle.trees.specs.declared.declaration.ScalarType.TheVariants.{Address}
 use Rattle.typed_trees.specs.Charge.{height_of}
 use Rattle.typed_trees.specs.ExpressionTypes.{type_of}
-use Rattle.typed_trees.specs.TypedTrees.{TypedExpression}
 use Rattle.meaning.specs.Outcomes.{State as SourceState, Gave}
 use Rattle.meaning.specs.Values.{values_of}
 use Rattle.isa8080.specs.declared.instr.Operation.{Operation}
@@ -18,7 +16,7 @@ use Rattle.treecode.specs.declared.place.Place.{Place}
 use Rattle.treecode.specs.Homes.{place_after}
 use Rattle.treecode.specs.Traits.{keeps_none}
 use Rattle.code_meaning.specs.Landing.{Does, at_place}
-use Rattle.code_meaning.specs.Activations.{Arrives, HasRoom}
+use Rattle.code_meaning.specs.Activations.{Arrives}
 use Rattle.code_facts.specs.Holding.{IsSteady, place_at}
 use Rattle.steps8080.specs.declared.facts.Facts.{Facts}
 use Rattle.steps8080.specs.declared.step.Step.TheVariants.{Plain, Word}
@@ -32,7 +30,7 @@ use Rattle.exprgen8080.specs.declared.byte_operators.Operands.{Operands}
 use Rattle.exprgen8080.specs.Emission.{knowing}
 use Rattle.exprgen8080.specs.WordOperators.{left_word, with_word_steps}
 use Rattle.task_meaning.specs.Contexts.{Context, IsSound}
-use Rattle.task_meaning.specs.Steps.{StepsStand, PartThere, PlainThere, WordThere}
+use Rattle.task_meaning.specs.Steps.{StepsStand, PartThere, WordThere}
 use Rattle.task_meaning.specs.Tasks.{PartDoes, WordIsGiven}
 use Rattle.task_meaning.proofs.BytesAsked.{WordAtPlace, WordsAtPlaces}
 use Rattle.task_meaning.proofs.KnownOperands.{alike_does, operands_may}
@@ -45,7 +43,7 @@ use Rattle.task_meaning.proofs.Stages.{Stage, at_end, at_instructions, at_load_a
 use Rattle.task_meaning.proofs.Values.{HasWord, word_given, word_then}
 use Rattle.task_meaning.proofs.WordBinaries.{LeftWordDoes}
 use Rattle.task_meaning.proofs.WordForms.{difference_small}
-use Rattle.task_meaning.proofs.WordSums.{TwoWords, less_high}
+use Rattle.task_meaning.proofs.WordSums.{less_high}
 
 -- an operation of a word that was read and the one in HL
 module _

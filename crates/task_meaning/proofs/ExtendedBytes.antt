@@ -1,5 +1,5 @@
 -- Bytes in memory that come into HL with zeros added.
-use Rattle.std.proofs.Common.{◌≡◌, ℕ, ◌+◌, ◌*◌, ◌/◌, ◌%◌, ◌<◌, ◌≤◌, ◌==◌, ◌&&◌, ◌⊎◌, inl, inr, Bool, true, false, if◌then◌else◌, List, [], ◌∷◌, ◌++◌, Option, Some, None, refl, sym, ap, ◌∙◌, subst, arith}
+use Rattle.std.proofs.Common.{◌≡◌, ℕ, ◌+◌, ◌*◌, ◌/◌, ◌%◌, ◌<◌, ◌==◌, ◌&&◌, ◌⊎◌, inl, inr, Bool, true, false, if◌then◌else◌, List, [], ◌∷◌, ◌++◌, Option, Some, None, refl, sym, ap, ◌∙◌, subst, arith}
 use Rattle.std.specs.Option.{option_map_or}
 use Rattle.std.proofs.lemmas.Bool.{eqb-true, false≢true}
 use Rattle.mem80.specs.declared.memory.TheConstants.{MEMORY_SIZE}
@@ -8,12 +8,12 @@ use Rattle.mem80.proofs.MemoryLemmas.{byte_small}
 use Rattle.ports.specs.declared.event.Event.{Event}
 use Rattle.trees.specs.declared.declaration.ScalarType.{ScalarType}
 use Rattle.trees.specs.declared.declaration.ScalarType.TheVariants.{Address, Byte}
-use Rattle.typed_trees.specs.Charge.{height_of, height_of_reference}
+use Rattle.typed_trees.specs.Charge.{height_of_reference}
 use Rattle.typed_trees.specs.ExpressionTypes.{type_of}
 use Rattle.typed_trees.specs.TypedTrees.{Home as TypedHome, InData, InConstants, Placed, BasedOn, Elsewhere, Nowhere, InFrame, PartOf, TypedExpression, TypedReference}
 use Rattle.typed_trees.specs.WellTyped.{TypesHold}
 use Rattle.meaning.specs.Access.{Place as SourcePlace, InMemory, home_of, place_of, read_scalar}
-use Rattle.meaning.specs.Meaning.{Displacement, based_place, displacement}
+use Rattle.meaning.specs.Meaning.{based_place, displacement}
 use Rattle.meaning.specs.Outcomes.{State as SourceState, Outcome, Gave, then_do}
 use Rattle.meaning.specs.Values.{values_of}
 use Rattle.isa8080.specs.declared.instr.Instr.{Instr}
@@ -34,7 +34,7 @@ use Rattle.treecode.specs.Traits.{keeps_none, keeps_of_address, keeps_of_form, m
 use Rattle.code_meaning.specs.Landing.{Does, at_place}
 use Rattle.code_meaning.specs.Activations.{Arrives, HasRoom}
 use Rattle.code_meaning.proofs.FirstItems.{plain_first}
-use Rattle.code_facts.specs.Holding.{IsSteady, location_at, place_at}
+use Rattle.code_facts.specs.Holding.{location_at, place_at}
 use Rattle.code_facts.proofs.Changes.{without_hl_holds}
 use Rattle.code_facts.proofs.Uses.{address_in_hl_is, byte_in_a_is, byte_in_h_is, word_in_hl_is}
 use Rattle.quiet_expressions.specs.internal.Evaluations.{GoesOutside}
@@ -52,12 +52,11 @@ use Rattle.operands8080.specs.Addresses.{location_address_steps}
 use Rattle.operands8080.specs.Loads.{byte_to_l_steps, extended_byte_in_memory_steps, frame_byte_to_l_steps, top_word_steps}
 use Rattle.exprgen8080.specs.Emission.{knowing}
 use Rattle.task_meaning.specs.Contexts.{Context, IsSound, distances_in, nodes_in}
-use Rattle.task_meaning.specs.Steps.{StepsStand, PartThere, PlainThere, WordThere}
+use Rattle.task_meaning.specs.Steps.{StepsStand, NoneThere, PartThere, PlainThere, WordThere}
 use Rattle.task_meaning.specs.Tasks.{Know, PartDoes, WordIsGiven, address_on_machine}
 use Rattle.task_meaning.proofs.Addresses.{location_address_goes, nothing_goes, registers_end}
 use Rattle.task_meaning.proofs.Fitting.{gave_first}
 use Rattle.task_meaning.proofs.KeptInside.{IsKeptBy}
-use Rattle.task_meaning.proofs.KnownOperands.{bytes_differ}
 use Rattle.task_meaning.proofs.Loads.{lies_there}
 use Rattle.task_meaning.proofs.LocatedBytes.{ByteLies, byte_lies, where_located}
 use Rattle.task_meaning.proofs.LocationBytes.{at_none, at_one}
@@ -216,7 +215,7 @@ module _
               → StepsStand context PartIs found middle (Plain (load L) ∷ []) later end
               → StepsStand context PartIs later end (Plain (set H 0) ∷ []) last to
               → Does context.activation.around.program.script budget more (at_place from r memory events) outcome Good
-          ended first (PlainThere there Rattle.task_meaning.specs.Steps.NoneThere) after =
+          ended first (PlainThere there NoneThere) after =
               location_address_goes used (locations.Frame variable offset) r sound room (omega arith) known first on
               (λ there_r beside on_there.
               byte_at_hl_goes address there_r beside.hl (PlainThere there after) on_there

@@ -6,7 +6,7 @@ use Rattle.typed_trees.specs.Charge.{height_of}
 use Rattle.typed_trees.specs.ExpressionTypes.{type_of}
 use Rattle.typed_trees.specs.TypedTrees.{TypedExpression}
 use Rattle.meaning.specs.Meaning.{value}
-use Rattle.meaning.specs.Outcomes.{State as SourceState, Gave, then_do}
+use Rattle.meaning.specs.Outcomes.{State as SourceState, Gave}
 use Rattle.isa8080.specs.declared.instr.Operation.TheVariants.{And}
 use Rattle.isa8080.specs.State.{Registers}
 use Rattle.treecode.specs.declared.expression.ExpressionNumber.{ExpressionNumber}

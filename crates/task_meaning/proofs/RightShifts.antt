@@ -1,5 +1,5 @@
 -- Shifts of an ADDRESS to the right by a number, in HL.
-use Rattle.std.proofs.Common.{◌≡◌, ℕ, zero, suc, ◌+◌, ◌-◌, ◌*◌, ◌/◌, ◌%◌, ◌^◌, ◌<◌, ◌≤◌, ◌==◌, nat_le, nat_lt, Bool, true, false, if◌then◌else◌, List, [], ◌∷◌, ◌++◌, replicate, bit_and, refl, sym, ap, ◌∙◌, subst, arith}
+use Rattle.std.proofs.Common.{◌≡◌, ℕ, zero, suc, ◌+◌, ◌-◌, ◌*◌, ◌/◌, ◌%◌, ◌^◌, ◌<◌, ◌≤◌, ◌==◌, nat_le, Bool, true, false, if◌then◌else◌, List, [], ◌∷◌, ◌++◌, replicate, bit_and, refl, sym, ap, ◌∙◌, subst, arith}
 use Rattle.std.proofs.lemmas.Bool.{eqb-true, eqb-false, leb-true, leb-false, lt-ltb}
 use Rattle.std.proofs.lemmas.List.{append_assoc}
 use Rattle.std.specs.Int.Bits.{or_self, xor_self}
@@ -15,7 +15,7 @@ use Rattle.isa8080.specs.declared.instr.Instr.{Instr}
 use Rattle.isa8080.specs.declared.instr.Instr.TheVariants.{AccumulateImmediate, Rar, Rlc, Rrc}
 use Rattle.isa8080.specs.declared.instr.Operation.TheVariants.{And, ExclusiveOr, Or}
 use Rattle.isa8080.specs.declared.instr.Register.TheVariants.{A, H, L}
-use Rattle.isa8080.specs.State.{Registers, word}
+use Rattle.isa8080.specs.State.{Registers}
 use Rattle.runtime8080.specs.declared.routine.Routine.TheVariants as routines
 use Rattle.runtime8080.proofs.AddressBits.{by_eight, half_small, halves, none_left, quarter_high_small, quarter_low_small, quarters}
 use Rattle.runtime8080.proofs.Bits.{equal_below, none_right, times, turn_left, turn_right, turned_left, turned_right}
@@ -36,22 +36,21 @@ use Rattle.exprgen8080.specs.Emission.{knowing}
 use Rattle.exprgen8080.specs.Halves.{high_byte_steps}
 use Rattle.exprgen8080.specs.WordShifts.{half_steps, quarter_steps, shifted_right_little_steps, word_routine, word_shifted_right_steps, zero_steps}
 use Rattle.task_meaning.specs.Contexts.{Context, IsSound}
-use Rattle.task_meaning.specs.Steps.{StepsStand, PartThere, PlainThere}
+use Rattle.task_meaning.specs.Steps.{StepsStand, PartThere}
 use Rattle.task_meaning.specs.Tasks.{PartDoes, WordIsGiven}
 use Rattle.task_meaning.proofs.AndNumbers.{HighHalvesGiven, extended_then}
 use Rattle.task_meaning.proofs.BytesAsked.{HighIsGiven}
 use Rattle.task_meaning.proofs.KnownOperands.{quotient_less}
 use Rattle.task_meaning.proofs.LeftShifts.{zero_does}
 use Rattle.task_meaning.proofs.Multiples.{both_on, effect_on, plain_on, repeated, repeated_on}
-use Rattle.task_meaning.proofs.PairedWords.{kept_none}
 use Rattle.task_meaning.proofs.Pairs.{IsOperand, some_height}
 use Rattle.task_meaning.proofs.Ranges.{fits_means, ready_fits, value_fits}
 use Rattle.task_meaning.proofs.RegisterCode.{AreOnRegisters, does_to, effect, registers_then}
 use Rattle.task_meaning.proofs.Rules.{GoesOn, split}
 use Rattle.task_meaning.proofs.SiteNodes.{value_in}
 use Rattle.task_meaning.proofs.Stages.{Stage, at_byte, at_carried, at_effects, at_instructions, script_of}
-use Rattle.task_meaning.proofs.Values.{HasWord, word_ends, word_then}
-use Rattle.task_meaning.proofs.WordArithmetic.{has_word, word_below, word_is}
+use Rattle.task_meaning.proofs.Values.{HasWord, word_then}
+use Rattle.task_meaning.proofs.WordArithmetic.{has_word, word_is}
 use Rattle.task_meaning.proofs.WordForms.{straight_does}
 use Rattle.task_meaning.proofs.WordRoutines.{shift_then}
 

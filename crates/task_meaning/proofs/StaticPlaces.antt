@@ -1,7 +1,6 @@
 -- Where the place of a part of an object is known from its node, its location is known at the site.
-use Rattle.std.proofs.Common.{◌≡◌, ℕ, ◌*◌, ◌%◌, true, Option, Some, None, is_some, refl, sym, ap, ◌∙◌, subst}
+use Rattle.std.proofs.Common.{◌≡◌, ℕ, ◌*◌, ◌%◌, true, Option, Some, None, is_some, refl, ap, ◌∙◌}
 use Rattle.std.proofs.lemmas.Bool.{false≢true}
-use Rattle.treecode.specs.declared.expression.Expression.{Expression}
 use Rattle.treecode.specs.declared.place.Home.{Home}
 use Rattle.treecode.specs.declared.place.Home.TheVariants as homes
 use Rattle.treecode.specs.declared.place.Location.{Location}

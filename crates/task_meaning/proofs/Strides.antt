@@ -1,5 +1,5 @@
 -- The strides of computed subscripts are below the size of memory, also where a subscript is taken apart.
-use Rattle.std.proofs.Common.{◌≡◌, ℕ, ◌*◌, ◌%◌, ◌<◌, Option, Some, None, unwrap_or, arith}
+use Rattle.std.proofs.Common.{ℕ, ◌*◌, ◌%◌, ◌<◌, Option, Some, None, unwrap_or, arith}
 use Rattle.std.specs.Option.{option_and_then}
 use Rattle.trees.specs.declared.declaration.ScalarType.TheVariants as scalars
 use Rattle.trees.specs.declared.expression.BinaryOperator.{BinaryOperator}

@@ -1,16 +1,16 @@
 -- Values in HL that are not computed: words in memory, locations, assignments within expressions, and calls.
-use Rattle.std.proofs.Common.{◌≡◌, ℕ, ◌+◌, ◌*◌, ◌/◌, ◌%◌, ◌<◌, ◌≤◌, ◌&&◌, Bool, true, List, [], ◌∷◌, Option, Some, None, is_some, refl, sym, ap, ◌∙◌, subst, arith}
+use Rattle.std.proofs.Common.{◌≡◌, ℕ, ◌+◌, ◌*◌, ◌/◌, ◌%◌, ◌<◌, ◌&&◌, Bool, true, List, [], ◌∷◌, Option, Some, None, is_some, refl, sym, ap, ◌∙◌, subst, arith}
 use Rattle.std.specs.Prelude.{IsSomeAnd, slice_get}
 use Rattle.mem80.specs.declared.memory.TheConstants.{MEMORY_SIZE}
 use Rattle.trees.specs.declared.declaration.ScalarType.{ScalarType}
 use Rattle.trees.specs.declared.declaration.ScalarType.TheVariants as scalars
-use Rattle.typed_trees.specs.Charge.{height_of, height_of_reference}
+use Rattle.typed_trees.specs.Charge.{height_of_reference}
 use Rattle.typed_trees.specs.ExpressionTypes.{type_of, type_of_target}
 use Rattle.typed_trees.specs.ObjectParts.{IsPartOf}
-use Rattle.typed_trees.specs.TypedTrees.{Home as TypedHome, InData, InConstants, Placed, BasedOn, Elsewhere, Nowhere, InFrame, TypedExpression, TypedArguments, TypedObject, TypedReference, TypedTarget, AssignmentNode, CallNode, LocationNode, PartOf, ValueNode}
+use Rattle.typed_trees.specs.TypedTrees.{Home as TypedHome, InData, InConstants, Placed, BasedOn, Elsewhere, Nowhere, InFrame, TypedExpression, TypedArguments, TypedObject, TypedReference, TypedTarget, AssignmentNode, CallNode, LocationNode, PartOf, SentTo, StoredIn, ValueNode}
 use Rattle.typed_trees.specs.WellTyped.{HasLocation, IsSeen, RefersToLocation, TypesHold, TypesHoldInTarget}
 use Rattle.meaning.specs.Access.{Place, InMemory, home_of, place_of, read_scalar}
-use Rattle.meaning.specs.Meaning.{Displacement, address_in_memory, based_place, displacement, located, stored, value}
+use Rattle.meaning.specs.Meaning.{address_in_memory, based_place, displacement, located, stored}
 use Rattle.meaning.specs.Outcomes.{State as SourceState, Outcome, Gave, then_do}
 use Rattle.meaning.specs.Values.{values_of}
 use Rattle.isa8080.specs.State.{Registers, State, word}
@@ -20,11 +20,11 @@ use Rattle.treecode.specs.declared.lists.Range.{Range}
 use Rattle.treecode.specs.declared.place.Location.TheVariants.{Static}
 use Rattle.treecode.specs.declared.reference.Reference.{Reference}
 use Rattle.treecode.specs.declared.reference.Target.{Target}
-use Rattle.treecode.specs.Lowered.{AreArguments, IsExpression, IsForm, IsReference, IsTarget, IsStored, IsSent}
+use Rattle.treecode.specs.Lowered.{AreArguments, IsExpression, IsReference, IsTarget, IsStored, IsSent}
 use Rattle.treecode.specs.Queries.{source}
 use Rattle.treecode.specs.Traits.{keeps_none, keeps_of_form, place_of_reference}
-use Rattle.code_meaning.specs.Landing.{Does, at_place}
-use Rattle.code_meaning.specs.Activations.{Activation, Arrives, HasRoom}
+use Rattle.code_meaning.specs.Landing.{Does}
+use Rattle.code_meaning.specs.Activations.{Activation, Arrives}
 use Rattle.code_meaning.proofs.Landing.{gives}
 use Rattle.steps8080.specs.declared.facts.Facts.{Facts}
 use Rattle.steps8080.specs.declared.step.Task.TheVariants as tasks
@@ -36,7 +36,7 @@ use Rattle.exprgen8080.specs.Calls.{call_steps, value_task}
 use Rattle.exprgen8080.specs.Emission.{knowing}
 use Rattle.task_meaning.specs.Contexts.{Context, InRegister, IsSound, nodes_in}
 use Rattle.task_meaning.specs.Steps.{StepsStand, PartThere}
-use Rattle.task_meaning.specs.Tasks.{AddressIsGiven, IsReferred, IsStored as IsStoredThere, PartDoes, ResultIsGiven, WordIsGiven, address_on_machine}
+use Rattle.task_meaning.specs.Tasks.{IsReferred, IsStored as IsStoredThere, PartDoes, ResultIsGiven, WordIsGiven, address_on_machine}
 use Rattle.task_meaning.proofs.Bases.{has_some, home_there}
 use Rattle.task_meaning.proofs.Calls.{call_does}
 use Rattle.task_meaning.proofs.EmbeddedBytes.{does_less}
@@ -44,11 +44,11 @@ use Rattle.task_meaning.proofs.Fitting.{gave_first}
 use Rattle.task_meaning.proofs.KnownOperands.{bytes_differ}
 use Rattle.task_meaning.proofs.Loads.{WordIsLoaded, word_in_memory_law}
 use Rattle.task_meaning.proofs.PairedWords.{kept_none}
-use Rattle.task_meaning.proofs.Rules.{GoesOn, room_for}
+use Rattle.task_meaning.proofs.Rules.{room_for}
 use Rattle.task_meaning.proofs.Stages.{at_carried, at_end, at_word, gives_then}
 use Rattle.task_meaning.proofs.StaticPlaces.{static_location}
 use Rattle.task_meaning.proofs.Values.{then_does_where, word_ends, word_given}
-use Rattle.task_meaning.proofs.WordArithmetic.{has_word, word_below}
+use Rattle.task_meaning.proofs.WordArithmetic.{word_below}
 use Rattle.task_meaning.proofs.WordRoutines.{word_given_by}
 use Rattle.task_meaning.proofs.CarriedWords.{IsCarriedOut}
 
@@ -210,8 +210,8 @@ source_is context IsSent = refl
 target_holds : (context : Context) (scalar : ScalarType) (tree : TypedTarget)
     → TypesHoldInTarget context.typed context.within scalar tree
     → type_of_target tree ≡ scalar
-target_holds context scalar (Rattle.typed_trees.specs.TypedTrees.StoredIn from to reference) types = types.0
-target_holds context scalar (Rattle.typed_trees.specs.TypedTrees.SentTo from port) types = types
+target_holds context scalar (StoredIn from to reference) types = types.0
+target_holds context scalar (SentTo from port) types = types
 
 pub embedded_carried :
     {context : Context} {facts last : Facts} {number inner : ExpressionNumber} {target : Target} {place : TypedTarget}

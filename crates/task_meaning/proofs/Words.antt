@@ -1,5 +1,5 @@
 -- The code of values in HL does what the expressions mean.
-use Rattle.std.proofs.Common.{◌≡◌, ℕ, ◌+◌, ◌-◌, ◌*◌, ◌/◌, ◌%◌, ◌^◌, ◌<◌, ◌≤◌, ◌==◌, max, Bool, true, false, if◌then◌else◌, bit_and, is_some, List, [], ◌∷◌, ◌++◌, Option, Some, None, refl, sym, ap, ◌∙◌, subst, arith}
+use Rattle.std.proofs.Common.{◌≡◌, ℕ, ◌+◌, ◌-◌, ◌*◌, ◌/◌, ◌%◌, ◌^◌, ◌<◌, ◌≤◌, ◌==◌, max, Bool, true, false, if◌then◌else◌, bit_and, is_some, [], ◌∷◌, ◌++◌, Option, Some, None, refl, sym, ap, ◌∙◌, subst, arith}
 use Rattle.std.proofs.lemmas.List.{append_assoc}
 use Rattle.trees.specs.declared.declaration.ScalarType.{ScalarType}
 use Rattle.trees.specs.declared.declaration.ScalarType.TheVariants.{Address, Byte}
@@ -9,31 +9,30 @@ use Rattle.typed_trees.specs.declared.parts.ShiftFunction.{ShiftFunction}
 use Rattle.typed_trees.specs.declared.parts.ShiftFunction.TheVariants.{RotateLeft, RotateRight, ShiftLeft, ShiftRight}
 use Rattle.typed_trees.specs.declared.parts.UnaryFunction.TheVariants.{Low, High, Double}
 use Rattle.typed_trees.specs.Charge.{height_of}
-use Rattle.typed_trees.specs.ExpressionTypes.{type_of}
-use Rattle.typed_trees.specs.TypedTrees.{TypedExpression}
+use Rattle.typed_trees.specs.ExpressionTypes.{type_of, type_of_result}
+use Rattle.typed_trees.specs.TypedTrees.{BinaryNode, ConversionNode, FunctionNode, ShiftNode, TypedExpression}
 use Rattle.typed_trees.specs.WellTyped.{TypesHold}
 use Rattle.meaning.specs.Meaning.{value}
 use Rattle.meaning.specs.Outcomes.{State as SourceState, Outcome, Gave, Stopped, then_do}
 use Rattle.meaning.specs.Values.{as_type, shifted}
-use Rattle.isa8080.specs.State.{Registers, State}
+use Rattle.isa8080.specs.declared.instr.Instr.TheVariants.{Xchg}
+use Rattle.isa8080.specs.State.{State}
 use Rattle.runtime8080.specs.declared.routine.Routine.TheVariants as routines
 use Rattle.treecode.specs.declared.expression.Expression.{Expression}
 use Rattle.treecode.specs.declared.expression.ExpressionForm.{ExpressionForm}
 use Rattle.treecode.specs.declared.expression.ExpressionForm.TheVariants as forms
 use Rattle.treecode.specs.declared.expression.ExpressionNumber.{ExpressionNumber}
-use Rattle.treecode.specs.declared.lists.Range.{Range}
 use Rattle.treecode.specs.declared.place.Location.TheVariants.{Static}
 use Rattle.treecode.specs.declared.place.Place.{Place}
 use Rattle.treecode.specs.declared.place.Place.TheVariants.{Number}
 use Rattle.treecode.specs.declared.reference.Reference.{Reference}
-use Rattle.treecode.specs.declared.reference.Target.{Target}
 use Rattle.treecode.specs.Lowered.{IsExpression, IsForm, IsNumber, IsValue, IsLocation, IsConstantList, IsConversion, IsEmbedded, IsUnary, IsBinary, IsCallOf, IsFunction, IsShift, IsInput}
 use Rattle.treecode.specs.Traits.{keeps_none, keeps_of_form, keeps_of, keeps_of_address, keeps_of_extended, memory_of_form, keeps_of_shift, same_low_byte, traits_at, known_of, no_traits, number_at, traits_of}
 use Rattle.treecode.specs.declared.traits.Traits.{Traits}
 use Rattle.std.specs.Option.{option_map_or}
 use Rattle.sites8080.specs.Site.{expression}
 use Rattle.code_meaning.specs.Landing.{Does, at_place}
-use Rattle.code_meaning.specs.Activations.{Arrives, HasRoom}
+use Rattle.code_meaning.specs.Activations.{Arrives}
 use Rattle.code_facts.specs.Holding.{place_at}
 use Rattle.steps8080.specs.declared.facts.Facts.{Facts}
 use Rattle.steps8080.specs.declared.step.Step.TheVariants.{CallRoutine, Plain}
@@ -47,7 +46,7 @@ use Rattle.operands8080.specs.Loads.{extended_byte_in_memory_steps}
 use Rattle.operands8080.specs.Pairs.{pair_steps}
 use Rattle.exprgen8080.specs.Emission.{knowing}
 use Rattle.exprgen8080.specs.ByteOperators.{number_of_two}
-use Rattle.exprgen8080.specs.WordOperators.{division_steps, quotient_steps, remainder_steps, with_simple, word_binary_steps}
+use Rattle.exprgen8080.specs.WordOperators.{division_steps, logic_with_number_steps, quotient_steps, remainder_steps, with_simple, word_binary_steps}
 use Rattle.exprgen8080.specs.WordShifts.{computed_count_steps, word_by_number_steps, word_shift_steps, word_shifted_right_steps}
 use Rattle.exprgen8080.specs.Words.{computed_word_steps, extended_byte_steps, word_form_steps, word_function_steps, word_of_two_steps, word_steps}
 use Rattle.task_meaning.specs.Contexts.{Context, IsSound, nodes_in}
@@ -56,7 +55,6 @@ use Rattle.task_meaning.specs.Tasks.{PartDoes, WordDoes, WordIsGiven}
 use Rattle.task_meaning.proofs.Addresses.{location_address_goes}
 use Rattle.task_meaning.proofs.BytesInMemory.{memory_same}
 use Rattle.task_meaning.proofs.Nodes.{NodeOf, node_of}
-use Rattle.task_meaning.proofs.Rules.{GoesOn}
 use Rattle.task_meaning.proofs.KnownOperands.{bytes_differ, known_is, known_small, number_known, word_fits}
 use Rattle.task_meaning.proofs.Ranges.{wide}
 use Rattle.task_meaning.proofs.Values.{word_ends, word_given, word_then}
@@ -69,10 +67,9 @@ use Rattle.task_meaning.proofs.WordSums.{TwoWords, keeps_at_site, one_high, seco
 use Rattle.task_meaning.proofs.LeftShifts.{left_does}
 use Rattle.task_meaning.proofs.LogicPairs.{either_does}
 use Rattle.isa8080.specs.declared.instr.Operation.TheVariants as operations
-use Rattle.exprgen8080.specs.declared.word_operators.Simple.{Simple}
 use Rattle.task_meaning.proofs.WordForms.{extended_does, unary_does}
 use Rattle.task_meaning.proofs.WordRoutines.{absurd_type, computed_shift_does, quotient_does, remainder_does}
-use Rattle.task_meaning.proofs.WordBinaries.{LeftWordDoes, difference_does, is_number_at, product_does}
+use Rattle.task_meaning.proofs.WordBinaries.{difference_does, is_number_at, product_does}
 use Rattle.std.proofs.Math.Nat.{pow-le-pow_right}
 use Rattle.std.proofs.lemmas.Bool.{eqb-false, ne_eqb}
 use Rattle.std.proofs.lemmas.Nat.{and_mask}
@@ -213,13 +210,13 @@ module _ (context : Context) (sound : IsSound context) (asked : BytesAsked conte
       (operator : BinaryOperator)
       → TwoWords context (record { left = left; right = right }) first second
       → IsForm (nodes_in context) context.storage bound (forms.Binary Address operator left right)
-      (Rattle.typed_trees.specs.TypedTrees.BinaryNode Address operator first second)
-      → TypesHold context.typed context.within (Rattle.typed_trees.specs.TypedTrees.BinaryNode Address operator first second)
-      → Rattle.typed_trees.specs.ExpressionTypes.type_of_result operator Address ≡ Address
+      (BinaryNode Address operator first second)
+      → TypesHold context.typed context.within (BinaryNode Address operator first second)
+      → type_of_result operator Address ≡ Address
       → keeps context.site number ≡ keeps_of_form (nodes_in context) Address (forms.Binary Address operator left right)
       → StepsStand context (PartDoes context) facts from
       (word_form_steps (knowing context.site facts) (forms.Binary Address operator left right) pushed) last to
-      → IsCarriedOut context facts number (Rattle.typed_trees.specs.TypedTrees.BinaryNode Address operator first second) Address pushed from last to
+      → IsCarriedOut context facts number (BinaryNode Address operator first second) Address pushed from last to
   unfolding word_form_steps word_of_two_steps word_binary_steps quotient_steps remainder_steps division_steps
   binary_carried {number = number} {left = left} {right = right} {from = from} operators.Add words form types same kept stand = λ top need base s r memory less room height going.
       sum_does (record { left = left; right = right }) number from s r memory sound words kept less room height stand going
@@ -259,7 +256,7 @@ module _ (context : Context) (sound : IsSound context) (asked : BytesAsked conte
             | Some count ↦ word_shifted_right_steps (knowing context.site facts) left count pushed
             | None ↦ division_steps (knowing context.site facts) (record { left = left; right = right }) pushed
           ]) last to
-          → IsCarriedOut context facts number (Rattle.typed_trees.specs.TypedTrees.BinaryNode Address operators.Divide first second) Address pushed from last to
+          → IsCarriedOut context facts number (BinaryNode Address operators.Divide first second) Address pushed from last to
       by (Some count) is given = λ top need base s r memory less room height going.
           let found = power_means (knowing context.site facts) right count is in
           subst (λ outcome. Does context.activation.around.program.script s.budget 0 (at_place from r memory s.events) outcome
@@ -281,24 +278,24 @@ module _ (context : Context) (sound : IsSound context) (asked : BytesAsked conte
       remainder_stands :
           StepsStand context (PartDoes context) facts from (remainder_steps (knowing context.site facts) (record { left = left; right = right }) pushed) last to
           → StepsStand context (PartDoes context) facts from (elim (number_of_two (knowing context.site facts) right) [
-            | Some n ↦ Rattle.exprgen8080.specs.WordOperators.logic_with_number_steps (knowing context.site facts) Rattle.isa8080.specs.declared.instr.Operation.TheVariants.And left ((n + 65535) % 65536) pushed
-            | None ↦ division_steps (knowing context.site facts) (record { left = left; right = right }) pushed ++ (Plain Rattle.isa8080.specs.declared.instr.Instr.TheVariants.Xchg ∷ [])
+            | Some n ↦ logic_with_number_steps (knowing context.site facts) operations.And left ((n + 65535) % 65536) pushed
+            | None ↦ division_steps (knowing context.site facts) (record { left = left; right = right }) pushed ++ (Plain Xchg ∷ [])
           ]) last to
       remainder_stands stand = stand
 
-      divided : StepsStand context (PartDoes context) facts from (division_steps (knowing context.site facts) (record { left = left; right = right }) pushed ++ (Plain Rattle.isa8080.specs.declared.instr.Instr.TheVariants.Xchg ∷ [])) last to
-          → StepsStand context (PartDoes context) facts from (pair_steps (knowing context.site facts) left right true pushed ++ (CallRoutine routines.Divide ∷ Plain Rattle.isa8080.specs.declared.instr.Instr.TheVariants.Xchg ∷ [])) last to
+      divided : StepsStand context (PartDoes context) facts from (division_steps (knowing context.site facts) (record { left = left; right = right }) pushed ++ (Plain Xchg ∷ [])) last to
+          → StepsStand context (PartDoes context) facts from (pair_steps (knowing context.site facts) left right true pushed ++ (CallRoutine routines.Divide ∷ Plain Xchg ∷ [])) last to
       divided stand =
           subst (λ steps. StepsStand context (PartDoes context) facts from steps last to)
           (append_assoc (pair_steps (knowing context.site facts) left right true pushed) (CallRoutine routines.Divide ∷ [])
-          (Plain Rattle.isa8080.specs.declared.instr.Instr.TheVariants.Xchg ∷ [])) stand
+          (Plain Xchg ∷ [])) stand
 
       by : (found : Option ℕ) → number_of_two (knowing context.site facts) right ≡ found
           → StepsStand context (PartDoes context) facts from (elim found [
-            | Some n ↦ Rattle.exprgen8080.specs.WordOperators.logic_with_number_steps (knowing context.site facts) Rattle.isa8080.specs.declared.instr.Operation.TheVariants.And left ((n + 65535) % 65536) pushed
-            | None ↦ division_steps (knowing context.site facts) (record { left = left; right = right }) pushed ++ (Plain Rattle.isa8080.specs.declared.instr.Instr.TheVariants.Xchg ∷ [])
+            | Some n ↦ logic_with_number_steps (knowing context.site facts) operations.And left ((n + 65535) % 65536) pushed
+            | None ↦ division_steps (knowing context.site facts) (record { left = left; right = right }) pushed ++ (Plain Xchg ∷ [])
           ]) last to
-          → IsCarriedOut context facts number (Rattle.typed_trees.specs.TypedTrees.BinaryNode Address operators.Modulo first second) Address pushed from last to
+          → IsCarriedOut context facts number (BinaryNode Address operators.Modulo first second) Address pushed from last to
       by (Some n) is given = λ top need base s r memory less room height going.
           let found = two_means (knowing context.site facts) right n is in
           let small = number_below n (type_of second) words.two_is (number_small facts n sound words.two.is words.two.types found.1) in
@@ -329,12 +326,12 @@ module _ (context : Context) (sound : IsSound context) (asked : BytesAsked conte
       → IsOperand context of first
       → IsOperand context count second
       → IsForm (nodes_in context) context.storage bound (forms.Shift function of count)
-      (Rattle.typed_trees.specs.TypedTrees.ShiftNode Address function first second)
-      → TypesHold context.typed context.within (Rattle.typed_trees.specs.TypedTrees.ShiftNode Address function first second)
+      (ShiftNode Address function first second)
+      → TypesHold context.typed context.within (ShiftNode Address function first second)
       → keeps context.site number ≡ keeps_of_form (nodes_in context) Address (forms.Shift function of count)
       → StepsStand context (PartDoes context) facts from
       (word_form_steps (knowing context.site facts) (forms.Shift function of count) pushed) last to
-      → IsCarriedOut context facts number (Rattle.typed_trees.specs.TypedTrees.ShiftNode Address function first second) Address pushed from last to
+      → IsCarriedOut context facts number (ShiftNode Address function first second) Address pushed from last to
   unfolding word_form_steps word_of_two_steps word_shift_steps word_by_number_steps
   shift_carried {facts = facts} {last = last} {number = number} {of = of} {count = count} {first = first} {second = second} {bound = bound} {pushed = pushed} {from = from} {to = to} function one two form types kept stand =
       by (number_of (knowing context.site facts) count) refl stand
@@ -349,12 +346,12 @@ module _ (context : Context) (sound : IsSound context) (asked : BytesAsked conte
       by_number : (of_function : ShiftFunction) (n : ℕ) → number_of (knowing context.site facts) count ≡ Some n
           → StepsStand context (PartDoes context) facts from (word_by_number_steps (knowing context.site facts) of_function of n pushed) last to
           → IsForm (nodes_in context) context.storage bound (forms.Shift of_function of count)
-          (Rattle.typed_trees.specs.TypedTrees.ShiftNode Address of_function first second)
-          → TypesHold context.typed context.within (Rattle.typed_trees.specs.TypedTrees.ShiftNode Address of_function first second)
+          (ShiftNode Address of_function first second)
+          → TypesHold context.typed context.within (ShiftNode Address of_function first second)
           → keeps context.site number ≡ keeps_of_form (nodes_in context) Address (forms.Shift of_function of count)
           → StepsStand context (PartDoes context) facts from
           (word_form_steps (knowing context.site facts) (forms.Shift of_function of count) pushed) last to
-          → IsCarriedOut context facts number (Rattle.typed_trees.specs.TypedTrees.ShiftNode Address of_function first second) Address pushed from last to
+          → IsCarriedOut context facts number (ShiftNode Address of_function first second) Address pushed from last to
       by_number ShiftRight n is given form types kept stand = λ top need base s r memory less room height going.
           subst (λ outcome. Does context.activation.around.program.script s.budget 0 (at_place from r memory s.events) outcome
           (Arrives context.activation top base to (WordIsGiven context last number Address r memory)))
@@ -380,7 +377,7 @@ module _ (context : Context) (sound : IsSound context) (asked : BytesAsked conte
             | Some n ↦ word_by_number_steps (knowing context.site facts) function of n pushed
             | None ↦ computed_count_steps (knowing context.site facts) (record { function = function; value = of; count = count }) pushed
           ]) last to
-          → IsCarriedOut context facts number (Rattle.typed_trees.specs.TypedTrees.ShiftNode Address function first second) Address pushed from last to
+          → IsCarriedOut context facts number (ShiftNode Address function first second) Address pushed from last to
       by (Some n) is given = by_number function n is given form types kept stand
       by None is given = λ top need base s r memory less room height going.
           computed_shift_does (record { function = function; value = of; count = count }) number from s r memory sound types.0 one two
@@ -432,7 +429,7 @@ module _ (context : Context) (sound : IsSound context) (asked : BytesAsked conte
       → TypesHold context.typed context.within tree
       → IsKeptBy (keeps context.site number) (keeps context.site inner)
       → StepsStand context (PartDoes context) facts from (part_of (tasks.Word inner) pushed ∷ []) last to
-      → IsCarriedOut context facts number (Rattle.typed_trees.specs.TypedTrees.ConversionNode Address tree) Address pushed from last to
+      → IsCarriedOut context facts number (ConversionNode Address tree) Address pushed from last to
   conversion_carried {tree = tree} {from = from} number is types kept (PartThere part rest) = λ top need base s r memory less room height going.
       word_then from s r memory part is types less room height going
       (λ n t now ended same fewer going_on given.
@@ -448,7 +445,7 @@ module _ (context : Context) (sound : IsSound context) (asked : BytesAsked conte
       → TypesHold context.typed context.within tree
       → IsKeptBy (keeps context.site number) (keeps context.site inner)
       → StepsStand context (PartDoes context) facts from (part_of (tasks.Word inner) pushed ∷ []) last to
-      → IsCarriedOut context facts number (Rattle.typed_trees.specs.TypedTrees.FunctionNode Double tree) Address pushed from last to
+      → IsCarriedOut context facts number (FunctionNode Double tree) Address pushed from last to
   double_carried {tree = tree} {from = from} number is types kept (PartThere part rest) = λ top need base s r memory less room height going.
       word_then from s r memory part is types less room (higher_two (height_of tree) need height) going
       (λ n t now ended same fewer going_on given.
