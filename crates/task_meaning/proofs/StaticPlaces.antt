@@ -74,7 +74,7 @@ static_location context facts reference some =
         (distance_of (nodes_in context) reference.member_subscript) some in (
           _,
           ap (λ found. there (homes.Static place) found two.computed) (not_computed context facts reference.subscript both.0)
-          ∙ ap (λ found. there (homes.Static place) None found) (not_computed context facts reference.member_subscript both.1),
+              ∙ ap (λ found. there (homes.Static place) None found) (not_computed context facts reference.member_subscript both.1),
         )
     by_home (homes.Based base) some = absurd (false≢true some)
     by_home (homes.Frame variable) some = absurd (false≢true some)
