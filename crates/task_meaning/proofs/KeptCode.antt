@@ -40,7 +40,7 @@ both_true : (one other : Bool) → one ≡ true → other ≡ true → (one && o
 both_true one other first second = ap (λ b. b && other) first ∙ second
 
 -- both subscripts of a known place are known
-place_known :
+pub place_known :
     (home : Home) (offset : ℕ) (first second : Option ℕ)
     → is_some (place_of_part home offset first second) ≡ true
     → (is_some first ≡ true) × (is_some second ≡ true)

@@ -211,10 +211,10 @@ first_is_steady activation top pushed need sp lies room pointer steady =
         steady.apart (omega (arith, pointer, more, depth, even, above, stack, low, below))
         (omega (arith, pointer, more, depth, even, above, stack, low, below))
 
-at_one : (away sp address : ℕ) → away ≡ 1 → wrap (away + sp) ≡ address → wrap (sp + 1) ≡ address
+pub at_one : (away sp address : ℕ) → away ≡ 1 → wrap (away + sp) ≡ address → wrap (sp + 1) ≡ address
 at_one away sp address one is = omega (arith, one, is)
 
-at_none : (away sp address : ℕ) → away ≡ 0 → sp < MEMORY_SIZE → wrap (away + sp) ≡ address → sp ≡ address
+pub at_none : (away sp address : ℕ) → away ≡ 0 → sp < MEMORY_SIZE → wrap (away + sp) ≡ address → sp ≡ address
 at_none away sp address none small is = omega (arith, none, small, is)
 
 back_one : (sp address before : ℕ) → sp < MEMORY_SIZE → wrap (sp + 1) ≡ address → before ≡ wrap (address + 65535) → sp ≡ before

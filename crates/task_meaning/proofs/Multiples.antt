@@ -30,7 +30,7 @@ use Rattle.task_meaning.specs.Steps.{StepsStand, PartThere, WordThere}
 use Rattle.task_meaning.specs.Tasks.{PartDoes}
 use Rattle.task_meaning.proofs.Addresses.{nothing_goes, registers_end}
 use Rattle.task_meaning.proofs.Rules.{GoesOn, ready_with_registers, word_goes}
-use Rattle.task_meaning.proofs.Products.{ProductDoes, ProductIsGiven}
+use Rattle.task_meaning.proofs.Products.{ProductDoes, ProductIsGiven, ProductsDo}
 use Rattle.task_meaning.proofs.WordArithmetic.{word_below}
 use Rattle.task_meaning.proofs.RegisterCode.{AreOnRegisters, IsOnRegisters, does_to, effect, registers_then}
 use Rattle.task_meaning.proofs.Values.{HasWord, effects_then, word_then}
@@ -533,3 +533,7 @@ products_do context sound facts last index stride pushed from to fits stand boun
             e = λ kept. given.e kept;
           };
         }))))
+
+pub products_always_do : (context : Context) → IsSound context → ProductsDo context
+products_always_do context sound facts last index stride pushed from to small stand =
+    products_do context sound facts last index stride pushed from to small stand

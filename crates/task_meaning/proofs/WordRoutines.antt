@@ -219,7 +219,7 @@ shift_small : (function : ShiftFunction) (n k : ℕ) → ShiftsIn function Addre
     → shifted Address function n k < 65536
 shift_small function n k in_type small = shift_fits Address function n k in_type small
 
-shift_then :
+pub shift_then :
     {context : Context} {top bytes_pushed need from to : ℕ} {base : List ℕ} {facts last : Facts}
     (function : ShiftFunction) (n k : ℕ) (number : ExpressionNumber) (t : SourceState) (r now : Registers)
     (memory ended : List ℕ) (sound : IsSound context)
