@@ -13,6 +13,7 @@ pub mod StoredValues
 pub mod Arguments
 pub mod Calls
 pub mod KeptCode
+pub mod FreeForms
 pub mod EffectForms
 pub mod LocationWords
 pub mod Homes
