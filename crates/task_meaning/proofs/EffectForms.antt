@@ -1,21 +1,19 @@
 -- Code of what an expression of each form does beside its value.
-use Rattle.std.proofs.Common.{◌≡◌, ℕ, ◌+◌, ◌*◌, ◌<◌, ◌≤◌, max, ◌⊎◌, inl, inr, Bool, true, false, if◌then◌else◌, List, [], ◌∷◌, ◌++◌, Option, Some, None, refl, sym, ap, subst, ◌∙◌, arith, zero, suc, All, slice_get, slice_index_or}
-use Rattle.mem80.specs.Memory.{byte_at}
+use Rattle.std.proofs.Common.{◌≡◌, ℕ, ◌+◌, ◌*◌, ◌<◌, ◌≤◌, ◌⊎◌, inl, inr, Bool, true, false, if◌then◌else◌, List, [], ◌∷◌, ◌++◌, Option, Some, None, refl, sym, ap, subst, ◌∙◌, arith, zero, suc, All, slice_get, slice_index_or}
 use Rattle.ports.specs.Events.{read_event}
 use Rattle.ports.specs.Input.{input_value, queue_of}
 use Rattle.trees.specs.declared.declaration.ScalarType.{ScalarType}
 use Rattle.typed_trees.specs.Charge.{height_of}
-use Rattle.typed_trees.specs.ExpressionTypes.{type_of}
 use Rattle.typed_trees.specs.TypedTrees.{TypedExpression}
 use Rattle.typed_trees.specs.WellTyped.{TypesHold}
-use Rattle.meaning.specs.Meaning.{address_in_memory, computed, located, value, values}
-use Rattle.meaning.specs.Access.{Place, read_scalar}
-use Rattle.meaning.specs.Outcomes.{State as SourceState, Outcome, Gave, Stopped, Outside, then_do}
+use Rattle.meaning.specs.Meaning.{address_in_memory, computed, value}
+use Rattle.meaning.specs.Access.{read_scalar}
+use Rattle.meaning.specs.Outcomes.{State as SourceState, Outcome, Gave, Stopped, then_do}
 use Rattle.meaning.specs.Values.{as_type, function_of, result_of, result_of_one, shifted}
 use Rattle.isa8080.specs.declared.instr.Instr.TheVariants.{In}
 use Rattle.asm8080.specs.declared.item.Item.TheVariants as items
 use Rattle.steps8080.specs.Facts.{after}
-use Rattle.isa8080.specs.State.{HoldBytes, Registers, State}
+use Rattle.isa8080.specs.State.{Registers, State}
 use Rattle.treecode.specs.declared.expression.Expression.{Expression}
 use Rattle.treecode.specs.declared.expression.ExpressionForm.{ExpressionForm}
 use Rattle.treecode.specs.declared.expression.ExpressionForm.TheVariants as forms
@@ -35,7 +33,6 @@ use Rattle.task_meaning.proofs.FreeForms.{high_is_quiet, not_known, number_is_fr
 use Rattle.task_meaning.proofs.KeptCode.{kept_quiet, quiet_of_entry}
 use Rattle.quiet_expressions.proofs.Evaluating.{quiet_computed, quiet_gave, quiet_scalar}
 use Rattle.quiet_expressions.proofs.QuietTrees.{false_is_true}
-use Rattle.quiet_expressions.proofs.KeptTraits.{quiet_kept}
 use Rattle.steps8080.specs.declared.facts.Facts.{Facts}
 use Rattle.code_meaning.specs.Activations.{Arrives, IsThere}
 use Rattle.code_meaning.specs.Landing.{Does, at_place}
@@ -44,11 +41,11 @@ use Rattle.exprgen8080.specs.Effects.{both_effects_steps, effects_steps, form_ef
 use Rattle.exprgen8080.specs.Emission.{knowing}
 use Rattle.task_meaning.specs.Contexts.{Context, IsSound, nodes_in}
 use Rattle.task_meaning.specs.Steps.{NoneThere, PartThere, PlainThere, StepsStand}
-use Rattle.task_meaning.specs.Tasks.{ChangesAOnly, EffectsAreGiven, EffectsDo, Know, NothingIsGiven, PartDoes, ResultIsGiven}
+use Rattle.task_meaning.specs.Tasks.{ChangesAOnly, EffectsAreGiven, EffectsDo, Know, NothingIsGiven, PartDoes}
 use Rattle.task_meaning.proofs.Nodes.{node_of}
 use Rattle.task_meaning.proofs.Rules.{plain_goes, ready_with_registers}
 use Rattle.task_meaning.proofs.Stages.{Stage, at_effects, does_same, gives_then, has_less_room, script_of}
-use Rattle.task_meaning.proofs.Effects.{at_quiet, at_reference, ends_here, quiet_ends}
+use Rattle.task_meaning.proofs.Effects.{at_reference, ends_here, quiet_ends}
 use Rattle.task_meaning.proofs.SiteNodes.{free_is, quiet_is, quiet_means}
 use Rattle.task_meaning.proofs.Values.{effects_then}
 use Rattle.task_meaning.proofs.StoredValues.{at_embedded}

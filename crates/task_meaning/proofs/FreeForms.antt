@@ -21,7 +21,7 @@ use Rattle.treecode.specs.Homes.{number_of_place}
 use Rattle.treecode.specs.Known.{known_number}
 use Rattle.treecode.specs.Lowered.{IsExpression, IsForm, IsNode, IsPart, IsReference, IsValue}
 use Rattle.treecode.specs.Nodes.{Nodes, home_at}
-use Rattle.treecode.specs.Traits.{KeepTraits, byte_after, distance_of, free_at, is_direct, is_free_form, is_free_of, is_quiet_form, known_at, known_of, number_at, place_of_reference, quiet_at, reference_is_quiet, traits_of}
+use Rattle.treecode.specs.Traits.{KeepTraits, byte_after, distance_of, free_at, is_direct, is_free_form, is_free_of, is_quiet_form, known_of, number_at, place_of_reference, quiet_at, traits_of}
 use Rattle.task_meaning.proofs.KeptCode.{index_known_quiet, known_of_entry, known_quiet, part_known_quiet, place_known, quiet_of_entry}
 
 both_true : (one other : Bool) → one ≡ true → other ≡ true → (one && other) ≡ true
