@@ -70,7 +70,9 @@ pub mod EqualityRelations
 pub mod LowestBits
 pub mod BranchLaws
 pub mod ByteForms
+pub mod ByteCode
 pub mod TwoBytes
+pub mod ByteNumbers
 pub mod Zeros
 pub mod ZeroLaws
 pub mod EmbeddedBytes

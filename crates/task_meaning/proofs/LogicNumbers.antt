@@ -50,22 +50,22 @@ bits Or one other = bit_or one other
 bits ExclusiveOr one other = bit_xor one other
 bits operation one other = 0
 
-and_full : (x : ℕ) → x < 256 → bit_and x 255 ≡ x
+pub and_full : (x : ℕ) → x < 256 → bit_and x 255 ≡ x
 and_full x small = equal_below (λ k. bit_and k 255) (λ k. k) 256 x refl small
 
 and_none : (x : ℕ) → x < 256 → bit_and x 0 ≡ 0
 and_none x small = equal_below (λ k. bit_and k 0) (λ k. 0) 256 x refl small
 
-or_none : (x : ℕ) → x < 256 → bit_or x 0 ≡ x
+pub or_none : (x : ℕ) → x < 256 → bit_or x 0 ≡ x
 or_none x small = equal_below (λ k. bit_or k 0) (λ k. k) 256 x refl small
 
-or_full : (x : ℕ) → x < 256 → bit_or x 255 ≡ 255
+pub or_full : (x : ℕ) → x < 256 → bit_or x 255 ≡ 255
 or_full x small = equal_below (λ k. bit_or k 255) (λ k. 255) 256 x refl small
 
-xor_none : (x : ℕ) → x < 256 → bit_xor x 0 ≡ x
+pub xor_none : (x : ℕ) → x < 256 → bit_xor x 0 ≡ x
 xor_none x small = equal_below (λ k. bit_xor k 0) (λ k. k) 256 x refl small
 
-xor_full : (x : ℕ) → x < 256 → bit_xor x 255 ≡ 255 - x
+pub xor_full : (x : ℕ) → x < 256 → bit_xor x 255 ≡ 255 - x
 xor_full x small = equal_below (λ k. bit_xor k 255) (λ k. 255 - k) 256 x refl small
 
 -- the code of an operation of L and a number
