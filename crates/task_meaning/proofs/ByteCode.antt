@@ -29,7 +29,7 @@ use Rattle.task_meaning.specs.Contexts.{Context, IsSound, SourceFits, nodes_in}
 use Rattle.task_meaning.specs.Steps.{StepsStand, PartThere, PlainThere}
 use Rattle.task_meaning.specs.Tasks.{ByteIsGiven, Carries, ChangesAOnly, EffectsDo, Know, Nothing, PartDoes}
 use Rattle.task_meaning.proofs.ByteForms.{byte_given}
-use Rattle.task_meaning.proofs.Ranges.{ready_fits, value_fits}
+use Rattle.task_meaning.proofs.Ranges.{ready_fits}
 use Rattle.task_meaning.proofs.RegisterCode.{AreOnRegisters, IsOnRegisters, does_to, effect}
 use Rattle.task_meaning.proofs.SiteNodes.{value_in}
 use Rattle.task_meaning.proofs.Stages.{Stage, at_a, at_byte, at_carried, at_effects, at_end, at_instructions, at_word, does_same, script_of}
@@ -157,16 +157,20 @@ ByteCarried context facts number tree pushed from last to =
     Carries context facts pushed (2 * height_of tree) 0 from to Nothing (value_in context tree)
     (ByteIsGiven context last number (type_of tree))
 
--- a tree whose value is a function of that of one part, beside which nothing is done
+-- a tree whose value is a function of that of one part, which is below a limit, beside which nothing is done
 pub record OfOne
-    (context : Context) (number inner : ExpressionNumber) (tree inside : TypedExpression) (g : ℕ → ℕ) : Type 0 where
+    (context : Context) (number inner : ExpressionNumber) (tree inside : TypedExpression) (g : ℕ → ℕ)
+    (limit : ℕ) : Type 0 where
   pub bound : ℕ
   pub node : IsExpression (nodes_in context) context.storage bound inner.index inside
   pub types : TypesHold context.typed context.within inside
   pub fewer : 2 * height_of inside ≤ 2 * height_of tree
   pub means :
       (t : SourceState) → value_in context tree t ≡ then_do (value_in context inside t) (λ v u. Gave (g v) u)
-  pub small : (v : ℕ) → v < values_of (type_of inside) → g v < values_of (type_of tree)
+  pub fits :
+      (s u : SourceState) (v : ℕ) → SourceFits context.activation.around s → value_in context inside s ≡ Gave v u
+      → v < limit
+  pub small : (v : ℕ) → v < limit → g v < values_of (type_of tree)
   pub free : is_free context.site number ≡ true → is_free context.site inner ≡ true
 
 -- code on registers that makes a byte of A, and leaves the others alone
@@ -179,24 +183,25 @@ pub record CodeOfA (steps : List Step) (f : ℕ → ℕ) : Type 0 where
 
 module _
     (context : Context) {facts last : Facts} {from to pushed : ℕ} {number inner : ExpressionNumber}
-    {tree inside : TypedExpression} {g : ℕ → ℕ} (sound : IsSound context)
-    (one : OfOne context number inner tree inside g) where
+    {tree inside : TypedExpression} {g : ℕ → ℕ} {limit : ℕ} (sound : IsSound context)
+    (one : OfOne context number inner tree inside g limit) where
   -- by the low byte of the part
   pub byte_makes :
       (instructions : List Instr) (f : ℕ → ℕ)
       → AreStraight instructions
       → ((r : Registers) → r.a < 256 → (effect instructions r).a ≡ f r.a)
       → (is_free context.site number ≡ true → (r : Registers) → IsBeside r (effect instructions r))
-      → ((v : ℕ) → v < values_of (type_of inside) → f (v % 256) ≡ g v % 256)
+      → ((v : ℕ) → v < limit → f (v % 256) ≡ g v % 256)
       → StepsStand context (PartDoes context) facts from (part (tasks.Byte inner) pushed ∷ plain instructions) last to
       → ByteCarried context facts number tree pushed from last to
   byte_makes instructions f on makes beside bytes (PartThere does stand) top base s r memory below room ready known nothing =
       does_same _ (one.means s)
       (at_byte _ _ _ does one.node one.types one.fewer (record { below = below; room = room; ready = ready; known = known })
       (λ v u now memory_now is given next.
+      let fits = one.fits s u v (ready_fits context s ready) is in
       at_last_instructions instructions sound on stand next
       (λ final.
-      byte_given to number (g v) (makes now next.ready.registers.a ∙ ap f given.a ∙ bytes v given.small) (one.small v given.small)
+      byte_given to number (g v) (makes now next.ready.registers.a ∙ ap f given.a ∙ bytes v fits) (one.small v fits)
       (λ free. changes_on (given.free (one.free free)) (beside free now)) final)))
 
   -- by the word that it is
@@ -205,19 +210,20 @@ module _
       → AreStraight instructions
       → ((r : Registers) → r.h < 256 → r.l < 256 → (effect instructions r).a ≡ f r.h r.l)
       → (is_free context.site number ≡ true → ⊥)
-      → ((v : ℕ) → v < values_of (type_of inside) → f (v / 256) (v % 256) ≡ g v % 256)
+      → ((v : ℕ) → v < limit → f (v / 256) (v % 256) ≡ g v % 256)
       → StepsStand context (PartDoes context) facts from (part (tasks.Word inner) pushed ∷ plain instructions) last to
       → ByteCarried context facts number tree pushed from last to
   byte_of_word instructions f on makes not_free bytes (PartThere does stand) top base s r memory below room ready known nothing =
       does_same _ (one.means s)
       (at_word _ _ _ does one.node one.types one.fewer (record { below = below; room = room; ready = ready; known = known })
       (λ v u now memory_now is given next.
+      let fits = one.fits s u v (ready_fits context s ready) is in
       at_last_instructions instructions sound on stand next
       (λ final.
       byte_given to number (g v)
       (makes now next.ready.registers.h next.ready.registers.l
-      ∙ ap (λ h. f h now.l) given.h ∙ ap (λ l. f (v / 256) l) given.l ∙ bytes v given.small)
-      (one.small v given.small) (λ free. absurd (not_free free)) final)))
+      ∙ ap (λ h. f h now.l) given.h ∙ ap (λ l. f (v / 256) l) given.l ∙ bytes v fits)
+      (one.small v fits) (λ free. absurd (not_free free)) final)))
 
   -- whatever its value is, after what it does
   pub byte_alone :
@@ -226,8 +232,7 @@ module _
       → AreStraight instructions
       → ((r : Registers) → (effect instructions r).a ≡ k)
       → (is_free context.site number ≡ true → (r : Registers) → IsBeside r (effect instructions r))
-      → ((s u : SourceState) (v : ℕ) → SourceFits context.activation.around s → value_in context inside s ≡ Gave v u
-      → (v < values_of (type_of inside)) → k ≡ g v % 256)
+      → ((v : ℕ) → v < limit → k ≡ g v % 256)
       → StepsStand context (PartDoes context) facts from (part (tasks.Effects inner) pushed ∷ plain instructions) last to
       → ByteCarried context facts number tree pushed from last to
   byte_alone instructions k effects on makes beside bytes (PartThere {found = found} {middle = middle} does stand) top base s r memory below room ready known nothing =
@@ -244,11 +249,10 @@ module _
           → Does (script_of context) u.budget 0 (at_place middle now memory_now u.events) (Gave (g v) u)
           (Arrives context.activation top base to (ByteIsGiven context last number (type_of tree) r memory))
       ends v u now memory_now is free next =
-          let source = ready_fits context s ready in
-          let fits = value_fits s sound one.node one.types source is in
+          let fits = one.fits s u v (ready_fits context s ready) is in
           at_last_instructions instructions sound on stand next
           (λ final.
-          byte_given to number (g v) (makes now ∙ bytes s u v source is fits) (one.small v fits)
+          byte_given to number (g v) (makes now ∙ bytes v fits) (one.small v fits)
           (λ is_free_now. changes_on (free is_free_now) (beside is_free_now now)) final)
 
       by : (free : Bool) → is_free context.site number ≡ free
@@ -268,7 +272,7 @@ module _
   pub byte_by_code :
       {steps : List Step} {f : ℕ → ℕ}
       → CodeOfA steps f
-      → ((v : ℕ) → v < values_of (type_of inside) → f (v % 256) ≡ g v % 256)
+      → ((v : ℕ) → v < limit → f (v % 256) ≡ g v % 256)
       → StepsStand context (PartDoes context) facts from (part (tasks.Byte inner) pushed ∷ steps) last to
       → ByteCarried context facts number tree pushed from last to
   byte_by_code {f = f} code bytes stand =

@@ -5,7 +5,6 @@ use Rattle.std.specs.Int.Bits.{and_zero_r, xor_self}
 use lib.Bits.{and_comm, and_mod, or_comm, or_mod, xor_comm, xor_mod}
 use Rattle.trees.specs.declared.declaration.ScalarType.{ScalarType}
 use Rattle.trees.specs.declared.declaration.ScalarType.TheVariants as scalars
-use Rattle.typed_trees.specs.ExpressionTypes.{type_of}
 use Rattle.typed_trees.specs.TypedTrees.{TypedExpression}
 use Rattle.meaning.specs.Values.{values_of}
 use Rattle.isa8080.specs.declared.instr.Instr.{Instr}
@@ -186,23 +185,23 @@ low_byte_small v = omega arith
 
 module _
     (context : Context) {facts last : Facts} {from to pushed : ℕ} {number inner : ExpressionNumber}
-    {tree inside : TypedExpression} {g : ℕ → ℕ} (sound : IsSound context) (effects : FreeEffects context)
-    (one : OfOne context number inner tree inside g) where
+    {tree inside : TypedExpression} {g : ℕ → ℕ} {limit : ℕ} (sound : IsSound context) (effects : FreeEffects context)
+    (one : OfOne context number inner tree inside g limit) where
   -- 0, after what an expression does
   pub zero_after :
-      ((v : ℕ) → v < values_of (type_of inside) → 0 ≡ g v % 256)
+      ((v : ℕ) → v < limit → 0 ≡ g v % 256)
       → StepsStand context (PartDoes context) facts from (part (tasks.Effects inner) pushed ∷ Plain clear_a ∷ []) last to
       → ByteCarried context facts number tree pushed from last to
   zero_after bytes stand =
       byte_alone context sound one (clear_a ∷ []) 0 effects (tt, tt) cleared (λ free r. beside_a _ _ r)
-      (λ s u v source is fits. bytes v fits) stand
+      bytes stand
 
   -- an operation with a byte on the left and a number on the right
   pub with_number :
       (operation : Operation) (n : ℕ)
       → IsSimple operation
       → n < 256
-      → ((v : ℕ) → v < values_of (type_of inside) → result_by operation scalars.Byte (v % 256) n ≡ g v % 256)
+      → ((v : ℕ) → v < limit → result_by operation scalars.Byte (v % 256) n ≡ g v % 256)
       → StepsStand context (PartDoes context) facts from (with_number_steps operation inner n pushed) last to
       → ByteCarried context facts number tree pushed from last to
   unfolding with_number_steps byte_number_steps
@@ -226,7 +225,7 @@ module _
           → ByteCarried context facts number tree pushed from last to
       by true here given =
           byte_alone context sound one (set A 255 ∷ []) 255 effects (tt, tt) (λ r. refl) (λ free r. beside_a _ _ r)
-          (λ s u v source same fits.
+          (λ v fits.
           sym (ap (bit_or (v % 256)) (eqb-true n 255 here) ∙ or_full (v % 256) (low_byte_small v)) ∙ bytes v fits) given
       by false here given = byte_by_code context sound one (immediate_code Or n is small) bytes given
   with_number Add n is small bytes stand = byte_by_code context sound one (immediate_code Add n is small) bytes stand
@@ -241,7 +240,7 @@ module _
       (operation : Operation) (n : ℕ)
       → IsSimple operation
       → n < 256
-      → ((v : ℕ) → v < values_of (type_of inside) → result_by operation scalars.Byte n (v % 256) ≡ g v % 256)
+      → ((v : ℕ) → v < limit → result_by operation scalars.Byte n (v % 256) ≡ g v % 256)
       → StepsStand context (PartDoes context) facts from (from_number_steps operation n inner pushed) last to
       → ByteCarried context facts number tree pushed from last to
   unfolding from_number_steps commutes

@@ -73,6 +73,7 @@ pub mod ByteForms
 pub mod ByteCode
 pub mod TwoBytes
 pub mod ByteNumbers
+pub mod HighBytes
 pub mod Zeros
 pub mod ZeroLaws
 pub mod EmbeddedBytes
