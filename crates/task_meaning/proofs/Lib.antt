@@ -74,6 +74,9 @@ pub mod ByteCode
 pub mod TwoBytes
 pub mod ByteNumbers
 pub mod HighBytes
+pub mod HighHalves
+pub mod ByteShiftNumbers
+pub mod ByteShiftsRight
 pub mod Zeros
 pub mod ZeroLaws
 pub mod EmbeddedBytes
