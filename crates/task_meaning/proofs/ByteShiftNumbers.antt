@@ -30,7 +30,7 @@ use Rattle.task_meaning.specs.Steps.{StepsStand}
 use Rattle.task_meaning.specs.Tasks.{PartDoes}
 use Rattle.task_meaning.proofs.ByteCode.{AreStraight, ByteCarried, CodeOfA, FreeEffects, IsBeside, OfOne, all_straight, beside_a, beside_itself, beside_on, byte_by_code, repeats_on_a}
 use Rattle.task_meaning.proofs.ByteNumbers.{zero_after}
-use Rattle.task_meaning.proofs.KnownOperands.{quotient_less}
+use Rattle.task_meaning.proofs.KnownOperands.{quotient_less, turned_fits}
 use Rattle.task_meaning.proofs.Multiples.{effect_on, plain_on, repeated, repeated_on}
 use Rattle.task_meaning.proofs.RegisterCode.{IsOnRegisters, does_to, effect}
 
@@ -138,13 +138,6 @@ right_code count few = by (nat_le count 4) refl
         (λ x small.
         turned_left (8 - count) x (less_turns count more) small ∙ ap (λ n. turned x n) (less_right count more few))
 
-pub turned_small : (x count : ℕ) → x < 256 → count < 8 → turned x count < 256
-turned_small x count small few = subst (λ (n : ℕ). n < 256) (turned_left count x few small) (turns_small count x small)
-  where
-    turns_small : (count x : ℕ) → x < 256 → times turn_left count x < 256
-    turns_small zero x small = small
-    turns_small (suc count) x small = turns_small count (turn_left x) (omega (arith, small))
-
 -- what a turn to the right brings in is taken away
 masked : (count x : ℕ) → count < 8 → x < 256 → bit_and (turned x ((8 - count) % 8)) (255 / 2 ^ count) ≡ x / 2 ^ count
 masked zero x few small =
@@ -207,7 +200,7 @@ shifted_code count few = by (count == 0) (count == 1) refl refl
           makes = λ r small. refl;
           beside = λ r. beside_a _ _ r;
         })
-        (λ x small. turned_small x ((8 - count) % 8) small (omega arith)))
+        (λ x small. turned_fits x ((8 - count) % 8) small (omega arith)))
         (λ x small.
         ap (λ (test : Bool). bit_and (turned x ((8 - count) % 8)) (if test then 255 / 2 ^ count else 0)) (lt-ltb count 8 few)
         ∙ masked count x few small)
@@ -288,4 +281,4 @@ module _
       → ByteCarried context facts number tree pushed from last to
   turned_by_number count few one stand =
       byte_by_code context sound one (rotation_code count few)
-      (λ v fits. sym (whole_byte (turned (v % 256) count) (turned_small (v % 256) count (omega arith) few))) stand
+      (λ v fits. sym (whole_byte (turned (v % 256) count) (turned_fits (v % 256) count (omega arith) few))) stand

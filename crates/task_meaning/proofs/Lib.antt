@@ -77,6 +77,8 @@ pub mod HighBytes
 pub mod HighHalves
 pub mod ByteShiftNumbers
 pub mod ByteShiftsRight
+pub mod ByteKnown
+pub mod ByteShiftCounts
 pub mod Zeros
 pub mod ZeroLaws
 pub mod EmbeddedBytes
