@@ -215,7 +215,7 @@ low_times v p = by v (v / 256) (v % 256) (omega arith)
     by : (n q l : ℕ) → n ≡ 256 * q + l → (l * p) % 256 ≡ (n * p) % 256
     by n q l same = by_parts q l ∙ ap (λ k. (k * p) % 256) (sym same)
 
-low_of_type : (scalar : ScalarType) (n : ℕ) → n % 256 ≡ n % values_of scalar % 256
+pub low_of_type : (scalar : ScalarType) (n : ℕ) → n % 256 ≡ n % values_of scalar % 256
 low_of_type scalars.Byte n = omega arith
 low_of_type scalars.Address n = omega arith
 

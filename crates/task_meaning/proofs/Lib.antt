@@ -79,6 +79,7 @@ pub mod ByteShiftNumbers
 pub mod ByteShiftsRight
 pub mod ByteKnown
 pub mod ByteShiftCounts
+pub mod ByteProducts
 pub mod Zeros
 pub mod ZeroLaws
 pub mod EmbeddedBytes
