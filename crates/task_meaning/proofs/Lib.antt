@@ -80,6 +80,8 @@ pub mod ByteShiftsRight
 pub mod ByteKnown
 pub mod ByteShiftCounts
 pub mod ByteProducts
+pub mod LowBytes
+pub mod ByteQuotients
 pub mod Zeros
 pub mod ZeroLaws
 pub mod EmbeddedBytes
