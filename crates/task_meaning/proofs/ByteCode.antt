@@ -5,7 +5,7 @@ use Rattle.typed_trees.specs.Charge.{height_of}
 use Rattle.typed_trees.specs.ExpressionTypes.{type_of}
 use Rattle.typed_trees.specs.TypedTrees.{TypedExpression}
 use Rattle.typed_trees.specs.WellTyped.{TypesHold}
-use Rattle.meaning.specs.Outcomes.{State as SourceState, Outcome, Gave, then_do}
+use Rattle.meaning.specs.Outcomes.{State as SourceState, Ended, More, Outside, Outcome, Gave, Stopped, then_do}
 use Rattle.meaning.specs.Values.{values_of}
 use Rattle.isa8080.specs.declared.instr.Instr.{Instr}
 use Rattle.isa8080.specs.declared.instr.Instr.TheVariants.{Dcr, Inr}
@@ -23,7 +23,7 @@ use Rattle.steps8080.specs.declared.step.Step.{Step}
 use Rattle.steps8080.specs.declared.step.Task.TheVariants as tasks
 use Rattle.steps8080.specs.Step.{part, plain}
 use Rattle.code_meaning.specs.Activations.{Arrives}
-use Rattle.code_meaning.specs.Landing.{Does, at_place}
+use Rattle.code_meaning.specs.Landing.{Does, Lands, at_place}
 use Rattle.sites8080.specs.Queries.{is_free}
 use Rattle.task_meaning.specs.Contexts.{Context, IsSound, SourceFits, nodes_in}
 use Rattle.task_meaning.specs.Steps.{StepsStand, PartThere, PlainThere}
@@ -130,6 +130,29 @@ at_last_instructions (Dcr (Of A) ∷ others) {r = r} sound on (PlainThere there 
 at_last_instructions (i ∷ others) sound on stand stage rest =
     at_instructions (i ∷ []) (plain others) sound (on.0, tt) stand stage
     (λ middle found ends next. at_last_instructions others sound on.1 ends next rest)
+
+-- what an outcome is may be used of what is reached
+pub with_outcome :
+    {A : Type 0} {script : List (List ℕ)} {budget more : ℕ} {from : State} (outcome : Outcome A)
+    {Good Better : A → SourceState → State → Type 0}
+    → Does script budget more from outcome Good
+    → ((found : A) (t : SourceState) (end : State) → outcome ≡ Gave found t → Good found t end → Better found t end)
+    → Does script budget more from outcome Better
+with_outcome {script = script} {budget = budget} {more = more} {from = from} (Gave found t) {Good = Good} does better =
+    let lands : Lands script budget more from t.budget (Good found t) = does.told in
+    record {
+      told = record {
+        count = lands.count;
+        end = lands.end;
+        run = lands.run;
+        paid = lands.paid;
+        spent = lands.spent;
+        is_good = better found t lands.end refl lands.is_good;
+      };
+    }
+with_outcome (Stopped Ended t) does better = record { told = does.told }
+with_outcome (Stopped More t) does better = record { told = does.told }
+with_outcome (Stopped (Outside reason) t) does better = record { told = tt }
 
 -- the effects of an expression are carried out, by code that changes A alone
 pub record FreeEffectsAreGiven

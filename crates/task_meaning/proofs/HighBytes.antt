@@ -17,6 +17,7 @@ use Rattle.treecode.specs.declared.expression.ExpressionNumber.{ExpressionNumber
 use Rattle.treecode.specs.declared.place.Location.{Location}
 use Rattle.treecode.specs.declared.reference.Reference.{Reference}
 use Rattle.treecode.specs.Lowered.{IsExpression, IsReference}
+use Rattle.treecode.specs.Traits.{is_static_location}
 use Rattle.code_meaning.specs.Activations.{Activation, Arrives, HasRoom}
 use Rattle.code_meaning.specs.Landing.{Does, Lands, at_place}
 use Rattle.code_meaning.proofs.Landing.{gives, told_on}
@@ -32,10 +33,9 @@ use Rattle.operands8080.specs.Loads.{byte_in_memory_steps, location_byte_steps}
 use Rattle.exprgen8080.specs.Emission.{knowing}
 use Rattle.task_meaning.specs.Contexts.{Context, IsSound, distances_in, nodes_in}
 use Rattle.task_meaning.specs.Steps.{StepsStand, PartThere}
-use Rattle.task_meaning.specs.Tasks.{AddressIsGiven, Carries, IsReferred, Know, Nothing, PartDoes, address_on_machine}
-use Rattle.task_meaning.proofs.BytesAsked.{HighIsGiven}
+use Rattle.task_meaning.specs.Tasks.{AddressIsGiven, Carries, ChangesAOnly, IsReferred, Know, Nothing, PartDoes, address_on_machine}
 use Rattle.task_meaning.proofs.Fitting.{located_fits, refers_is_referred}
-use Rattle.task_meaning.proofs.Loads.{LiesThere, given_last, lies_there}
+use Rattle.task_meaning.proofs.Loads.{LiesThere, given_last, lies_there, same_location_found, static_only}
 use Rattle.task_meaning.proofs.Located.{located_in}
 use Rattle.task_meaning.proofs.LocationBytes.{NeighboursOf, load_a_goes, location_byte_goes}
 use Rattle.task_meaning.proofs.NextBytes.{next_part, reference_next}
@@ -172,8 +172,21 @@ state_given other (Stopped why t) = other
 stopped_never : {A : Type 0} {why : _} {found : A} {t u : SourceState} → Stopped why t ≡ Gave found u → ⊥
 stopped_never same = cc
 
+-- the high byte of an ADDRESS in memory is in A
+pub record HighIsLoaded
+    (context : Context) (before after : Facts) (reference : Reference)
+    (r : Registers) (memory : List ℕ) (found : ℕ) (now : Registers) (memory_now : List ℕ) : Type 0 where
+  pub a : now.a ≡ found / 256
+  pub small : found < 65536
+  pub known : Know context after now memory_now
+  pub free : (location : Location) → location_of (knowing context.site before) (reference_after reference 1) ≡ Some location
+      → is_static_location location ≡ true → ChangesAOnly r memory now memory_now
+
 high_of_two : (low high : ℕ) → low < 256 → high ≡ (low + 256 * high) / 256
 high_of_two low high small = omega (arith, small)
+
+two_bytes : (low high : ℕ) → low < 256 → high < 256 → low + 256 * high < 65536
+two_bytes low high one two = omega (arith, one, two)
 
 -- The code of the high byte of an ADDRESS in memory.
 pub high_in_memory_law :
@@ -187,7 +200,7 @@ pub high_in_memory_law :
     → TypesHoldInReference context.typed context.within part_of
     → Carries context facts pushed (2 * height_of_reference part_of) 0 from to Nothing
     (λ s. then_do (located_in context part_of s) (λ place t. read_scalar context.activation.around.program Address place t))
-    (HighIsGiven context last)
+    (HighIsLoaded context facts last reference)
 high_in_memory_law {context = context} {facts = facts} {last = last} {reference = reference} {pushed = pushed} {from = from} {to = to} {bound = bound} {part_of = part_of} sound neighbours stand is refers types top base s r memory less room ready known asked =
     by_location (location_of (knowing context.site facts) (reference_after reference 1)) refl stand
   where
@@ -201,13 +214,16 @@ high_in_memory_law {context = context} {facts = facts} {last = last} {reference 
     ends :
         (place : SourcePlace) (t : SourceState) (now : Registers) (ended : List ℕ) (finish : ℕ)
         → now.a ≡ byte_at ended (wrap (address_on_machine context.activation place + 1))
+        → ((location : Location) → location_of (knowing context.site facts) (reference_after reference 1) ≡ Some location
+        → is_static_location location ≡ true → ChangesAOnly r memory now ended)
         → GoesOn context last top base t.memory t.frame now ended
         → Does context.activation.around.program.script t.budget 0 (at_place finish now ended t.events)
         (Gave (byte_at ended (address_on_machine context.activation place)
         + 256 * byte_at ended (wrap (address_on_machine context.activation place + 1))) t)
-        (Arrives context.activation top base finish (HighIsGiven context last r memory))
-    ends place t now ended finish a on =
+        (Arrives context.activation top base finish (HighIsLoaded context facts last reference r memory))
+    ends place t now ended finish a free on =
         let low = byte_small ended (address_on_machine context.activation place) on.ready.shares.is_memory in
+        let high = byte_small ended (wrap (address_on_machine context.activation place + 1)) on.ready.shares.is_memory in
         gives (record {
           r = now;
           memory = ended;
@@ -216,7 +232,10 @@ high_in_memory_law {context = context} {facts = facts} {last = last} {reference 
           holds = record {
             a = a ∙ high_of_two (byte_at ended (address_on_machine context.activation place))
                 (byte_at ended (wrap (address_on_machine context.activation place + 1))) low;
+            small = two_bytes (byte_at ended (address_on_machine context.activation place))
+                (byte_at ended (wrap (address_on_machine context.activation place + 1))) low high;
             known = on.known;
+            free = free;
           };
         })
 
@@ -228,7 +247,7 @@ high_in_memory_law {context = context} {facts = facts} {last = last} {reference 
         ]) last to
         → Does context.activation.around.program.script s.budget 0 (at_place from r memory s.events)
         (then_do (located_in context part_of s) (λ place t. read_scalar context.activation.around.program Address place t))
-        (Arrives context.activation top base to (HighIsGiven context last r memory))
+        (Arrives context.activation top base to (HighIsLoaded context facts last reference r memory))
     by_location (Some location) found stand =
         by_outcome (located_in context part_of s) refl (sym (next_located context part_of s) ∙ lies.means s)
       where
@@ -239,7 +258,7 @@ high_in_memory_law {context = context} {facts = facts} {last = last} {reference 
             → then_do outcome (λ place t. Gave (next_place place) t) ≡ Gave lies.place s
             → Does context.activation.around.program.script s.budget 0 (at_place from r memory s.events)
             (then_do outcome (λ place t. read_scalar context.activation.around.program Address place t))
-            (Arrives context.activation top base to (HighIsGiven context last r memory))
+            (Arrives context.activation top base to (HighIsLoaded context facts last reference r memory))
         by_outcome (Stopped why t) here same = absurd (stopped_never same)
         by_outcome (Gave place t) here same =
             let place_is : next_place place ≡ lies.place = ap (place_given lies.place) same in
@@ -252,9 +271,9 @@ high_in_memory_law {context = context} {facts = facts} {last = last} {reference 
             let going : GoesOn context facts top base s.memory s.frame r memory = record { ready = ready; known = known } in
             subst (λ (u : SourceState). Does context.activation.around.program.script s.budget 0 (at_place from r memory s.events)
             (read_scalar context.activation.around.program Address place u)
-            (Arrives context.activation top base to (HighIsGiven context last r memory))) (sym state_is)
+            (Arrives context.activation top base to (HighIsLoaded context facts last reference r memory))) (sym state_is)
             (subst (λ (given : Outcome ℕ). Does context.activation.around.program.script s.budget 0 (at_place from r memory s.events) given
-            (Arrives context.activation top base to (HighIsGiven context last r memory)))
+            (Arrives context.activation top base to (HighIsLoaded context facts last reference r memory)))
             (given_last (read_scalar context.activation.around.program Address place s))
             (word_read place s (λ n u. Gave n u) sound ready fits
             (λ low_steady high_steady.
@@ -263,7 +282,8 @@ high_in_memory_law {context = context} {facts = facts} {last = last} {reference 
             (subst (λ (n : ℕ). n < MEMORY_SIZE) is_at (omega arith))
             (subst (λ (n : ℕ). IsSteady context.activation n) is_at high_steady)
             known stand going
-            (λ now loaded on. ends place s now memory to (loaded.a ∙ ap (byte_at memory) (sym is_at)) on))))
+            (λ now loaded on. ends place s now memory to (loaded.a ∙ ap (byte_at memory) (sym is_at))
+            (λ other other_is static. loaded.others (ap is_static_location (same_location_found (sym found ∙ other_is)) ∙ static)) on))))
     by_location None found (PartThere {found = found_there} {middle = middle} does stand) =
         through_next (located_in context part_of s)
         (subst (λ (outcome : Outcome SourcePlace). Does context.activation.around.program.script s.budget 0 (at_place from r memory s.events) outcome
@@ -278,12 +298,12 @@ high_in_memory_law {context = context} {facts = facts} {last = last} {reference 
         let fits = located_fits context Address part_of place s t sound refers same in
         subst (λ (state : State). Does context.activation.around.program.script t.budget 0 state
         (read_scalar context.activation.around.program Address place t)
-        (Arrives context.activation top base to (HighIsGiven context last r memory))) (sym given.is_at)
+        (Arrives context.activation top base to (HighIsLoaded context facts last reference r memory))) (sym given.is_at)
         (subst (λ (outcome : Outcome ℕ). Does context.activation.around.program.script t.budget 0 (at_place middle there ended t.events) outcome
-        (Arrives context.activation top base to (HighIsGiven context last r memory)))
+        (Arrives context.activation top base to (HighIsLoaded context facts last reference r memory)))
         (given_last (read_scalar context.activation.around.program Address place t))
         (word_read place t (λ n u. Gave n u) sound given.ready fits
         (λ low_steady high_steady.
         load_a_goes (wrap (address_on_machine context.activation place + 1)) there sound high_steady hl stand
         (record { ready = given.ready; known = (given.holds).known })
-        (λ now loaded on. ends place t now ended to loaded.a on)))))
+        (λ now loaded on. ends place t now ended to loaded.a (λ other other_is static. static_only found other_is) on)))))

@@ -6,7 +6,7 @@ use Rattle.trees.specs.declared.declaration.ScalarType.{ScalarType}
 use Rattle.trees.specs.declared.declaration.ScalarType.TheVariants.{Byte, Address}
 use Rattle.typed_trees.specs.Charge.{height_of}
 use Rattle.typed_trees.specs.ExpressionTypes.{type_of}
-use Rattle.typed_trees.specs.TypedTrees.{TypedExpression}
+use Rattle.typed_trees.specs.TypedTrees.{TypedExpression, TypedReference, ValueNode}
 use Rattle.typed_trees.specs.WellTyped.{TypesHold}
 use Rattle.meaning.specs.Outcomes.{State as SourceState, Outcome, Gave, Stopped, then_do}
 use Rattle.isa8080.specs.declared.instr.Register.TheVariants.{A, H}
@@ -16,8 +16,8 @@ use Rattle.treecode.specs.declared.expression.ExpressionForm.{ExpressionForm}
 use Rattle.treecode.specs.declared.expression.ExpressionForm.TheVariants as forms
 use Rattle.treecode.specs.declared.expression.ExpressionNumber.{ExpressionNumber}
 use Rattle.treecode.specs.declared.reference.Reference.{Reference}
-use Rattle.treecode.specs.Lowered.{IsExpression, IsForm, IsNumber, IsValue, IsLocation, IsConstantList, IsConversion, IsEmbedded, IsUnary, IsBinary, IsCallOf, IsFunction, IsShift, IsInput}
-use Rattle.code_meaning.specs.Activations.{Arrives}
+use Rattle.treecode.specs.Lowered.{IsExpression, IsReference, IsForm, IsNumber, IsValue, IsLocation, IsConstantList, IsConversion, IsEmbedded, IsUnary, IsBinary, IsCallOf, IsFunction, IsShift, IsInput}
+use Rattle.code_meaning.specs.Activations.{Arrives, HasRoom}
 use Rattle.code_meaning.specs.Landing.{Does, at_place}
 use Rattle.code_meaning.proofs.Landing.{gives}
 use Rattle.steps8080.specs.declared.facts.Facts.{Facts}
@@ -35,7 +35,7 @@ use Rattle.task_meaning.specs.Contexts.{Context, IsSound, nodes_in}
 use Rattle.task_meaning.specs.Steps.{StepsStand, PartThere}
 use Rattle.task_meaning.specs.Tasks.{Carries, Nothing, PartDoes}
 use Rattle.task_meaning.proofs.Branches.{given_itself}
-use Rattle.task_meaning.proofs.ByteCode.{CodeOfA, at_last_instructions, beside_a}
+use Rattle.task_meaning.proofs.ByteCode.{CodeOfA, at_last_instructions, beside_a, with_outcome}
 use Rattle.task_meaning.proofs.ByteNumbers.{cleared}
 use Rattle.task_meaning.proofs.BytesAsked.{HighIsGiven}
 use Rattle.task_meaning.proofs.HighBytes.{NeighboursKnown, high_in_memory_law}
@@ -86,9 +86,9 @@ high_given {now = now} {memory_now = memory_now} to found a stage =
 -- a reference to an ADDRESS
 abbrev IsWordOf : Context → TypedExpression → Reference → Type 0
 IsWordOf context tree reference =
-    (bound : ℕ) × (part : Rattle.typed_trees.specs.TypedTrees.TypedReference)
-    × Rattle.treecode.specs.Lowered.IsReference (nodes_in context) context.storage bound reference part
-    × (tree ≡ Rattle.typed_trees.specs.TypedTrees.ValueNode Address part)
+    (bound : ℕ) × (part : TypedReference)
+    × IsReference (nodes_in context) context.storage bound reference part
+    × (tree ≡ ValueNode Address part)
 
 some_never : {B : Type 0} {reference : Reference} → None ≡ Some reference → B
 some_never same = absurd (none-some _ same)
@@ -99,7 +99,7 @@ word_form :
     → word_of form (type_of tree) ≡ Some reference
     → IsWordOf context tree reference
 word_form context {bound = bound} (IsValue {scalar = Address} {reference = found} {part = part_of} is) same =
-    subst (λ (one : Reference). IsWordOf context (Rattle.typed_trees.specs.TypedTrees.ValueNode Address part_of) one)
+    subst (λ (one : Reference). IsWordOf context (ValueNode Address part_of) one)
     (same_Some found _ same) (bound, part_of, is, refl)
 word_form context (IsValue {scalar = Byte} is) same = some_never same
 word_form context IsNumber same = some_never same
@@ -154,18 +154,26 @@ high_byte_law {context = context} {facts = facts} {last = last} {inner = inner} 
         let word = word_form context node.form here in
         by_word word.0 word.1 word.2 word.3
       where
-        by_word : (bound_of : ℕ) (part_of : Rattle.typed_trees.specs.TypedTrees.TypedReference)
-            → Rattle.treecode.specs.Lowered.IsReference (nodes_in context) context.storage bound_of reference part_of
-            → inside ≡ Rattle.typed_trees.specs.TypedTrees.ValueNode Address part_of
+        by_word : (bound_of : ℕ) (part_of : TypedReference)
+            → IsReference (nodes_in context) context.storage bound_of reference part_of
+            → inside ≡ ValueNode Address part_of
             → DoesIt
         by_word bound_of part_of is_part same =
             let types_there = subst (λ (tree : TypedExpression). TypesHold context.typed context.within tree) same types in
             subst (λ (tree : TypedExpression).
-            Rattle.code_meaning.specs.Activations.HasRoom context.activation top pushed (2 * height_of tree)
+            HasRoom context.activation top pushed (2 * height_of tree)
             → Does context.activation.around.program.script s.budget 0 (at_place from r memory s.events) (value_in context tree s)
             (Arrives context.activation top base to (HighIsGiven context last r memory))) (sym same)
             (λ room_there.
-            high_in_memory_law sound neighbours given is_part types_there.0 types_there.1 top base s r memory below room_there ready known tt)
+            with_outcome (value_in context (ValueNode Address part_of) s)
+            (high_in_memory_law sound neighbours given is_part types_there.0 types_there.1 top base s r memory below room_there ready known tt)
+            (λ found t end equal arrives. record {
+              r = arrives.r;
+              memory = arrives.memory;
+              is_at = arrives.is_at;
+              ready = arrives.ready;
+              holds = record { a = (arrives.holds).a; known = (arrives.holds).known };
+            }))
             room
     by_memory None here (PartThere does stands) =
         does_same _ (given_itself (value_in context inside s))

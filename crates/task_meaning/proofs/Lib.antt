@@ -82,6 +82,7 @@ pub mod ByteShiftCounts
 pub mod ByteProducts
 pub mod LowBytes
 pub mod ByteQuotients
+pub mod BytesThere
 pub mod Zeros
 pub mod ZeroLaws
 pub mod EmbeddedBytes

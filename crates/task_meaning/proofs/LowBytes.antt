@@ -7,7 +7,7 @@ use Rattle.typed_trees.specs.Charge.{count_of_arguments, height_of, height_of_ar
 use Rattle.typed_trees.specs.ExpressionTypes.{type_of}
 use Rattle.typed_trees.specs.TypedTrees.{CallNode, InputNode, TypedArguments, TypedExpression}
 use Rattle.typed_trees.specs.WellTyped.{Takes, TypesHold, TypesHoldInArguments}
-use Rattle.meaning.specs.Outcomes.{State as SourceState, Ended, More, Outside, Outcome, Gave, Stopped}
+use Rattle.meaning.specs.Outcomes.{State as SourceState, Outcome, Gave}
 use Rattle.meaning.specs.Values.{values_of}
 use Rattle.isa8080.specs.declared.instr.Instr.TheVariants.{In}
 use Rattle.isa8080.specs.declared.instr.Register.TheVariants.{A, L}
@@ -16,7 +16,7 @@ use Rattle.treecode.specs.declared.expression.ExpressionNumber.{ExpressionNumber
 use Rattle.treecode.specs.declared.lists.Range.{Range}
 use Rattle.treecode.specs.Lowered.{AreArguments, IsExpression}
 use Rattle.code_meaning.specs.Activations.{Arrives, IsReady}
-use Rattle.code_meaning.specs.Landing.{Does, Lands, at_place}
+use Rattle.code_meaning.specs.Landing.{Does, at_place}
 use Rattle.code_meaning.proofs.Landing.{gives}
 use Rattle.steps8080.specs.declared.facts.Facts.{Facts}
 use Rattle.steps8080.specs.declared.step.Step.TheVariants.{Plain}
@@ -30,7 +30,7 @@ use Rattle.task_meaning.specs.Contexts.{Context, InRegister, IsSound, nodes_in}
 use Rattle.task_meaning.specs.Steps.{StepsStand, NoneThere, PlainThere}
 use Rattle.task_meaning.specs.Tasks.{ByteIsGiven, Know, PartDoes, ResultIsGiven}
 use Rattle.task_meaning.proofs.Branches.{given_itself}
-use Rattle.task_meaning.proofs.ByteCode.{ByteCarried, OfOne, at_last_instructions, byte_of_word}
+use Rattle.task_meaning.proofs.ByteCode.{ByteCarried, OfOne, at_last_instructions, byte_of_word, with_outcome}
 use Rattle.task_meaning.proofs.ByteForms.{byte_given}
 use Rattle.task_meaning.proofs.Calls.{call_does}
 use Rattle.task_meaning.proofs.EffectForms.{input_goes}
@@ -64,29 +64,6 @@ low_word_law {context = context} {bound = bound} {tree = tree} number pushed sou
       small = λ v fits. fits;
       free = λ free. free;
     }
-
--- what an outcome is may be used of what is reached
-pub with_outcome :
-    {A : Type 0} {script : List (List ℕ)} {budget more : ℕ} {from : State} (outcome : Outcome A)
-    {Good Better : A → SourceState → State → Type 0}
-    → Does script budget more from outcome Good
-    → ((found : A) (t : SourceState) (end : State) → outcome ≡ Gave found t → Good found t end → Better found t end)
-    → Does script budget more from outcome Better
-with_outcome {script = script} {budget = budget} {more = more} {from = from} (Gave found t) {Good = Good} does better =
-    let lands : Lands script budget more from t.budget (Good found t) = does.told in
-    record {
-      told = record {
-        count = lands.count;
-        end = lands.end;
-        run = lands.run;
-        paid = lands.paid;
-        spent = lands.spent;
-        is_good = better found t lands.end refl lands.is_good;
-      };
-    }
-with_outcome (Stopped Ended t) does better = record { told = does.told }
-with_outcome (Stopped More t) does better = record { told = does.told }
-with_outcome (Stopped (Outside reason) t) does better = record { told = tt }
 
 -- the low byte of a value is in A
 pub record LowIsGiven
