@@ -45,7 +45,6 @@ use Rattle.task_meaning.specs.Tasks.{PartDoes}
 use Rattle.task_meaning.proofs.ByteCode.{ByteCarried, FreeEffects, OfOne}
 use Rattle.task_meaning.proofs.ByteNumbers.{with_number}
 use Rattle.task_meaning.proofs.ByteShiftsRight.{right_shifted}
-use Rattle.task_meaning.proofs.HighBytes.{NeighboursKnown}
 use Rattle.task_meaning.proofs.KnownOperands.{number_known, number_small, quotient_less}
 use Rattle.task_meaning.proofs.LowBytes.{LowIsGiven, low_given, low_word_law}
 use Rattle.task_meaning.proofs.Multiples.{power_is}
@@ -202,7 +201,7 @@ nothing_more NoneThere going rest = rest going
 module _
     (context : Context) {facts last : Facts} {from to pushed bound : ℕ} {left right : ExpressionNumber}
     {first second : TypedExpression} (number : ExpressionNumber) (operands : ScalarType) (sound : IsSound context)
-    (effects : FreeEffects context) (neighbours : NeighboursKnown context)
+    (effects : FreeEffects context)
     (one : IsOperand context left first) (is_type : type_of first ≡ operands)
     (two : IsOperand context right second)
     (not_free : is_free context.site number ≡ true → ⊥) where
@@ -224,7 +223,7 @@ module _
           ]) last to
           → ByteCarried context facts number (BinaryNode operands operators.Divide first second) pushed from last to
       by (Some count) here given =
-          right_shifted context sound effects neighbours count
+          right_shifted context sound effects count
           (of_left facts number operators.Divide operands (2 ^ count) (λ v. v / 2 ^ count) sound one two
           (power_there context facts right count here)
           (λ v. some_of (2 ^ count) (v / 2 ^ count) (not_none count))

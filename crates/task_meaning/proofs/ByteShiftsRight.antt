@@ -37,7 +37,6 @@ use Rattle.task_meaning.proofs.ByteForms.{byte_given}
 use Rattle.task_meaning.proofs.ByteNumbers.{zero_after}
 use Rattle.task_meaning.proofs.ByteShiftNumbers.{quotient_byte, right_by_number, shifted_code, whole_byte}
 use Rattle.task_meaning.proofs.BytesAsked.{HighIsGiven}
-use Rattle.task_meaning.proofs.HighBytes.{NeighboursKnown}
 use Rattle.task_meaning.proofs.HighHalves.{high_byte_law}
 use Rattle.task_meaning.proofs.KnownOperands.{quotient_less}
 use Rattle.task_meaning.proofs.Multiples.{both_on, doubled_is, effect_on, plain_on, repeated, repeated_on}
@@ -115,8 +114,7 @@ halves v = omega arith
 
 module _
     (context : Context) {facts last : Facts} {from to pushed : ℕ} {number inner : ExpressionNumber}
-    {tree inside : TypedExpression} (sound : IsSound context) (effects : FreeEffects context)
-    (neighbours : NeighboursKnown context) where
+    {tree inside : TypedExpression} (sound : IsSound context) (effects : FreeEffects context) where
   -- the middle byte
   middle_by_number :
       (count : ℕ) → 1 ≤ count → count < 8
@@ -195,7 +193,7 @@ module _
           let parts = split (high_byte_steps (knowing context.site facts) inner pushed) (right_shift_steps (count - 8)) given in
           let code = shifted_code (count - 8) (omega (arith, few)) in
           does_same _ (one.means s)
-          (at_carried _ _ _ (high_byte_law sound neighbours one.node one.types parts.first) one.fewer tt
+          (at_carried _ _ _ (high_byte_law sound one.node one.types parts.first) one.fewer tt
           (λ v now memory_now (high : HighIsGiven context parts.found r memory v now memory_now). high.known)
           (record { below = below; room = room; ready = ready; known = known })
           (λ v u now memory_now same high next.

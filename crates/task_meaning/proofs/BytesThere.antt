@@ -46,7 +46,7 @@ use Rattle.task_meaning.proofs.ByteForms.{byte_given, free_by_form, type_byte, t
 use Rattle.task_meaning.proofs.ByteLoads.{ByteIsLoaded, byte_in_memory_law}
 use Rattle.task_meaning.proofs.BytesInMemory.{memory_same}
 use Rattle.task_meaning.proofs.Effects.{then_again}
-use Rattle.task_meaning.proofs.HighBytes.{HighIsLoaded, NeighboursKnown, high_in_memory_law}
+use Rattle.task_meaning.proofs.HighBytes.{HighIsLoaded, high_in_memory_law}
 use Rattle.task_meaning.proofs.KnownOperands.{bytes_differ, word_fits}
 use Rattle.task_meaning.proofs.Located.{located_in}
 use Rattle.task_meaning.proofs.Nodes.{NodeOf, node_of}
@@ -397,13 +397,12 @@ pub there_law :
     {context : Context} {facts last : Facts} {from to bound : ℕ} {tree : TypedExpression} {reference : Reference}
     (number : ExpressionNumber) (pushed : ℕ)
     → IsSound context
-    → NeighboursKnown context
     → IsExpression (nodes_in context) context.storage bound number.index tree
     → TypesHold context.typed context.within tree
     → memory_of (knowing context.site facts) number ≡ Some reference
     → StepsStand context (PartDoes context) facts from (byte_in_memory_steps (knowing context.site facts) reference pushed) last to
     → ByteCarried context facts number tree pushed from last to
-there_law {context = context} {facts = facts} {last = last} {from = from} {to = to} {tree = tree} {reference = reference} number pushed sound neighbours is types here stand top base s r memory below room ready known nothing =
+there_law {context = context} {facts = facts} {last = last} {from = from} {to = to} {tree = tree} {reference = reference} number pushed sound is types here stand top base s r memory below room ready known nothing =
     by (lies.g) lies.scalar lies.base reference lies.half refl lies.refers lies.is lies.means lies.small stand
   where
     node : NodeOf context number tree
@@ -434,7 +433,6 @@ there_law {context = context} {facts = facts} {last = last} {from = from} {to = 
         does_same _ (means s)
         (at_carried {top = top} {need = 2 * height_of tree} {base = base} _ _ _
         (byte_in_memory_law scalar sound
-        (λ location found. (neighbours facts scalar start lies.part lies.bound top pushed (2 * height_of tree) location is_part refers lies.types room).0 found)
         given is_part refers lies.types) enough tt
         (λ v now memory_now (loaded : ByteIsLoaded context facts last start scalar r memory v now memory_now). loaded.known)
         (record { below = below; room = room; ready = ready; known = known })
@@ -447,7 +445,7 @@ there_law {context = context} {facts = facts} {last = last} {from = from} {to = 
     by g _ start _ (HighHalf bytes) same refers is_part means small given =
         does_same _ (means s)
         (at_carried {top = top} {need = 2 * height_of tree} {base = base} _ _ _
-        (high_in_memory_law sound neighbours given is_part refers lies.types) enough tt
+        (high_in_memory_law sound given is_part refers lies.types) enough tt
         (λ v now memory_now (loaded : HighIsLoaded context facts last start r memory v now memory_now). loaded.known)
         (record { below = below; room = room; ready = ready; known = known })
         (λ v u now memory_now equal loaded final.

@@ -37,7 +37,7 @@ use Rattle.task_meaning.specs.Tasks.{AddressIsGiven, Carries, ChangesAOnly, IsRe
 use Rattle.task_meaning.proofs.Fitting.{located_fits, refers_is_referred}
 use Rattle.task_meaning.proofs.Loads.{LiesThere, given_last, lies_there, same_location_found, static_only}
 use Rattle.task_meaning.proofs.Located.{located_in}
-use Rattle.task_meaning.proofs.LocationBytes.{NeighboursOf, load_a_goes, location_byte_goes}
+use Rattle.task_meaning.proofs.LocationBytes.{load_a_goes, location_byte_goes}
 use Rattle.task_meaning.proofs.NextBytes.{next_part, reference_next}
 use Rattle.task_meaning.proofs.Reading.{word_read}
 use Rattle.task_meaning.proofs.Rules.{GoesOn}
@@ -146,20 +146,6 @@ through_next (Stopped Ended t) does rest = record { told = does.told }
 through_next (Stopped More t) does rest = record { told = does.told }
 through_next (Stopped (Outside reason) t) does rest = record { told = tt }
 
--- Where code knows the location of a byte of a scalar, and reads it with what lies beside it, that is steady too. (Code
--- that reads the word at the stack pointer for a byte of the frame knows then that HL is that word.)
-abbrev pub NeighboursKnown : Context → Type 0
-NeighboursKnown context =
-    (facts : Facts) (scalar : ScalarType) (reference : Reference) (part : TypedReference)
-    (bound top pushed need : ℕ) (location : Location)
-    → IsReference (nodes_in context) context.storage bound reference part
-    → RefersToScalar context.typed context.within scalar part
-    → TypesHoldInReference context.typed context.within part
-    → HasRoom context.activation top pushed need
-    → (location_of (knowing context.site facts) reference ≡ Some location → NeighboursOf context pushed location)
-    × (scalar ≡ Address → location_of (knowing context.site facts) (reference_after reference 1) ≡ Some location
-    → NeighboursOf context pushed location)
-
 -- what an outcome gives, and in which state
 abbrev place_given : (other : SourcePlace) → Outcome SourcePlace → SourcePlace
 place_given other (Gave place t) = place
@@ -192,7 +178,6 @@ two_bytes low high one two = omega (arith, one, two)
 pub high_in_memory_law :
     {context : Context} {facts last : Facts} {reference : Reference} {pushed from to bound : ℕ} {part_of : TypedReference}
     → IsSound context
-    → NeighboursKnown context
     → StepsStand context (PartDoes context) facts from
     (byte_in_memory_steps (knowing context.site facts) (reference_after reference 1) pushed) last to
     → IsReference (nodes_in context) context.storage bound reference part_of
@@ -201,7 +186,7 @@ pub high_in_memory_law :
     → Carries context facts pushed (2 * height_of_reference part_of) 0 from to Nothing
     (λ s. then_do (located_in context part_of s) (λ place t. read_scalar context.activation.around.program Address place t))
     (HighIsLoaded context facts last reference)
-high_in_memory_law {context = context} {facts = facts} {last = last} {reference = reference} {pushed = pushed} {from = from} {to = to} {bound = bound} {part_of = part_of} sound neighbours stand is refers types top base s r memory less room ready known asked =
+high_in_memory_law {context = context} {facts = facts} {last = last} {reference = reference} {pushed = pushed} {from = from} {to = to} {bound = bound} {part_of = part_of} sound stand is refers types top base s r memory less room ready known asked =
     by_location (location_of (knowing context.site facts) (reference_after reference 1)) refl stand
   where
     next_is : IsReference (nodes_in context) context.storage bound (reference_after reference 1) (next_part part_of)
@@ -278,7 +263,6 @@ high_in_memory_law {context = context} {facts = facts} {last = last} {reference 
             (word_read place s (λ n u. Gave n u) sound ready fits
             (λ low_steady high_steady.
             location_byte_goes facts location r sound room
-            ((neighbours facts Address reference part_of bound top pushed (2 * height_of_reference part_of) location is refers types room).1 refl found)
             (subst (λ (n : ℕ). n < MEMORY_SIZE) is_at (omega arith))
             (subst (λ (n : ℕ). IsSteady context.activation n) is_at high_steady)
             known stand going

@@ -38,7 +38,7 @@ use Rattle.task_meaning.proofs.Branches.{given_itself}
 use Rattle.task_meaning.proofs.ByteCode.{CodeOfA, at_last_instructions, beside_a, with_outcome}
 use Rattle.task_meaning.proofs.ByteNumbers.{cleared}
 use Rattle.task_meaning.proofs.BytesAsked.{HighIsGiven}
-use Rattle.task_meaning.proofs.HighBytes.{NeighboursKnown, high_in_memory_law}
+use Rattle.task_meaning.proofs.HighBytes.{high_in_memory_law}
 use Rattle.task_meaning.proofs.KnownOperands.{number_small, word_fits}
 use Rattle.task_meaning.proofs.Nodes.{NodeOf, node_of}
 use Rattle.task_meaning.proofs.Ranges.{fits_means, ready_fits, value_fits}
@@ -121,14 +121,13 @@ small_high n small = omega (arith, small)
 pub high_byte_law :
     {context : Context} {facts last : Facts} {inner : ExpressionNumber} {pushed from to bound : ℕ} {inside : TypedExpression}
     → IsSound context
-    → NeighboursKnown context
     → IsExpression (nodes_in context) context.storage bound inner.index inside
     → TypesHold context.typed context.within inside
     → StepsStand context (PartDoes context) facts from (high_byte_steps (knowing context.site facts) inner pushed) last to
     → Carries context facts pushed (2 * height_of inside) 0 from to Nothing (value_in context inside)
     (HighIsGiven context last)
 unfolding high_byte_steps high_byte_in_memory word_in_memory
-high_byte_law {context = context} {facts = facts} {last = last} {inner = inner} {pushed = pushed} {from = from} {to = to} {inside = inside} sound neighbours is types stand top base s r memory below room ready known nothing =
+high_byte_law {context = context} {facts = facts} {last = last} {inner = inner} {pushed = pushed} {from = from} {to = to} {inside = inside} sound is types stand top base s r memory below room ready known nothing =
     by_number (number_of (knowing context.site facts) inner) refl stand
   where
     stage : Stage context top pushed (2 * height_of inside) base s facts r memory
@@ -166,7 +165,7 @@ high_byte_law {context = context} {facts = facts} {last = last} {inner = inner} 
             (Arrives context.activation top base to (HighIsGiven context last r memory))) (sym same)
             (λ room_there.
             with_outcome (value_in context (ValueNode Address part_of) s)
-            (high_in_memory_law sound neighbours given is_part types_there.0 types_there.1 top base s r memory below room_there ready known tt)
+            (high_in_memory_law sound given is_part types_there.0 types_there.1 top base s r memory below room_there ready known tt)
             (λ found t end equal arrives. record {
               r = arrives.r;
               memory = arrives.memory;
