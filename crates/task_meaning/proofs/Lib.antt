@@ -83,6 +83,7 @@ pub mod ByteProducts
 pub mod LowBytes
 pub mod ByteQuotients
 pub mod BytesThere
+pub mod ByteBinaries
 pub mod Zeros
 pub mod ZeroLaws
 pub mod EmbeddedBytes
