@@ -84,6 +84,7 @@ pub mod LowBytes
 pub mod ByteQuotients
 pub mod BytesThere
 pub mod ByteBinaries
+pub mod Bytes
 pub mod Zeros
 pub mod ZeroLaws
 pub mod EmbeddedBytes
