@@ -100,6 +100,8 @@ pub mod ByteProducts
 pub mod LowBytes
 pub mod ByteQuotients
 pub mod BytesThere
+pub mod ByteBinaries
+pub mod Bytes
 pub mod Zeros
 pub mod ZeroLaws
 pub mod EmbeddedBytes
