@@ -24,6 +24,7 @@ use Rattle.steps8080.specs.declared.step.Task.TheVariants as tasks
 use Rattle.steps8080.specs.Step.{part, plain}
 use Rattle.code_meaning.specs.Activations.{Arrives}
 use Rattle.code_meaning.specs.Landing.{Does, Lands, at_place}
+use Rattle.code_meaning.proofs.Landing.{gives}
 use Rattle.sites8080.specs.Queries.{is_free}
 use Rattle.task_meaning.specs.Contexts.{Context, IsSound, SourceFits, nodes_in}
 use Rattle.task_meaning.specs.Steps.{StepsStand, PartThere, PlainThere}
@@ -32,7 +33,7 @@ use Rattle.task_meaning.proofs.ByteForms.{byte_given}
 use Rattle.task_meaning.proofs.Ranges.{ready_fits}
 use Rattle.task_meaning.proofs.RegisterCode.{AreOnRegisters, IsOnRegisters, does_to, effect}
 use Rattle.task_meaning.proofs.SiteNodes.{value_in}
-use Rattle.task_meaning.proofs.Stages.{Stage, at_a, at_byte, at_carried, at_effects, at_end, at_instructions, at_word, does_same, script_of}
+use Rattle.task_meaning.proofs.Stages.{Stage, at_a, at_byte, at_carried, at_effects, at_end, at_instructions, at_word, does_same, gives_then, script_of}
 
 -- B, C, D, E, H and L are the same
 pub record IsBeside (r now : Registers) : Type 0 where
@@ -171,6 +172,17 @@ FreeEffects context =
     → TypesHold context.typed context.within tree
     → Carries context facts pushed (2 * height_of tree) 0 from to Nothing (value_in context tree)
     (FreeEffectsAreGiven context last)
+
+pub free_effects : (context : Context) → FreeEffects context
+free_effects context facts last number pushed from to bound tree does free is types top base s r memory below room ready known asked =
+    gives_then (value_in context tree s) (does bound tree is types top base s r memory below room ready known tt)
+    (λ found t end arrives spent. gives (record {
+      r = arrives.r;
+      memory = arrives.memory;
+      is_at = arrives.is_at;
+      ready = arrives.ready;
+      holds = record { known = (arrives.holds).known; free = (arrives.holds).free free };
+    }))
 
 -- the low byte of a tree comes into A
 abbrev pub ByteCarried :

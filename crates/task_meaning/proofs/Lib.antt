@@ -13,6 +13,7 @@ pub mod StoredValues
 pub mod Arguments
 pub mod Calls
 pub mod KeptCode
+pub mod FreeForms
 pub mod EffectForms
 pub mod LocationWords
 pub mod Homes
@@ -99,6 +100,8 @@ pub mod ByteProducts
 pub mod LowBytes
 pub mod ByteQuotients
 pub mod BytesThere
+pub mod ByteBinaries
+pub mod Bytes
 pub mod Zeros
 pub mod ZeroLaws
 pub mod EmbeddedBytes
