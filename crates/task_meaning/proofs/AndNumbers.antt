@@ -70,7 +70,7 @@ and_under : (x n limit : ℕ) → n < limit → bit_and x n < limit
 and_under x n limit small = let less : bit_and x n ≤ n = and_le_r x n in omega (arith, less, small)
 
 -- a byte in A comes into HL
-extended : (n : ℕ) (now : Registers) → n < 256 → now.a ≡ n → HasWord n (effect (copy L A ∷ set H 0 ∷ []) now)
+pub extended : (n : ℕ) (now : Registers) → n < 256 → now.a ≡ n → HasWord n (effect (copy L A ∷ set H 0 ∷ []) now)
 extended n now small same = record { h = no_high n small; l = same ∙ all_low n small }
 
 module _

@@ -62,7 +62,7 @@ repeated_code i f count on does = record {
   beside = λ r. (repeats_on_a i f count r does).1;
 }
 
-both_straight : (one other : List Instr) → AreStraight one → AreStraight other → AreStraight (one ++ other)
+pub both_straight : (one other : List Instr) → AreStraight one → AreStraight other → AreStraight (one ++ other)
 both_straight [] other first second = second
 both_straight (i ∷ one) other first second = (first.0, both_straight one other first.1 second)
 

@@ -1,8 +1,8 @@
 -- Shifts of an ADDRESS to the right by a number, in HL.
-use Rattle.std.proofs.Common.{◌≡◌, ℕ, zero, suc, ◌+◌, ◌-◌, ◌*◌, ◌/◌, ◌%◌, ◌^◌, ◌<◌, ◌≤◌, ◌==◌, nat_le, Bool, true, false, if◌then◌else◌, List, [], ◌∷◌, ◌++◌, replicate, bit_and, refl, sym, ap, ◌∙◌, subst, arith}
-use Rattle.std.proofs.lemmas.Bool.{eqb-true, eqb-false, leb-true, leb-false, lt-ltb}
+use Rattle.std.proofs.Common.{◌≡◌, ℕ, ◌+◌, ◌-◌, ◌*◌, ◌/◌, ◌%◌, ◌^◌, ◌<◌, ◌≤◌, ◌==◌, nat_le, Bool, true, false, if◌then◌else◌, List, [], ◌∷◌, ◌++◌, refl, sym, ap, ◌∙◌, subst, arith}
+use Rattle.std.proofs.lemmas.Bool.{eqb-true, leb-true, leb-false}
 use Rattle.std.proofs.lemmas.List.{append_assoc}
-use Rattle.std.specs.Int.Bits.{or_self, xor_self}
+use Rattle.std.specs.Int.Bits.{xor_self}
 use Rattle.trees.specs.declared.declaration.ScalarType.{ScalarType}
 use Rattle.trees.specs.declared.declaration.ScalarType.TheVariants.{Address}
 use Rattle.typed_trees.specs.declared.parts.ShiftFunction.TheVariants.{ShiftRight}
@@ -10,15 +10,15 @@ use Rattle.typed_trees.specs.Charge.{height_of}
 use Rattle.typed_trees.specs.ExpressionTypes.{type_of}
 use Rattle.typed_trees.specs.TypedTrees.{TypedExpression}
 use Rattle.meaning.specs.Outcomes.{State as SourceState, Gave, then_do}
-use Rattle.meaning.specs.Values.{turned, values_of}
+use Rattle.meaning.specs.Values.{values_of}
 use Rattle.isa8080.specs.declared.instr.Instr.{Instr}
-use Rattle.isa8080.specs.declared.instr.Instr.TheVariants.{AccumulateImmediate, Rar, Rlc, Rrc}
+use Rattle.isa8080.specs.declared.instr.Instr.TheVariants.{AccumulateImmediate, Rar, Rrc}
 use Rattle.isa8080.specs.declared.instr.Operation.TheVariants.{And, ExclusiveOr, Or}
 use Rattle.isa8080.specs.declared.instr.Register.TheVariants.{A, H, L}
 use Rattle.isa8080.specs.State.{Registers}
 use Rattle.runtime8080.specs.declared.routine.Routine.TheVariants as routines
 use Rattle.runtime8080.proofs.AddressBits.{by_eight, half_small, halves, none_left, quarter_high_small, quarter_low_small, quarters}
-use Rattle.runtime8080.proofs.Bits.{equal_below, none_right, times, turn_left, turn_right, turned_left, turned_right}
+use Rattle.runtime8080.proofs.Bits.{none_right}
 use Rattle.treecode.specs.declared.expression.ExpressionNumber.{ExpressionNumber}
 use Rattle.treecode.specs.Traits.{keeps_none}
 use Rattle.code_meaning.specs.Landing.{Does, at_place}
@@ -28,61 +28,34 @@ use Rattle.steps8080.specs.declared.step.Step.{Step}
 use Rattle.steps8080.specs.declared.step.Step.TheVariants.{CallRoutine, Plain}
 use Rattle.steps8080.specs.declared.step.Task.TheVariants as tasks
 use Rattle.steps8080.specs.Instructions.{clear_a, copy, set, with_register}
-use Rattle.steps8080.specs.Step.{extension_steps, part as part_of, plain, repeat_steps}
+use Rattle.steps8080.specs.Step.{extension_steps, part as part_of, plain}
 use Rattle.sites8080.specs.Queries.{keeps}
 use Rattle.sites8080.specs.Widths.{fits_byte}
-use Rattle.exprgen8080.specs.ByteShifts.{byte_shifted_right_steps, kept_bits, right_shift_steps, turned_right_steps, zero_steps as byte_zero_steps}
+use Rattle.exprgen8080.specs.ByteShifts.{byte_shifted_right_steps, right_shift_steps, zero_steps as byte_zero_steps}
 use Rattle.exprgen8080.specs.Emission.{knowing}
 use Rattle.exprgen8080.specs.Halves.{high_byte_steps}
 use Rattle.exprgen8080.specs.WordShifts.{half_steps, quarter_steps, shifted_right_little_steps, word_routine, word_shifted_right_steps, zero_steps}
 use Rattle.task_meaning.specs.Contexts.{Context, IsSound}
 use Rattle.task_meaning.specs.Steps.{StepsStand, PartThere}
 use Rattle.task_meaning.specs.Tasks.{PartDoes, WordIsGiven}
-use Rattle.task_meaning.proofs.AndNumbers.{HighHalvesGiven, extended_then}
+use Rattle.task_meaning.proofs.AndNumbers.{HighHalvesGiven, extended, extended_then}
+use Rattle.task_meaning.proofs.ByteCode.{CodeOfA, at_last_instructions}
+use Rattle.task_meaning.proofs.ByteShiftNumbers.{both_straight, shifted_code}
 use Rattle.task_meaning.proofs.BytesAsked.{HighIsGiven}
 use Rattle.task_meaning.proofs.KnownOperands.{quotient_less}
 use Rattle.task_meaning.proofs.LeftShifts.{zero_does}
-use Rattle.task_meaning.proofs.Multiples.{both_on, effect_on, plain_on, repeated, repeated_on}
+use Rattle.task_meaning.proofs.Multiples.{effect_on, plain_on}
+use Rattle.task_meaning.proofs.PairedWords.{kept_none}
 use Rattle.task_meaning.proofs.Pairs.{IsOperand, some_height}
 use Rattle.task_meaning.proofs.Ranges.{fits_means, ready_fits, value_fits}
-use Rattle.task_meaning.proofs.RegisterCode.{AreOnRegisters, does_to, effect, registers_then}
+use Rattle.task_meaning.proofs.RegisterCode.{AreOnRegisters, effect, registers_then}
 use Rattle.task_meaning.proofs.Rules.{GoesOn, split}
 use Rattle.task_meaning.proofs.SiteNodes.{value_in}
 use Rattle.task_meaning.proofs.Stages.{Stage, at_byte, at_carried, at_effects, at_instructions, script_of}
-use Rattle.task_meaning.proofs.Values.{HasWord, word_then}
+use Rattle.task_meaning.proofs.Values.{HasWord, word_given, word_then}
 use Rattle.task_meaning.proofs.WordArithmetic.{has_word, word_is}
 use Rattle.task_meaning.proofs.WordForms.{straight_does}
 use Rattle.task_meaning.proofs.WordRoutines.{shift_then}
-
--- A after an instruction that changes it by a function, so many times
-turns_a :
-    (i : Instr) (f : ℕ → ℕ) (count : ℕ) (r : Registers)
-    → ((now : Registers) → (does_to i now).a ≡ f now.a)
-    → (effect (replicate count i) r).a ≡ times f count r.a
-turns_a i f zero r does = refl
-turns_a i f (suc count) r does = turns_a i f count (does_to i r) does ∙ ap (times f count) (does r)
-
--- a byte that is turned, and of which the bits that came in are masked
-masked : (count a : ℕ) → 2 ≤ count → count < 8 → a < 256 → bit_and (turned a (8 - count)) (255 / 2 ^ count) ≡ a / 2 ^ count
-masked zero a some few small = absurd (omega (arith, some))
-masked (suc zero) a some few small = absurd (omega (arith, some))
-masked (suc (suc zero)) a some few small = equal_below (λ k. bit_and (turned k 6) 63) (λ k. k / 2 ^ 2) 256 a refl small
-masked (suc (suc (suc zero))) a some few small = equal_below (λ k. bit_and (turned k 5) 31) (λ k. k / 2 ^ 3) 256 a refl small
-masked (suc (suc (suc (suc zero)))) a some few small = equal_below (λ k. bit_and (turned k 4) 15) (λ k. k / 2 ^ 4) 256 a refl small
-masked (suc (suc (suc (suc (suc zero))))) a some few small = equal_below (λ k. bit_and (turned k 3) 7) (λ k. k / 2 ^ 5) 256 a refl small
-masked (suc (suc (suc (suc (suc (suc zero)))))) a some few small = equal_below (λ k. bit_and (turned k 2) 3) (λ k. k / 2 ^ 6) 256 a refl small
-masked (suc (suc (suc (suc (suc (suc (suc zero))))))) a some few small = equal_below (λ k. bit_and (turned k 1) 1) (λ k. k / 2 ^ 7) 256 a refl small
-masked (suc (suc (suc (suc (suc (suc (suc (suc count)))))))) a some few small = absurd (omega (arith, few))
-
-less_turned : (count : ℕ) → 2 ≤ count → count < 8 → (8 - count) % 8 ≡ 8 - count
-less_turned count some few = omega (arith, some, few)
-
--- the code of a shift of A to the right
-pub record RightCode (count : ℕ) : Type 0 where
-  pub instructions : List Instr
-  pub same : right_shift_steps count ≡ plain instructions
-  pub on : AreOnRegisters instructions
-  pub makes : (r : Registers) → r.a < 256 → (effect instructions r).a ≡ r.a / 2 ^ count
 
 no_shift : (a count : ℕ) → count ≡ 0 → a ≡ a / 2 ^ count
 no_shift a count none = sym (ap (λ n. a / 2 ^ n) none ∙ whole a)
@@ -90,91 +63,32 @@ no_shift a count none = sym (ap (λ n. a / 2 ^ n) none ∙ whole a)
     whole : (a : ℕ) → a / 2 ^ 0 ≡ a
     whole a = omega arith
 
-by_one : (a count : ℕ) → count ≡ 1 → a / 2 + 128 * 0 ≡ a / 2 ^ count
-by_one a count one = sym (ap (λ n. a / 2 ^ n) one ∙ half a)
+-- code that makes a byte in A, and then that with zeros added in HL
+coded_then :
+    {context : Context} {top pushed need from to : ℕ} {base : List ℕ} {facts last : Facts} {steps : List Step} {f : ℕ → ℕ}
+    (code : CodeOfA steps f) (number : ExpressionNumber) (n : ℕ) (t : SourceState) (r now : Registers)
+    (memory ended : List ℕ) (sound : IsSound context)
+    → keeps context.site number ≡ keeps_none
+    → n < 256
+    → f now.a ≡ n
+    → StepsStand context (PartDoes context) facts from (steps ++ extension_steps) last to
+    → Stage context top pushed need base t facts now ended
+    → Does (script_of context) t.budget 0 (at_place from now ended t.events) (Gave n t)
+    (Arrives context.activation top base to (WordIsGiven context last number Address r memory))
+coded_then {context = context} {from = from} {to = to} {facts = facts} {last = last} code number n t r now memory ended sound none small is stand stage =
+    let extension : List Instr = copy L A ∷ set H 0 ∷ [] in
+    at_last_instructions (code.instructions ++ extension) sound
+    (both_straight code.instructions extension code.on (tt, (tt, tt)))
+    (subst (λ (list : List Step). StepsStand context (PartDoes context) facts from list last to)
+    (ap (λ (list : List Step). list ++ extension_steps) code.same ∙ sym (plain_on code.instructions extension)) stand) stage
+    (λ final.
+    word_given t (below n small)
+    (subst (λ (after : Registers). HasWord n after) (sym (effect_on code.instructions extension now))
+    (extended n (effect code.instructions now) small (code.makes now stage.ready.registers.a ∙ is)))
+    (kept_none context number r _ none) (record { ready = final.ready; known = final.known }))
   where
-    half : (a : ℕ) → a / 2 ^ 1 ≡ a / 2 + 128 * 0
-    half a = omega arith
-
--- A turned to the right, either way
-record TurnedCode (count : ℕ) : Type 0 where
-  instructions : List Instr
-  same : turned_right_steps count ≡ plain instructions
-  on : AreOnRegisters instructions
-  makes : (r : Registers) → r.a < 256 → (effect instructions r).a ≡ turned r.a (8 - count)
-
-turned_code : (count : ℕ) → 2 ≤ count → count < 8 → TurnedCode count
-unfolding turned_right_steps
-turned_code count some few = by (nat_le count 4) refl
-  where
-    by : (short : Bool) → nat_le count 4 ≡ short → TurnedCode count
-    by true is = record {
-      instructions = replicate count Rrc;
-      same =
-          ap (λ (test : Bool). if test then repeat_steps Rrc count else repeat_steps Rlc (8 - count)) is
-          ∙ repeated Rrc count;
-      on = repeated_on Rrc count tt;
-      makes = λ r small.
-          turns_a Rrc turn_right count r (λ now. refl) ∙ turned_right count r.a few small
-          ∙ ap (turned r.a) (less_turned count some few);
-    }
-    by false is = record {
-      instructions = replicate (8 - count) Rlc;
-      same =
-          ap (λ (test : Bool). if test then repeat_steps Rrc count else repeat_steps Rlc (8 - count)) is
-          ∙ repeated Rlc (8 - count);
-      on = repeated_on Rlc (8 - count) tt;
-      makes = λ r small.
-          turns_a Rlc turn_left (8 - count) r (λ now. refl) ∙ turned_left (8 - count) r.a (omega (arith, some)) small;
-    }
-
-two_or_more : (count : ℕ) → (count == 0) ≡ false → (count == 1) ≡ false → 2 ≤ count
-two_or_more count one two =
-    let not_none = eqb-false count 0 one in let not_one = eqb-false count 1 two in omega (arith, not_none, not_one)
-
-kept_is : (count : ℕ) → count < 8 → kept_bits count ≡ 255 / 2 ^ count
-unfolding kept_bits
-kept_is count few = ap (λ (test : Bool). if test then 255 / 2 ^ count else 0) (lt-ltb count 8 few)
-
-pub right_code : (count : ℕ) → count < 8 → RightCode count
-unfolding right_shift_steps
-right_code count few = by (count == 0) (count == 1) refl refl
-  where
-    steps : (none one : Bool) → List Step
-    steps none one =
-        if none then []
-        else if one then plain (with_register Or A ∷ Rar ∷ [])
-        else turned_right_steps count ++ (Plain (AccumulateImmediate And (kept_bits count)) ∷ [])
-
-    by : (none one : Bool) → (count == 0) ≡ none → (count == 1) ≡ one → RightCode count
-    by true one here there = record {
-      instructions = [];
-      same = ap (λ (test : Bool). steps test (count == 1)) here;
-      on = tt;
-      makes = λ r small. no_shift r.a count (eqb-true count 0 here);
-    }
-    by false true here there = record {
-      instructions = with_register Or A ∷ Rar ∷ [];
-      same = ap (λ (test : Bool). steps test (count == 1)) here ∙ ap (steps false) there;
-      on = (tt, (tt, tt));
-      makes = λ r small. ap (λ n. n / 2 + 128 * 0) (or_self r.a) ∙ by_one r.a count (eqb-true count 1 there);
-    }
-    by false false here there =
-        let some : 2 ≤ count = two_or_more count here there in
-        let code : TurnedCode count = turned_code count some few in
-        record {
-          instructions = code.instructions ++ (AccumulateImmediate And (kept_bits count) ∷ []);
-          same =
-              ap (λ (test : Bool). steps test (count == 1)) here ∙ ap (steps false) there
-              ∙ ap (λ (list : List Step). list ++ (Plain (AccumulateImmediate And (kept_bits count)) ∷ [])) code.same
-              ∙ sym (plain_on code.instructions (AccumulateImmediate And (kept_bits count) ∷ []));
-          on = both_on code.instructions (AccumulateImmediate And (kept_bits count) ∷ []) code.on (tt, tt);
-          makes = λ r small.
-              ap (λ (now : Registers). now.a) (effect_on code.instructions (AccumulateImmediate And (kept_bits count) ∷ []) r)
-              ∙ ap (λ a. bit_and a (kept_bits count)) (code.makes r small)
-              ∙ ap (bit_and (turned r.a (8 - count))) (kept_is count few)
-              ∙ masked count r.a some few small;
-        }
+    below : (n : ℕ) → n < 256 → n < 65536
+    below n small = omega (arith, small)
 
 -- HL shifted by 1 and by 2
 abbrev half_instructions : List Instr
@@ -318,16 +232,12 @@ module _
           (λ middle found rest after.
           extended_then number sound none (x / 2 ^ count) t r _ memory ended (less_shifted x count 256 (below x t same))
           (xor_self now.a ∙ sym (none_right count x (leb-true 8 count is) (below x t same))) rest after))
-      by false is (PartThere {found = found} {middle = middle} part stand) =
-          let code : RightCode count = right_code count (leb-false 8 count is) in
+      by false is (PartThere part stand) =
           at_byte _ _ _ part operand.is operand.types height stage
           (λ x t now ended same given next.
-          at_instructions code.instructions extension_steps sound code.on
-          (subst (λ (steps : List Step). StepsStand context (PartDoes context) found middle (steps ++ extension_steps) last to) code.same stand)
-          next
-          (λ later later_found rest after.
-          extended_then number sound none (x / 2 ^ count) t r _ memory ended (less_shifted x count 256 (below x t same))
-          (code.makes now next.ready.registers.a ∙ ap (λ n. n / 2 ^ count) (whole_byte now.a x given.a (below x t same))) rest after))
+          coded_then (shifted_code count (leb-false 8 count is)) number (x / 2 ^ count) t r now memory ended sound none
+          (less_shifted x count 256 (below x t same))
+          (ap (λ n. n / 2 ^ count) (whole_byte now.a x given.a (below x t same))) stand next)
 
   -- of the high byte
   high_shift_does :
@@ -343,7 +253,6 @@ module _
       let parts = split (high_byte_steps (knowing context.site facts) other pushed) (right_shift_steps (count - 8) ++ extension_steps)
       (subst (λ (steps : List Step). StepsStand context (PartDoes context) facts from steps last to)
       (append_assoc (high_byte_steps (knowing context.site facts) other pushed) (right_shift_steps (count - 8)) extension_steps) stand) in
-      let code : RightCode (count - 8) = right_code (count - 8) (few_more count few most) in
       at_carried from parts.middle parts.found
       (highs facts parts.found other pushed from parts.middle operand.bound tree operand.is operand.types parts.first)
       height tt
@@ -352,13 +261,8 @@ module _
       (λ x t now ended same given next.
       let is = ap (λ n. n / 2 ^ (count - 8)) given.a ∙ by_eight x count (count - 8) (eight_back count most) in
       let a_small = next.ready.registers.a in
-      at_instructions code.instructions extension_steps sound code.on
-      (subst (λ (steps : List Step). StepsStand context (PartDoes context) parts.found parts.middle (steps ++ extension_steps) last to) code.same parts.second)
-      next
-      (λ later later_found rest after.
-      extended_then number sound none (x / 2 ^ count) t r _ memory ended
-      (subst (λ (n : ℕ). n < 256) is (less_shifted now.a (count - 8) 256 a_small))
-      (code.makes now a_small ∙ is) rest after))
+      coded_then (shifted_code (count - 8) (few_more count few most)) number (x / 2 ^ count) t r now memory ended sound none
+      (subst (λ (n : ℕ). n < 256) is (less_shifted now.a (count - 8) 256 a_small)) is parts.second next)
 
   -- a shift to the right by a number
   pub right_does :

@@ -46,7 +46,7 @@ use Rattle.operands8080.specs.Loads.{extended_byte_in_memory_steps}
 use Rattle.operands8080.specs.Pairs.{pair_steps}
 use Rattle.exprgen8080.specs.Emission.{knowing}
 use Rattle.exprgen8080.specs.ByteOperators.{number_of_two}
-use Rattle.exprgen8080.specs.WordOperators.{division_steps, logic_with_number_steps, quotient_steps, remainder_steps, with_simple, word_binary_steps}
+use Rattle.exprgen8080.specs.WordOperators.{division_steps, logic_with_number_steps, quotient_steps, remainder_steps, word_binary_steps}
 use Rattle.exprgen8080.specs.WordShifts.{computed_count_steps, word_by_number_steps, word_shift_steps, word_shifted_right_steps}
 use Rattle.exprgen8080.specs.Words.{computed_word_steps, extended_byte_steps, word_form_steps, word_function_steps, word_of_two_steps, word_steps}
 use Rattle.task_meaning.specs.Contexts.{Context, IsSound, nodes_in}
