@@ -1,5 +1,5 @@
 -- The low byte of operators with two operands.
-use Rattle.std.proofs.Common.{◌≡◌, ℕ, ◌+◌, ◌-◌, ◌*◌, ◌/◌, ◌%◌, ◌^◌, ◌<◌, ◌≤◌, ◌&&◌, max, Bool, true, false, List, [], ◌∷◌, ◌++◌, Option, Some, None, is_some, option_map, option_and_then, refl, sym, ap, ◌∙◌, subst, arith}
+use Rattle.std.proofs.Common.{◌≡◌, ℕ, ◌-◌, ◌*◌, ◌%◌, ◌<◌, ◌&&◌, Bool, true, false, [], ◌∷◌, ◌++◌, Option, Some, None, is_some, option_map, refl, sym, ap, ◌∙◌, subst, arith}
 use Rattle.std.proofs.lemmas.Bool.{and_parts, false≢true}
 use Rattle.std.proofs.lemmas.Option.{none-some}
 use Rattle.trees.specs.declared.declaration.ScalarType.{ScalarType}
@@ -8,12 +8,11 @@ use Rattle.trees.specs.declared.expression.BinaryOperator.{BinaryOperator}
 use Rattle.trees.specs.declared.expression.BinaryOperator.TheVariants as operators
 use Rattle.typed_trees.specs.declared.parts.ShiftFunction.{ShiftFunction}
 use Rattle.typed_trees.specs.declared.parts.ShiftFunction.TheVariants.{RotateLeft, RotateRight, ShiftLeft, ShiftRight}
-use Rattle.typed_trees.specs.Charge.{height_of}
 use Rattle.typed_trees.specs.ExpressionTypes.{type_of, type_of_result}
 use Rattle.typed_trees.specs.TypedTrees.{BinaryNode, ShiftNode, TypedExpression}
 use Rattle.typed_trees.specs.WellTyped.{ShiftsIn, TypesHold}
 use Rattle.meaning.specs.Meaning.{computed}
-use Rattle.meaning.specs.Outcomes.{State as SourceState, Gave, then_do}
+use Rattle.meaning.specs.Outcomes.{Gave, then_do}
 use Rattle.meaning.specs.Values.{result_of, shifted, turned, values_of}
 use Rattle.isa8080.specs.declared.instr.Operation.{Operation}
 use Rattle.isa8080.specs.declared.instr.Operation.TheVariants.{Add, Subtract, And, ExclusiveOr, Or}
@@ -21,9 +20,7 @@ use Rattle.treecode.specs.declared.expression.Expression.{Expression}
 use Rattle.treecode.specs.declared.expression.ExpressionForm.{ExpressionForm}
 use Rattle.treecode.specs.declared.expression.ExpressionForm.TheVariants as forms
 use Rattle.treecode.specs.declared.expression.ExpressionNumber.{ExpressionNumber}
-use Rattle.treecode.specs.declared.place.Place.{Place}
 use Rattle.treecode.specs.declared.place.Place.TheVariants.{Number}
-use Rattle.treecode.specs.Known.{known_number}
 use Rattle.treecode.specs.Lowered.{IsExpression}
 use Rattle.treecode.specs.Traits.{free_at, has_immediate, is_free_form, is_free_with, is_of_low_byte, known_of, memory_of_form, number_at}
 use Rattle.steps8080.specs.declared.facts.Facts.{Facts}
@@ -36,8 +33,6 @@ use Rattle.sites8080.specs.Site.{scalar as scalar_of}
 use Rattle.sites8080.specs.Widths.{fits_byte, fits_byte_by, low_number}
 use Rattle.operands8080.specs.Products.{byte_product_steps}
 use Rattle.relations8080.specs.Relations.{outcome_value_steps, relation_outcome, relation_steps, relation_value_steps, value_setting}
-use Rattle.exprgen8080.specs.declared.byte_operators.Operands.{Operands}
-use Rattle.exprgen8080.specs.declared.byte_shifts.Shifted.{Shifted}
 use Rattle.exprgen8080.specs.ByteOperators.{byte_binary_steps, byte_operation_steps, form_of, from_number_steps, in_form_steps, product_byte_steps, with_number_steps}
 use Rattle.exprgen8080.specs.ByteShifts.{by_number_steps, byte_routine, byte_shift_steps, operands_steps}
 use Rattle.exprgen8080.specs.Emission.{knowing}

@@ -1,5 +1,5 @@
 -- The low byte of a value that has one part whose value counts: code on registers follows that of the part.
-use Rattle.std.proofs.Common.{◌≡◌, ℕ, zero, suc, ◌*◌, ◌/◌, ◌%◌, ◌<◌, ◌≤◌, Bool, true, false, List, [], ◌∷◌, ◌++◌, replicate, refl, sym, ap, ◌∙◌, subst, arith}
+use Rattle.std.proofs.Common.{◌≡◌, ℕ, zero, suc, ◌*◌, ◌/◌, ◌%◌, ◌<◌, ◌≤◌, Bool, true, false, List, [], ◌∷◌, replicate, refl, sym, ap, ◌∙◌, subst, arith}
 use Rattle.std.proofs.lemmas.Bool.{false≢true}
 use Rattle.typed_trees.specs.Charge.{height_of}
 use Rattle.typed_trees.specs.ExpressionTypes.{type_of}

@@ -1,9 +1,8 @@
 -- The low byte of a value that is known but for where things lie.
-use Rattle.std.proofs.Common.{◌≡◌, ℕ, ◌*◌, ◌/◌, ◌%◌, ◌<◌, Bool, true, false, List, [], ◌∷◌, Option, Some, None, is_some, refl, sym, ap, ◌∙◌, subst, arith}
+use Rattle.std.proofs.Common.{◌≡◌, ℕ, ◌/◌, ◌%◌, ◌<◌, true, false, [], ◌∷◌, Option, Some, None, is_some, refl, sym, ap, ◌∙◌, subst, arith}
 use Rattle.std.proofs.lemmas.Bool.{false≢true}
 use Rattle.std.specs.Option.{option_map_or}
-use Rattle.trees.specs.declared.declaration.ScalarType.{ScalarType}
-use Rattle.trees.specs.declared.declaration.ScalarType.TheVariants.{Byte, Address}
+use Rattle.trees.specs.declared.declaration.ScalarType.TheVariants.{Byte}
 use Rattle.typed_trees.specs.ExpressionTypes.{type_of}
 use Rattle.typed_trees.specs.TypedTrees.{TypedExpression}
 use Rattle.typed_trees.specs.WellTyped.{TypesHold}
@@ -30,15 +29,15 @@ use Rattle.exprgen8080.specs.Emission.{knowing}
 use Rattle.exprgen8080.specs.Halves.{byte_number_steps}
 use Rattle.task_meaning.specs.Contexts.{Context, IsSound, nodes_in}
 use Rattle.task_meaning.specs.Steps.{StepsStand, WordThere}
-use Rattle.task_meaning.specs.Tasks.{ChangesAOnly, PartDoes}
-use Rattle.task_meaning.proofs.ByteCode.{ByteCarried, at_last_instructions, beside_itself, changes_on}
+use Rattle.task_meaning.specs.Tasks.{PartDoes}
+use Rattle.task_meaning.proofs.ByteCode.{ByteCarried, at_last_instructions, changes_on}
 use Rattle.task_meaning.proofs.ByteForms.{byte_given}
 use Rattle.task_meaning.proofs.HighHalves.{byte_number_code}
 use Rattle.task_meaning.proofs.KnownOperands.{KnownFits, bytes_differ, known_fits, known_same, known_small, word_fits}
 use Rattle.task_meaning.proofs.Nodes.{NodeOf, node_of}
-use Rattle.task_meaning.proofs.Rules.{GoesOn, ready_with_registers, word_goes}
-use Rattle.task_meaning.proofs.SiteNodes.{free_is, known_means, value_in}
-use Rattle.task_meaning.proofs.Stages.{Stage, does_same}
+use Rattle.task_meaning.proofs.Rules.{ready_with_registers, word_goes}
+use Rattle.task_meaning.proofs.SiteNodes.{free_is, known_means}
+use Rattle.task_meaning.proofs.Stages.{does_same}
 
 -- what is known at a site is what the form says
 pub known_by_form :

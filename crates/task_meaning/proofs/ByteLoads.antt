@@ -73,7 +73,7 @@ scalar_read {context = context} {memory = memory} Address place s go sound ready
     word_read place s go sound ready fits
     (λ steady next. does (low + 256 * high) steady (sym (low_of low high small)) (two_bytes low high small small_too))
 
-place_small : (activation : Activation) (size : ℕ) (place : SourcePlace) → FitsIn activation size place
+pub place_small : (activation : Activation) (size : ℕ) (place : SourcePlace) → FitsIn activation size place
     → address_on_machine activation place < MEMORY_SIZE
 place_small activation size (InMemory address) fits = fits
 place_small activation size (InTheFrame object offset is_inside) fits = omega arith

@@ -1,13 +1,12 @@
 -- The low byte of an operator with a number.
-use Rattle.std.proofs.Common.{◌≡◌, ℕ, ◌+◌, ◌-◌, ◌*◌, ◌%◌, ◌<◌, ◌==◌, Bool, true, false, List, [], ◌∷◌, bit_and, bit_or, bit_xor, refl, sym, ap, ◌∙◌, subst, arith, if◌then◌else◌}
-use Rattle.std.proofs.lemmas.Bool.{eqb-true, false≢true}
+use Rattle.std.proofs.Common.{◌≡◌, ℕ, ◌+◌, ◌-◌, ◌%◌, ◌<◌, ◌==◌, Bool, true, false, List, [], ◌∷◌, bit_and, bit_or, bit_xor, refl, sym, ap, ◌∙◌, arith, if◌then◌else◌}
+use Rattle.std.proofs.lemmas.Bool.{eqb-true}
 use Rattle.std.specs.Int.Bits.{and_zero_r, xor_self}
 use lib.Bits.{and_comm, and_mod, or_comm, or_mod, xor_comm, xor_mod}
 use Rattle.trees.specs.declared.declaration.ScalarType.{ScalarType}
 use Rattle.trees.specs.declared.declaration.ScalarType.TheVariants as scalars
 use Rattle.typed_trees.specs.TypedTrees.{TypedExpression}
 use Rattle.meaning.specs.Values.{values_of}
-use Rattle.isa8080.specs.declared.instr.Instr.{Instr}
 use Rattle.isa8080.specs.declared.instr.Instr.TheVariants.{AccumulateImmediate, Cma, Dcr, Inr}
 use Rattle.isa8080.specs.declared.instr.Operand.TheVariants.{Of}
 use Rattle.isa8080.specs.declared.instr.Operation.{Operation}
@@ -20,7 +19,7 @@ use Rattle.steps8080.specs.declared.step.Step.{Step}
 use Rattle.steps8080.specs.declared.step.Step.TheVariants.{Plain}
 use Rattle.steps8080.specs.declared.step.Task.TheVariants as tasks
 use Rattle.steps8080.specs.Instructions.{clear_a, set}
-use Rattle.steps8080.specs.Step.{part, plain}
+use Rattle.steps8080.specs.Step.{part}
 use Rattle.exprgen8080.specs.ByteOperators.{added_steps, commutes, from_number_steps, immediate_steps, with_number_steps}
 use Rattle.exprgen8080.specs.Halves.{byte_number_steps}
 use Rattle.task_meaning.specs.Contexts.{Context, IsSound}

@@ -1,10 +1,9 @@
 -- The low byte of products with a number.
-use Rattle.std.proofs.Common.{◌≡◌, ℕ, zero, suc, ◌+◌, ◌*◌, ◌/◌, ◌%◌, ◌^◌, ◌<◌, ◌≤◌, ◌==◌, ◌||◌, Bool, true, false, nat_le, List, [], ◌∷◌, ◌++◌, Option, Some, None, refl, sym, ap, ◌∙◌, subst, arith, if◌then◌else◌}
+use Rattle.std.proofs.Common.{◌≡◌, ℕ, zero, suc, ◌+◌, ◌*◌, ◌/◌, ◌%◌, ◌^◌, ◌<◌, ◌≤◌, ◌==◌, ◌||◌, Bool, true, false, nat_le, List, [], ◌∷◌, Option, Some, None, refl, sym, ap, ◌∙◌, subst, arith, if◌then◌else◌}
 use Rattle.std.proofs.lemmas.Bool.{eqb-true, eqb-false, leb-true, leb-false, false≢true}
 use Rattle.std.proofs.lemmas.Nat.{mul-mod}
 use Rattle.std.proofs.Math.Nat.{pow-le-pow_right}
 use Rattle.trees.specs.declared.declaration.ScalarType.{ScalarType}
-use Rattle.trees.specs.declared.declaration.ScalarType.TheVariants as scalars
 use Rattle.typed_trees.specs.TypedTrees.{TypedExpression}
 use Rattle.meaning.specs.Values.{values_of}
 use Rattle.isa8080.specs.declared.instr.Instr.{Instr}
@@ -26,7 +25,7 @@ use Rattle.task_meaning.specs.Steps.{StepsStand}
 use Rattle.task_meaning.specs.Tasks.{PartDoes}
 use Rattle.task_meaning.proofs.ByteCode.{ByteCarried, FreeEffects, OfOne, all_straight, byte_by_code, byte_makes}
 use Rattle.task_meaning.proofs.ByteNumbers.{zero_after}
-use Rattle.task_meaning.proofs.ByteShiftNumbers.{doubled_code, low_of_type, low_times}
+use Rattle.task_meaning.proofs.ByteShiftNumbers.{doubled_code, low_of_type}
 use Rattle.task_meaning.proofs.Multiples.{bit_clear, bit_instructions, bit_is, bit_set, chain_instructions, chain_on, chain_same, effect_on, factor, fewer_bits, first_quotient, last_quotient, less_bits, next_quotient, power_is}
 use Rattle.task_meaning.proofs.RegisterCode.{effect}
 

@@ -1,6 +1,6 @@
 -- The low byte of operators with one operand that is a number, by what they mean; quotients and remainders.
-use Rattle.std.proofs.Common.{◌≡◌, ℕ, zero, suc, ◌+◌, ◌-◌, ◌*◌, ◌/◌, ◌%◌, ◌^◌, ◌<◌, ◌≤◌, ◌==◌, max, Bool, true, false, List, [], ◌∷◌, ◌++◌, Option, Some, None, is_some, option_and_then, option_map, bit_and, refl, sym, ap, ◌∙◌, subst, arith, if◌then◌else◌}
-use Rattle.std.proofs.lemmas.Bool.{false≢true, ne_eqb}
+use Rattle.std.proofs.Common.{◌≡◌, ℕ, ◌+◌, ◌-◌, ◌/◌, ◌%◌, ◌^◌, ◌<◌, ◌≤◌, ◌==◌, true, false, List, [], ◌∷◌, ◌++◌, Option, Some, None, is_some, option_and_then, bit_and, refl, sym, ap, ◌∙◌, subst, arith, if◌then◌else◌}
+use Rattle.std.proofs.lemmas.Bool.{ne_eqb}
 use Rattle.std.proofs.lemmas.Nat.{and_mask, pow_pos}
 use Rattle.std.proofs.lemmas.Option.{none-some, same_Some}
 use lib.Bits.{and_mod}
@@ -13,7 +13,7 @@ use Rattle.typed_trees.specs.ExpressionTypes.{type_of, type_of_result}
 use Rattle.typed_trees.specs.TypedTrees.{BinaryNode, TypedExpression}
 use Rattle.typed_trees.specs.WellTyped.{TypesHold}
 use Rattle.meaning.specs.Meaning.{computed}
-use Rattle.meaning.specs.Outcomes.{State as SourceState, Outcome, Gave, then_do}
+use Rattle.meaning.specs.Outcomes.{State as SourceState, Outcome, Gave}
 use Rattle.meaning.specs.Values.{result_of, values_of}
 use Rattle.isa8080.specs.declared.instr.Operation.TheVariants.{And}
 use Rattle.isa8080.specs.declared.instr.Register.TheVariants.{A, E}
@@ -23,7 +23,6 @@ use Rattle.runtime8080.specs.declared.routine.Routine.TheVariants as routines
 use Rattle.treecode.specs.declared.expression.ExpressionNumber.{ExpressionNumber}
 use Rattle.treecode.specs.declared.place.Place.TheVariants.{Number}
 use Rattle.treecode.specs.Lowered.{IsExpression}
-use Rattle.code_meaning.specs.Activations.{Arrives}
 use Rattle.code_meaning.specs.Landing.{Does, at_place}
 use Rattle.code_meaning.proofs.Landing.{gives}
 use Rattle.steps8080.specs.declared.facts.Facts.{Facts}
@@ -31,11 +30,10 @@ use Rattle.steps8080.specs.declared.step.Part.{Part}
 use Rattle.steps8080.specs.declared.step.Step.TheVariants.{CallRoutine, Plain}
 use Rattle.steps8080.specs.Instructions.{copy, low}
 use Rattle.sites8080.specs.Queries.{is_free, number as number_of}
-use Rattle.sites8080.specs.Widths.{fits_byte, power, power_of_two}
+use Rattle.sites8080.specs.Widths.{power, power_of_two}
 use Rattle.operands8080.specs.declared.pairs.PairOrder.TheVariants.{LeftInHl}
 use Rattle.operands8080.specs.Pairs.{pair_steps}
 use Rattle.exprgen8080.specs.ByteOperators.{number_of_two, quotient_byte_steps, remainder_byte_steps, with_number_steps}
-use Rattle.exprgen8080.specs.declared.byte_operators.Operands.{Operands}
 use Rattle.exprgen8080.specs.ByteShifts.{low_byte_shifted_right_steps}
 use Rattle.exprgen8080.specs.Emission.{knowing}
 use Rattle.exprgen8080.specs.Halves.{low_of_word_steps}
@@ -46,11 +44,11 @@ use Rattle.task_meaning.proofs.ByteCode.{ByteCarried, FreeEffects, OfOne}
 use Rattle.task_meaning.proofs.ByteNumbers.{with_number}
 use Rattle.task_meaning.proofs.ByteShiftsRight.{right_shifted}
 use Rattle.task_meaning.proofs.KnownOperands.{number_known, number_small, quotient_less}
-use Rattle.task_meaning.proofs.LowBytes.{LowIsGiven, low_given, low_word_law}
+use Rattle.task_meaning.proofs.LowBytes.{low_given, low_word_law}
 use Rattle.task_meaning.proofs.Multiples.{power_is}
 use Rattle.task_meaning.proofs.Pairs.{IsOperand, pair_then, same_rest}
 use Rattle.task_meaning.proofs.Ranges.{value_fits}
-use Rattle.task_meaning.proofs.RegisterCode.{effect, registers_then}
+use Rattle.task_meaning.proofs.RegisterCode.{registers_then}
 use Rattle.task_meaning.proofs.RoutineCalls.{routine_then}
 use Rattle.task_meaning.proofs.Rules.{GoesOn}
 use Rattle.task_meaning.proofs.SiteNodes.{value_in}

@@ -1,5 +1,5 @@
 -- Shifts and rotations of a BYTE by a count that is not known: by routines.
-use Rattle.std.proofs.Common.{◌≡◌, ℕ, ◌+◌, ◌*◌, ◌/◌, ◌%◌, ◌<◌, ◌≤◌, ◌&&◌, ◌||◌, max, Bool, true, false, List, [], ◌∷◌, ◌++◌, Option, Some, None, is_some, refl, sym, ap, ◌∙◌, subst, arith, if◌then◌else◌}
+use Rattle.std.proofs.Common.{◌≡◌, ℕ, ◌+◌, ◌*◌, ◌/◌, ◌%◌, ◌<◌, ◌≤◌, ◌&&◌, ◌||◌, Bool, true, false, List, [], ◌∷◌, ◌++◌, Option, Some, None, is_some, refl, sym, ap, ◌∙◌, subst, arith, if◌then◌else◌}
 use Rattle.std.proofs.lemmas.Bool.{and_parts, false≢true}
 use Rattle.mem80.specs.Memory.{byte_at}
 use Rattle.trees.specs.declared.declaration.ScalarType.{ScalarType}
@@ -44,7 +44,7 @@ use Rattle.task_meaning.proofs.BytesAsked.{BytesAsked, ByteIsAtHl}
 use Rattle.task_meaning.proofs.KnownOperands.{shift_fits}
 use Rattle.task_meaning.proofs.Pairs.{IsOperand}
 use Rattle.task_meaning.proofs.RoutineCalls.{routine_then}
-use Rattle.task_meaning.proofs.SiteNodes.{does_exchanged, free_is, value_in}
+use Rattle.task_meaning.proofs.SiteNodes.{does_exchanged, free_is}
 use Rattle.task_meaning.proofs.Stages.{Stage, at_byte, at_carried, at_end, at_pop, at_push, at_registers, flag_byte_is_small, pushed_is_small, script_of}
 
 -- after the routine

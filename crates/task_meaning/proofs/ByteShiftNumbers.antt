@@ -1,20 +1,15 @@
 -- The low byte of shifts and rotations by a number.
-use Rattle.std.proofs.Common.{◌≡◌, ℕ, zero, suc, ◌+◌, ◌-◌, ◌*◌, ◌/◌, ◌%◌, ◌^◌, ◌<◌, ◌≤◌, ◌==◌, Bool, true, false, nat_le, nat_lt, bit_and, bit_or, List, [], ◌∷◌, ◌++◌, replicate, pow-add, refl, sym, ap, ◌∙◌, subst, arith, if◌then◌else◌}
-use Rattle.std.proofs.lemmas.Bool.{eqb-true, eqb-false, leb-true, leb-false, lt-ltb}
-use Rattle.std.proofs.lemmas.List.{append_assoc}
+use Rattle.std.proofs.Common.{◌≡◌, ℕ, zero, suc, ◌+◌, ◌-◌, ◌*◌, ◌/◌, ◌%◌, ◌^◌, ◌<◌, ◌==◌, Bool, true, false, nat_le, nat_lt, bit_and, bit_or, List, [], ◌∷◌, ◌++◌, replicate, refl, sym, ap, ◌∙◌, subst, arith, if◌then◌else◌}
+use Rattle.std.proofs.lemmas.Bool.{eqb-true, leb-true, leb-false, lt-ltb}
 use Rattle.std.specs.Int.Bits.{or_self}
 use Rattle.trees.specs.declared.declaration.ScalarType.{ScalarType}
 use Rattle.trees.specs.declared.declaration.ScalarType.TheVariants as scalars
-use Rattle.typed_trees.specs.Charge.{height_of}
-use Rattle.typed_trees.specs.ExpressionTypes.{type_of}
 use Rattle.typed_trees.specs.TypedTrees.{TypedExpression}
-use Rattle.meaning.specs.Outcomes.{State as SourceState}
 use Rattle.meaning.specs.Values.{turned, values_of}
 use Rattle.isa8080.specs.declared.instr.Instr.{Instr}
-use Rattle.isa8080.specs.declared.instr.Instr.TheVariants.{AccumulateImmediate, Dad, Rar, Rlc, Rrc}
+use Rattle.isa8080.specs.declared.instr.Instr.TheVariants.{AccumulateImmediate, Rar, Rlc, Rrc}
 use Rattle.isa8080.specs.declared.instr.Operation.TheVariants.{Add, And, Or}
-use Rattle.isa8080.specs.declared.instr.Pair.TheVariants.{Hl}
-use Rattle.isa8080.specs.declared.instr.Register.TheVariants.{A, H, L}
+use Rattle.isa8080.specs.declared.instr.Register.TheVariants.{A}
 use Rattle.isa8080.specs.State.{Registers}
 use Rattle.runtime8080.proofs.Bits.{equal_below, none_left, none_right, shift_left, shifted_left, times, turn_left, turn_right, turned_left, turned_right}
 use Rattle.treecode.specs.declared.expression.ExpressionNumber.{ExpressionNumber}
@@ -22,7 +17,7 @@ use Rattle.steps8080.specs.declared.facts.Facts.{Facts}
 use Rattle.steps8080.specs.declared.step.Step.{Step}
 use Rattle.steps8080.specs.declared.step.Step.TheVariants.{Plain}
 use Rattle.steps8080.specs.declared.step.Task.TheVariants as tasks
-use Rattle.steps8080.specs.Instructions.{clear_a, copy, with_register}
+use Rattle.steps8080.specs.Instructions.{clear_a, with_register}
 use Rattle.steps8080.specs.Step.{part, plain, repeat_steps}
 use Rattle.exprgen8080.specs.ByteShifts.{byte_shifted_right_steps, kept_bits, right_shift_steps, rotation_steps, shifted_left_steps, turned_right_steps, zero_steps}
 use Rattle.task_meaning.specs.Contexts.{Context, IsSound}

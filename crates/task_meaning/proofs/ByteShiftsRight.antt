@@ -1,14 +1,11 @@
 -- The low byte of any value shifted to the right by a number.
-use Rattle.std.proofs.Common.{◌≡◌, ℕ, zero, suc, ◌+◌, ◌-◌, ◌*◌, ◌/◌, ◌%◌, ◌^◌, ◌<◌, ◌≤◌, ◌==◌, Bool, true, false, nat_le, bit_or, List, [], ◌∷◌, ◌++◌, replicate, pow-add, refl, sym, ap, ◌∙◌, subst, arith, if◌then◌else◌}
+use Rattle.std.proofs.Common.{◌≡◌, ℕ, zero, suc, ◌+◌, ◌-◌, ◌*◌, ◌/◌, ◌%◌, ◌^◌, ◌<◌, ◌≤◌, ◌==◌, Bool, true, false, nat_le, List, [], ◌∷◌, ◌++◌, replicate, pow-add, refl, sym, ap, ◌∙◌, subst, arith, if◌then◌else◌}
 use Rattle.std.proofs.lemmas.Bool.{eqb-true, eqb-false, leb-true, leb-false, false≢true}
 use Rattle.std.proofs.Math.Nat.{div-div-eq-div-mul, div-eq_of_lt, pow-le-pow_right}
-use Rattle.std.specs.Int.Bits.{or_self}
 use Rattle.trees.specs.declared.declaration.ScalarType.{ScalarType}
 use Rattle.trees.specs.declared.declaration.ScalarType.TheVariants as scalars
-use Rattle.typed_trees.specs.Charge.{height_of}
 use Rattle.typed_trees.specs.ExpressionTypes.{type_of}
 use Rattle.typed_trees.specs.TypedTrees.{TypedExpression}
-use Rattle.meaning.specs.Outcomes.{State as SourceState, Gave, then_do}
 use Rattle.meaning.specs.Values.{values_of}
 use Rattle.isa8080.specs.declared.instr.Instr.{Instr}
 use Rattle.isa8080.specs.declared.instr.Instr.TheVariants.{Dad, Rar}
@@ -19,7 +16,6 @@ use Rattle.isa8080.specs.Flags.{bit}
 use Rattle.isa8080.specs.State.{Registers}
 use Rattle.treecode.specs.declared.expression.ExpressionNumber.{ExpressionNumber}
 use Rattle.steps8080.specs.declared.facts.Facts.{Facts}
-use Rattle.steps8080.specs.declared.step.Step.{Step}
 use Rattle.steps8080.specs.declared.step.Step.TheVariants.{Plain}
 use Rattle.steps8080.specs.declared.step.Task.TheVariants as tasks
 use Rattle.steps8080.specs.Instructions.{clear_a, copy, with_register}
@@ -35,15 +31,13 @@ use Rattle.task_meaning.specs.Tasks.{PartDoes}
 use Rattle.task_meaning.proofs.ByteCode.{ByteCarried, FreeEffects, OfOne, all_straight, at_last_instructions, beside_itself, byte_makes, byte_of_word}
 use Rattle.task_meaning.proofs.ByteForms.{byte_given}
 use Rattle.task_meaning.proofs.ByteNumbers.{zero_after}
-use Rattle.task_meaning.proofs.ByteShiftNumbers.{quotient_byte, right_by_number, shifted_code, whole_byte}
+use Rattle.task_meaning.proofs.ByteShiftNumbers.{quotient_byte, right_by_number, shifted_code}
 use Rattle.task_meaning.proofs.BytesAsked.{HighIsGiven}
 use Rattle.task_meaning.proofs.HighHalves.{high_byte_law}
-use Rattle.task_meaning.proofs.KnownOperands.{quotient_less}
 use Rattle.task_meaning.proofs.Multiples.{both_on, doubled_is, effect_on, plain_on, repeated, repeated_on}
 use Rattle.task_meaning.proofs.Ranges.{fits_means, ready_fits}
-use Rattle.task_meaning.proofs.RegisterCode.{effect}
 use Rattle.task_meaning.proofs.Rules.{split}
-use Rattle.task_meaning.proofs.Stages.{Stage, at_carried, does_same}
+use Rattle.task_meaning.proofs.Stages.{at_carried, does_same}
 
 -- by the high byte alone
 by_high : (v count : ℕ) → 8 ≤ count → v / 256 / 2 ^ (count - 8) ≡ v / 2 ^ count

@@ -1,5 +1,5 @@
 -- The code of the low byte of an expression does what the expression means.
-use Rattle.std.proofs.Common.{◌≡◌, ℕ, ◌+◌, ◌-◌, ◌*◌, ◌/◌, ◌%◌, ◌<◌, ◌≤◌, Bool, true, false, List, [], ◌∷◌, ◌++◌, Option, Some, None, option_and_then, refl, sym, ap, ◌∙◌, subst, arith}
+use Rattle.std.proofs.Common.{◌≡◌, ℕ, ◌+◌, ◌-◌, ◌*◌, ◌/◌, ◌%◌, ◌<◌, ◌≤◌, true, false, [], ◌∷◌, ◌++◌, Option, Some, None, option_and_then, refl, sym, ap, ◌∙◌, subst, arith}
 use Rattle.std.proofs.lemmas.Bool.{false≢true}
 use Rattle.std.proofs.lemmas.Option.{none-some}
 use Rattle.std.specs.Option.{option_map_or}
@@ -7,29 +7,26 @@ use Rattle.trees.specs.declared.declaration.ScalarType.{ScalarType}
 use Rattle.trees.specs.declared.declaration.ScalarType.TheVariants as scalars
 use Rattle.trees.specs.declared.expression.UnaryOperator.{UnaryOperator}
 use Rattle.trees.specs.declared.expression.UnaryOperator.TheVariants.{Not, Negate}
-use Rattle.typed_trees.specs.declared.parts.UnaryFunction.{UnaryFunction}
 use Rattle.typed_trees.specs.declared.parts.UnaryFunction.TheVariants.{Low, High, Double}
 use Rattle.typed_trees.specs.Charge.{height_of}
 use Rattle.typed_trees.specs.ExpressionTypes.{type_of, type_of_target}
 use Rattle.typed_trees.specs.TypedTrees.{AssignmentNode, ConversionNode, FunctionNode, TypedExpression, TypedTarget, UnaryNode}
 use Rattle.typed_trees.specs.WellTyped.{TypesHold, TypesHoldInTarget}
 use Rattle.meaning.specs.Outcomes.{State as SourceState, Gave, then_do}
-use Rattle.meaning.specs.Values.{as_type, function_of, result_of_one, values_of}
+use Rattle.meaning.specs.Values.{as_type, result_of_one, values_of}
 use Rattle.isa8080.specs.declared.instr.Instr.TheVariants.{Cma, Inr}
 use Rattle.isa8080.specs.declared.instr.Operand.TheVariants.{Of}
 use Rattle.isa8080.specs.declared.instr.Register.TheVariants.{A}
 use Rattle.treecode.specs.declared.expression.Expression.{Expression}
 use Rattle.treecode.specs.declared.expression.ExpressionForm.{ExpressionForm}
-use Rattle.treecode.specs.declared.expression.ExpressionForm.TheVariants as forms
 use Rattle.treecode.specs.declared.expression.ExpressionNumber.{ExpressionNumber}
 use Rattle.treecode.specs.declared.place.Place.{Place}
 use Rattle.treecode.specs.declared.reference.Reference.{Reference}
 use Rattle.treecode.specs.declared.reference.Target.{Target}
 use Rattle.treecode.specs.Lowered.{IsExpression, IsTarget, IsStored, IsSent, IsForm, IsNumber, IsValue, IsLocation, IsConstantList, IsConversion, IsEmbedded, IsUnary, IsBinary, IsCallOf, IsFunction, IsShift, IsInput}
 use Rattle.treecode.specs.Queries.{source}
-use Rattle.treecode.specs.Traits.{is_free_form, known_of, memory_of_form, place_of_reference}
+use Rattle.treecode.specs.Traits.{known_of, place_of_reference}
 use Rattle.steps8080.specs.declared.facts.Facts.{Facts}
-use Rattle.steps8080.specs.declared.step.Step.TheVariants.{Plain}
 use Rattle.steps8080.specs.declared.step.Task.TheVariants as tasks
 use Rattle.steps8080.specs.Step.{part}
 use Rattle.sites8080.specs.Queries.{is_free, known, memory as memory_of}
@@ -39,7 +36,6 @@ use Rattle.operands8080.specs.Loads.{byte_in_memory_steps}
 use Rattle.exprgen8080.specs.Bytes.{byte_form_steps, byte_function_steps, byte_of_two_steps, byte_steps, byte_unary_steps, called_byte_steps, embedded_steps, known_byte_steps, low_of_value_steps}
 use Rattle.exprgen8080.specs.Calls.{call_steps, value_task}
 use Rattle.exprgen8080.specs.Emission.{knowing}
-use Rattle.exprgen8080.specs.Halves.{high_byte_steps}
 use Rattle.task_meaning.specs.Contexts.{Context, IsSound, nodes_in}
 use Rattle.task_meaning.specs.Steps.{StepsStand}
 use Rattle.task_meaning.specs.Tasks.{ByteDoes, PartDoes}
@@ -55,10 +51,9 @@ use Rattle.task_meaning.proofs.HighHalves.{high_byte_law}
 use Rattle.task_meaning.proofs.KnownOperands.{high_fits, word_fits}
 use Rattle.task_meaning.proofs.LowBytes.{called_law, input_law, low_word_law}
 use Rattle.task_meaning.proofs.Nodes.{NodeOf, node_of}
-use Rattle.task_meaning.proofs.Pairs.{IsOperand}
 use Rattle.task_meaning.proofs.Ranges.{value_fits}
 use Rattle.task_meaning.proofs.SiteNodes.{free_is, value_in}
-use Rattle.task_meaning.proofs.Stages.{at_carried, does_same}
+use Rattle.task_meaning.proofs.Stages.{at_carried}
 
 high_itself : (n : ℕ) → n / 256 < 256 → n / 256 ≡ n / 256 % 256
 high_itself n small = omega (arith, small)

@@ -1,29 +1,27 @@
 -- The high byte of a value, into A.
-use Rattle.std.proofs.Common.{◌≡◌, ℕ, ◌+◌, ◌*◌, ◌/◌, ◌%◌, ◌<◌, ◌≤◌, ◌==◌, ◌&&◌, Bool, true, false, List, [], ◌∷◌, Option, Some, None, bit_xor, option_map, refl, sym, ap, ◌∙◌, subst, arith, if◌then◌else◌}
+use Rattle.std.proofs.Common.{◌≡◌, ℕ, ◌+◌, ◌*◌, ◌/◌, ◌%◌, ◌<◌, ◌≤◌, ◌&&◌, Bool, true, List, [], ◌∷◌, Option, Some, None, refl, sym, ap, ◌∙◌, subst, arith}
 use Rattle.mem80.specs.declared.memory.TheConstants.{MEMORY_SIZE}
 use Rattle.mem80.specs.Memory.{byte_at}
 use Rattle.mem80.proofs.MemoryLemmas.{byte_small}
 use Rattle.trees.specs.declared.declaration.ScalarType.{ScalarType}
-use Rattle.trees.specs.declared.declaration.ScalarType.TheVariants.{Byte, Address}
-use Rattle.typed_trees.specs.Charge.{height_of, height_of_reference}
-use Rattle.typed_trees.specs.TypedTrees.{Home, InData, InConstants, Placed, BasedOn, Elsewhere, Nowhere, InFrame, PartOf, TypedExpression, TypedReference}
-use Rattle.typed_trees.specs.WellTyped.{RefersToScalar, TypesHold, TypesHoldInReference}
+use Rattle.trees.specs.declared.declaration.ScalarType.TheVariants.{Address}
+use Rattle.typed_trees.specs.Charge.{height_of_reference}
+use Rattle.typed_trees.specs.TypedTrees.{Home, InData, InConstants, Placed, BasedOn, Elsewhere, Nowhere, InFrame, PartOf, TypedReference}
+use Rattle.typed_trees.specs.WellTyped.{RefersToScalar, TypesHoldInReference}
 use Rattle.meaning.specs.Access.{InMemory, InTheFrame, Place as SourcePlace, Surroundings, home_of, next_place, place_of, read_scalar}
 use Rattle.meaning.specs.Meaning.{Displacement, based_place, displacement}
 use Rattle.meaning.specs.Outcomes.{State as SourceState, Ended, More, Outside, Outcome, Gave, Stopped, then_do}
 use Rattle.isa8080.specs.declared.instr.Register.TheVariants as registers
 use Rattle.isa8080.specs.State.{Registers, State, wrap}
-use Rattle.treecode.specs.declared.expression.ExpressionNumber.{ExpressionNumber}
 use Rattle.treecode.specs.declared.place.Location.{Location}
 use Rattle.treecode.specs.declared.reference.Reference.{Reference}
-use Rattle.treecode.specs.Lowered.{IsExpression, IsReference}
+use Rattle.treecode.specs.Lowered.{IsReference}
 use Rattle.treecode.specs.Traits.{is_static_location}
 use Rattle.code_meaning.specs.Activations.{Activation, Arrives, HasRoom}
 use Rattle.code_meaning.specs.Landing.{Does, Lands, at_place}
 use Rattle.code_meaning.proofs.Landing.{gives, told_on}
 use Rattle.code_facts.specs.Holding.{IsSteady, location_at}
 use Rattle.steps8080.specs.declared.facts.Facts.{Facts}
-use Rattle.steps8080.specs.declared.step.Step.{Step}
 use Rattle.steps8080.specs.declared.step.Step.TheVariants.{Plain}
 use Rattle.steps8080.specs.declared.step.Task.TheVariants as tasks
 use Rattle.steps8080.specs.Instructions.{load}
@@ -41,7 +39,6 @@ use Rattle.task_meaning.proofs.LocationBytes.{load_a_goes, location_byte_goes}
 use Rattle.task_meaning.proofs.NextBytes.{next_part, reference_next}
 use Rattle.task_meaning.proofs.Reading.{word_read}
 use Rattle.task_meaning.proofs.Rules.{GoesOn}
-use Rattle.task_meaning.proofs.Values.{then_does_where}
 
 one_further : (address bytes : ℕ) → (address + (bytes + 1)) % MEMORY_SIZE ≡ ((address + bytes) % MEMORY_SIZE + 1) % MEMORY_SIZE
 one_further address bytes = omega arith
@@ -262,6 +259,7 @@ high_in_memory_law {context = context} {facts = facts} {last = last} {reference 
             (given_last (read_scalar context.activation.around.program Address place s))
             (word_read place s (λ n u. Gave n u) sound ready fits
             (λ low_steady high_steady.
+            let steady = subst (λ (n : ℕ). IsSteady context.activation n) is_at high_steady in
             location_byte_goes facts location r sound room
             (subst (λ (n : ℕ). n < MEMORY_SIZE) is_at (omega arith))
             (subst (λ (n : ℕ). IsSteady context.activation n) is_at high_steady)

@@ -1,5 +1,5 @@
 -- The code of the high byte of a value.
-use Rattle.std.proofs.Common.{◌≡◌, ℕ, ◌*◌, ◌/◌, ◌%◌, ◌<◌, ◌==◌, Bool, true, false, List, [], ◌∷◌, Option, Some, None, option_map, option_and_then, refl, sym, ap, ◌∙◌, subst, arith, if◌then◌else◌}
+use Rattle.std.proofs.Common.{◌≡◌, ℕ, ◌*◌, ◌/◌, ◌<◌, ◌==◌, Bool, true, false, List, [], ◌∷◌, Option, Some, None, option_map, option_and_then, refl, sym, ap, ◌∙◌, subst, arith, if◌then◌else◌}
 use Rattle.std.proofs.lemmas.Bool.{eqb-true}
 use Rattle.std.proofs.lemmas.Option.{none-some, same_Some}
 use Rattle.trees.specs.declared.declaration.ScalarType.{ScalarType}
@@ -8,12 +8,11 @@ use Rattle.typed_trees.specs.Charge.{height_of}
 use Rattle.typed_trees.specs.ExpressionTypes.{type_of}
 use Rattle.typed_trees.specs.TypedTrees.{TypedExpression, TypedReference, ValueNode}
 use Rattle.typed_trees.specs.WellTyped.{TypesHold}
-use Rattle.meaning.specs.Outcomes.{State as SourceState, Outcome, Gave, Stopped, then_do}
+use Rattle.meaning.specs.Outcomes.{State as SourceState, Gave}
 use Rattle.isa8080.specs.declared.instr.Register.TheVariants.{A, H}
-use Rattle.isa8080.specs.State.{Registers, State}
+use Rattle.isa8080.specs.State.{Registers}
 use Rattle.treecode.specs.declared.expression.Expression.{Expression}
 use Rattle.treecode.specs.declared.expression.ExpressionForm.{ExpressionForm}
-use Rattle.treecode.specs.declared.expression.ExpressionForm.TheVariants as forms
 use Rattle.treecode.specs.declared.expression.ExpressionNumber.{ExpressionNumber}
 use Rattle.treecode.specs.declared.reference.Reference.{Reference}
 use Rattle.treecode.specs.Lowered.{IsExpression, IsReference, IsForm, IsNumber, IsValue, IsLocation, IsConstantList, IsConversion, IsEmbedded, IsUnary, IsBinary, IsCallOf, IsFunction, IsShift, IsInput}
@@ -25,7 +24,6 @@ use Rattle.steps8080.specs.declared.step.Step.TheVariants.{Plain}
 use Rattle.steps8080.specs.declared.step.Task.TheVariants as tasks
 use Rattle.steps8080.specs.Instructions.{clear_a, copy, high, set}
 use Rattle.steps8080.specs.Step.{part}
-use Rattle.sites8080.specs.declared.site.Site.{Site}
 use Rattle.sites8080.specs.Queries.{number as number_of, reference_after}
 use Rattle.sites8080.specs.Widths.{fits_byte, high_byte_in_memory, word_in_memory, word_of}
 use Rattle.operands8080.specs.Loads.{byte_in_memory_steps}
@@ -41,7 +39,7 @@ use Rattle.task_meaning.proofs.BytesAsked.{HighIsGiven}
 use Rattle.task_meaning.proofs.HighBytes.{high_in_memory_law}
 use Rattle.task_meaning.proofs.KnownOperands.{number_small, word_fits}
 use Rattle.task_meaning.proofs.Nodes.{NodeOf, node_of}
-use Rattle.task_meaning.proofs.Ranges.{fits_means, ready_fits, value_fits}
+use Rattle.task_meaning.proofs.Ranges.{fits_means, ready_fits}
 use Rattle.task_meaning.proofs.SiteNodes.{number_means, value_in}
 use Rattle.task_meaning.proofs.Stages.{Stage, at_effects, at_word, does_same, script_of}
 

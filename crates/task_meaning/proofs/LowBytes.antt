@@ -1,9 +1,8 @@
 -- The low byte of values that come by way of HL, of calls and of ports.
-use Rattle.std.proofs.Common.{◌≡◌, ℕ, ◌*◌, ◌/◌, ◌%◌, ◌<◌, ◌≤◌, true, false, List, [], ◌∷◌, ◌++◌, Some, refl, sym, ap, ◌∙◌, subst, arith}
-use Rattle.std.proofs.lemmas.Bool.{false≢true}
+use Rattle.std.proofs.Common.{◌≡◌, ℕ, ◌*◌, ◌%◌, ◌<◌, true, List, [], ◌∷◌, ◌++◌, Some, refl, sym, subst, arith}
 use Rattle.trees.specs.declared.declaration.ScalarType.{ScalarType}
 use Rattle.trees.specs.declared.declaration.ScalarType.TheVariants as scalars
-use Rattle.typed_trees.specs.Charge.{count_of_arguments, height_of, height_of_arguments}
+use Rattle.typed_trees.specs.Charge.{height_of}
 use Rattle.typed_trees.specs.ExpressionTypes.{type_of}
 use Rattle.typed_trees.specs.TypedTrees.{CallNode, InputNode, TypedArguments, TypedExpression}
 use Rattle.typed_trees.specs.WellTyped.{Takes, TypesHold, TypesHoldInArguments}
@@ -27,8 +26,8 @@ use Rattle.exprgen8080.specs.Calls.{call_steps}
 use Rattle.exprgen8080.specs.Emission.{knowing}
 use Rattle.exprgen8080.specs.Halves.{low_of_word_steps}
 use Rattle.task_meaning.specs.Contexts.{Context, InRegister, IsSound, nodes_in}
-use Rattle.task_meaning.specs.Steps.{StepsStand, NoneThere, PlainThere}
-use Rattle.task_meaning.specs.Tasks.{ByteIsGiven, Know, PartDoes, ResultIsGiven}
+use Rattle.task_meaning.specs.Steps.{StepsStand, PlainThere}
+use Rattle.task_meaning.specs.Tasks.{ByteIsGiven, Know, PartDoes}
 use Rattle.task_meaning.proofs.Branches.{given_itself}
 use Rattle.task_meaning.proofs.ByteCode.{ByteCarried, OfOne, at_last_instructions, byte_of_word, with_outcome}
 use Rattle.task_meaning.proofs.ByteForms.{byte_given}
@@ -37,7 +36,7 @@ use Rattle.task_meaning.proofs.EffectForms.{input_goes}
 use Rattle.task_meaning.proofs.Ranges.{ready_fits, value_fits}
 use Rattle.task_meaning.proofs.Rules.{Parted, split}
 use Rattle.task_meaning.proofs.SiteNodes.{value_in}
-use Rattle.task_meaning.proofs.Stages.{Stage, at_end, does_same, gives_then, has_less_room, script_of}
+use Rattle.task_meaning.proofs.Stages.{Stage, at_end, gives_then, has_less_room, script_of}
 
 -- by way of HL
 pub low_word_law :
