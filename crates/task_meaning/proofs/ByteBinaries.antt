@@ -48,7 +48,7 @@ use Rattle.task_meaning.proofs.ByteShiftCounts.{shift_by_count}
 use Rattle.task_meaning.proofs.ByteShiftNumbers.{left_by_number, turned_by_number}
 use Rattle.task_meaning.proofs.ByteShiftsRight.{right_shifted}
 use Rattle.task_meaning.proofs.BytesAsked.{BytesAsked}
-use Rattle.task_meaning.proofs.KnownOperands.{bytes_differ, number_known, number_small, shift_fits}
+use Rattle.task_meaning.proofs.KnownOperands.{number_known, number_small, shift_fits}
 use Rattle.task_meaning.proofs.LowBytes.{low_word_law}
 use Rattle.task_meaning.proofs.Nodes.{NodeOf, node_of}
 use Rattle.task_meaning.proofs.Pairs.{IsOperand, same_rest}

@@ -40,7 +40,7 @@ use Rattle.task_meaning.specs.Contexts.{Context, IsSound, nodes_in}
 use Rattle.task_meaning.specs.Steps.{StepsStand}
 use Rattle.task_meaning.specs.Tasks.{ByteDoes, PartDoes}
 use Rattle.task_meaning.proofs.ByteBinaries.{IsElsewhere, binary_law, never_free, shift_law}
-use Rattle.task_meaning.proofs.ByteCode.{ByteCarried, OfOne, beside_a, beside_itself, beside_on, byte_by_code, byte_makes}
+use Rattle.task_meaning.proofs.ByteCode.{ByteCarried, OfOne, beside_a, beside_itself, byte_makes}
 use Rattle.task_meaning.proofs.ByteForms.{byte_given, complement_byte, complement_small, free_by_form, negative_byte, negative_small, type_byte, type_small}
 use Rattle.task_meaning.proofs.ByteKnown.{known_by_form, known_law}
 use Rattle.task_meaning.proofs.BytesAsked.{BytesAsked, HighIsGiven}

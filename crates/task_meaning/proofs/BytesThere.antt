@@ -1,5 +1,5 @@
 -- The low byte of a value that lies in memory.
-use Rattle.std.proofs.Common.{◌≡◌, ℕ, ◌*◌, ◌/◌, ◌%◌, ◌<◌, ◌≤◌, true, false, Option, Some, None, is_some, option_and_then, refl, sym, ap, ◌∙◌, subst, arith, List, [], ◌∷◌}
+use Rattle.std.proofs.Common.{◌≡◌, ℕ, ◌*◌, ◌/◌, ◌%◌, ◌<◌, ◌≤◌, true, false, Option, Some, None, is_some, option_and_then, refl, sym, ap, ◌∙◌, subst, arith}
 use Rattle.std.proofs.lemmas.Bool.{false≢true}
 use Rattle.std.proofs.lemmas.Option.{none-some, same_Some}
 use Rattle.std.specs.Option.{option_map_or}
@@ -10,10 +10,7 @@ use Rattle.typed_trees.specs.Charge.{height_of, height_of_reference}
 use Rattle.typed_trees.specs.ExpressionTypes.{type_of}
 use Rattle.typed_trees.specs.TypedTrees.{FunctionNode, TypedExpression, TypedReference, ValueNode}
 use Rattle.typed_trees.specs.WellTyped.{RefersToScalar, TypesHold, TypesHoldInReference}
-use Rattle.mem80.specs.declared.memory.TheConstants.{MEMORY_SIZE}
-use Rattle.mem80.specs.Memory.{byte_at}
-use Rattle.typed_trees.specs.Sizes.{size_of_scalar}
-use Rattle.meaning.specs.Access.{Place as SourcePlace, read_scalar}
+use Rattle.meaning.specs.Access.{read_scalar}
 use Rattle.meaning.specs.Outcomes.{State as SourceState, Outcome, Gave, then_do}
 use Rattle.meaning.specs.Values.{as_type, values_of}
 use Rattle.treecode.specs.declared.expression.Expression.{Expression}
@@ -22,7 +19,6 @@ use Rattle.treecode.specs.declared.expression.ExpressionForm.TheVariants as form
 use Rattle.treecode.specs.declared.expression.ExpressionNumber.{ExpressionNumber}
 use Rattle.treecode.specs.declared.place.Home.{Home}
 use Rattle.treecode.specs.declared.place.Home.TheVariants as homes
-use Rattle.treecode.specs.declared.place.Location.{Location}
 use Rattle.treecode.specs.declared.place.Location.TheVariants as locations
 use Rattle.treecode.specs.declared.place.Place.{Place}
 use Rattle.treecode.specs.declared.reference.Reference.{Reference}
@@ -30,36 +26,26 @@ use Rattle.treecode.specs.declared.reference.Subscript.{Subscript as IndexNode}
 use Rattle.treecode.specs.Known.{converted_place, function_of_place, known_distance, place_of_part}
 use Rattle.treecode.specs.Lowered.{IsExpression, IsReference, IsForm, IsNumber, IsValue, IsLocation, IsConstantList, IsConversion, IsEmbedded, IsUnary, IsBinary, IsCallOf, IsFunction, IsShift, IsInput}
 use Rattle.treecode.specs.Nodes.{home_at}
-use Rattle.treecode.specs.Traits.{byte_after, distance_of, free_at, is_free_form, is_static_location, known_at, known_of, memory_of_form, memory_of_inner, no_traits, place_of_reference, same_low_byte, traits_of}
+use Rattle.treecode.specs.Traits.{byte_after, distance_of, free_at, is_free_form, known_at, known_of, memory_of_form, memory_of_inner, no_traits, place_of_reference, same_low_byte, traits_of}
 use Rattle.code_meaning.specs.Activations.{Arrives}
 use Rattle.code_meaning.specs.Landing.{Does, at_place}
-use Rattle.code_meaning.proofs.Landing.{gives}
-use Rattle.code_facts.specs.Holding.{IsSteady}
 use Rattle.steps8080.specs.declared.facts.Facts.{Facts}
-use Rattle.steps8080.specs.declared.step.Step.TheVariants.{Plain}
-use Rattle.steps8080.specs.declared.step.Task.TheVariants as tasks
-use Rattle.steps8080.specs.Instructions.{load}
-use Rattle.steps8080.specs.Step.{part as part_of}
-use Rattle.isa8080.specs.declared.instr.Register.TheVariants as registers
 use Rattle.sites8080.specs.declared.queries.Base.{Base}
 use Rattle.sites8080.specs.declared.queries.Split.{Split}
 use Rattle.sites8080.specs.Queries.{base_after, base_of, is_free, location_at, location_of, located, located_at, memory as memory_of, number as number_of, reference_after, split, split_computed}
-use Rattle.operands8080.specs.Loads.{byte_in_memory_steps, location_byte_steps}
+use Rattle.operands8080.specs.Loads.{byte_in_memory_steps}
 use Rattle.exprgen8080.specs.Emission.{knowing}
 use Rattle.task_meaning.specs.Contexts.{Context, IsSound, nodes_in}
 use Rattle.task_meaning.specs.Steps.{StepsStand}
-use Rattle.task_meaning.specs.Tasks.{ByteIsGiven, Carries, Nothing, PartDoes}
+use Rattle.task_meaning.specs.Tasks.{ByteIsGiven, PartDoes}
 use Rattle.task_meaning.proofs.Branches.{given_itself}
 use Rattle.task_meaning.proofs.ByteCode.{ByteCarried}
 use Rattle.task_meaning.proofs.ByteForms.{byte_given, free_by_form, type_byte, type_small}
-use Rattle.task_meaning.proofs.ByteLoads.{ByteIsLoaded, byte_in_memory_law, place_small, scalar_read}
+use Rattle.task_meaning.proofs.ByteLoads.{ByteIsLoaded, byte_in_memory_law}
 use Rattle.task_meaning.proofs.BytesInMemory.{memory_same}
 use Rattle.task_meaning.proofs.Effects.{then_again}
 use Rattle.task_meaning.proofs.HighBytes.{HighIsLoaded, high_in_memory_law}
 use Rattle.task_meaning.proofs.KnownOperands.{bytes_differ, word_fits}
-use Rattle.task_meaning.proofs.Fitting.{located_fits, refers_is_referred}
-use Rattle.task_meaning.proofs.Loads.{given_last, lies_there, same_location_found, static_only}
-use Rattle.task_meaning.proofs.LocationBytes.{location_byte_goes}
 use Rattle.task_meaning.proofs.Located.{located_in}
 use Rattle.task_meaning.proofs.Nodes.{NodeOf, node_of}
 use Rattle.task_meaning.proofs.SiteNodes.{free_is, number_is, value_in}
@@ -403,58 +389,6 @@ static_there context facts reference is =
           | None ↦ location_at (base (home_at (nodes_in context).homes reference.object))
         ]) second_none
         ∙ ap (λ (home : Home). location_at (base home)) begins)
-
--- The code of the low byte of a scalar in memory.
-low_in_memory_law :
-    {context : Context} {facts last : Facts} {reference : Reference} {pushed from to bound : ℕ} {part : TypedReference}
-    (scalar : ScalarType)
-    → IsSound context
-    → NeighboursKnown context
-    → StepsStand context (PartDoes context) facts from (byte_in_memory_steps (knowing context.site facts) reference pushed) last to
-    → IsReference (nodes_in context) context.storage bound reference part
-    → RefersToScalar context.typed context.within scalar part
-    → TypesHoldInReference context.typed context.within part
-    → Carries context facts pushed (2 * height_of_reference part) 0 from to Nothing (scalar_in context scalar part)
-    (ByteIsLoaded context facts last reference scalar)
-low_in_memory_law {context = context} {facts = facts} {last = last} {reference = reference} {pushed = pushed} {from = from} {to = to} {bound = bound} {part = part} scalar sound neighbours stand is refers types =
-    by (location_of (knowing context.site facts) reference) refl stand
-  where
-    by : (found : Option Location) → location_of (knowing context.site facts) reference ≡ found
-        → StepsStand context (PartDoes context) facts from
-        (elim found [
-          | Some location ↦ location_byte_steps (knowing context.site facts) location pushed
-          | None ↦ part_of (tasks.Address reference) pushed ∷ Plain (load registers.A) ∷ []
-        ]) last to
-        → Carries context facts pushed (2 * height_of_reference part) 0 from to Nothing (scalar_in context scalar part)
-        (ByteIsLoaded context facts last reference scalar)
-    by None found given = byte_in_memory_law scalar sound (λ location here. static_only found here) stand is refers types
-    by (Some location) found given = λ top base s r memory less room ready known asked.
-        let lies = lies_there facts location sound is (refers_is_referred context scalar part refers) types found in
-        let fits = located_fits context scalar part lies.place s s sound refers (lies.means s) in
-        subst (λ (outcome : Outcome ℕ). Does context.activation.around.program.script s.budget 0 (at_place from r memory s.events) outcome
-        (Arrives context.activation top base to (ByteIsLoaded context facts last reference scalar r memory)))
-        (given_last (read_scalar context.activation.around.program scalar lies.place s)
-        ∙ sym (ap (λ (outcome : Outcome SourcePlace). then_do outcome (λ place t. read_scalar context.activation.around.program scalar place t)) (lies.means s)))
-        (scalar_read scalar lies.place s (λ n t. Gave n t) sound ready fits
-        (λ n steady low small.
-        let steady_there = subst (λ (address : ℕ). IsSteady context.activation address) lies.is_at steady in
-        location_byte_goes facts location r sound room
-        ((neighbours facts scalar reference part bound top pushed (2 * height_of_reference part) location is refers types room steady_there).0 found)
-        (subst (λ (address : ℕ). address < MEMORY_SIZE) lies.is_at (place_small context.activation (size_of_scalar scalar) lies.place fits))
-        steady_there known given (record { ready = ready; known = known })
-        (λ now loaded on. gives (record {
-          r = now;
-          memory = memory;
-          is_at = refl;
-          ready = on.ready;
-          holds = record {
-            a = loaded.a ∙ ap (byte_at memory) (sym lies.is_at) ∙ low;
-            small = small;
-            known = on.known;
-            free = λ other other_is static.
-                loaded.others (ap is_static_location (same_location_found (sym found ∙ other_is)) ∙ static);
-          };
-        }))))
 
 -- the code of the byte
 pub there_law :

@@ -1,5 +1,5 @@
 -- Code of a call of a procedure.
-use Rattle.std.proofs.Common.{◌≡◌, ℕ, zero, suc, ◌+◌, ◌%◌, ◌-◌, ◌*◌, ◌<◌, ◌≤◌, ◌⊎◌, inl, inr, get_or, List, [], ◌∷◌, ◌++◌, length, slice_get, Option, Some, None, refl, sym, ap, subst, ◌∙◌, arith}
+use Rattle.std.proofs.Common.{◌≡◌, ℕ, suc, ◌+◌, ◌%◌, ◌-◌, ◌*◌, ◌<◌, ◌≤◌, ◌⊎◌, inl, inr, get_or, List, [], ◌∷◌, ◌++◌, length, slice_get, Option, Some, None, refl, sym, ap, subst, ◌∙◌, arith}
 use Rattle.std.proofs.lemmas.Option.{slice_get_cases, slice_get_within}
 use Rattle.std.specs.Prelude.{IsSomeAnd}
 use Rattle.trees.specs.declared.declaration.ScalarType.{ScalarType}
@@ -7,21 +7,18 @@ use Rattle.typed_trees.specs.Charge.{count_of_arguments, height_of_arguments}
 use Rattle.typed_trees.specs.TypedTrees.{MoreArguments, NoArguments, TypedArguments, TypedProcedure}
 use Rattle.typed_trees.specs.WellTyped.{Takes, TypesHoldInArguments, types_of}
 use Rattle.meaning.specs.Meaning.{called_for, callee_in, values}
-use Rattle.meaning.specs.Outcomes.{State as SourceState, Outcome, Gave, then_do}
-use Rattle.isa8080.specs.State.{Registers, State}
-use Rattle.asm8080.specs.declared.item.Item.{Item}
+use Rattle.meaning.specs.Outcomes.{State as SourceState, then_do}
+use Rattle.isa8080.specs.State.{Registers}
 use Rattle.asm8080.specs.Standing.{Keeps}
-use Rattle.machine_runs.proofs.Kept.{stands_size}
 use Rattle.treecode.specs.declared.lists.Range.{Range}
 use Rattle.treecode.specs.declared.procedure.ProcedureKind.{ProcedureKind}
 use Rattle.treecode.specs.declared.procedure.ProcedureKind.TheVariants as kinds
 use Rattle.treecode.specs.declared.procedure.TreeProcedure.{TreeProcedure}
 use Rattle.treecode.specs.Lowered.{AreArguments, AreMore, AreNone}
 use Rattle.steps8080.specs.declared.facts.Facts.{Facts}
-use Rattle.steps8080.specs.declared.step.Step.{Step}
 use Rattle.steps8080.specs.declared.step.Step.TheVariants as steps
 use Rattle.steps8080.specs.Facts.{no_facts}
-use Rattle.code_meaning.specs.Activations.{Activation, Arrives, IsReady, IsThere, Owns}
+use Rattle.code_meaning.specs.Activations.{Arrives, IsReady, IsThere, Owns}
 use Rattle.code_meaning.specs.Landing.{Does, at_place}
 use Rattle.code_meaning.proofs.Landing.{gives}
 use Rattle.code_meaning.proofs.Owning.{keeps_both}
@@ -32,7 +29,7 @@ use Rattle.task_meaning.specs.Contexts.{ArgumentsLie, Context, IsSound, ResultLi
 use Rattle.task_meaning.specs.Steps.{CallThere, NoneThere, StepsStand}
 use Rattle.task_meaning.specs.Tasks.{CallDoes, PartDoes, ResultIsGiven}
 use Rattle.task_meaning.proofs.Rules.{split}
-use Rattle.task_meaning.proofs.Stages.{Stage, does_same, gives_then, script_of}
+use Rattle.task_meaning.proofs.Stages.{Stage, gives_then, script_of}
 use Rattle.task_meaning.proofs.Arguments.{ArePassed, at_arguments, ready_now}
 
 -- the heading of a procedure that is called

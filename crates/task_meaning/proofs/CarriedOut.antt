@@ -1,5 +1,5 @@
 -- Each kind of task is carried out by its steps.
-use Rattle.std.proofs.Common.{◌≡◌, ℕ, Bool, List, refl}
+use Rattle.std.proofs.Common.{ℕ, Bool, List, refl}
 use Rattle.asm8080.specs.declared.item.Item.{Item}
 use Rattle.treecode.specs.declared.expression.ExpressionNumber.{ExpressionNumber}
 use Rattle.steps8080.specs.declared.facts.Facts.{Facts}

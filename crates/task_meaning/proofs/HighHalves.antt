@@ -37,7 +37,6 @@ use Rattle.task_meaning.proofs.ByteCode.{CodeOfA, at_last_instructions, beside_a
 use Rattle.task_meaning.proofs.ByteNumbers.{cleared}
 use Rattle.task_meaning.proofs.BytesAsked.{HighIsGiven}
 use Rattle.task_meaning.proofs.HighBytes.{high_in_memory_law}
-use Rattle.task_meaning.proofs.KnownOperands.{number_small, word_fits}
 use Rattle.task_meaning.proofs.Nodes.{NodeOf, node_of}
 use Rattle.task_meaning.proofs.Ranges.{fits_means, ready_fits}
 use Rattle.task_meaning.proofs.SiteNodes.{number_means, value_in}
