@@ -28,7 +28,8 @@ both_true : (one other : Bool) → one ≡ true → other ≡ true → (one && o
 both_true one other first second = ap (λ b. b && other) first ∙ second
 
 -- a known number
-number_of : (found : Option Place) → is_some (known_number found) ≡ true → (place : Place) × (found ≡ Some place) × (is_some (number_of_place place) ≡ true)
+number_of : (found : Option Place) → is_some (known_number found) ≡ true → (place : Place)
+    × (found ≡ Some place) × (is_some (number_of_place place) ≡ true)
 number_of (Some (Number n)) is = (Number n, refl, refl)
 number_of (Some (Code offset)) is = false_is_true is
 number_of (Some (Data offset)) is = false_is_true is
@@ -36,9 +37,11 @@ number_of (Some (External offset name)) is = false_is_true is
 number_of None is = false_is_true is
 
 module _ (nodes : Nodes) (storage : Storage) (keeps : KeepTraits nodes) where
-  pub free_of_entry : (number : ℕ) (expression : Expression) → slice_get nodes.expressions number ≡ Some expression
+  pub free_of_entry : (number : ℕ) (expression : Expression) → slice_get nodes.expressions number ≡ Some
+      expression
       → free_at nodes (record { index = number })
-      ≡ is_free_of nodes expression.traits.scalar (known_of nodes expression.traits.scalar expression.form) expression.form
+      ≡ is_free_of nodes expression.traits.scalar (known_of nodes expression.traits.scalar expression.form)
+      expression.form
   unfolding traits_of
   free_of_entry number expression at = ap (λ (traits : Traits). traits.is_free) (node_traits nodes number expression keeps at)
 
@@ -86,7 +89,8 @@ module _ (nodes : Nodes) (storage : Storage) (keeps : KeepTraits nodes) where
   after_is_quiet :
       {bound : ℕ} (scalar : ScalarType) (form : ExpressionForm) (tree : TypedExpression)
       → IsForm nodes storage bound form tree
-      → option_map_or (λ (reference : Reference). is_some (place_of_reference nodes reference)) (byte_after scalar form) false ≡ true
+      → option_map_or (λ (reference : Reference). is_some (place_of_reference nodes reference))
+      (byte_after scalar form) false ≡ true
       → is_quiet_form nodes form ≡ true
   after_is_quiet Address _ tree (IsValue (IsPart {object = object} {offset = offset} {first = first} {second = second} one two)) direct =
       let both = place_known (home_at nodes.homes object) ((offset % 65536 + 1) % 65536) (distance_of nodes first) (distance_of nodes second) direct in

@@ -86,7 +86,8 @@ word_form context reference bound _ scalars.Byte tree types same (IsValue is) to
 word_form context reference bound _ scalars.Byte tree types same other told = absurd cc
 
 pub word_part :
-    {context : Context} {bound : ℕ} {number : ExpressionNumber} {tree : TypedExpression} (facts : Facts) (reference : Reference)
+    {context : Context} {bound : ℕ} {number : ExpressionNumber} {tree : TypedExpression} (facts : Facts)
+    (reference : Reference)
     → IsSound context
     → IsExpression (nodes_in context) context.storage bound number.index tree
     → TypesHold context.typed context.within tree
@@ -99,7 +100,8 @@ word_part {context = context} {number = number} {tree = tree} facts reference so
     (sym (ap (λ (found : Option Expression). option_and_then (λ (one : Expression). word_of one.form one.traits.scalar) found) (node.at_site facts)) ∙ told)
 
 -- what lies directly in memory is located there
-static_location : (found : Option Location) (place : Place) → place_in_memory found ≡ Some place → found ≡ Some (locations.Static place)
+static_location : (found : Option Location) (place : Place) → place_in_memory found ≡ Some place → found
+    ≡ Some (locations.Static place)
 static_location (Some (locations.Static found)) place same = cc
 static_location (Some (locations.Frame variable offset)) place same = absurd cc
 static_location None place same = absurd cc
@@ -135,10 +137,13 @@ words_at_places context sound known_there number place bound top tree base s r m
         (read lies.place lies.is_at
         (word_found lies.place s sound ready (located_fits context scalars.Address part lies.place s s sound refers (lies.means s)))))
       where
-        read : (there : SourcePlace) → address_on_machine context.activation there ≡ place_at context.activation.layout place
-            → WordIsAt context there memory s (read_scalar context.activation.around.program scalars.Address there s)
+        read : (there : SourcePlace) → address_on_machine context.activation there ≡ place_at
+            context.activation.layout place
+            → WordIsAt context there memory s
+            (read_scalar context.activation.around.program scalars.Address there s)
             ⊎ GoesOutside (read_scalar context.activation.around.program scalars.Address there s)
-            → WordAtPlace context place memory s (read_scalar context.activation.around.program scalars.Address there s)
+            → WordAtPlace context place memory s
+            (read_scalar context.activation.around.program scalars.Address there s)
             ⊎ GoesOutside (read_scalar context.activation.around.program scalars.Address there s)
         read there is_at (inr outside) = inr outside
         read there is_at (inl found) =
@@ -236,9 +241,11 @@ high_bytes_given context sound facts last number pushed from to bound tree node 
       where
         loaded : (part : TypedReference) (there_is : SourcePlace)
             → address_on_machine context.activation there_is ≡ place_at context.activation.layout place
-            → HighIsAt context (address_on_machine context.activation there_is) memory s (value_in context (ValueNode scalars.Address part) s)
+            → HighIsAt context (address_on_machine context.activation there_is) memory s
+            (value_in context (ValueNode scalars.Address part) s)
             ⊎ GoesOutside (value_in context (ValueNode scalars.Address part) s)
-            → Does context.activation.around.program.script s.budget 0 (at_place from r memory s.events) (value_in context (ValueNode scalars.Address part) s)
+            → Does context.activation.around.program.script s.budget 0 (at_place from r memory s.events)
+            (value_in context (ValueNode scalars.Address part) s)
             (Arrives context.activation top base to (HighIsGiven context last r memory))
         loaded part there_is is_at (inr outside) = does_outside (value_in context (ValueNode scalars.Address part) s) outside
         loaded part there_is is_at (inl high) =
@@ -272,13 +279,16 @@ high_bytes_given context sound facts last number pushed from to bound tree node 
         at_most : (next part whole : ℕ) → next ≡ part → whole ≡ part → 2 * next ≤ 2 * whole
         at_most next part whole one two = omega (arith, one, two)
 
-        loaded : (part : TypedReference) (place : SourcePlace) (t : SourceState) (there : Registers) (ended : List ℕ) (middle : ℕ) (found : Facts)
+        loaded : (part : TypedReference) (place : SourcePlace) (t : SourceState) (there : Registers)
+            (ended : List ℕ) (middle : ℕ) (found : Facts)
             → word there.h there.l ≡ address_on_machine context.activation place
             → StepsStand context (PartDoes context) found middle (Plain (load registers.A) ∷ []) last to
             → GoesOn context found top base t.memory t.frame there ended
-            → HighIsAt context (address_on_machine context.activation place) ended t (value_in context (ValueNode scalars.Address part) s)
+            → HighIsAt context (address_on_machine context.activation place) ended t
+            (value_in context (ValueNode scalars.Address part) s)
             ⊎ GoesOutside (value_in context (ValueNode scalars.Address part) s)
-            → Does context.activation.around.program.script t.budget 0 (at_place middle there ended t.events) (value_in context (ValueNode scalars.Address part) s)
+            → Does context.activation.around.program.script t.budget 0 (at_place middle there ended t.events)
+            (value_in context (ValueNode scalars.Address part) s)
             (Arrives context.activation top base to (HighIsGiven context last r memory))
         loaded part place t there ended middle found hl stand on (inr outside) =
             does_outside (value_in context (ValueNode scalars.Address part) s) outside

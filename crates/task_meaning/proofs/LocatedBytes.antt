@@ -51,23 +51,27 @@ memory_next : (start one offset two : ℕ) (s : SourceState)
 memory_next start one offset two s = ap (λ (n : ℕ). Gave (InMemory n) s) (further start one offset two)
   where
     further : (start one offset two : ℕ)
-        → (start + (one + (offset + 1) + two)) % MEMORY_SIZE ≡ ((start + (one + offset + two)) % MEMORY_SIZE + 1) % MEMORY_SIZE
+        → (start + (one + (offset + 1) + two)) % MEMORY_SIZE
+        ≡ ((start + (one + offset + two)) % MEMORY_SIZE + 1) % MEMORY_SIZE
     further start one offset two = omega arith
 
 -- a part one byte further on lies at the next place
 based_next :
     (home : Home) (around : Surroundings) (object one offset two : ℕ) (is_inside : _) (s : SourceState)
     → based_place home around object (one + (offset + 1) + two) is_inside s
-    ≡ then_do (based_place home around object (one + offset + two) is_inside s) (λ place t. Gave (next_place place) t)
+    ≡ then_do (based_place home around object (one + offset + two) is_inside s)
+    (λ place t. Gave (next_place place) t)
 based_next (BasedOn base) around object one offset two is_inside s =
     by (read_scalar around.program Address (place_of around base) s)
   where
-    further : (start : ℕ) → (start + (one + (offset + 1) + two)) % MEMORY_SIZE ≡ ((start + (one + offset + two)) % MEMORY_SIZE + 1) % MEMORY_SIZE
+    further : (start : ℕ) → (start + (one + (offset + 1) + two)) % MEMORY_SIZE
+        ≡ ((start + (one + offset + two)) % MEMORY_SIZE + 1) % MEMORY_SIZE
     further start = omega arith
 
     by : (outcome : Outcome ℕ)
         → then_do outcome (λ start t. Gave (InMemory ((start + (one + (offset + 1) + two)) % MEMORY_SIZE)) t)
-        ≡ then_do (then_do outcome (λ start t. Gave (InMemory ((start + (one + offset + two)) % MEMORY_SIZE)) t))
+        ≡ then_do (then_do outcome
+        (λ start t. Gave (InMemory ((start + (one + offset + two)) % MEMORY_SIZE)) t))
         (λ place t. Gave (next_place place) t)
     by (Gave start t) = ap (λ (n : ℕ). Gave (InMemory n) t) (further start)
     by (Stopped why t) = refl
@@ -84,21 +88,24 @@ based_next Nowhere around object one offset two is_inside s = memory_next (Rattl
 
 -- what follows two outcomes
 after_both :
-    {A B C D : Type 0} (first : Outcome A) (second : A → SourceState → Outcome B) (one : A → B → SourceState → Outcome C)
+    {A B C D : Type 0} (first : Outcome A) (second : A → SourceState → Outcome B)
+    (one : A → B → SourceState → Outcome C)
     (other : A → B → SourceState → Outcome D) (go : D → SourceState → Outcome C)
     → ((a : A) (b : B) (u : SourceState) → one a b u ≡ then_do (other a b u) go)
     → then_do first (λ a t. then_do (second a t) (λ b u. one a b u))
     ≡ then_do (then_do first (λ a t. then_do (second a t) (λ b u. other a b u))) go
 after_both {B = B} {C = C} (Gave a t) second one other go same = by (second a t)
   where
-    by : (outcome : Outcome B) → then_do outcome (λ b u. one a b u) ≡ then_do (then_do outcome (λ b u. other a b u)) go
+    by : (outcome : Outcome B) → then_do outcome (λ b u. one a b u) ≡ then_do
+        (then_do outcome (λ b u. other a b u)) go
     by (Gave b u) = same a b u
     by (Stopped why u) = refl
 after_both (Stopped why t) second one other go same = refl
 
 pub located_next :
     (context : Context) (part : TypedReference) (s : SourceState)
-    → located_in context (next_part part) s ≡ then_do (located_in context part s) (λ place t. Gave (next_place place) t)
+    → located_in context (next_part part) s ≡ then_do (located_in context part s)
+    (λ place t. Gave (next_place place) t)
 located_next context (PartOf object subscript member offset member_subscript) s =
     let around = context.activation.around in
     after_both (displacement context.later around subscript s)
@@ -110,7 +117,8 @@ located_next context (PartOf object subscript member offset member_subscript) s 
     (λ place t. Gave (next_place place) t)
     (λ one two u. based_next (home_of around object) around object one.bytes offset two.bytes (one.is_inside && two.is_inside) u)
 
-same_both : {A : Type 0} {one other : A} {t u : SourceState} → Gave one t ≡ Gave other u → (one ≡ other) × (t ≡ u)
+same_both : {A : Type 0} {one other : A} {t u : SourceState} → Gave one t ≡ Gave other u → (one ≡ other)
+    × (t ≡ u)
 same_both same = (cc, cc)
 
 -- The low byte of an expression lies at a part of an object that lies at a reference.
@@ -125,7 +133,8 @@ pub record ByteLies (context : Context) (reference : Reference) (tree : TypedExp
       (place : Place) (s u : SourceState) (top : ℕ) (base memory : List ℕ) (r : Registers)
       → located_in context part s ≡ Gave place u
       → IsReady context.activation top base u.memory u.frame r memory
-      → LowIsAt context (type_of tree) (address_on_machine context.activation place) memory u (value_in context tree s)
+      → LowIsAt context (type_of tree) (address_on_machine context.activation place) memory u
+      (value_in context tree s)
       ⊎ GoesOutside (value_in context tree s)
   pub stops :
       (why : Stop) (s u : SourceState)
@@ -134,13 +143,15 @@ pub record ByteLies (context : Context) (reference : Reference) (tree : TypedExp
 
 -- the high byte of an ADDRESS that is read lies at the next part
 pub high_found :
-    {context : Context} (part : TypedReference) (place : Place) (s u : SourceState) (top : ℕ) (base memory : List ℕ)
+    {context : Context} (part : TypedReference) (place : Place) (s u : SourceState) (top : ℕ)
+    (base memory : List ℕ)
     (r : Registers)
     → IsSound context
     → RefersToScalar context.typed context.within Address part
     → located_in context (next_part part) s ≡ Gave place u
     → IsReady context.activation top base u.memory u.frame r memory
-    → HighIsAt context (address_on_machine context.activation place) memory u (value_in context (ValueNode Address part) s)
+    → HighIsAt context (address_on_machine context.activation place) memory u
+    (value_in context (ValueNode Address part) s)
     ⊎ GoesOutside (value_in context (ValueNode Address part) s)
 high_found {context = context} part place s u top base memory r sound refers same ready =
     let program = context.activation.around.program in
@@ -177,19 +188,22 @@ high_stops context part why s u same =
     by (located_in context part s) (sym (located_next context part s) ∙ same)
   where
     by : (outcome : Outcome Place) → then_do outcome (λ place t. Gave (next_place place) t) ≡ Stopped why u
-        → then_do outcome (λ place t. read_scalar context.activation.around.program Address place t) ≡ Stopped why u
+        → then_do outcome (λ place t. read_scalar context.activation.around.program Address place t) ≡ Stopped
+        why u
     by (Gave place t) is = absurd cc
     by (Stopped reason t) is = cc
 
-next_referred : (context : Context) (part : TypedReference) → IsReferred context part → IsReferred context (next_part part)
-next_referred context (PartOf object subscript member offset member_subscript) is = is
+next_referred : (context : Context) (part : TypedReference) → IsReferred context part → IsReferred context
+    (next_part part)
+next_referred context (PartOf _ _ _ _ _) is = is
 
 next_types : (context : Context) (part : TypedReference)
-    → TypesHoldInReference context.typed context.within part → TypesHoldInReference context.typed context.within (next_part part)
-next_types context (PartOf object subscript member offset member_subscript) is = is
+    → TypesHoldInReference context.typed context.within part → TypesHoldInReference context.typed
+    context.within (next_part part)
+next_types context (PartOf _ _ _ _ _) is = is
 
 next_height : (part : TypedReference) → height_of_reference (next_part part) ≡ height_of_reference part
-next_height (PartOf object subscript member offset member_subscript) = refl
+next_height (PartOf _ _ _ _ _) = refl
 
 -- the parts of a reference one byte further on
 pub record NextLies (context : Context) (bound : ℕ) (reference : Reference) (part : TypedReference) : Type 0 where
@@ -261,8 +275,10 @@ module _ (context : Context) (sound : IsSound context) where
       }
     where
       by : (place : Place) (u : SourceState) (memory : List ℕ) (outcome : Outcome ℕ)
-          → HighIsAt context (address_on_machine context.activation place) memory u outcome ⊎ GoesOutside outcome
-          → LowIsAt context Byte (address_on_machine context.activation place) memory u (then_do outcome (λ n t. Gave (n / 256) t))
+          → HighIsAt context (address_on_machine context.activation place) memory u outcome ⊎ GoesOutside
+          outcome
+          → LowIsAt context Byte (address_on_machine context.activation place) memory u
+          (then_do outcome (λ n t. Gave (n / 256) t))
           ⊎ GoesOutside (then_do outcome (λ n t. Gave (n / 256) t))
       by place u memory outcome (inl high) = inl (record {
         found = high.found / 256;
@@ -277,7 +293,8 @@ module _ (context : Context) (sound : IsSound context) where
   inside_lies :
       {reference : Reference} (tree inside : TypedExpression) (f : ℕ → ℕ)
       → height_of inside ≤ height_of tree
-      → ((s : SourceState) → value_in context tree s ≡ then_do (value_in context inside s) (λ n t. Gave (f n) t))
+      → ((s : SourceState) → value_in context tree s ≡ then_do (value_in context inside s)
+      (λ n t. Gave (f n) t))
       → ((n : ℕ) → n < values_of (type_of inside) → n % 256 ≡ f n % 256)
       → ((n : ℕ) → n < values_of (type_of inside) → f n < values_of (type_of tree))
       → ByteLies context reference inside
@@ -298,8 +315,10 @@ module _ (context : Context) (sound : IsSound context) where
       }
     where
       by : (place : Place) (u : SourceState) (memory : List ℕ) (outcome : Outcome ℕ)
-          → LowIsAt context (type_of inside) (address_on_machine context.activation place) memory u outcome ⊎ GoesOutside outcome
-          → LowIsAt context (type_of tree) (address_on_machine context.activation place) memory u (then_do outcome (λ n t. Gave (f n) t))
+          → LowIsAt context (type_of inside) (address_on_machine context.activation place) memory u outcome
+          ⊎ GoesOutside outcome
+          → LowIsAt context (type_of tree) (address_on_machine context.activation place) memory u
+          (then_do outcome (λ n t. Gave (f n) t))
           ⊎ GoesOutside (then_do outcome (λ n t. Gave (f n) t))
       by place u memory outcome (inl low) = inl (record {
         found = f low.found;
@@ -324,7 +343,8 @@ module _ (context : Context) (sound : IsSound context) where
 
   -- where its byte after it is one
   after_lies :
-      (reference : Reference) (operand : ExpressionNumber) (tree : TypedExpression) (node : NodeOf context operand tree)
+      (reference : Reference) (operand : ExpressionNumber) (tree : TypedExpression)
+      (node : NodeOf context operand tree)
       → TypesHold context.typed context.within tree
       → traits.byte_after node.found.traits.scalar node.found.form ≡ Some reference
       → ByteLies context reference (FunctionNode High tree)
@@ -429,10 +449,12 @@ module _ (context : Context) (sound : IsSound context) where
 
 -- what gives its place in a part, gives a value then
 pub where_located :
-    {A B : Type 0} {script : List (List ℕ)} {budget more : ℕ} {from : State} (outcome : Outcome A) (other : Outcome B)
+    {A B : Type 0} {script : List (List ℕ)} {budget more : ℕ} {from : State} (outcome : Outcome A)
+    (other : Outcome B)
     {Middle : A → SourceState → State → Type 0} {Good : B → SourceState → State → Type 0}
     → Does script budget 0 from outcome Middle
-    → ((found : A) (t : SourceState) (end : State) → outcome ≡ Gave found t → Middle found t end → t.budget ≤ budget
+    → ((found : A) (t : SourceState) (end : State) → outcome ≡ Gave found t → Middle found t end
+    → t.budget ≤ budget
     → Does script t.budget more end other Good)
     → ((why : Stop) (t : SourceState) → outcome ≡ Stopped why t → other ≡ Stopped why t)
     → Does script budget more from other Good
@@ -458,9 +480,11 @@ locates_bytes context sound known_there before after number reference pushed fro
     by : (place : Place) (t : SourceState) (there : Registers) (ended : List ℕ)
         → IsReady context.activation top base t.memory t.frame there ended
         → AddressIsGiven context after reference r memory place there ended
-        → LowIsAt context (type_of tree) (address_on_machine context.activation place) ended t (value_in context tree s)
+        → LowIsAt context (type_of tree) (address_on_machine context.activation place) ended t
+        (value_in context tree s)
         ⊎ GoesOutside (value_in context tree s)
-        → Does context.activation.around.program.script t.budget 0 (at_place to there ended t.events) (value_in context tree s)
+        → Does context.activation.around.program.script t.budget 0 (at_place to there ended t.events)
+        (value_in context tree s)
         (Arrives context.activation top base to (ByteIsAtHl context after reference (type_of tree) r memory))
     by place t there ended ready holds (inr outside) = does_outside (value_in context tree s) outside
     by place t there ended ready holds (inl low) =

@@ -37,7 +37,8 @@ near_address First sp = sp
 near_address Second sp = wrap (sp + 2)
 
 -- two bytes that are put at different places may be put in either order
-set_apart : (xs : List ℕ) (i j x y : ℕ) → i ≢ j → slice_set (slice_set xs i x) j y ≡ slice_set (slice_set xs j y) i x
+set_apart : (xs : List ℕ) (i j x y : ℕ) → i ≢ j → slice_set (slice_set xs i x) j y ≡ slice_set
+    (slice_set xs j y) i x
 set_apart [] i j x y differ = refl
 set_apart (first ∷ xs) zero zero x y differ = absurd (differ refl)
 set_apart (first ∷ xs) zero (suc j) x y differ = refl
@@ -56,13 +57,15 @@ next_differs p small = omega (arith, small)
 
 -- a word that is pushed where another one was popped
 push_there :
-    (script : List (List ℕ)) (pair : StackPair) (place p number : ℕ) (r : Registers) (memory : List ℕ) (events : List Event)
+    (script : List (List ℕ)) (pair : StackPair) (place p number : ℕ) (r : Registers) (memory : List ℕ)
+    (events : List Event)
     → r.sp ≡ wrap (p + 2)
     → p < MEMORY_SIZE
     → high_byte (pushed_of pair r) ≡ number / 256
     → low_byte (pushed_of pair r) ≡ number % 256
     → act script (Push pair) (at_place place r memory events)
-    ≡ at_place place (record r { sp = p }) (slice_set (slice_set memory p (number % 256)) (wrap (p + 1)) (number / 256)) events
+    ≡ at_place place (record r { sp = p })
+    (slice_set (slice_set memory p (number % 256)) (wrap (p + 1)) (number / 256)) events
 push_there script pair place p number r memory events pointer small high low =
     ap (λ (w : ℕ). left (one_less r.sp) (two_less r.sp) (high_byte w) (low_byte w)) (pushed_anywhere pair (wrap place) r)
     ∙ ap (λ (n : ℕ). left (one_less r.sp) (two_less r.sp) n (low_byte (pushed_of pair r))) high
@@ -96,8 +99,10 @@ word_kept memory p q x y one two three four =
 -- HL takes the place of a word next to the stack pointer
 pub near_stored :
     {A : Type 0} {Good : A → SourceState → State → Type 0}
-    {context : Context} {facts last : Facts} {top from to : ℕ} {base : List ℕ} (near : Near) (others : List Step)
-    (go : Unit {0} → SourceState → Outcome A) (place : SourcePlace) (number : ℕ) (t : SourceState) (r : Registers)
+    {context : Context} {facts last : Facts} {top from to : ℕ} {base : List ℕ} (near : Near)
+    (others : List Step)
+    (go : Unit {0} → SourceState → Outcome A) (place : SourcePlace) (number : ℕ) (t : SourceState)
+    (r : Registers)
     (ended : List ℕ)
     → IsSound context
     → number < 65536
@@ -105,7 +110,8 @@ pub near_stored :
     → r.l ≡ number % 256
     → address_on_machine context.activation place ≡ near_address near r.sp
     → FitsIn context.activation 2 place
-    → StepsStand context (PartDoes context) facts from (exchange_near near ++ (MemoryChanged ∷ others)) last to
+    → StepsStand context (PartDoes context) facts from (exchange_near near ++ (MemoryChanged ∷ others)) last
+    to
     → GoesOn context facts top base t.memory t.frame r ended
     → ((u : SourceState) (now : Registers) (left : List ℕ) (middle : ℕ) (found : Facts)
     → now.a ≡ r.a
@@ -114,7 +120,8 @@ pub near_stored :
     → WordLiesAt context.activation left (address_on_machine context.activation place) number
     → StepsStand context (PartDoes context) found middle others last to
     → GoesOn context found top base u.memory u.frame now left
-    → Does context.activation.around.program.script u.budget 0 (at_place middle now left u.events) (go tt u) Good)
+    → Does context.activation.around.program.script u.budget 0 (at_place middle now left u.events) (go tt u)
+    Good)
     → Does context.activation.around.program.script t.budget 1 (at_place from r ended t.events)
     (then_do (write_scalar context.activation.around.program Address place number t) go) Good
 near_stored {A = A} {Good = Good} {context = context} {facts = facts} {last = last} {top = top} {from = from} {to = to} {base = base} First others go place number t r ended sound small h l is_at fits (PlainThere there (PlainThere again (ChangeThere stand))) on rest =

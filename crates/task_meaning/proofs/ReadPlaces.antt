@@ -22,7 +22,8 @@ use Rattle.task_meaning.proofs.WordWriting.{first_fits, second_fits}
 
 -- what goes outside is done by any machine
 pub does_outside :
-    {A : Type 0} {script : List (List ℕ)} {budget more : ℕ} {from : State} {Good : A → SourceState → State → Type 0}
+    {A : Type 0} {script : List (List ℕ)} {budget more : ℕ} {from : State}
+    {Good : A → SourceState → State → Type 0}
     (outcome : Outcome A)
     → GoesOutside outcome
     → Does script budget more from outcome Good
@@ -66,7 +67,8 @@ pub byte_found :
     → IsReady context.activation top base t.memory t.frame r memory
     → FitsIn context.activation 1 place
     → (IsSteady context.activation (address_on_machine context.activation place)
-    × (read_byte context.activation.around.program place t ≡ Gave (byte_at memory (address_on_machine context.activation place)) t))
+    × (read_byte context.activation.around.program place t ≡ Gave
+    (byte_at memory (address_on_machine context.activation place)) t))
     ⊎ GoesOutside (read_byte context.activation.around.program place t)
 byte_found {context = context} {memory = memory} (InMemory address) t sound ready fits =
     by_test (is_declared context.activation.around.program address) refl
@@ -75,7 +77,8 @@ byte_found {context = context} {memory = memory} (InMemory address) t sound read
         → (IsSteady context.activation address
         × ((if declared then Gave (byte_at t.memory address) t else Stopped (Outside UndeclaredByte) t)
         ≡ Gave (byte_at memory address) t))
-        ⊎ GoesOutside (if declared then Gave (byte_at t.memory address) t else Stopped (Outside UndeclaredByte) t)
+        ⊎ GoesOutside (if declared then Gave (byte_at t.memory address) t else Stopped
+        (Outside UndeclaredByte) t)
     by_test true is = inl (declared_is_steady context.activation address sound.lies is, ap (λ (n : ℕ). Gave n t) (sym (ready.shares.declared address is)))
     by_test false is = inr tt
 byte_found {context = context} {memory = memory} (InTheFrame object offset true) t sound ready fits =
@@ -124,9 +127,11 @@ word_found {context = context} {memory = memory} place t sound ready fits =
     next = address_on_machine context.activation (next_place place)
 
     by_first :
-        (IsSteady context.activation here × (read_byte context.activation.around.program place t ≡ Gave (byte_at memory here) t))
+        (IsSteady context.activation here
+        × (read_byte context.activation.around.program place t ≡ Gave (byte_at memory here) t))
         ⊎ GoesOutside (read_byte context.activation.around.program place t)
-        → (IsSteady context.activation next × (read_byte context.activation.around.program (next_place place) t ≡ Gave (byte_at memory next) t))
+        → (IsSteady context.activation next
+        × (read_byte context.activation.around.program (next_place place) t ≡ Gave (byte_at memory next) t))
         ⊎ GoesOutside (read_byte context.activation.around.program (next_place place) t)
         → WordIsAt context place memory t (read_scalar context.activation.around.program Address place t)
         ⊎ GoesOutside (read_scalar context.activation.around.program Address place t)
@@ -159,7 +164,8 @@ word_found {context = context} {memory = memory} place t sound ready fits =
 
 -- a scalar that is read
 pub scalar_found :
-    {context : Context} {top : ℕ} {base memory : List ℕ} {r : Registers} (scalar : ScalarType) (place : Place) (t : SourceState)
+    {context : Context} {top : ℕ} {base memory : List ℕ} {r : Registers} (scalar : ScalarType) (place : Place)
+    (t : SourceState)
     → IsSound context
     → IsReady context.activation top base t.memory t.frame r memory
     → FitsIn context.activation (size_of_scalar scalar) place
@@ -172,7 +178,8 @@ scalar_found {context = context} {memory = memory} Byte place t sound ready fits
     here : ℕ
     here = address_on_machine context.activation place
 
-    by : (IsSteady context.activation here × (read_byte context.activation.around.program place t ≡ Gave (byte_at memory here) t))
+    by : (IsSteady context.activation here
+        × (read_byte context.activation.around.program place t ≡ Gave (byte_at memory here) t))
         ⊎ GoesOutside (read_byte context.activation.around.program place t)
         → LowIsAt context Byte here memory t (read_byte context.activation.around.program place t)
         ⊎ GoesOutside (read_byte context.activation.around.program place t)

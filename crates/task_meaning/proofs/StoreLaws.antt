@@ -99,7 +99,8 @@ near_is :
     → HasRoom context.activation top pushed need
     → sp ≡ wrap top
     → word_near (knowing context.site facts) (locations.Frame variable offset) pushed ≡ Some near
-    → location_at context.activation (distances_in context) (locations.Frame variable offset) ≡ near_address near sp
+    → location_at context.activation (distances_in context) (locations.Frame variable offset) ≡ near_address
+    near sp
 unfolding distance
 near_is context facts top pushed need variable offset sp near room pointer told =
     by (distance context.site variable offset pushed == 0) (distance context.site variable offset pushed == 2) refl refl told
@@ -108,7 +109,8 @@ near_is context facts top pushed need variable offset sp near room pointer told 
         → (distance context.site variable offset pushed == 0) ≡ none
         → (distance context.site variable offset pushed == 2) ≡ two
         → (if none then Some First else if two then Some Second else None) ≡ Some near
-        → location_at context.activation (distances_in context) (locations.Frame variable offset) ≡ near_address near sp
+        → location_at context.activation (distances_in context) (locations.Frame variable offset)
+        ≡ near_address near sp
     by true two none_is two_is same =
         subst (λ (of : Near). location_at context.activation (distances_in context) (locations.Frame variable offset) ≡ near_address of sp)
         (same_near same)
@@ -146,7 +148,8 @@ module _
 
   -- where the value was stored
   stored_ends :
-      {top : ℕ} {base : List ℕ} (of : ScalarType) (r : Registers) (memory : List ℕ) (u : SourceState) (now : Registers) (left : List ℕ)
+      {top : ℕ} {base : List ℕ} (of : ScalarType) (r : Registers) (memory : List ℕ) (u : SourceState)
+      (now : Registers) (left : List ℕ)
       → (is_wanted ≡ true → InRegister of number now)
       → GoesOn context last top base u.memory u.frame now left
       → Does context.activation.around.program.script u.budget 0 (at_place to now left u.events) (Gave tt u)
@@ -162,21 +165,24 @@ module _
 
   -- and it is known that A or HL holds what lies there
   byte_here_ends :
-      {top middle : ℕ} {base : List ℕ} {found : Facts} (of : ScalarType) (r : Registers) (memory : List ℕ) (place : SourcePlace)
+      {top middle : ℕ} {base : List ℕ} {found : Facts} (of : ScalarType) (r : Registers) (memory : List ℕ)
+      (place : SourcePlace)
       (u : SourceState) (now : Registers) (left : List ℕ)
       → (is_wanted ≡ true → InRegister of number now)
       → PlaceLies context the_location place
       → ByteLiesAt context.activation left (address_on_machine context.activation place) now.a
       → StepsStand context (PartDoes context) found middle (byte_is_here_steps the_location) last to
       → GoesOn context found top base u.memory u.frame now left
-      → Does context.activation.around.program.script u.budget 0 (at_place middle now left u.events) (Gave tt u)
+      → Does context.activation.around.program.script u.budget 0 (at_place middle now left u.events)
+      (Gave tt u)
       (Arrives context.activation top base to (IsStored context last of is_wanted number r memory))
   byte_here_ends of r memory place u now left wanted lies byte (HoldsThere ends) on =
       nothing_goes now ends (holds_go on (byte_known_at context the_location place left now lies byte))
       (λ final. stored_ends of r memory u now left wanted final)
 
   word_here_ends :
-      {top middle : ℕ} {base : List ℕ} {found : Facts} (of : ScalarType) (r : Registers) (memory : List ℕ) (place : SourcePlace)
+      {top middle : ℕ} {base : List ℕ} {found : Facts} (of : ScalarType) (r : Registers) (memory : List ℕ)
+      (place : SourcePlace)
       (stored : ℕ) (u : SourceState) (now : Registers) (left : List ℕ)
       → (is_wanted ≡ true → InRegister of number now)
       → PlaceLies context the_location place
@@ -185,7 +191,8 @@ module _
       → WordLiesAt context.activation left (address_on_machine context.activation place) stored
       → StepsStand context (PartDoes context) found middle (word_is_here_steps the_location) last to
       → GoesOn context found top base u.memory u.frame now left
-      → Does context.activation.around.program.script u.budget 0 (at_place middle now left u.events) (Gave tt u)
+      → Does context.activation.around.program.script u.budget 0 (at_place middle now left u.events)
+      (Gave tt u)
       (Arrives context.activation top base to (IsStored context last of is_wanted number r memory))
   word_here_ends of r memory place stored u now left wanted lies h l word_is (HoldsThere ends) on =
       nothing_goes now ends (holds_go on (word_known_at context the_location place stored left now lies h l word_is))
@@ -242,7 +249,8 @@ module _
   -- the low byte of HL goes to a BYTE at an address that is computed
   low_byte_at :
       RefersToScalar context.typed context.within Byte tree
-      → StepsStand context (PartDoes context) facts from (store_hl_at_steps (the_goal Byte) is_wanted pushed) last to
+      → StepsStand context (PartDoes context) facts from (store_hl_at_steps (the_goal Byte) is_wanted pushed)
+      last to
       → Goes Address Byte
   low_byte_at refers stand top base s r memory less room ready known asked =
       let program = context.activation.around.program in
@@ -266,9 +274,11 @@ module _
           → (r : Registers) (memory : List ℕ) (u : SourceState) (now : Registers) (left : List ℕ)
           → now.d ≡ number / 256
           → now.e ≡ number % 256
-          → StepsStand context (PartDoes context) found middle (value_back_steps (the_goal Byte) wanted) last to
+          → StepsStand context (PartDoes context) found middle (value_back_steps (the_goal Byte) wanted) last
+          to
           → GoesOn context found top base u.memory u.frame now left
-          → Does context.activation.around.program.script u.budget 0 (at_place middle now left u.events) (Gave tt u)
+          → Does context.activation.around.program.script u.budget 0 (at_place middle now left u.events)
+          (Gave tt u)
           (Arrives context.activation top base to (IsStored context last Address is_wanted number r memory))
       ends_by false none r memory u now left d e ends on =
           nothing_goes now ends on
@@ -286,7 +296,8 @@ module _
   word_at :
       RefersToScalar context.typed context.within Address tree
       → number < 65536
-      → StepsStand context (PartDoes context) facts from (store_hl_at_steps (the_goal Address) is_wanted pushed) last to
+      → StepsStand context (PartDoes context) facts from
+      (store_hl_at_steps (the_goal Address) is_wanted pushed) last to
       → Goes Address Address
   word_at refers small stand top base s r memory less room ready known asked =
       let program = context.activation.around.program in
@@ -313,16 +324,19 @@ module _
       (place_lies facts place s t sound is referred types same) lies ends final)))
     where
       ends_by : {top middle : ℕ} {base : List ℕ} {found : Facts} (wanted : Bool) → is_wanted ≡ wanted
-          → (r : Registers) (memory : List ℕ) (place : SourcePlace) (u : SourceState) (now : Registers) (left : List ℕ)
+          → (r : Registers) (memory : List ℕ) (place : SourcePlace) (u : SourceState) (now : Registers)
+          (left : List ℕ)
           → now.d ≡ number / 256
           → now.e ≡ number % 256
           → now.d ≡ number % 65536 / 256
           → now.e ≡ number % 65536 % 256
           → PlaceLies context the_location place
           → WordLiesAt context.activation left (address_on_machine context.activation place) (number % 65536)
-          → StepsStand context (PartDoes context) found middle (value_back_steps (the_goal Address) wanted) last to
+          → StepsStand context (PartDoes context) found middle (value_back_steps (the_goal Address) wanted)
+          last to
           → GoesOn context found top base u.memory u.frame now left
-          → Does context.activation.around.program.script u.budget 0 (at_place middle now left u.events) (Gave tt u)
+          → Does context.activation.around.program.script u.budget 0 (at_place middle now left u.events)
+          (Gave tt u)
           (Arrives context.activation top base to (IsStored context last Address is_wanted number r memory))
       ends_by false none r memory place u now left d e high low there lies ends on =
           nothing_goes now ends on
@@ -339,7 +353,8 @@ module _
   low_byte_by_a :
       RefersToScalar context.typed context.within Byte tree
       → is_wanted ≡ false
-      → StepsStand context (PartDoes context) facts from (Plain (copy registers.A registers.L) ∷ store_a_at_steps (the_goal Byte) pushed) last to
+      → StepsStand context (PartDoes context) facts from
+      (Plain (copy registers.A registers.L) ∷ store_a_at_steps (the_goal Byte) pushed) last to
       → Goes Address Byte
   low_byte_by_a refers none (PlainThere first stand) top base s r memory less room ready known asked =
       let program = context.activation.around.program in
@@ -364,12 +379,15 @@ module _
 
   -- at a place that is known
   at_known_place :
-      {more : ℕ} {start : State} {Good : Unit {0} → SourceState → State → Type 0} (scalar : ScalarType) (n : ℕ) (s : SourceState)
+      {more : ℕ} {start : State} {Good : Unit {0} → SourceState → State → Type 0} (scalar : ScalarType)
+      (n : ℕ) (s : SourceState)
       (location : Location) (lies : LiesThere context tree location)
       → Does context.activation.around.program.script s.budget more start
-      (then_do (write_scalar context.activation.around.program scalar lies.place n s) (λ done u. Gave done u)) Good
+      (then_do (write_scalar context.activation.around.program scalar lies.place n s) (λ done u. Gave done u))
+      Good
       → Does context.activation.around.program.script s.budget more start
-      (then_do (located_in context tree s) (λ place t. write_scalar context.activation.around.program scalar place n t)) Good
+      (then_do (located_in context tree s)
+      (λ place t. write_scalar context.activation.around.program scalar place n t)) Good
   at_known_place scalar n s location lies does =
       does_same _ (ap (λ (outcome : Outcome SourcePlace). then_do outcome
       (λ place t. write_scalar context.activation.around.program scalar place n t)) (lies.means s))
@@ -394,7 +412,8 @@ module _
   byte_goes :
       RefersToScalar context.typed context.within Byte tree
       → number < 256
-      → StepsStand context (PartDoes context) facts from (store_a_steps (knowing context.site facts) (the_goal Byte) pushed) last to
+      → StepsStand context (PartDoes context) facts from
+      (store_a_steps (knowing context.site facts) (the_goal Byte) pushed) last to
       → Goes Byte Byte
   byte_goes refers small stand = by the_location refl stand
     where
@@ -433,7 +452,8 @@ module _
       (static : Place)
       → RefersToScalar context.typed context.within Byte tree
       → the_location ≡ Some (locations.Static static)
-      → StepsStand context (PartDoes context) facts from (Plain (copy registers.A registers.L) ∷ Word StoreA static ∷ []) last to
+      → StepsStand context (PartDoes context) facts from
+      (Plain (copy registers.A registers.L) ∷ Word StoreA static ∷ []) last to
       → Goes Address Byte
   low_byte_at_static static refers told (PlainThere first stand) top base s r memory less room ready known asked =
       let lies = lies_there facts (locations.Static static) sound is (refers_is_referred context Byte tree refers) types told in
@@ -450,11 +470,13 @@ module _
   -- the low byte of HL goes to a BYTE
   low_byte_goes :
       RefersToScalar context.typed context.within Byte tree
-      → StepsStand context (PartDoes context) facts from (store_low_byte_steps (the_goal Byte) is_wanted pushed) last to
+      → StepsStand context (PartDoes context) facts from
+      (store_low_byte_steps (the_goal Byte) is_wanted pushed) last to
       → Goes Address Byte
   low_byte_goes refers stand = by the_location refl stand
     where
-      at_computed : (by_a : Bool) → ((keeps_of_address (knowing context.site facts) reference).a && not is_wanted) ≡ by_a
+      at_computed : (by_a : Bool)
+          → ((keeps_of_address (knowing context.site facts) reference).a && not is_wanted) ≡ by_a
           → StepsStand context (PartDoes context) facts from
           (if by_a then Plain (copy registers.A registers.L) ∷ store_a_at_steps (the_goal Byte) pushed
           else store_hl_at_steps (the_goal Byte) is_wanted pushed) last to
@@ -481,7 +503,8 @@ module _
 
   -- a word next to the stack pointer
   near_goes :
-      {top middle : ℕ} {base : List ℕ} {found : Facts} (of : ScalarType) (near : Near) (variable offset stored : ℕ) (others : List Step)
+      {top middle : ℕ} {base : List ℕ} {found : Facts} (of : ScalarType) (near : Near)
+      (variable offset stored : ℕ) (others : List Step)
       (s : SourceState) (r : Registers) (memory : List ℕ) (now : Registers) (need : ℕ)
       → RefersToScalar context.typed context.within Address tree
       → the_location ≡ Some (locations.Frame variable offset)
@@ -491,19 +514,23 @@ module _
       → now.h ≡ stored / 256
       → now.l ≡ stored % 256
       → StepsStand context (PartDoes context) found middle
-      (exchange_near near ++ (MemoryChanged ∷ Holds (record no_facts { word_in_hl = Some (locations.Frame variable offset) }) ∷ others)) last to
+      (exchange_near near ++ (MemoryChanged ∷ Holds
+      (record no_facts { word_in_hl = Some (locations.Frame variable offset) }) ∷ others)) last to
       → GoesOn context found top base s.memory s.frame now memory
-      → ((lies : LiesThere context tree (locations.Frame variable offset)) (u : SourceState) (final : Registers) (left : List ℕ) (then_middle : ℕ) (then_found : Facts)
+      → ((lies : LiesThere context tree (locations.Frame variable offset)) (u : SourceState)
+      (final : Registers) (left : List ℕ) (then_middle : ℕ) (then_found : Facts)
       → final.a ≡ now.a
       → final.h ≡ now.h
       → final.l ≡ now.l
       → WordLiesAt context.activation left (address_on_machine context.activation lies.place) stored
       → StepsStand context (PartDoes context) then_found then_middle others last to
       → GoesOn context then_found top base u.memory u.frame final left
-      → Does context.activation.around.program.script u.budget 0 (at_place then_middle final left u.events) (Gave tt u)
+      → Does context.activation.around.program.script u.budget 0 (at_place then_middle final left u.events)
+      (Gave tt u)
       (Arrives context.activation top base to (IsStored context last of is_wanted number r memory)))
       → Does context.activation.around.program.script s.budget 1 (at_place middle now memory s.events)
-      (then_do (located_in context tree s) (λ place t. write_scalar context.activation.around.program Address place stored t))
+      (then_do (located_in context tree s)
+      (λ place t. write_scalar context.activation.around.program Address place stored t))
       (Arrives context.activation top base to (IsStored context last of is_wanted number r memory))
   near_goes {top = top} {base = base} of near variable offset stored others s r memory now need refers told near_told room small h l stand on rest =
       let location : Location = locations.Frame variable offset in
@@ -517,7 +544,8 @@ module _
       held lies u final left a high low word_is stands on_left))
 
     where
-      held : {then_middle : ℕ} {then_found : Facts} (lies : LiesThere context tree (locations.Frame variable offset)) (u : SourceState)
+      held : {then_middle : ℕ} {then_found : Facts}
+          (lies : LiesThere context tree (locations.Frame variable offset)) (u : SourceState)
           (final : Registers) (left : List ℕ)
           → final.a ≡ now.a
           → final.h ≡ now.h
@@ -526,7 +554,8 @@ module _
           → StepsStand context (PartDoes context) then_found then_middle
           (Holds (record no_facts { word_in_hl = Some (locations.Frame variable offset) }) ∷ others) last to
           → GoesOn context then_found top base u.memory u.frame final left
-          → Does context.activation.around.program.script u.budget 0 (at_place then_middle final left u.events) (Gave tt u)
+          → Does context.activation.around.program.script u.budget 0
+          (at_place then_middle final left u.events) (Gave tt u)
           (Arrives context.activation top base to (IsStored context last of is_wanted number r memory))
       held {then_middle = then_middle} lies u final left a high low word_is (HoldsThere stands) on_left =
           rest lies u final left then_middle _ a high low word_is stands
@@ -537,12 +566,14 @@ module _
   word_goes_to :
       RefersToScalar context.typed context.within Address tree
       → number < 65536
-      → StepsStand context (PartDoes context) facts from (store_word_steps (knowing context.site facts) (the_goal Address) is_wanted pushed) last to
+      → StepsStand context (PartDoes context) facts from
+      (store_word_steps (knowing context.site facts) (the_goal Address) is_wanted pushed) last to
       → Goes Address Address
   word_goes_to refers small stand = by the_location refl stand
     where
       by_near : (variable offset : ℕ) → the_location ≡ Some (locations.Frame variable offset)
-          → (near : Option Near) → word_near (knowing context.site facts) (locations.Frame variable offset) pushed ≡ near
+          → (near : Option Near) → word_near (knowing context.site facts) (locations.Frame variable offset)
+          pushed ≡ near
           → StepsStand context (PartDoes context) facts from
           (elim near [
             | Some near ↦ store_near_steps near (locations.Frame variable offset)
@@ -564,7 +595,8 @@ module _
             | None ↦ store_hl_at_steps (the_goal Address) is_wanted pushed
             | Some location ↦ elim location [
               | locations.Static place ↦ Word StoreHl place ∷ []
-              | locations.Frame variable offset ↦ elim (word_near (knowing context.site facts) (locations.Frame variable offset) pushed) [
+              | locations.Frame variable offset ↦ elim
+              (word_near (knowing context.site facts) (locations.Frame variable offset) pushed) [
                 | Some near ↦ store_near_steps near (locations.Frame variable offset)
                 | None ↦ store_hl_at_steps (the_goal Address) is_wanted pushed
               ]
@@ -580,13 +612,15 @@ module _
   byte_to_word_goes :
       RefersToScalar context.typed context.within Address tree
       → number < 256
-      → StepsStand context (PartDoes context) facts from (store_a_steps (knowing context.site facts) (the_goal Address) pushed) last to
+      → StepsStand context (PartDoes context) facts from
+      (store_a_steps (knowing context.site facts) (the_goal Address) pushed) last to
       → Goes Byte Address
   byte_to_word_goes refers small stand = by the_location refl stand
     where
       at_static : (place : Place) → the_location ≡ Some (locations.Static place)
           → StepsStand context (PartDoes context) facts from
-          (extension_steps ++ (Word StoreHl place ∷ byte_is_here_steps (Some (locations.Static place)))) last to
+          (extension_steps ++ (Word StoreHl place ∷ byte_is_here_steps (Some (locations.Static place)))) last
+          to
           → Goes Byte Address
       at_static place told (PlainThere first (PlainThere second stands)) top base s r memory less room ready known asked =
           let lies = lies_there facts (locations.Static place) sound is (refers_is_referred context Address tree refers) types told in
@@ -607,23 +641,28 @@ module _
           ends_at place told lies r memory u both left asked
           (record { is = word_is.low ∙ sym (asked ∙ byte_low number small); steady = word_is.steady }) ends on_left))))
         where
-          ends_at : {top middle : ℕ} {base : List ℕ} {found : Facts} (place : Place) → the_location ≡ Some (locations.Static place)
+          ends_at : {top middle : ℕ} {base : List ℕ} {found : Facts} (place : Place) → the_location ≡ Some
+              (locations.Static place)
               → (lies : LiesThere context tree (locations.Static place))
               → (r : Registers) (memory : List ℕ) (u : SourceState) (now : Registers) (left : List ℕ)
               → now.a ≡ number
               → ByteLiesAt context.activation left (address_on_machine context.activation lies.place) now.a
-              → StepsStand context (PartDoes context) found middle (byte_is_here_steps (Some (locations.Static place))) last to
+              → StepsStand context (PartDoes context) found middle
+              (byte_is_here_steps (Some (locations.Static place))) last to
               → GoesOn context found top base u.memory u.frame now left
-              → Does context.activation.around.program.script u.budget 0 (at_place middle now left u.events) (Gave tt u)
+              → Does context.activation.around.program.script u.budget 0 (at_place middle now left u.events)
+              (Gave tt u)
               (Arrives context.activation top base to (IsStored context last Byte is_wanted number r memory))
           ends_at place told lies r memory u now left a byte (HoldsThere ends) on =
               nothing_goes now ends (holds_go on (byte_known_at context (Some (locations.Static place)) lies.place left now lies.is_at byte))
               (λ final. stored_ends Byte r memory u now left (λ wanted. a) final)
 
       at_near : (variable offset : ℕ) → the_location ≡ Some (locations.Frame variable offset)
-          → (near : Near) → word_near (knowing context.site facts) (locations.Frame variable offset) pushed ≡ Some near
+          → (near : Near) → word_near (knowing context.site facts) (locations.Frame variable offset) pushed
+          ≡ Some near
           → StepsStand context (PartDoes context) facts from
-          (extension_steps ++ store_near_steps near (locations.Frame variable offset) ++ byte_is_here_steps (Some (locations.Frame variable offset))) last to
+          (extension_steps ++ store_near_steps near (locations.Frame variable offset) ++ byte_is_here_steps
+          (Some (locations.Frame variable offset))) last to
           → Goes Byte Address
       at_near variable offset told near near_told (PlainThere first (PlainThere second stands)) top base s r memory less room ready known asked =
           let bytes = ready.registers in
@@ -651,16 +690,19 @@ module _
               → (r : Registers) (memory : List ℕ) (u : SourceState) (now : Registers) (left : List ℕ)
               → now.a ≡ number
               → ByteLiesAt context.activation left (address_on_machine context.activation lies.place) now.a
-              → StepsStand context (PartDoes context) found middle (byte_is_here_steps (Some (locations.Frame variable offset))) last to
+              → StepsStand context (PartDoes context) found middle
+              (byte_is_here_steps (Some (locations.Frame variable offset))) last to
               → GoesOn context found top base u.memory u.frame now left
-              → Does context.activation.around.program.script u.budget 0 (at_place middle now left u.events) (Gave tt u)
+              → Does context.activation.around.program.script u.budget 0 (at_place middle now left u.events)
+              (Gave tt u)
               (Arrives context.activation top base to (IsStored context last Byte is_wanted number r memory))
           ends_at lies r memory u now left a byte (HoldsThere ends) on =
               nothing_goes now ends (holds_go on (byte_known_at context (Some (locations.Frame variable offset)) lies.place left now lies.is_at byte))
               (λ final. stored_ends Byte r memory u now left (λ wanted. a) final)
 
       by_near : (variable offset : ℕ) → the_location ≡ Some (locations.Frame variable offset)
-          → (near : Option Near) → word_near (knowing context.site facts) (locations.Frame variable offset) pushed ≡ near
+          → (near : Option Near) → word_near (knowing context.site facts) (locations.Frame variable offset)
+          pushed ≡ near
           → StepsStand context (PartDoes context) facts from
           (elim near [
             | Some near ↦ extension_steps ++ store_near_steps near (locations.Frame variable offset)
@@ -675,7 +717,8 @@ module _
           → StepsStand context (PartDoes context) facts from
           (elim location [
             | None ↦ store_a_at_steps (the_goal Address) pushed
-            | Some location ↦ store_extended_steps (knowing context.site facts) (the_goal Address) location pushed
+            | Some location ↦ store_extended_steps (knowing context.site facts) (the_goal Address) location
+            pushed
           ]) last to
           → Goes Byte Address
       by None told stands = byte_to_word_at refers small stands
@@ -703,7 +746,8 @@ store_does context {facts = facts} {last = last} {pushed = pushed} {from = from}
         → number < values_of of
         → RefersToScalar context.typed context.within scalar part
         → StepsStand context (PartDoes context) facts from
-        (goal_steps (knowing context.site facts) of (goal_of (knowing context.site facts) scalar reference) is_wanted pushed) last to
+        (goal_steps (knowing context.site facts) of (goal_of (knowing context.site facts) scalar reference)
+        is_wanted pushed) last to
         → Carries context facts pushed (2 + 2 * height_of_reference part) 1 from to (InRegister of number)
         (λ s. then_do (located_in context part s)
         (λ place t. write_scalar context.activation.around.program scalar place (as_type scalar number) t))

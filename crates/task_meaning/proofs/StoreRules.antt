@@ -66,9 +66,11 @@ popped_low h l small = omega (arith, small)
 -- the address of a part into HL, while A keeps its value
 pub beside_a_then :
     {B : Type 0} {Good : B → SourceState → State → Type 0}
-    {context : Context} {facts last : Facts} {reference : Reference} {bound top pushed need to more : ℕ} {base : List ℕ}
+    {context : Context} {facts last : Facts} {reference : Reference} {bound top pushed need to more : ℕ}
+    {base : List ℕ}
     {tree : TypedReference} (used : Facts) (scalar : ScalarType) (others : List Step)
-    (go : SourcePlace → SourceState → Outcome B) (from : ℕ) (s : SourceState) (r : Registers) (memory : List ℕ)
+    (go : SourcePlace → SourceState → Outcome B) (from : ℕ) (s : SourceState) (r : Registers)
+    (memory : List ℕ)
     → IsSound context
     → StepsStand context (PartDoes context) facts from
     (address_beside_a_steps (goal_of (knowing context.site used) scalar reference) pushed ++ others) last to
@@ -85,7 +87,8 @@ pub beside_a_then :
     → word now.h now.l ≡ address_on_machine context.activation place
     → StepsStand context (PartDoes context) found middle others last to
     → GoesOn context found top base t.memory t.frame now ended
-    → Does context.activation.around.program.script t.budget more (at_place middle now ended t.events) (go place t) Good)
+    → Does context.activation.around.program.script t.budget more (at_place middle now ended t.events)
+    (go place t) Good)
     → Does context.activation.around.program.script s.budget more (at_place from r memory s.events)
     (then_do (located_in context tree s) go) Good
 beside_a_then {Good = Good} {context = context} {facts = facts} {last = last} {reference = reference} {bound = bound} {top = top} {pushed = pushed} {need = need} {to = to} {more = more} {base = base} {tree = tree} used scalar others go from s r memory sound stand is referred types less room fits on rest =
@@ -134,9 +137,11 @@ beside_a_then {Good = Good} {context = context} {facts = facts} {last = last} {r
 -- and while the value that was in HL comes into DE
 pub beside_de_then :
     {B : Type 0} {Good : B → SourceState → State → Type 0}
-    {context : Context} {facts last : Facts} {reference : Reference} {bound top pushed need to more : ℕ} {base : List ℕ}
+    {context : Context} {facts last : Facts} {reference : Reference} {bound top pushed need to more : ℕ}
+    {base : List ℕ}
     {tree : TypedReference} (used : Facts) (scalar : ScalarType) (others : List Step)
-    (go : SourcePlace → SourceState → Outcome B) (from : ℕ) (s : SourceState) (r : Registers) (memory : List ℕ)
+    (go : SourcePlace → SourceState → Outcome B) (from : ℕ) (s : SourceState) (r : Registers)
+    (memory : List ℕ)
     → IsSound context
     → StepsStand context (PartDoes context) facts from
     (address_beside_de_steps (goal_of (knowing context.site used) scalar reference) pushed ++ others) last to
@@ -154,7 +159,8 @@ pub beside_de_then :
     → word now.h now.l ≡ address_on_machine context.activation place
     → StepsStand context (PartDoes context) found middle others last to
     → GoesOn context found top base t.memory t.frame now ended
-    → Does context.activation.around.program.script t.budget more (at_place middle now ended t.events) (go place t) Good)
+    → Does context.activation.around.program.script t.budget more (at_place middle now ended t.events)
+    (go place t) Good)
     → Does context.activation.around.program.script s.budget more (at_place from r memory s.events)
     (then_do (located_in context tree s) go) Good
 beside_de_then {Good = Good} {context = context} {facts = facts} {last = last} {reference = reference} {bound = bound} {top = top} {pushed = pushed} {need = need} {to = to} {more = more} {base = base} {tree = tree} used scalar others go from s r memory sound stand is referred types less room fits on rest =
@@ -163,7 +169,8 @@ beside_de_then {Good = Good} {context = context} {facts = facts} {last = last} {
     by_test : (kept : Bool) → (keeps_of_address (knowing context.site used) reference).de ≡ kept
         → StepsStand context (PartDoes context) facts from
         ((if kept then Plain Xchg ∷ part (tasks.Address reference) pushed ∷ []
-        else Plain (Push StackHl) ∷ part (tasks.Address reference) ((pushed + 2) % 65536) ∷ Plain (Pop StackDe) ∷ [])
+        else Plain (Push StackHl) ∷ part (tasks.Address reference) ((pushed + 2) % 65536) ∷ Plain
+        (Pop StackDe) ∷ [])
         ++ others) last to
         → Does context.activation.around.program.script s.budget more (at_place from r memory s.events)
         (then_do (located_in context tree s) go) Good
@@ -225,7 +232,8 @@ pub word_lies_at :
     → length memory ≡ MEMORY_SIZE
     → IsSteadyByte activation address
     → IsSteadyByte activation (wrap (address + 1))
-    → WordLiesAt activation (slice_set (slice_set memory address (number % 256)) (wrap (address + 1)) (number / 256)) address number
+    → WordLiesAt activation
+    (slice_set (slice_set memory address (number % 256)) (wrap (address + 1)) (number / 256)) address number
 word_lies_at activation memory address number size steady steady_too =
     let once : List ℕ = slice_set memory address (number % 256) in
     let long : length once ≡ length memory = length-set memory address (number % 256) in
@@ -242,24 +250,29 @@ word_lies_at activation memory address number size steady steady_too =
 -- a byte goes to the address in HL
 pub one_stored :
     {A : Type 0} {Good : A → SourceState → State → Type 0}
-    {context : Context} {facts last : Facts} {top from to : ℕ} {base : List ℕ} (i : Instr) (others : List Step)
-    (go : Unit {0} → SourceState → Outcome A) (place : SourcePlace) (byte : ℕ) (t : SourceState) (r : Registers)
+    {context : Context} {facts last : Facts} {top from to : ℕ} {base : List ℕ} (i : Instr)
+    (others : List Step)
+    (go : Unit {0} → SourceState → Outcome A) (place : SourcePlace) (byte : ℕ) (t : SourceState)
+    (r : Registers)
     (ended : List ℕ)
     → IsSound context
     → byte < 256
     → word r.h r.l ≡ address_on_machine context.activation place
     → FitsIn context.activation 1 place
-    → ((n : ℕ) (memory : List ℕ) → act context.activation.around.program.script i (at_place n r memory t.events)
+    → ((n : ℕ) (memory : List ℕ) → act context.activation.around.program.script i
+    (at_place n r memory t.events)
     ≡ at_place n r (slice_set memory (word r.h r.l) byte) t.events)
     → (IsSteady context.activation (word r.h r.l)
-    → Asks context.activation (distances_in context) facts i (record r { pc = wrap (from + size_of_instruction i) }))
+    → Asks context.activation (distances_in context) facts i
+    (record r { pc = wrap (from + size_of_instruction i) }))
     → StepsStand context (PartDoes context) facts from (Plain i ∷ others) last to
     → GoesOn context facts top base t.memory t.frame r ended
     → ((u : SourceState) (left : List ℕ) (middle : ℕ) (found : Facts)
     → ByteLiesAt context.activation left (address_on_machine context.activation place) byte
     → StepsStand context (PartDoes context) found middle others last to
     → GoesOn context found top base u.memory u.frame r left
-    → Does context.activation.around.program.script u.budget 0 (at_place middle r left u.events) (go tt u) Good)
+    → Does context.activation.around.program.script u.budget 0 (at_place middle r left u.events) (go tt u)
+    Good)
     → Does context.activation.around.program.script t.budget 1 (at_place from r ended t.events)
     (then_do (write_byte context.activation.around.program place byte t) go) Good
 one_stored {Good = Good} {context = context} {facts = facts} {last = last} {top = top} {from = from} {to = to} {base = base} i others go place byte t r ended sound small hl fits acts asks (PlainThere there stand) on rest =
@@ -295,19 +308,24 @@ after_one h l address same = omega (arith, same)
 -- two bytes go to the address in HL and the next one
 pub two_stored :
     {A : Type 0} {Good : A → SourceState → State → Type 0}
-    {context : Context} {facts last : Facts} {top from to : ℕ} {base : List ℕ} (i j : Instr) (others : List Step)
-    (go : Unit {0} → SourceState → Outcome A) (place : SourcePlace) (number : ℕ) (t : SourceState) (r : Registers)
+    {context : Context} {facts last : Facts} {top from to : ℕ} {base : List ℕ} (i j : Instr)
+    (others : List Step)
+    (go : Unit {0} → SourceState → Outcome A) (place : SourcePlace) (number : ℕ) (t : SourceState)
+    (r : Registers)
     (ended : List ℕ)
     → IsSound context
     → number < 65536
     → word r.h r.l ≡ address_on_machine context.activation place
     → FitsIn context.activation 2 place
-    → ((n : ℕ) (memory : List ℕ) → act context.activation.around.program.script i (at_place n r memory t.events)
+    → ((n : ℕ) (memory : List ℕ) → act context.activation.around.program.script i
+    (at_place n r memory t.events)
     ≡ at_place n r (slice_set memory (word r.h r.l) (number % 256)) t.events)
-    → ((n : ℕ) (memory : List ℕ) → act context.activation.around.program.script j (at_place n (further r) memory t.events)
+    → ((n : ℕ) (memory : List ℕ) → act context.activation.around.program.script j
+    (at_place n (further r) memory t.events)
     ≡ at_place n (further r) (slice_set memory (word (further r).h (further r).l) (number / 256)) t.events)
     → (IsSteady context.activation (word r.h r.l)
-    → Asks context.activation (distances_in context) facts i (record r { pc = wrap (from + size_of_instruction i) }))
+    → Asks context.activation (distances_in context) facts i
+    (record r { pc = wrap (from + size_of_instruction i) }))
     → ((f : Facts) (q : Registers) → Asks context.activation (distances_in context) f j q)
     → StepsStand context (PartDoes context) facts from (Plain i ∷ Plain (Inx Hl) ∷ Plain j ∷ others) last to
     → GoesOn context facts top base t.memory t.frame r ended
@@ -315,7 +333,8 @@ pub two_stored :
     → WordLiesAt context.activation left (address_on_machine context.activation place) number
     → StepsStand context (PartDoes context) found middle others last to
     → GoesOn context found top base u.memory u.frame (further r) left
-    → Does context.activation.around.program.script u.budget 0 (at_place middle (further r) left u.events) (go tt u) Good)
+    → Does context.activation.around.program.script u.budget 0 (at_place middle (further r) left u.events)
+    (go tt u) Good)
     → Does context.activation.around.program.script t.budget 1 (at_place from r ended t.events)
     (then_do (write_scalar context.activation.around.program Address place number t) go) Good
 two_stored {Good = Good} {context = context} {facts = facts} {last = last} {top = top} {from = from} {to = to} {base = base} i j others go place number t r ended sound small hl fits acts acts_too asks asks_too (PlainThere there (PlainThere next (PlainThere again stand))) on rest =
@@ -378,7 +397,8 @@ same_place : {one other : SourcePlace} {t u : SourceState} → Gave one t ≡ Ga
 same_place same = cc
 
 pub place_lies :
-    {context : Context} {bound : ℕ} {reference : Reference} {tree : TypedReference} (facts : Facts) (place : SourcePlace)
+    {context : Context} {bound : ℕ} {reference : Reference} {tree : TypedReference} (facts : Facts)
+    (place : SourcePlace)
     (s t : SourceState)
     → IsSound context
     → IsReference (nodes_in context) context.storage bound reference tree
@@ -389,7 +409,8 @@ pub place_lies :
 place_lies {context = context} {reference = reference} {tree = tree} facts place s t sound is referred types same =
     by (location_of (knowing context.site facts) reference) refl
   where
-    by : (found : Option Location) → location_of (knowing context.site facts) reference ≡ found → PlaceLies context found place
+    by : (found : Option Location) → location_of (knowing context.site facts) reference ≡ found → PlaceLies
+        context found place
     by None told = tt
     by (Some location) told =
         let lies = lies_there facts location sound is referred types told in
@@ -410,7 +431,8 @@ byte_known_at context (Some location) place memory r lies byte = record {
 }
 
 pub word_known_at :
-    (context : Context) (location : Option Location) (place : SourcePlace) (number : ℕ) (memory : List ℕ) (r : Registers)
+    (context : Context) (location : Option Location) (place : SourcePlace) (number : ℕ) (memory : List ℕ)
+    (r : Registers)
     → PlaceLies context location place
     → r.h ≡ number / 256
     → r.l ≡ number % 256
@@ -438,7 +460,8 @@ word_high h l number one two = omega (arith, one, two)
 pub shld_then :
     {A : Type 0} {Good : A → SourceState → State → Type 0}
     {context : Context} {facts last : Facts} {top from to : ℕ} {base : List ℕ} (others : List Step)
-    (go : Unit {0} → SourceState → Outcome A) (static : Place) (place : SourcePlace) (number : ℕ) (t : SourceState) (r : Registers)
+    (go : Unit {0} → SourceState → Outcome A) (static : Place) (place : SourcePlace) (number : ℕ)
+    (t : SourceState) (r : Registers)
     (ended : List ℕ)
     → IsSound context
     → number < 65536
@@ -452,7 +475,8 @@ pub shld_then :
     → WordLiesAt context.activation left (address_on_machine context.activation place) number
     → StepsStand context (PartDoes context) found middle others last to
     → GoesOn context found top base u.memory u.frame r left
-    → Does context.activation.around.program.script u.budget 0 (at_place middle r left u.events) (go tt u) Good)
+    → Does context.activation.around.program.script u.budget 0 (at_place middle r left u.events) (go tt u)
+    Good)
     → Does context.activation.around.program.script t.budget 1 (at_place from r ended t.events)
     (then_do (write_scalar context.activation.around.program Address place number t) go) Good
 shld_then {Good = Good} {context = context} {facts = facts} {last = last} {top = top} {from = from} {to = to} {base = base} others go static place number t r ended sound small h l is_at fits (WordThere there stand) on rest =
