@@ -101,7 +101,8 @@ free_parts context left right immediate free =
 
 no_number :
     (context : Context) (facts : Facts) (right : ExpressionNumber)
-    → number_of (knowing context.site facts) right ≡ None → is_some (number_at (nodes_in context) right) ≡ false
+    → number_of (knowing context.site facts) right ≡ None → is_some (number_at (nodes_in context) right)
+    ≡ false
 no_number context facts right none =
     ap (λ (found : Option ℕ). is_some found) (sym (number_is (knowing context.site facts) right) ∙ none)
 
@@ -134,9 +135,11 @@ module _
       → IsSimple operation
       → ((v w : ℕ) → result_of operands operator v w ≡ Some (result_by operation operands v w))
       → type_of_result operator operands ≡ operands
-      → IsElsewhere context facts number (forms.Binary operands operator left right) (BinaryNode operands operator first second)
+      → IsElsewhere context facts number (forms.Binary operands operator left right)
+      (BinaryNode operands operator first second)
       → StepsStand context (PartDoes context) facts from
-      (byte_operation_steps (knowing context.site facts) operation (record { left = left; right = right }) pushed) last to
+      (byte_operation_steps (knowing context.site facts) operation
+      (record { left = left; right = right }) pushed) last to
       → ByteCarried context facts number (BinaryNode operands operator first second) pushed from last to
   unfolding byte_operation_steps low_number
   operation_law operator operation simple gives same node stand =
@@ -221,8 +224,10 @@ module _
       IsElsewhere context facts number (forms.Binary operands operators.Multiply left right)
       (BinaryNode operands operators.Multiply first second)
       → StepsStand context (PartDoes context) facts from
-      (product_byte_steps (knowing context.site facts) number (record { left = left; right = right }) pushed) last to
-      → ByteCarried context facts number (BinaryNode operands operators.Multiply first second) pushed from last to
+      (product_byte_steps (knowing context.site facts) number
+      (record { left = left; right = right }) pushed) last to
+      → ByteCarried context facts number
+      (BinaryNode operands operators.Multiply first second) pushed from last to
   unfolding product_byte_steps low_number
   product_law node stand = by_right (number_of (knowing context.site facts) right) refl stand
     where
@@ -239,7 +244,8 @@ module _
             | Some n ↦ byte_product_steps right n pushed
             | None ↦ low_of_word_steps number pushed
           ]) last to
-          → ByteCarried context facts number (BinaryNode operands operators.Multiply first second) pushed from last to
+          → ByteCarried context facts number
+          (BinaryNode operands operators.Multiply first second) pushed from last to
       by_left (Some k) here given =
           product_by_number context sound owed.effects operands k (k % 256) refl
           (of_right facts number operators.Multiply operands k (λ w. (w * k) % values_of operands) sound one two here
@@ -257,7 +263,8 @@ module _
               | None ↦ low_of_word_steps number pushed
             ]
           ]) last to
-          → ByteCarried context facts number (BinaryNode operands operators.Multiply first second) pushed from last to
+          → ByteCarried context facts number
+          (BinaryNode operands operators.Multiply first second) pushed from last to
       by_right (Some k) here given =
           product_by_number context sound owed.effects operands k (k % 256) refl
           (of_left facts number operators.Multiply operands k (λ v. (v * k) % values_of operands) sound one two here
@@ -268,10 +275,14 @@ module _
   -- a relation
   relation_law :
       (operator : BinaryOperator) (relation : Relation)
-      → relation_of_form (knowing context.site facts) (forms.Binary operands operator left right) ≡ Some relation
-      → is_free_form (nodes_in context) (type_of_result operator operands) (forms.Binary operands operator left right) ≡ false
-      → IsElsewhere context facts number (forms.Binary operands operator left right) (BinaryNode operands operator first second)
-      → StepsStand context (PartDoes context) facts from (relation_value_steps (knowing context.site facts) number pushed) last to
+      → relation_of_form (knowing context.site facts) (forms.Binary operands operator left right)
+      ≡ Some relation
+      → is_free_form (nodes_in context) (type_of_result operator operands)
+      (forms.Binary operands operator left right) ≡ false
+      → IsElsewhere context facts number (forms.Binary operands operator left right)
+      (BinaryNode operands operator first second)
+      → StepsStand context (PartDoes context) facts from
+      (relation_value_steps (knowing context.site facts) number pushed) last to
       → ByteCarried context facts number (BinaryNode operands operator first second) pushed from last to
   relation_law operator relation some none node stand =
       by (relation_of (knowing context.site facts) number) refl stand
@@ -292,9 +303,11 @@ module _
   -- any operator
   pub binary_law :
       (operator : BinaryOperator)
-      → IsElsewhere context facts number (forms.Binary operands operator left right) (BinaryNode operands operator first second)
+      → IsElsewhere context facts number (forms.Binary operands operator left right)
+      (BinaryNode operands operator first second)
       → StepsStand context (PartDoes context) facts from
-      (byte_binary_steps (knowing context.site facts) number operator (record { left = left; right = right }) pushed) last to
+      (byte_binary_steps (knowing context.site facts) number operator
+      (record { left = left; right = right }) pushed) last to
       → ByteCarried context facts number (BinaryNode operands operator first second) pushed from last to
   unfolding byte_binary_steps
   binary_law operators.Add node stand = operation_law operators.Add Add tt (λ v w. refl) refl node stand
@@ -323,7 +336,8 @@ of_shift :
     → IsOperand context count second
     → ShiftsIn function scalar
     → number_of (knowing context.site facts) count ≡ Some n
-    → IsElsewhere context facts number (forms.Shift function moved count) (ShiftNode scalar function first second)
+    → IsElsewhere context facts number (forms.Shift function moved count)
+    (ShiftNode scalar function first second)
     → OfOne context number moved (ShiftNode scalar function first second) first (λ v. shifted scalar function v n)
     (values_of (type_of first))
 of_shift {context = context} {facts = facts} {moved = moved} {count = count} {first = first} number sound scalar function n one is_type two in_type is node = record {
@@ -354,8 +368,10 @@ module _
       → IsOperand context count second
       → ShiftsIn function scalar
       → number_of (knowing context.site facts) count ≡ Some n
-      → IsElsewhere context facts number (forms.Shift function moved count) (ShiftNode scalar function first second)
-      → StepsStand context (PartDoes context) facts from (by_number_steps (knowing context.site facts) function moved n pushed) last to
+      → IsElsewhere context facts number (forms.Shift function moved count)
+      (ShiftNode scalar function first second)
+      → StepsStand context (PartDoes context) facts from
+      (by_number_steps (knowing context.site facts) function moved n pushed) last to
       → ByteCarried context facts number (ShiftNode scalar function first second) pushed from last to
   unfolding by_number_steps
   by_number_law scalar ShiftLeft n one is_type two in_type is node stand =
@@ -369,11 +385,13 @@ module _
   by_number_law scalar RotateLeft n one is_type two in_type is node stand =
       turned_by_number context sound owed.effects (n % 8) (rotation_few n)
       (subst (λ (limit : ℕ). OfOne context number moved (ShiftNode scalar RotateLeft first second) first (λ v. turned (v % 256) (n % 8)) limit)
-      (ap values_of (is_type ∙ in_type)) (of_shift number sound scalar RotateLeft n one is_type two in_type is node)) stand
+      (ap values_of (is_type ∙ in_type))
+      (of_shift number sound scalar RotateLeft n one is_type two in_type is node)) stand
   by_number_law scalar RotateRight n one is_type two in_type is node stand =
       turned_by_number context sound owed.effects ((8 - n % 8) % 8) (rotation_few (8 - n % 8))
       (subst (λ (limit : ℕ). OfOne context number moved (ShiftNode scalar RotateRight first second) first (λ v. turned (v % 256) ((8 - n % 8) % 8)) limit)
-      (ap values_of (is_type ∙ in_type)) (of_shift number sound scalar RotateRight n one is_type two in_type is node)) stand
+      (ap values_of (is_type ∙ in_type))
+      (of_shift number sound scalar RotateRight n one is_type two in_type is node)) stand
 
   by_count_law :
       (scalar : ScalarType) (function : ShiftFunction)
@@ -383,7 +401,8 @@ module _
       → type_of second ≡ scalars.Byte
       → ShiftsIn function scalar
       → number_of (knowing context.site facts) count ≡ None
-      → IsElsewhere context facts number (forms.Shift function moved count) (ShiftNode scalar function first second)
+      → IsElsewhere context facts number (forms.Shift function moved count)
+      (ShiftNode scalar function first second)
       → StepsStand context (PartDoes context) facts from
       (elim scalar [
         | scalars.Byte ↦
@@ -411,9 +430,11 @@ module _
       → IsOperand context count second
       → type_of second ≡ scalars.Byte
       → ShiftsIn function scalar
-      → IsElsewhere context facts number (forms.Shift function moved count) (ShiftNode scalar function first second)
+      → IsElsewhere context facts number (forms.Shift function moved count)
+      (ShiftNode scalar function first second)
       → StepsStand context (PartDoes context) facts from
-      (byte_shift_steps (knowing context.site facts) number (record { function = function; value = moved; count = count }) pushed) last to
+      (byte_shift_steps (knowing context.site facts) number
+      (record { function = function; value = moved; count = count }) pushed) last to
       → ByteCarried context facts number (ShiftNode scalar function first second) pushed from last to
   unfolding byte_shift_steps
   shift_law scalar function one is_type two count_type in_type node stand =

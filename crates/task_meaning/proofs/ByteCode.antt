@@ -215,11 +215,13 @@ module _
       → ((r : Registers) → r.a < 256 → (effect instructions r).a ≡ f r.a)
       → (is_free context.site number ≡ true → (r : Registers) → IsBeside r (effect instructions r))
       → ((v : ℕ) → v < limit → f (v % 256) ≡ g v % 256)
-      → StepsStand context (PartDoes context) facts from (part (tasks.Byte inner) pushed ∷ plain instructions) last to
+      → StepsStand context (PartDoes context) facts from
+      (part (tasks.Byte inner) pushed ∷ plain instructions) last to
       → ByteCarried context facts number tree pushed from last to
   byte_makes instructions f on makes beside bytes (PartThere does stand) top base s r memory below room ready known nothing =
       does_same _ (one.means s)
-      (at_byte _ _ _ does one.node one.types one.fewer (record { below = below; room = room; ready = ready; known = known })
+      (at_byte _ _ _ does one.node one.types one.fewer
+      (record { below = below; room = room; ready = ready; known = known })
       (λ v u now memory_now is given next.
       let fits = one.fits s u v (ready_fits context s ready) is in
       at_last_instructions instructions sound on stand next
@@ -234,11 +236,13 @@ module _
       → ((r : Registers) → r.h < 256 → r.l < 256 → (effect instructions r).a ≡ f r.h r.l)
       → (is_free context.site number ≡ true → ⊥)
       → ((v : ℕ) → v < limit → f (v / 256) (v % 256) ≡ g v % 256)
-      → StepsStand context (PartDoes context) facts from (part (tasks.Word inner) pushed ∷ plain instructions) last to
+      → StepsStand context (PartDoes context) facts from
+      (part (tasks.Word inner) pushed ∷ plain instructions) last to
       → ByteCarried context facts number tree pushed from last to
   byte_of_word instructions f on makes not_free bytes (PartThere does stand) top base s r memory below room ready known nothing =
       does_same _ (one.means s)
-      (at_word _ _ _ does one.node one.types one.fewer (record { below = below; room = room; ready = ready; known = known })
+      (at_word _ _ _ does one.node one.types one.fewer
+      (record { below = below; room = room; ready = ready; known = known })
       (λ v u now memory_now is given next.
       let fits = one.fits s u v (ready_fits context s ready) is in
       at_last_instructions instructions sound on stand next
@@ -256,7 +260,8 @@ module _
       → ((r : Registers) → (effect instructions r).a ≡ k)
       → (is_free context.site number ≡ true → (r : Registers) → IsBeside r (effect instructions r))
       → ((v : ℕ) → v < limit → k ≡ g v % 256)
-      → StepsStand context (PartDoes context) facts from (part (tasks.Effects inner) pushed ∷ plain instructions) last to
+      → StepsStand context (PartDoes context) facts from
+      (part (tasks.Effects inner) pushed ∷ plain instructions) last to
       → ByteCarried context facts number tree pushed from last to
   byte_alone instructions k effects on makes beside bytes (PartThere {found = found} {middle = middle} does stand) top base s r memory below room ready known nothing =
       does_same _ (one.means s) (by (is_free context.site number) refl)

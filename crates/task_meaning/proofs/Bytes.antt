@@ -1,5 +1,5 @@
 -- The code of the low byte of an expression does what the expression means.
-use Rattle.std.proofs.Common.{◌≡◌, ℕ, ◌+◌, ◌-◌, ◌*◌, ◌/◌, ◌%◌, ◌<◌, ◌≤◌, true, false, [], ◌∷◌, ◌++◌, Option, Some, None, option_and_then, refl, sym, ap, ◌∙◌, subst, arith}
+use Rattle.std.proofs.Common.{◌≡◌, ℕ, ◌+◌, ◌-◌, ◌*◌, ◌/◌, ◌%◌, ◌<◌, ◌≤◌, true, false, [], ◌∷◌, ◌++◌, Option, Some, None, is_some, option_and_then, refl, sym, ap, ◌∙◌, subst, arith}
 use Rattle.std.proofs.lemmas.Bool.{false≢true}
 use Rattle.std.proofs.lemmas.Option.{none-some}
 use Rattle.std.specs.Option.{option_map_or}
@@ -51,7 +51,7 @@ use Rattle.task_meaning.proofs.HighHalves.{high_byte_law}
 use Rattle.task_meaning.proofs.KnownOperands.{high_fits, word_fits}
 use Rattle.task_meaning.proofs.LowBytes.{called_law, input_law, low_word_law}
 use Rattle.task_meaning.proofs.Nodes.{NodeOf, node_of}
-use Rattle.task_meaning.proofs.Ranges.{value_fits}
+use Rattle.task_meaning.proofs.Ranges.{ready_fits, value_fits}
 use Rattle.task_meaning.proofs.SiteNodes.{free_is, value_in}
 use Rattle.task_meaning.proofs.Stages.{at_carried}
 
@@ -127,7 +127,8 @@ module _ (context : Context) (sound : IsSound context) (asked : BytesAsked conte
       {facts last : Facts} {number : ExpressionNumber} {form : ExpressionForm} {tree : TypedExpression} {bound pushed from to : ℕ}
       → IsForm (nodes_in context) context.storage bound form tree
       → IsElsewhere context facts number form tree
-      → StepsStand context (PartDoes context) facts from (byte_form_steps (knowing context.site facts) number form pushed) last to
+      → StepsStand context (PartDoes context) facts from
+      (byte_form_steps (knowing context.site facts) number form pushed) last to
       → ByteCarried context facts number tree pushed from last to
   unfolding byte_form_steps byte_function_steps byte_of_two_steps called_byte_steps embedded_steps value_task low_of_value_steps
   form_law IsNumber node stand = absurd (none-some _ (sym node.unknown))
@@ -156,12 +157,12 @@ module _ (context : Context) (sound : IsSound context) (asked : BytesAsked conte
       (λ v now memory_now (high : HighIsGiven context last r memory v now memory_now). high.known)
       (record { below = below; room = room; ready = ready; known = known_before })
       (λ v u now memory_now same high final.
-      let fits = value_fits s sound is node.types (Rattle.task_meaning.proofs.Ranges.ready_fits context s ready) same in
+      let fits = value_fits s sound is node.types (ready_fits context s ready) same in
       let small : v / 256 < 256 = high_fits v (type_of inside) fits in
       byte_given to number (v / 256) (high.a ∙ high_itself v small) small
       (λ free.
       absurd (false≢true
-      (sym (ap (λ (found : Option Reference). option_map_or (λ (one : Reference). Rattle.std.specs.Prelude.is_some (place_of_reference (nodes_in context) one)) found false) node.elsewhere)
+      (sym (ap (λ (found : Option Reference). option_map_or (λ (one : Reference). is_some (place_of_reference (nodes_in context) one)) found false) node.elsewhere)
       ∙ sym node.free ∙ free)))
       final)
   form_law {number = number} (IsUnary {scalar = scalar} {operator = operator} {operand = inner} is) node stand =
@@ -184,12 +185,14 @@ module _ (context : Context) (sound : IsSound context) (asked : BytesAsked conte
   form_law {facts = facts} {last = last} {number = number} {bound = bound} {pushed = pushed} {from = from} {to = to} (IsEmbedded {target = target} {value = inner} {to = place} {tree = inside} is_target is) node stand =
       by (type_of inside) refl
       (subst (λ (of : ScalarType). StepsStand context (PartDoes context) facts from
-      ((part (value_task of inner) pushed ∷ part (tasks.Store target true) pushed ∷ []) ++ low_of_value_steps of) last to)
+      ((part (value_task of inner) pushed ∷ part
+      (tasks.Store target true) pushed ∷ []) ++ low_of_value_steps of) last to)
       (source_is context is_target (node.types).1) stand)
     where
       by : (of : ScalarType) → type_of inside ≡ of
           → StepsStand context (PartDoes context) facts from
-          ((part (value_task of inner) pushed ∷ part (tasks.Store target true) pushed ∷ []) ++ low_of_value_steps of) last to
+          ((part (value_task of inner) pushed ∷ part
+          (tasks.Store target true) pushed ∷ []) ++ low_of_value_steps of) last to
           → ByteCarried context facts number (AssignmentNode place inside) pushed from last to
       by scalars.Byte same given =
           embedded_byte context facts last from to pushed bound number inner target inside place sound is (node.types).0 is_target
@@ -201,7 +204,8 @@ module _ (context : Context) (sound : IsSound context) (asked : BytesAsked conte
   -- the code of the low byte of an expression
   pub byte_does :
       (facts last : Facts) (number : ExpressionNumber) (pushed from to : ℕ)
-      → StepsStand context (PartDoes context) facts from (byte_steps (knowing context.site facts) number pushed) last to
+      → StepsStand context (PartDoes context) facts from
+      (byte_steps (knowing context.site facts) number pushed) last to
       → ByteDoes context facts number pushed from last to
   unfolding byte_steps scalar_of relation_of
   byte_does facts last number pushed from to stand bound tree is types =

@@ -27,6 +27,7 @@ use Rattle.treecode.specs.declared.place.Location.TheVariants as locations
 use Rattle.treecode.specs.declared.place.Place.{Place}
 use Rattle.treecode.specs.declared.reference.Reference.{Reference}
 use Rattle.treecode.specs.declared.reference.Subscript.{Subscript as IndexNode}
+use Rattle.treecode.specs.Homes.{place_after}
 use Rattle.treecode.specs.Known.{converted_place, function_of_place, known_distance, place_of_part}
 use Rattle.treecode.specs.Lowered.{IsExpression, IsReference, IsForm, IsNumber, IsValue, IsLocation, IsConstantList, IsConversion, IsEmbedded, IsUnary, IsBinary, IsCallOf, IsFunction, IsShift, IsInput}
 use Rattle.treecode.specs.Nodes.{home_at}
@@ -373,8 +374,10 @@ static_there context facts reference is =
     let part = known_part (home_at (nodes_in context).homes reference.object) reference.offset
     (distance_of (nodes_in context) reference.subscript) (distance_of (nodes_in context) reference.member_subscript) is in
     by part.place part.begins
-    (split (knowing context.site facts) reference.subscript).computed (split_known context facts reference.subscript part.one)
-    (split (knowing context.site facts) reference.member_subscript).computed (split_known context facts reference.member_subscript part.two)
+    (split (knowing context.site facts) reference.subscript).computed
+    (split_known context facts reference.subscript part.one)
+    (split (knowing context.site facts) reference.member_subscript).computed
+    (split_known context facts reference.member_subscript part.two)
   where
     one : ℕ
     one = (split (knowing context.site facts) reference.subscript).offset
@@ -393,7 +396,9 @@ static_there context facts reference is =
           | None ↦ location_at (located_at (base (home_at (nodes_in context).homes reference.object)) first second).base
         ] ≡ Some (locations.Static at))
     by place begins first first_none second second_none =
-        (Rattle.treecode.specs.Homes.place_after (Rattle.treecode.specs.Homes.place_after (Rattle.treecode.specs.Homes.place_after place reference.offset) one) two,
+        (place_after
+        (place_after
+        (place_after place reference.offset) one) two,
         ap (λ (found : Option IndexNode). elim (located_at (base (home_at (nodes_in context).homes reference.object)) found second).first [
           | Some subscript ↦ None
           | None ↦ location_at (located_at (base (home_at (nodes_in context).homes reference.object)) found second).base
@@ -410,11 +415,13 @@ low_in_memory_law :
     (scalar : ScalarType)
     → IsSound context
     → NeighboursKnown context
-    → StepsStand context (PartDoes context) facts from (byte_in_memory_steps (knowing context.site facts) reference pushed) last to
+    → StepsStand context (PartDoes context) facts from
+    (byte_in_memory_steps (knowing context.site facts) reference pushed) last to
     → IsReference (nodes_in context) context.storage bound reference part
     → RefersToScalar context.typed context.within scalar part
     → TypesHoldInReference context.typed context.within part
-    → Carries context facts pushed (2 * height_of_reference part) 0 from to Nothing (scalar_in context scalar part)
+    → Carries context facts pushed (2 * height_of_reference part) 0 from to Nothing
+    (scalar_in context scalar part)
     (ByteIsLoaded context facts last reference scalar)
 low_in_memory_law {context = context} {facts = facts} {last = last} {reference = reference} {pushed = pushed} {from = from} {to = to} {bound = bound} {part = part} scalar sound neighbours stand is refers types =
     by (location_of (knowing context.site facts) reference) refl stand
@@ -425,7 +432,8 @@ low_in_memory_law {context = context} {facts = facts} {last = last} {reference =
           | Some location ↦ location_byte_steps (knowing context.site facts) location pushed
           | None ↦ part_of (tasks.Address reference) pushed ∷ Plain (load registers.A) ∷ []
         ]) last to
-        → Carries context facts pushed (2 * height_of_reference part) 0 from to Nothing (scalar_in context scalar part)
+        → Carries context facts pushed (2 * height_of_reference part) 0 from to Nothing
+        (scalar_in context scalar part)
         (ByteIsLoaded context facts last reference scalar)
     by None found given = byte_in_memory_law scalar sound (λ location here. static_only found here) stand is refers types
     by (Some location) found given = λ top base s r memory less room ready known asked.
@@ -439,7 +447,8 @@ low_in_memory_law {context = context} {facts = facts} {last = last} {reference =
         (λ n steady low small.
         let steady_there = subst (λ (address : ℕ). IsSteady context.activation address) lies.is_at steady in
         location_byte_goes facts location r sound room
-        ((neighbours facts scalar reference part bound top pushed (2 * height_of_reference part) location is refers types room steady_there).0 found)
+        ((neighbours facts scalar reference part bound top pushed
+        (2 * height_of_reference part) location is refers types room steady_there).0 found)
         (subst (λ (address : ℕ). address < MEMORY_SIZE) lies.is_at (place_small context.activation (size_of_scalar scalar) lies.place fits))
         steady_there known given (record { ready = ready; known = known })
         (λ now loaded on. gives (record {
@@ -465,7 +474,8 @@ pub there_law :
     → IsExpression (nodes_in context) context.storage bound number.index tree
     → TypesHold context.typed context.within tree
     → memory_of (knowing context.site facts) number ≡ Some reference
-    → StepsStand context (PartDoes context) facts from (byte_in_memory_steps (knowing context.site facts) reference pushed) last to
+    → StepsStand context (PartDoes context) facts from
+    (byte_in_memory_steps (knowing context.site facts) reference pushed) last to
     → ByteCarried context facts number tree pushed from last to
 there_law {context = context} {facts = facts} {last = last} {from = from} {to = to} {tree = tree} {reference = reference} number pushed sound neighbours is types here stand top base s r memory below room ready known nothing =
     by (lies.g) lies.scalar lies.base reference lies.half refl lies.refers lies.is lies.means lies.small stand
@@ -491,8 +501,10 @@ there_law {context = context} {facts = facts} {last = last} {from = from} {to = 
         → IsReference (nodes_in context) context.storage lies.bound start lies.part
         → ((t : SourceState) → value_in context tree t ≡ then_do (scalar_in context scalar lies.part t) (λ v u. Gave (g v) u))
         → ((v : ℕ) → v < values_of scalar → g v < values_of (type_of tree))
-        → StepsStand context (PartDoes context) facts from (byte_in_memory_steps (knowing context.site facts) there pushed) last to
-        → Does context.activation.around.program.script s.budget 0 (at_place from r memory s.events) (value_in context tree s)
+        → StepsStand context (PartDoes context) facts from
+        (byte_in_memory_steps (knowing context.site facts) there pushed) last to
+        → Does context.activation.around.program.script s.budget 0 (at_place from r memory s.events)
+        (value_in context tree s)
         (Arrives context.activation top base to (ByteIsGiven context last number (type_of tree) r memory))
     by g scalar start _ (LowHalf bytes) same refers is_part means small given =
         does_same _ (means s)

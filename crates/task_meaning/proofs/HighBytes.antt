@@ -88,7 +88,8 @@ next_located context (PartOf object first member offset second) s =
     by_two one (Gave two u) =
         ap (λ (n : ℕ). based_place (home_of around object) around object n (one.is_inside && two.is_inside) u)
         (one_more one.bytes offset two.bytes)
-        ∙ base_next (home_of around object) around object (one.bytes + offset + two.bytes) (one.is_inside && two.is_inside) u
+        ∙ base_next (home_of around object) around object (one.bytes + offset + two.bytes)
+        (one.is_inside && two.is_inside) u
     by_two one (Stopped why u) = refl
 
     by_one : (outcome : Outcome Displacement)
@@ -154,7 +155,8 @@ NeighboursKnown context =
     → TypesHoldInReference context.typed context.within part
     → HasRoom context.activation top pushed need
     → IsSteady context.activation (location_at context.activation (distances_in context) location)
-    → (location_of (knowing context.site facts) reference ≡ Some location → NeighboursOf context pushed location)
+    → (location_of (knowing context.site facts) reference ≡ Some location
+    → NeighboursOf context pushed location)
     × (scalar ≡ Address → location_of (knowing context.site facts) (reference_after reference 1) ≡ Some location
     → NeighboursOf context pushed location)
 
@@ -269,7 +271,8 @@ high_in_memory_law {context = context} {facts = facts} {last = last} {reference 
             let going : GoesOn context facts top base s.memory s.frame r memory = record { ready = ready; known = known } in
             subst (λ (u : SourceState). Does context.activation.around.program.script s.budget 0 (at_place from r memory s.events)
             (read_scalar context.activation.around.program Address place u)
-            (Arrives context.activation top base to (HighIsLoaded context facts last reference r memory))) (sym state_is)
+            (Arrives context.activation top base to
+            (HighIsLoaded context facts last reference r memory))) (sym state_is)
             (subst (λ (given : Outcome ℕ). Does context.activation.around.program.script s.budget 0 (at_place from r memory s.events) given
             (Arrives context.activation top base to (HighIsLoaded context facts last reference r memory)))
             (given_last (read_scalar context.activation.around.program Address place s))
@@ -277,7 +280,8 @@ high_in_memory_law {context = context} {facts = facts} {last = last} {reference 
             (λ low_steady high_steady.
             let steady = subst (λ (n : ℕ). IsSteady context.activation n) is_at high_steady in
             location_byte_goes facts location r sound room
-            ((neighbours facts Address reference part_of bound top pushed (2 * height_of_reference part_of) location is refers types room steady).1 refl found)
+            ((neighbours facts Address reference part_of bound top pushed
+            (2 * height_of_reference part_of) location is refers types room steady).1 refl found)
             (subst (λ (n : ℕ). n < MEMORY_SIZE) is_at (omega arith)) steady
             known stand going
             (λ now loaded on. ends place s now memory to (loaded.a ∙ ap (byte_at memory) (sym is_at))
@@ -285,9 +289,11 @@ high_in_memory_law {context = context} {facts = facts} {last = last} {reference 
     by_location None found (PartThere {found = found_there} {middle = middle} does stand) =
         through_next (located_in context part_of s)
         (subst (λ (outcome : Outcome SourcePlace). Does context.activation.around.program.script s.budget 0 (at_place from r memory s.events) outcome
-        (Arrives context.activation top base middle (AddressIsGiven context found_there (reference_after reference 1) r memory)))
+        (Arrives context.activation top base middle
+        (AddressIsGiven context found_there (reference_after reference 1) r memory)))
         (next_located context part_of s)
-        (does bound (next_part part_of) next_is referred (next_types context part_of types) top base s r memory less
+        (does bound (next_part part_of) next_is referred
+        (next_types context part_of types) top base s r memory less
         (subst (λ (height : ℕ). HasRoom context.activation top pushed (2 * height)) (sym (next_height part_of)) room) ready known tt))
         (λ place t end same given fewer.
         let there : Registers = given.r in
@@ -296,7 +302,8 @@ high_in_memory_law {context = context} {facts = facts} {last = last} {reference 
         let fits = located_fits context Address part_of place s t sound refers same in
         subst (λ (state : State). Does context.activation.around.program.script t.budget 0 state
         (read_scalar context.activation.around.program Address place t)
-        (Arrives context.activation top base to (HighIsLoaded context facts last reference r memory))) (sym given.is_at)
+        (Arrives context.activation top base to
+        (HighIsLoaded context facts last reference r memory))) (sym given.is_at)
         (subst (λ (outcome : Outcome ℕ). Does context.activation.around.program.script t.budget 0 (at_place middle there ended t.events) outcome
         (Arrives context.activation top base to (HighIsLoaded context facts last reference r memory)))
         (given_last (read_scalar context.activation.around.program Address place t))
