@@ -40,7 +40,7 @@ use Rattle.exprgen8080.specs.Halves.{low_of_word_steps}
 use Rattle.task_meaning.specs.Contexts.{Context, IsSound, nodes_in}
 use Rattle.task_meaning.specs.Steps.{StepsStand}
 use Rattle.task_meaning.specs.Tasks.{PartDoes}
-use Rattle.task_meaning.proofs.ByteCode.{ByteCarried, FreeEffects, OfOne}
+use Rattle.task_meaning.proofs.ByteCode.{ByteCarried, free_effects, OfOne}
 use Rattle.task_meaning.proofs.ByteNumbers.{from_number, low_of_result, with_number}
 use Rattle.task_meaning.proofs.ByteProducts.{product_by_number}
 use Rattle.task_meaning.proofs.ByteQuotients.{of_left, of_right, quotient_law, remainder_law}
@@ -58,12 +58,6 @@ use Rattle.task_meaning.proofs.RelationValues.{relation_value}
 use Rattle.task_meaning.proofs.SiteNodes.{free_is, number_is, value_in}
 use Rattle.task_meaning.proofs.TwoBytes.{IsSimple, result_by, result_small, two_bytes}
 use Rattle.task_meaning.proofs.WordSums.{second_known}
-
--- What is asked of others: code of the effects of a free expression changes A alone, and the bytes beside one of a frame
--- that is next to the stack pointer are steady.
-pub record BytesOwed (context : Context) : Type 0 where
-  pub effects : FreeEffects context
-  pub neighbours : NeighboursKnown context
 
 -- the node of an expression that is neither known nor in memory
 pub record IsElsewhere
@@ -125,7 +119,7 @@ byte_fits {context = context} {number = number} {tree = tree} facts sound is byt
 module _
     (context : Context) {facts last : Facts} {from to pushed : ℕ} {left right : ExpressionNumber}
     {first second : TypedExpression} (number : ExpressionNumber) (operands : ScalarType) (sound : IsSound context)
-    (asked : BytesAsked context) (owed : BytesOwed context)
+    (asked : BytesAsked context) (neighbours : NeighboursKnown context)
     (one : IsOperand context left first) (is_type : type_of first ≡ operands)
     (two : IsOperand context right second) (other_is_type : type_of second ≡ operands)
     (same_bound : two.bound ≡ one.bound) where
@@ -167,7 +161,7 @@ module _
       by_left none (Some k) here given =
           let small : k < values_of operands =
           subst (λ (scalar : ScalarType). k < values_of scalar) is_type (number_small facts k sound one.is one.types here) in
-          from_number context sound owed.effects
+          from_number context sound (free_effects context)
           (of_right facts number operator operands k (λ w. result_by operation operands k w) sound one two here
           (λ w. gives k w)
           (λ w fits. as_operands k w small (subst (λ (scalar : ScalarType). w < values_of scalar) other_is_type fits))
@@ -209,7 +203,7 @@ module _
       by_right (Some k) here given =
           let small : k < values_of operands =
           subst (λ (scalar : ScalarType). k < values_of scalar) other_is_type (number_small facts k sound two.is two.types here) in
-          with_number context sound owed.effects
+          with_number context sound (free_effects context)
           (of_left facts number operator operands k (λ v. result_by operation operands v k) sound one two here
           (λ v. gives v k)
           (λ v fits. as_operands v k (subst (λ (scalar : ScalarType). v < values_of scalar) is_type fits) small)
@@ -247,7 +241,7 @@ module _
           → ByteCarried context facts number
           (BinaryNode operands operators.Multiply first second) pushed from last to
       by_left (Some k) here given =
-          product_by_number context sound owed.effects operands k (k % 256) refl
+          product_by_number context sound (free_effects context) operands k (k % 256) refl
           (of_right facts number operators.Multiply operands k (λ w. (w * k) % values_of operands) sound one two here
           (λ w. ap (λ (n : ℕ). Some (n % values_of operands)) (turned_product k w))
           (λ w fits. product_small operands (w * k)) (λ free. absurd (never_free node refl free)))
@@ -266,7 +260,7 @@ module _
           → ByteCarried context facts number
           (BinaryNode operands operators.Multiply first second) pushed from last to
       by_right (Some k) here given =
-          product_by_number context sound owed.effects operands k (k % 256) refl
+          product_by_number context sound (free_effects context) operands k (k % 256) refl
           (of_left facts number operators.Multiply operands k (λ v. (v * k) % values_of operands) sound one two here
           (λ v. refl) (λ v fits. product_small operands (v * k)) (λ free. absurd (never_free node refl free)))
           (never_free node refl) given
@@ -317,9 +311,9 @@ module _
   binary_law operators.Xor node stand = operation_law operators.Xor ExclusiveOr tt (λ v w. refl) refl node stand
   binary_law operators.Multiply node stand = product_law node stand
   binary_law operators.Divide node stand =
-      quotient_law context number operands sound owed.effects owed.neighbours one is_type two (never_free node refl) node.is node.types stand
+      quotient_law context number operands sound (free_effects context) neighbours one is_type two (never_free node refl) node.is node.types stand
   binary_law operators.Modulo node stand =
-      remainder_law context number operands sound owed.effects owed.neighbours one is_type two (never_free node refl) node.is node.types stand
+      remainder_law context number operands sound (free_effects context) neighbours one is_type two (never_free node refl) node.is node.types stand
   binary_law operators.Equal node stand = relation_law operators.Equal _ refl refl node stand
   binary_law operators.Unequal node stand = relation_law operators.Unequal _ refl refl node stand
   binary_law operators.Less node stand = relation_law operators.Less _ refl refl node stand
@@ -360,7 +354,7 @@ rotation_few n = omega arith
 module _
     (context : Context) {facts last : Facts} {from to pushed : ℕ} {moved count : ExpressionNumber}
     {first second : TypedExpression} (number : ExpressionNumber) (sound : IsSound context)
-    (asked : BytesAsked context) (owed : BytesOwed context) where
+    (asked : BytesAsked context) (neighbours : NeighboursKnown context) where
   by_number_law :
       (scalar : ScalarType) (function : ShiftFunction) (n : ℕ)
       → IsOperand context moved first
@@ -375,20 +369,20 @@ module _
       → ByteCarried context facts number (ShiftNode scalar function first second) pushed from last to
   unfolding by_number_steps
   by_number_law scalar ShiftLeft n one is_type two in_type is node stand =
-      left_by_number context sound owed.effects scalar n (of_shift number sound scalar ShiftLeft n one is_type two in_type is node) stand
+      left_by_number context sound (free_effects context) scalar n (of_shift number sound scalar ShiftLeft n one is_type two in_type is node) stand
   by_number_law scalars.Address ShiftRight n one is_type two in_type is node stand =
-      right_shifted context sound owed.effects owed.neighbours n (of_shift number sound scalars.Address ShiftRight n one is_type two in_type is node)
+      right_shifted context sound (free_effects context) neighbours n (of_shift number sound scalars.Address ShiftRight n one is_type two in_type is node)
       (λ wide free. never_free node refl free) stand
   by_number_law scalars.Byte ShiftRight n one is_type two in_type is node stand =
-      right_shifted context sound owed.effects owed.neighbours n (of_shift number sound scalars.Byte ShiftRight n one is_type two in_type is node)
+      right_shifted context sound (free_effects context) neighbours n (of_shift number sound scalars.Byte ShiftRight n one is_type two in_type is node)
       (λ wide free. false≢true (sym wide ∙ byte_fits facts sound one.is is_type)) stand
   by_number_law scalar RotateLeft n one is_type two in_type is node stand =
-      turned_by_number context sound owed.effects (n % 8) (rotation_few n)
+      turned_by_number context sound (free_effects context) (n % 8) (rotation_few n)
       (subst (λ (limit : ℕ). OfOne context number moved (ShiftNode scalar RotateLeft first second) first (λ v. turned (v % 256) (n % 8)) limit)
       (ap values_of (is_type ∙ in_type))
       (of_shift number sound scalar RotateLeft n one is_type two in_type is node)) stand
   by_number_law scalar RotateRight n one is_type two in_type is node stand =
-      turned_by_number context sound owed.effects ((8 - n % 8) % 8) (rotation_few (8 - n % 8))
+      turned_by_number context sound (free_effects context) ((8 - n % 8) % 8) (rotation_few (8 - n % 8))
       (subst (λ (limit : ℕ). OfOne context number moved (ShiftNode scalar RotateRight first second) first (λ v. turned (v % 256) ((8 - n % 8) % 8)) limit)
       (ap values_of (is_type ∙ in_type))
       (of_shift number sound scalar RotateRight n one is_type two in_type is node)) stand

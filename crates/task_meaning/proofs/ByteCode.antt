@@ -30,6 +30,7 @@ use Rattle.task_meaning.specs.Steps.{StepsStand, PartThere, PlainThere}
 use Rattle.task_meaning.specs.Tasks.{ByteIsGiven, Carries, ChangesAOnly, EffectsDo, Know, Nothing, PartDoes}
 use Rattle.task_meaning.proofs.ByteForms.{byte_given}
 use Rattle.task_meaning.proofs.Ranges.{ready_fits}
+use Rattle.task_meaning.proofs.EffectForms.{FreeEffectsAreGiven}
 use Rattle.task_meaning.proofs.RegisterCode.{AreOnRegisters, IsOnRegisters, does_to, effect}
 use Rattle.task_meaning.proofs.SiteNodes.{value_in}
 use Rattle.task_meaning.proofs.Stages.{Stage, at_a, at_byte, at_carried, at_effects, at_end, at_instructions, at_word, does_same, script_of}
@@ -154,13 +155,6 @@ with_outcome (Stopped Ended t) does better = record { told = does.told }
 with_outcome (Stopped More t) does better = record { told = does.told }
 with_outcome (Stopped (Outside reason) t) does better = record { told = tt }
 
--- the effects of an expression are carried out, by code that changes A alone
-pub record FreeEffectsAreGiven
-    (context : Context) (after : Facts) (r : Registers) (memory : List ℕ) (found : ℕ) (now : Registers)
-    (memory_now : List ℕ) : Type 0 where
-  pub known : Know context after now memory_now
-  pub free : ChangesAOnly r memory now memory_now
-
 -- Code of the effects of an expression that is free changes A alone.
 abbrev pub FreeEffects : Context → Type 0
 FreeEffects context =
@@ -171,6 +165,17 @@ FreeEffects context =
     → TypesHold context.typed context.within tree
     → Carries context facts pushed (2 * height_of tree) 0 from to Nothing (value_in context tree)
     (FreeEffectsAreGiven context last)
+
+pub free_effects : (context : Context) → FreeEffects context
+free_effects context facts last number pushed from to bound tree does free is types top base s r memory less room ready known nothing =
+    with_outcome (value_in context tree s) (does bound tree is types top base s r memory less room ready known nothing)
+    (λ found t end same arrives. record {
+      r = arrives.r;
+      memory = arrives.memory;
+      is_at = arrives.is_at;
+      ready = arrives.ready;
+      holds = record { known = (arrives.holds).known; free = (arrives.holds).free free };
+    })
 
 -- the low byte of a tree comes into A
 abbrev pub ByteCarried :

@@ -39,7 +39,7 @@ use Rattle.exprgen8080.specs.Emission.{knowing}
 use Rattle.task_meaning.specs.Contexts.{Context, IsSound, nodes_in}
 use Rattle.task_meaning.specs.Steps.{StepsStand}
 use Rattle.task_meaning.specs.Tasks.{ByteDoes, PartDoes}
-use Rattle.task_meaning.proofs.ByteBinaries.{BytesOwed, IsElsewhere, binary_law, never_free, shift_law}
+use Rattle.task_meaning.proofs.ByteBinaries.{IsElsewhere, binary_law, never_free, shift_law}
 use Rattle.task_meaning.proofs.ByteCode.{ByteCarried, OfOne, beside_a, beside_itself, byte_makes}
 use Rattle.task_meaning.proofs.ByteForms.{byte_given, complement_byte, complement_small, free_by_form, negative_byte, negative_small, type_byte, type_small}
 use Rattle.task_meaning.proofs.ByteKnown.{known_by_form, known_law}
@@ -47,6 +47,7 @@ use Rattle.task_meaning.proofs.BytesAsked.{BytesAsked, HighIsGiven}
 use Rattle.task_meaning.proofs.BytesInMemory.{memory_same}
 use Rattle.task_meaning.proofs.BytesThere.{there_law}
 use Rattle.task_meaning.proofs.EmbeddedBytes.{embedded_byte, embedded_low_byte}
+use Rattle.task_meaning.proofs.HighBytes.{NeighboursKnown}
 use Rattle.task_meaning.proofs.HighHalves.{high_byte_law}
 use Rattle.task_meaning.proofs.KnownOperands.{high_fits, word_fits}
 use Rattle.task_meaning.proofs.LowBytes.{called_law, input_law, low_word_law}
@@ -75,7 +76,7 @@ target_is :
 target_is context (IsStored reference) types = types.0
 target_is context IsSent types = types
 
-module _ (context : Context) (sound : IsSound context) (asked : BytesAsked context) (owed : BytesOwed context) where
+module _ (context : Context) (sound : IsSound context) (asked : BytesAsked context) (neighbours : NeighboursKnown context) where
   -- a tree around one part
   of_part :
       {number inner : ExpressionNumber} {tree inside : TypedExpression} {bound : ℕ}
@@ -153,7 +154,7 @@ module _ (context : Context) (sound : IsSound context) (asked : BytesAsked conte
       [] (λ x. x) tt (λ r small. refl) (λ free r. beside_itself r) (λ v fits. refl) stand
   form_law {facts = facts} {last = last} {number = number} {to = to} (IsFunction {function = High} {operand = inner} {tree = inside} is) node stand = λ top base s r memory below room ready known_before nothing.
       at_carried {top = top} {need = 2 * height_of (FunctionNode High inside)} {base = base} _ _ _
-      (high_byte_law sound owed.neighbours is node.types stand) (omega arith) tt
+      (high_byte_law sound neighbours is node.types stand) (omega arith) tt
       (λ v now memory_now (high : HighIsGiven context last r memory v now memory_now). high.known)
       (record { below = below; room = room; ready = ready; known = known_before })
       (λ v u now memory_now same high final.
@@ -168,12 +169,12 @@ module _ (context : Context) (sound : IsSound context) (asked : BytesAsked conte
   form_law {number = number} (IsUnary {scalar = scalar} {operator = operator} {operand = inner} is) node stand =
       unary_law operator is (node.types).0 (node.types).1 (λ free. free_is context.site inner ∙ sym node.free ∙ free) stand
   form_law {number = number} {bound = bound} (IsBinary {operands = operands} {operator = operator} one two) node stand =
-      binary_law context number operands sound asked owed
+      binary_law context number operands sound asked neighbours
       (record { bound = bound; is = one; types = ((node.types).1).0 }) ((node.types).1).1
       (record { bound = bound; is = two; types = ((node.types).2).0 }) ((node.types).2).1
       refl operator node stand
   form_law {number = number} {bound = bound} (IsShift {scalar = scalar} {function = function} one two) node stand =
-      shift_law context number sound asked owed scalar function
+      shift_law context number sound asked neighbours scalar function
       (record { bound = bound; is = one; types = ((node.types).1).0 }) ((node.types).1).1
       (record { bound = bound; is = two; types = ((node.types).2).0 }) ((node.types).2).1
       (node.types).0 node stand
@@ -225,7 +226,7 @@ module _ (context : Context) (sound : IsSound context) (asked : BytesAsked conte
             ]
           ]) last to
           → ByteCarried context facts number tree pushed from last to
-      by_memory (Some reference) here none given = there_law number pushed sound owed.neighbours is types here given
+      by_memory (Some reference) here none given = there_law number pushed sound neighbours is types here given
       by_memory None here none given =
           let unknown : known_of (nodes_in context) (type_of tree) node.found.form ≡ None = sym (known_by_form facts node) ∙ none in
           form_law node.form

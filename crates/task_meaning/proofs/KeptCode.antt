@@ -104,7 +104,7 @@ module _ (nodes : Nodes) (storage : Storage) (keeps : KeepTraits nodes) where
         second_of go None other some = false_is_true some
     form_known_quiet scalar IsInput some = false_is_true some
 
-    part_known_quiet : {bound : ℕ} {reference : Reference} {part : TypedReference}
+    pub part_known_quiet : {bound : ℕ} {reference : Reference} {part : TypedReference}
         → IsReference nodes storage bound reference part
         → is_some (place_of_reference nodes reference) ≡ true
         → reference_is_quiet nodes reference ≡ true
