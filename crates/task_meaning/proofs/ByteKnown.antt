@@ -15,6 +15,7 @@ use Rattle.treecode.specs.declared.expression.Expression.{Expression}
 use Rattle.treecode.specs.declared.expression.ExpressionNumber.{ExpressionNumber}
 use Rattle.treecode.specs.declared.place.Place.{Place}
 use Rattle.treecode.specs.declared.place.Place.TheVariants.{Number, Code, Data, External}
+use Rattle.treecode.specs.Homes.{number_of_place}
 use Rattle.treecode.specs.Lowered.{IsExpression}
 use Rattle.treecode.specs.Queries.{place_number}
 use Rattle.treecode.specs.Traits.{is_free_of, known_of, no_traits, traits_of}
@@ -74,7 +75,8 @@ fits_place :
     → KnownFits (Some place) (type_of tree)
 fits_place {context = context} {number = number} {tree = tree} facts place sound is types here =
     subst (λ (one : Option Place). KnownFits one (type_of tree))
-    (sym (known_kept (nodes_in context) context.storage sound.lowered.traits is) ∙ sym (known_same context facts number) ∙ here)
+    (sym (known_kept (nodes_in context) context.storage sound.lowered.traits is) ∙ sym
+    (known_same context facts number) ∙ here)
     (known_fits context sound.numbers is types)
 
 -- a BYTE that is known is a number, and free
@@ -92,7 +94,7 @@ known_byte_free {context = context} {number = number} {tree = tree} facts place 
     ∙ by place (fits_place facts place sound is types here)
   where
     by : (place : Place) → KnownFits (Some place) (type_of tree)
-        → is_some (Rattle.treecode.specs.Homes.number_of_place place) ≡ true
+        → is_some (number_of_place place) ≡ true
     by (Number n) fits = refl
     by (Code offset) fits = bytes_differ (sym byte ∙ fits)
     by (Data offset) fits = bytes_differ (sym byte ∙ fits)
@@ -115,12 +117,13 @@ known_law {context = context} {facts = facts} {last = last} {from = from} {to = 
     node : NodeOf context number tree
     node = node_of sound is
 
-    free_here : is_free context.site number ≡ is_some (Rattle.treecode.specs.Homes.number_of_place place)
+    free_here : is_free context.site number ≡ is_some (number_of_place place)
     free_here = free_by_known (Some place) node (sym (known_by_form facts node) ∙ here)
 
     -- where it is no number, by way of HL
-    by_word : (there : Place) → place ≡ there → is_some (Rattle.treecode.specs.Homes.number_of_place there) ≡ false
-        → StepsStand context (PartDoes context) facts from (Word (LoadPair Hl) there ∷ Plain (copy A L) ∷ []) last to
+    by_word : (there : Place) → place ≡ there → is_some (number_of_place there) ≡ false
+        → StepsStand context (PartDoes context) facts from
+        (Word (LoadPair Hl) there ∷ Plain (copy A L) ∷ []) last to
         → ByteCarried context facts number tree pushed from last to
     by_word there same symbolic (WordThere stands rest) top base s r memory below room ready known_before nothing =
         let word : ℕ = place_at context.activation.layout there in
@@ -132,7 +135,8 @@ known_law {context = context} {facts = facts} {last = last} {from = from} {to = 
         let bytes = ready.registers in
         let loaded : Registers = record r { h = word / 256; l = word % 256 } in
         does_same _ (known_means facts there sound is types (here ∙ ap Some same) s)
-        (word_goes (LoadPair Hl) there r loaded memory sound stands (record { ready = ready; known = known_before }) tt refl
+        (word_goes (LoadPair Hl) there r loaded memory sound stands
+        (record { ready = ready; known = known_before }) tt refl
         (λ known_now.
         at_last_instructions (copy A L ∷ []) sound (tt, tt) rest
         (record {
@@ -152,7 +156,7 @@ known_law {context = context} {facts = facts} {last = last} {from = from} {to = 
         })
         (λ final.
         byte_given to number word refl small
-        (λ free. absurd (false≢true (sym symbolic ∙ ap (λ (one : Place). is_some (Rattle.treecode.specs.Homes.number_of_place one)) (sym same) ∙ sym free_here ∙ free)))
+        (λ free. absurd (false≢true (sym symbolic ∙ ap (λ (one : Place). is_some (number_of_place one)) (sym same) ∙ sym free_here ∙ free)))
         final)))
 
     by : (there : Place) → place ≡ there

@@ -189,7 +189,8 @@ module _
   -- 0, after what an expression does
   pub zero_after :
       ((v : ℕ) → v < limit → 0 ≡ g v % 256)
-      → StepsStand context (PartDoes context) facts from (part (tasks.Effects inner) pushed ∷ Plain clear_a ∷ []) last to
+      → StepsStand context (PartDoes context) facts from
+      (part (tasks.Effects inner) pushed ∷ Plain clear_a ∷ []) last to
       → ByteCarried context facts number tree pushed from last to
   zero_after bytes stand =
       byte_alone context sound one (clear_a ∷ []) 0 effects (tt, tt) cleared (λ free r. beside_a _ _ r)

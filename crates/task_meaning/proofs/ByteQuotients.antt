@@ -2,6 +2,7 @@
 use Rattle.std.proofs.Common.{◌≡◌, ℕ, ◌+◌, ◌-◌, ◌/◌, ◌%◌, ◌^◌, ◌<◌, ◌≤◌, ◌==◌, true, false, List, [], ◌∷◌, ◌++◌, Option, Some, None, is_some, option_and_then, bit_and, refl, sym, ap, ◌∙◌, subst, arith, if◌then◌else◌}
 use Rattle.std.proofs.lemmas.Bool.{ne_eqb}
 use Rattle.std.proofs.lemmas.Nat.{and_mask, pow_pos}
+use Rattle.std.proofs.Math.Nat.{mod-le}
 use Rattle.std.proofs.lemmas.Option.{none-some, same_Some}
 use lib.Bits.{and_mod}
 use Rattle.trees.specs.declared.declaration.ScalarType.{ScalarType}
@@ -67,7 +68,8 @@ pub of_left :
     → ((v : ℕ) → result_of operands operator v k ≡ Some (g v))
     → ((v : ℕ) → v < values_of (type_of first) → g v < values_of (type_of_result operator operands))
     → (is_free context.site number ≡ true → is_free context.site left ≡ true)
-    → OfOne context number left (BinaryNode operands operator first second) first g (values_of (type_of first))
+    → OfOne context number left (BinaryNode operands operator first second) first g
+    (values_of (type_of first))
 of_left {context = context} {first = first} {second = second} facts number operator operands k g sound one two is result small free = record {
   bound = one.bound;
   node = one.is;
@@ -94,7 +96,8 @@ pub of_right :
     → ((v : ℕ) → result_of operands operator k v ≡ Some (g v))
     → ((v : ℕ) → v < values_of (type_of second) → g v < values_of (type_of_result operator operands))
     → (is_free context.site number ≡ true → is_free context.site right ≡ true)
-    → OfOne context number right (BinaryNode operands operator first second) second g (values_of (type_of second))
+    → OfOne context number right (BinaryNode operands operator first second) second g
+    (values_of (type_of second))
 of_right {context = context} {first = first} {second = second} facts number operator operands k g sound one two is result small free = record {
   bound = two.bound;
   node = two.is;
@@ -131,7 +134,7 @@ result_at_most : (operands : ScalarType) (v x : ℕ) → x ≤ v → v < values_
 result_at_most operands v x less small = omega (arith, less, small)
 
 remainder_less : (v p : ℕ) → v % p ≤ v
-remainder_less v p = Rattle.std.proofs.Math.Nat.mod-le v p
+remainder_less v p = mod-le v p
 
 -- a number that is a power of two
 record IsPower (context : Context) (facts : Facts) (right : ExpressionNumber) (n : ℕ) : Type 0 where
@@ -208,8 +211,10 @@ module _
       IsExpression (nodes_in context) context.storage bound number.index (BinaryNode operands operators.Divide first second)
       → TypesHold context.typed context.within (BinaryNode operands operators.Divide first second)
       → StepsStand context (PartDoes context) facts from
-      (quotient_byte_steps (knowing context.site facts) number (record { left = left; right = right }) pushed) last to
-      → ByteCarried context facts number (BinaryNode operands operators.Divide first second) pushed from last to
+      (quotient_byte_steps (knowing context.site facts) number
+      (record { left = left; right = right }) pushed) last to
+      → ByteCarried context facts number
+      (BinaryNode operands operators.Divide first second) pushed from last to
   unfolding quotient_byte_steps
   quotient_law is types stand = by (power (knowing context.site facts) right) refl stand
     where
@@ -219,7 +224,8 @@ module _
             | Some count ↦ low_byte_shifted_right_steps (knowing context.site facts) left count pushed
             | None ↦ low_of_word_steps number pushed
           ]) last to
-          → ByteCarried context facts number (BinaryNode operands operators.Divide first second) pushed from last to
+          → ByteCarried context facts number
+          (BinaryNode operands operators.Divide first second) pushed from last to
       by (Some count) here given =
           right_shifted context sound effects count
           (of_left facts number operators.Divide operands (2 ^ count) (λ v. v / 2 ^ count) sound one two
@@ -236,8 +242,10 @@ module _
       IsExpression (nodes_in context) context.storage bound number.index (BinaryNode operands operators.Modulo first second)
       → TypesHold context.typed context.within (BinaryNode operands operators.Modulo first second)
       → StepsStand context (PartDoes context) facts from
-      (remainder_byte_steps (knowing context.site facts) (record { left = left; right = right }) pushed) last to
-      → ByteCarried context facts number (BinaryNode operands operators.Modulo first second) pushed from last to
+      (remainder_byte_steps (knowing context.site facts)
+      (record { left = left; right = right }) pushed) last to
+      → ByteCarried context facts number
+      (BinaryNode operands operators.Modulo first second) pushed from last to
   unfolding remainder_byte_steps
   remainder_law is types stand = by (number_of_two (knowing context.site facts) right) refl stand
     where
@@ -249,7 +257,8 @@ module _
                 pair_steps (knowing context.site facts) left right true pushed
                 ++ (CallRoutine routines.Divide ∷ Plain (copy A E) ∷ [])
           ]) last to
-          → ByteCarried context facts number (BinaryNode operands operators.Modulo first second) pushed from last to
+          → ByteCarried context facts number
+          (BinaryNode operands operators.Modulo first second) pushed from last to
       by (Some n) here given =
           let power_is_there : IsPower context facts right n = two_there context facts right n here in
           let count : ℕ = power_is_there.count in
@@ -264,8 +273,10 @@ module _
           (λ v fits. remainder_byte v count n power_is_there.is small) given
       by None here given = λ top base s r memory below room ready known nothing.
           low_given number from s r memory sound is types not_free ready
-          (pair_then context sound (Some LeftInHl) (CallRoutine routines.Divide ∷ Plain (copy A E) ∷ []) from s r memory one two below room
-          (one_high (height_of first) (height_of second) _ (omega arith)) (two_high (height_of first) (height_of second) _ (omega arith)) given
+          (pair_then context sound (Some LeftInHl)
+          (CallRoutine routines.Divide ∷ Plain (copy A E) ∷ []) from s r memory one two below room
+          (one_high (height_of first) (height_of second) _ (omega arith))
+          (two_high (height_of first) (height_of second) _ (omega arith)) given
           (record { ready = ready; known = known })
           (λ x y t now ended middle found fewer rest going_on has.
           divided_does y (x % y)

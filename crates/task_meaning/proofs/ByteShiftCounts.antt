@@ -60,7 +60,8 @@ routine_done :
     → now.a ≡ shifted scalars.Byte function r.a r.e
     → StepsStand context (PartDoes context) found middle [] last to
     → Stage context top pushed need base u found now ended
-    → Does (script_of context) u.budget 0 (at_place middle now ended u.events) (Gave (shifted scalars.Byte function v k) u)
+    → Does (script_of context) u.budget 0 (at_place middle now ended u.events)
+    (Gave (shifted scalars.Byte function v k) u)
     (Arrives context.activation top base to (ByteIsGiven context last number scalars.Byte began memory_began))
 routine_done {to = to} function v k number r in_type not_free small a e computes rest next =
     let fits : shifted scalars.Byte function v k < 256 = shift_fits scalars.Byte function v k in_type small in
@@ -84,7 +85,8 @@ routine_ends :
     → r.e ≡ k
     → StepsStand context (PartDoes context) facts from (CallRoutine (byte_routine function) ∷ []) last to
     → Stage context top pushed need base u facts r memory
-    → Does (script_of context) u.budget 0 (at_place from r memory u.events) (Gave (shifted scalars.Byte function v k) u)
+    → Does (script_of context) u.budget 0 (at_place from r memory u.events)
+    (Gave (shifted scalars.Byte function v k) u)
     (Arrives context.activation top base to (ByteIsGiven context last number scalars.Byte began memory_began))
 unfolding byte_routine
 routine_ends {r = r} ShiftLeft v k number sound in_type not_free two small a e stand stage =
@@ -137,7 +139,8 @@ module _
       at_byte _ _ _ does one.is one.types (omega arith) (record { below = below; room = room; ready = ready; known = known_before })
       (λ v u now memory_now is given next.
       at_carried {top = top} {need = 2 * height_of (ShiftNode scalars.Byte function first second)} {base = base} _ _ _
-      (asked.locates facts _ _ count reference _ _ _ _ second operand.is_there addresses two.is two.types) (omega arith) tt
+      (asked.locates facts _ _ count reference _ _ _ _ second operand.is_there addresses two.is two.types)
+      (omega arith) tt
       (λ k late memory_late (lies : ByteIsAtHl context _ reference (type_of second) now memory_now k late memory_late). lies.known)
       next
       (λ k t late memory_late other_is lies stage_late.
@@ -169,7 +172,8 @@ module _
       → ByteCarried context facts number (ShiftNode scalars.Byte function first second) pushed from last to
   count_first free may (PartThere does (PlainThere copied (PartThere other_does rest))) top base s r memory below room ready known_before nothing =
       does_exchanged facts (λ v k u. Gave (shifted scalars.Byte function v k) u) s sound one.is two.is one.types may
-      (at_byte _ _ _ does two.is two.types (omega arith) (record { below = below; room = room; ready = ready; known = known_before })
+      (at_byte _ _ _ does two.is two.types (omega arith)
+      (record { below = below; room = room; ready = ready; known = known_before })
       (λ k u now memory_now is given next.
       let held = next.ready.registers in
       let count_small : k < 256 = as_byte (type_of second) k count_is_byte given.small in
@@ -215,7 +219,8 @@ module _
   -- in any way
   pub shift_by_count :
       StepsStand context (PartDoes context) facts from
-      (operands_steps (knowing context.site facts) value count pushed ++ (CallRoutine (byte_routine function) ∷ [])) last to
+      (operands_steps (knowing context.site facts) value count pushed ++
+      (CallRoutine (byte_routine function) ∷ [])) last to
       → ByteCarried context facts number (ShiftNode scalars.Byte function first second) pushed from last to
   unfolding operands_steps count_in_memory_steps
   shift_by_count stand = by_memory (operand_in_memory (knowing context.site facts) count) refl stand
@@ -227,13 +232,16 @@ module _
       free_value None here is = free_is context.site value ∙ sym (free_is (knowing context.site facts) value) ∙ is
 
       by_exchange : (may : Bool)
-          → ((is_some (known (knowing context.site facts) value) || is_free (knowing context.site facts) value)
+          → ((is_some (known (knowing context.site facts) value) || is_free
+          (knowing context.site facts) value)
           && may_exchange (knowing context.site facts) value count) ≡ may
           → StepsStand context (PartDoes context) facts from
-          ((if may then part (tasks.Byte count) pushed ∷ Plain (copy E A) ∷ part (tasks.Byte value) pushed ∷ []
+          ((if may then part (tasks.Byte count) pushed ∷ Plain (copy E A) ∷ part
+          (tasks.Byte value) pushed ∷ []
           else part (tasks.Byte value) pushed ∷ Plain (Push Psw) ∷ part (tasks.Byte count) ((pushed + 2) % 65536)
           ∷ Plain (copy E A) ∷ Plain (Pop Psw) ∷ []) ++ (CallRoutine (byte_routine function) ∷ [])) last to
-          → ByteCarried context facts number (ShiftNode scalars.Byte function first second) pushed from last to
+          → ByteCarried context facts number
+          (ShiftNode scalars.Byte function first second) pushed from last to
       by_exchange true is given =
           let parts = and_parts (is_some (known (knowing context.site facts) value) || is_free (knowing context.site facts) value)
           (may_exchange (knowing context.site facts) value count) is in
@@ -251,7 +259,8 @@ module _
                 else part (tasks.Byte value) pushed ∷ Plain (Push Psw) ∷ part (tasks.Byte count) ((pushed + 2) % 65536)
                 ∷ Plain (copy E A) ∷ Plain (Pop Psw) ∷ []
           ]) ++ (CallRoutine (byte_routine function) ∷ [])) last to
-          → ByteCarried context facts number (ShiftNode scalars.Byte function first second) pushed from last to
+          → ByteCarried context facts number
+          (ShiftNode scalars.Byte function first second) pushed from last to
       by_memory (Some reference) here given = count_in_memory reference here given
       by_memory None here given =
           by_exchange

@@ -272,7 +272,8 @@ module _
   pub turned_by_number :
       (count : ℕ) → count < 8
       → OfOne context number inner tree inside (λ v. turned (v % 256) count) 256
-      → StepsStand context (PartDoes context) facts from (part (tasks.Byte inner) pushed ∷ rotation_steps count) last to
+      → StepsStand context (PartDoes context) facts from
+      (part (tasks.Byte inner) pushed ∷ rotation_steps count) last to
       → ByteCarried context facts number tree pushed from last to
   turned_by_number count few one stand =
       byte_by_code context sound one (rotation_code count few)

@@ -136,7 +136,8 @@ module _
           let turns : List Instr = replicate (8 - count) (Dad Hl) in
           byte_of_word context sound one (turns ++ (copy A H ∷ []))
           (λ h l. ((256 * h + l) * 2 ^ (8 - count)) % 65536 / 256)
-          (all_straight (turns ++ (copy A H ∷ [])) (both_on turns (copy A H ∷ []) (repeated_on (Dad Hl) (8 - count) tt) (tt, tt)))
+          (all_straight (turns ++ (copy A H ∷ []))
+          (both_on turns (copy A H ∷ []) (repeated_on (Dad Hl) (8 - count) tt) (tt, tt)))
           (λ r h_small l_small.
           ap (λ (now : Registers). now.a) (effect_on turns (copy A H ∷ []) r)
           ∙ (doubled_is (8 - count) (256 * r.h + r.l) r (word_small r.h r.l h_small l_small)
@@ -176,7 +177,8 @@ module _
       by_byte : (many : Bool) → nat_le 8 count ≡ many
           → fits_byte (knowing context.site facts) inner ≡ false
           → StepsStand context (PartDoes context) facts from
-          (if many then high_byte_steps (knowing context.site facts) inner pushed ++ right_shift_steps (count - 8)
+          (if many then high_byte_steps (knowing context.site facts) inner pushed ++ right_shift_steps
+          (count - 8)
           else if count == 0 then part (tasks.Byte inner) pushed ∷ [] else middle_byte_steps inner count pushed) last to
           → (nat_le 16 count ≡ false)
           → ByteCarried context facts number tree pushed from last to

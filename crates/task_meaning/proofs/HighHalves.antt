@@ -120,7 +120,8 @@ pub high_byte_law :
     → IsSound context
     → IsExpression (nodes_in context) context.storage bound inner.index inside
     → TypesHold context.typed context.within inside
-    → StepsStand context (PartDoes context) facts from (high_byte_steps (knowing context.site facts) inner pushed) last to
+    → StepsStand context (PartDoes context) facts from
+    (high_byte_steps (knowing context.site facts) inner pushed) last to
     → Carries context facts pushed (2 * height_of inside) 0 from to Nothing (value_in context inside)
     (HighIsGiven context last)
 unfolding high_byte_steps high_byte_in_memory word_in_memory
@@ -135,7 +136,8 @@ high_byte_law {context = context} {facts = facts} {last = last} {inner = inner} 
 
     DoesIt : Type 0
     DoesIt =
-        Does context.activation.around.program.script s.budget 0 (at_place from r memory s.events) (value_in context inside s)
+        Does context.activation.around.program.script s.budget 0 (at_place from r memory s.events)
+        (value_in context inside s)
         (Arrives context.activation top base to (HighIsGiven context last r memory))
 
     by_memory : (found : Option Reference)
@@ -158,7 +160,8 @@ high_byte_law {context = context} {facts = facts} {last = last} {inner = inner} 
             let types_there = subst (λ (tree : TypedExpression). TypesHold context.typed context.within tree) same types in
             subst (λ (tree : TypedExpression).
             HasRoom context.activation top pushed (2 * height_of tree)
-            → Does context.activation.around.program.script s.budget 0 (at_place from r memory s.events) (value_in context tree s)
+            → Does context.activation.around.program.script s.budget 0 (at_place from r memory s.events)
+            (value_in context tree s)
             (Arrives context.activation top base to (HighIsGiven context last r memory))) (sym same)
             (λ room_there.
             with_outcome (value_in context (ValueNode Address part_of) s)

@@ -160,7 +160,8 @@ called_law {context = context} {facts = facts} {last = last} {from = from} {to =
     (λ found t end arrives spent.
     subst (λ (state : State). Does (script_of context) t.budget 0 state (Gave found t)
     (Arrives context.activation top base to (LowIsGiven context last r memory))) (sym arrives.is_at)
-    (low_of_value {top = top} {pushed = pushed} {need = 2 * height_of (CallNode procedure scalar trees)} {base = base} {t = t}
+    (low_of_value {top = top} {pushed = pushed} {need = 2 * height_of
+    (CallNode procedure scalar trees)} {base = base} {t = t}
     scalar found sound arrives.holds.lies parts.second
     (record { below = omega (arith, spent, below); room = room; ready = arrives.ready; known = arrives.holds.known })
     (λ now a final.
