@@ -109,7 +109,8 @@ all_straight (i ∷ others) on = (straight_so i on.0, all_straight others on.1)
 
 -- the last instructions of code
 pub at_last_instructions :
-    {A : Type 0} {context : Context} {PartIs : (before : Facts) → Part → (from : ℕ) → (after : Facts) → (to : ℕ) → Type 0}
+    {A : Type 0} {context : Context}
+    {PartIs : (before : Facts) → Part → (from : ℕ) → (after : Facts) → (to : ℕ) → Type 0}
     {top pushed need : ℕ} {base : List ℕ} {t : SourceState} {last : Facts}
     {memory : List ℕ} {to budget more : ℕ} {outcome : Outcome A}
     {Good : A → SourceState → State → Type 0} (instructions : List Instr)
@@ -137,7 +138,8 @@ pub with_outcome :
     {A : Type 0} {script : List (List ℕ)} {budget more : ℕ} {from : State} (outcome : Outcome A)
     {Good Better : A → SourceState → State → Type 0}
     → Does script budget more from outcome Good
-    → ((found : A) (t : SourceState) (end : State) → outcome ≡ Gave found t → Good found t end → Better found t end)
+    → ((found : A) (t : SourceState) (end : State) → outcome ≡ Gave found t → Good found t end → Better found
+    t end)
     → Does script budget more from outcome Better
 with_outcome {script = script} {budget = budget} {more = more} {from = from} (Gave found t) {Good = Good} does better =
     let lands : Lands script budget more from t.budget (Good found t) = does.told in
@@ -203,7 +205,8 @@ pub record OfOne
   pub means :
       (t : SourceState) → value_in context tree t ≡ then_do (value_in context inside t) (λ v u. Gave (g v) u)
   pub fits :
-      (s u : SourceState) (v : ℕ) → SourceFits context.activation.around s → value_in context inside s ≡ Gave v u
+      (s u : SourceState) (v : ℕ) → SourceFits context.activation.around s → value_in context inside s ≡ Gave
+      v u
       → v < limit
   pub small : (v : ℕ) → v < limit → g v < values_of (type_of tree)
   pub free : is_free context.site number ≡ true → is_free context.site inner ≡ true
@@ -227,7 +230,8 @@ module _
       → ((r : Registers) → r.a < 256 → (effect instructions r).a ≡ f r.a)
       → (is_free context.site number ≡ true → (r : Registers) → IsBeside r (effect instructions r))
       → ((v : ℕ) → v < limit → f (v % 256) ≡ g v % 256)
-      → StepsStand context (PartDoes context) facts from (part (tasks.Byte inner) pushed ∷ plain instructions) last to
+      → StepsStand context (PartDoes context) facts from (part (tasks.Byte inner) pushed ∷ plain instructions)
+      last to
       → ByteCarried context facts number tree pushed from last to
   byte_makes instructions f on makes beside bytes (PartThere does stand) top base s r memory below room ready known nothing =
       does_same _ (one.means s)
@@ -246,7 +250,8 @@ module _
       → ((r : Registers) → r.h < 256 → r.l < 256 → (effect instructions r).a ≡ f r.h r.l)
       → (is_free context.site number ≡ true → ⊥)
       → ((v : ℕ) → v < limit → f (v / 256) (v % 256) ≡ g v % 256)
-      → StepsStand context (PartDoes context) facts from (part (tasks.Word inner) pushed ∷ plain instructions) last to
+      → StepsStand context (PartDoes context) facts from (part (tasks.Word inner) pushed ∷ plain instructions)
+      last to
       → ByteCarried context facts number tree pushed from last to
   byte_of_word instructions f on makes not_free bytes (PartThere does stand) top base s r memory below room ready known nothing =
       does_same _ (one.means s)
@@ -268,7 +273,8 @@ module _
       → ((r : Registers) → (effect instructions r).a ≡ k)
       → (is_free context.site number ≡ true → (r : Registers) → IsBeside r (effect instructions r))
       → ((v : ℕ) → v < limit → k ≡ g v % 256)
-      → StepsStand context (PartDoes context) facts from (part (tasks.Effects inner) pushed ∷ plain instructions) last to
+      → StepsStand context (PartDoes context) facts from
+      (part (tasks.Effects inner) pushed ∷ plain instructions) last to
       → ByteCarried context facts number tree pushed from last to
   byte_alone instructions k effects on makes beside bytes (PartThere {found = found} {middle = middle} does stand) top base s r memory below room ready known nothing =
       does_same _ (one.means s) (by (is_free context.site number) refl)

@@ -83,7 +83,8 @@ module _ (context : Context) (sound : IsSound context) (asked : BytesAsked conte
       → IsExpression (nodes_in context) context.storage bound inner.index inside
       → TypesHold context.typed context.within inside
       → height_of inside ≤ height_of tree
-      → ((t : SourceState) → value_in context tree t ≡ then_do (value_in context inside t) (λ v u. Gave (g v) u))
+      → ((t : SourceState) → value_in context tree t ≡ then_do (value_in context inside t)
+      (λ v u. Gave (g v) u))
       → ((v : ℕ) → v < values_of (type_of inside) → g v < values_of (type_of tree))
       → (is_free context.site number ≡ true → is_free context.site inner ≡ true)
       → OfOne context number inner tree inside g (values_of (type_of inside))
@@ -100,7 +101,8 @@ module _ (context : Context) (sound : IsSound context) (asked : BytesAsked conte
 
   -- NOT and `-`
   unary_law :
-      {facts last : Facts} {number operand : ExpressionNumber} {inside : TypedExpression} {bound pushed from to : ℕ}
+      {facts last : Facts} {number operand : ExpressionNumber} {inside : TypedExpression}
+      {bound pushed from to : ℕ}
       {scalar : ScalarType} (operator : UnaryOperator)
       → IsExpression (nodes_in context) context.storage bound operand.index inside
       → TypesHold context.typed context.within inside
@@ -124,10 +126,12 @@ module _ (context : Context) (sound : IsSound context) (asked : BytesAsked conte
 
   -- an expression that is neither known nor in memory
   form_law :
-      {facts last : Facts} {number : ExpressionNumber} {form : ExpressionForm} {tree : TypedExpression} {bound pushed from to : ℕ}
+      {facts last : Facts} {number : ExpressionNumber} {form : ExpressionForm} {tree : TypedExpression}
+      {bound pushed from to : ℕ}
       → IsForm (nodes_in context) context.storage bound form tree
       → IsElsewhere context facts number form tree
-      → StepsStand context (PartDoes context) facts from (byte_form_steps (knowing context.site facts) number form pushed) last to
+      → StepsStand context (PartDoes context) facts from
+      (byte_form_steps (knowing context.site facts) number form pushed) last to
       → ByteCarried context facts number tree pushed from last to
   unfolding byte_form_steps byte_function_steps byte_of_two_steps called_byte_steps embedded_steps value_task low_of_value_steps
   form_law IsNumber node stand = absurd (none-some _ (sym node.unknown))
@@ -189,7 +193,8 @@ module _ (context : Context) (sound : IsSound context) (asked : BytesAsked conte
     where
       by : (of : ScalarType) → type_of inside ≡ of
           → StepsStand context (PartDoes context) facts from
-          ((part (value_task of inner) pushed ∷ part (tasks.Store target true) pushed ∷ []) ++ low_of_value_steps of) last to
+          ((part (value_task of inner) pushed ∷ part (tasks.Store target true) pushed
+          ∷ []) ++ low_of_value_steps of) last to
           → ByteCarried context facts number (AssignmentNode place inside) pushed from last to
       by scalars.Byte same given =
           embedded_byte context facts last from to pushed bound number inner target inside place sound is (node.types).0 is_target
@@ -201,7 +206,8 @@ module _ (context : Context) (sound : IsSound context) (asked : BytesAsked conte
   -- the code of the low byte of an expression
   pub byte_does :
       (facts last : Facts) (number : ExpressionNumber) (pushed from to : ℕ)
-      → StepsStand context (PartDoes context) facts from (byte_steps (knowing context.site facts) number pushed) last to
+      → StepsStand context (PartDoes context) facts from
+      (byte_steps (knowing context.site facts) number pushed) last to
       → ByteDoes context facts number pushed from last to
   unfolding byte_steps scalar_of relation_of
   byte_does facts last number pushed from to stand bound tree is types =

@@ -53,10 +53,12 @@ use Rattle.task_meaning.proofs.Calls.{call_goes}
 
 -- one operand
 one_goes :
-    {context : Context} {facts last : Facts} {bound pushed from to : ℕ} {number : ExpressionNumber} {tree : TypedExpression}
+    {context : Context} {facts last : Facts} {bound pushed from to : ℕ} {number : ExpressionNumber}
+    {tree : TypedExpression}
     (go : ℕ → ℕ) (top need : ℕ) (base : List ℕ) (s : SourceState) (r : Registers) (memory : List ℕ)
     → StepsStand context (PartDoes context) facts from
-    (Rattle.steps8080.specs.Step.part (Rattle.steps8080.specs.declared.step.Task.TheVariants.Effects number) pushed ∷ []) last to
+    (Rattle.steps8080.specs.Step.part (Rattle.steps8080.specs.declared.step.Task.TheVariants.Effects number)
+    pushed ∷ []) last to
     → IsExpression (nodes_in context) context.storage bound number.index tree
     → TypesHold context.typed context.within tree
     → 2 * height_of tree ≤ need
@@ -96,7 +98,8 @@ two_go {from = from} {to = to} {left = left} {right = right} go quiet top need b
     quiet_ends to (go found number) (quiet found number) last))
 
 -- a byte of a list of bytes, or 255 past its end
-byte_or_255 : (bytes : List ℕ) (index : ℕ) → All (λ byte. byte < 256) bytes → slice_index_or bytes index 255 < 256
+byte_or_255 : (bytes : List ℕ) (index : ℕ) → All (λ byte. byte < 256) bytes → slice_index_or bytes index
+    255 < 256
 byte_or_255 [] index all = omega arith
 byte_or_255 (byte ∷ bytes) zero all = all 0 255 (omega arith)
 byte_or_255 (byte ∷ bytes) (suc index) all = byte_or_255 bytes index (λ k d less. all (suc k) d (omega (arith, less)))
@@ -145,11 +148,13 @@ KeptIsQuiet context =
 
 -- what the code of a form does that is not quiet
 form_goes :
-    {context : Context} {facts last : Facts} {bound pushed from to : ℕ} {tree : TypedExpression} (form : ExpressionForm)
+    {context : Context} {facts last : Facts} {bound pushed from to : ℕ} {tree : TypedExpression}
+    (form : ExpressionForm)
     → IsSound context
     → IsForm (nodes_in context) context.storage bound form tree
     → TypesHold context.typed context.within tree
-    → StepsStand context (PartDoes context) facts from (form_effects_steps (knowing context.site facts) form pushed) last to
+    → StepsStand context (PartDoes context) facts from
+    (form_effects_steps (knowing context.site facts) form pushed) last to
     → (top : ℕ) (base : List ℕ) (s : SourceState) (r : Registers) (memory : List ℕ)
     → Stage context top pushed (2 * height_of tree) base s facts r memory
     → Does (script_of context) s.budget 0 (at_place from r memory s.events)
@@ -247,11 +252,13 @@ record OnlyAIsGiven
 
 -- one operand that is free
 one_free :
-    {context : Context} {facts last : Facts} {bound pushed from to : ℕ} {number : ExpressionNumber} {tree : TypedExpression}
+    {context : Context} {facts last : Facts} {bound pushed from to : ℕ} {number : ExpressionNumber}
+    {tree : TypedExpression}
     (go : ℕ → ℕ) (top need : ℕ) (base : List ℕ) (s : SourceState) (r : Registers) (memory : List ℕ)
     → free_at (nodes_in context) number ≡ true
     → StepsStand context (PartDoes context) facts from
-    (Rattle.steps8080.specs.Step.part (Rattle.steps8080.specs.declared.step.Task.TheVariants.Effects number) pushed ∷ []) last to
+    (Rattle.steps8080.specs.Step.part (Rattle.steps8080.specs.declared.step.Task.TheVariants.Effects number)
+    pushed ∷ []) last to
     → IsExpression (nodes_in context) context.storage bound number.index tree
     → TypesHold context.typed context.within tree
     → 2 * height_of tree ≤ need
@@ -307,14 +314,16 @@ two_free {context = context} {from = from} {to = to} {left = left} {right = righ
 
 -- what the code of a form does that is free and not quiet
 free_form_goes :
-    {context : Context} {facts last : Facts} {bound pushed from to : ℕ} {tree : TypedExpression} (form : ExpressionForm)
+    {context : Context} {facts last : Facts} {bound pushed from to : ℕ} {tree : TypedExpression}
+    (form : ExpressionForm)
     (scalar : ScalarType)
     → IsSound context
     → is_free_form (nodes_in context) scalar form ≡ true
     → is_quiet_form (nodes_in context) form ≡ false
     → IsForm (nodes_in context) context.storage bound form tree
     → TypesHold context.typed context.within tree
-    → StepsStand context (PartDoes context) facts from (form_effects_steps (knowing context.site facts) form pushed) last to
+    → StepsStand context (PartDoes context) facts from
+    (form_effects_steps (knowing context.site facts) form pushed) last to
     → (top : ℕ) (base : List ℕ) (s : SourceState) (r : Registers) (memory : List ℕ)
     → Stage context top pushed (2 * height_of tree) base s facts r memory
     → Does (script_of context) s.budget 0 (at_place from r memory s.events)
@@ -369,7 +378,8 @@ free_form_goes (forms.Call procedure range) scalar sound free loud form types st
 
 -- what is given where A and DE are kept by quiet code alone
 given_kept :
-    {context : Context} {last : Facts} {r now : Registers} {memory memory_now : List ℕ} {found : ℕ} (number : ExpressionNumber)
+    {context : Context} {last : Facts} {r now : Registers} {memory memory_now : List ℕ} {found : ℕ}
+    (number : ExpressionNumber)
     → (((keeps context.site number).a ≡ true) ⊎ ((keeps context.site number).de ≡ true) → ⊥)
     → (is_free context.site number ≡ true → ChangesAOnly r memory now memory_now)
     → Know context last now memory_now
@@ -387,7 +397,8 @@ pub effects_do :
     {context : Context} {facts last : Facts} {pushed from to : ℕ} (number : ExpressionNumber)
     → IsSound context
     → KeptIsQuiet context
-    → StepsStand context (PartDoes context) facts from (effects_steps (knowing context.site facts) number pushed) last to
+    → StepsStand context (PartDoes context) facts from
+    (effects_steps (knowing context.site facts) number pushed) last to
     → EffectsDo context facts number pushed from last to
 unfolding effects_steps is_quiet
 effects_do {context = context} {facts = facts} {last = last} {pushed = pushed} {from = from} {to = to} number sound kept stand bound tree node types top base s r memory below room ready known asked =
@@ -484,6 +495,7 @@ kept_is_quiet {context = context} sound bound number tree node kept =
 pub effects_done :
     {context : Context} {facts last : Facts} {pushed from to : ℕ} (number : ExpressionNumber)
     → IsSound context
-    → StepsStand context (PartDoes context) facts from (effects_steps (knowing context.site facts) number pushed) last to
+    → StepsStand context (PartDoes context) facts from
+    (effects_steps (knowing context.site facts) number pushed) last to
     → EffectsDo context facts number pushed from last to
 effects_done number sound stand = effects_do number sound (kept_is_quiet sound) stand
