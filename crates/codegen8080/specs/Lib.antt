@@ -3,4 +3,5 @@ pub mod Procedures
 pub mod Statements
 pub mod Generated
 pub mod Driven
+pub mod Modules
 pub mod internal

@@ -2,3 +2,4 @@
 pub mod Names
 pub mod Segments
 pub mod Carrying
+pub mod Bodies

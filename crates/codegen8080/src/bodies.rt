@@ -1,5 +1,11 @@
 //! The code of procedures and of the main program.
 
+ghost use Rattle.std.specs.Prelude.{◌≡◌, ◌++◌, true, IfOk, OnOk};
+ghost use Rattle.steps8080.specs.Step.{label_after};
+ghost use Rattle.codegen8080.specs.Modules.{IsFrameOf};
+ghost use Rattle.codegen8080.specs.Procedures.{entry_steps};
+ghost use Rattle.codegen8080.specs.internal.Bodies.{AddsEnd, AddsEntry, AddsMain, AddsOwn, AddsProcedure};
+
 use crate::carrying::site_of;
 use crate::generator::Generator;
 use crate::procedures::{plan_end, plan_entry};
@@ -11,13 +17,27 @@ use statements8080::Body;
 use std::alloc::{AllocError, Global};
 use treecode::{ProcedureKind, TreeModule, TreeProcedure};
 
+// The plan of the frame of a procedure.
+#[tactic(auto, using(crate::proofs::BodyParts::frame_is))]
+fn frame_of(alloc: Global, procedure: &TreeProcedure) -> Result<FramePlan, AllocError>
+    ensures { IfOk result (λ plan. IsFrameOf procedure.now plan) }
+{
+    frame_plan(alloc, procedure)
+}
+
 // A body with labels of the code for its own.
 fn body_of<'a>(
     generator: &mut Generator,
     tree: &'a TreeModule,
     procedure: &'a TreeProcedure,
     frame: &'a FramePlan,
-) -> Body<'a> {
+) -> Body<'a>
+    ensures tree { result.tree.now ≡ tree.now }
+    ensures procedure { result.procedure.now ≡ procedure.now }
+    ensures frame { result.frame.now ≡ frame.now }
+    ensures emission { generator.new.emission
+        ≡ record (generator.old.emission) { steps = generator.new.emission.steps } }
+{
     let steps = &mut generator.emission.steps;
     Body {
         tree,
@@ -28,18 +48,36 @@ fn body_of<'a>(
 }
 
 // Plans how a procedure begins, with labels that no other code has.
-fn put_entry(generator: &mut Generator, body: &Body<'_>) -> Result<(), AllocError> {
-    let start = generator.plan.count();
+fn plan_next_entry(generator: &mut Generator, body: &Body<'_>) -> Result<(), AllocError>
+    ensures plan { OnOk result (generator.new.plan.list.items ≡ generator.old.plan.list.items
+        ++ entry_steps body.now (label_after generator.old.emission.steps.labels 0)) }
+    ensures emission { generator.new.emission
+        ≡ record (generator.old.emission) { steps = generator.new.emission.steps } }
+    ensures goes_on { generator.new.goes_on ≡ generator.old.goes_on }
+{
     let first = generator.emission.steps.labels(0);
     generator.plan.take_labels_from(first);
     plan_entry(body, &mut generator.plan)?;
-    let taken = generator.plan.taken();
-    let _ = generator.emission.steps.labels(taken);
+    let _ = generator.emission.steps.labels(generator.plan.taken());
+    Ok(())
+}
+
+// Adds the beginning of a procedure.
+fn put_entry(generator: &mut Generator, body: &Body<'_>) -> Result<(), AllocError>
+    ensures { OnOk result (AddsEntry body.now generator.old generator.new) }
+{
+    let start = generator.plan.count();
+    plan_next_entry(generator, body)?;
     generator.planned(body, start, 0)
 }
 
-// Adds the end of a procedure.
-fn put_end(generator: &mut Generator, body: &Body<'_>) -> Result<(), AllocError> {
+// Adds the end of a procedure, where it is reached.
+fn put_end(generator: &mut Generator, body: &Body<'_>) -> Result<(), AllocError>
+    ensures { OnOk result (AddsEnd body.now generator.old generator.new) }
+{
+    if !body.procedure.reaches_its_end {
+        return Ok(());
+    }
     let start = generator.plan.count();
     plan_end(body, &mut generator.plan)?;
     generator.planned(body, start, 0)
@@ -52,28 +90,29 @@ fn put_own(
     tree: &TreeModule,
     procedure: &TreeProcedure,
     entry: LabelNumber,
-) -> Result<(), AllocError> {
-    let frame = frame_plan(alloc, procedure)?;
+) -> Result<(), AllocError>
+    ensures { OnOk result (AddsOwn tree.now entry.index procedure.now generator.old generator.new) }
+{
+    let frame = frame_of(alloc, procedure)?;
     let body = body_of(generator, tree, procedure, &frame);
     generator.emission.add(&site_of(&body), Step::Mark(entry))?;
+    generator.goes_on = true;
     put_entry(generator, &body)?;
     generator.list(&body, procedure.body, u32::MAX)?;
-    if procedure.reaches_its_end {
-        put_end(generator, &body)?;
-    }
+    put_end(generator, &body)?;
     Ok(())
 }
 
-/// Adds the code of a procedure by its number, unless it is EXTERNAL.
+/// Adds the code of a procedure with its number, unless it is EXTERNAL.
 pub(crate) fn put_procedure(
     alloc: Global,
     generator: &mut Generator,
     tree: &TreeModule,
+    procedure: &TreeProcedure,
     number: u32,
-) -> Result<(), AllocError> {
-    let Some(procedure) = tree.procedures.get(number as usize) else {
-        return Ok(());
-    };
+) -> Result<(), AllocError>
+    ensures { OnOk result (AddsProcedure tree.now number procedure.now generator.old generator.new) }
+{
     match procedure.kind {
         ProcedureKind::External(_) => Ok(()),
         ProcedureKind::Static | ProcedureKind::Reentrant => put_own(
@@ -92,7 +131,9 @@ pub(crate) fn put_main(
     generator: &mut Generator,
     tree: &TreeModule,
     entry: LabelNumber,
-) -> Result<(), AllocError> {
+) -> Result<(), AllocError>
+    ensures { OnOk result (AddsMain tree.now entry.index generator.old generator.new) }
+{
     let frame = FramePlan::empty(alloc);
     let body = body_of(generator, tree, &tree.main, &frame);
     generator.emission.add(&site_of(&body), Step::Mark(entry))?;
@@ -103,5 +144,6 @@ pub(crate) fn put_main(
     generator.list(&body, tree.main.body, u32::MAX)?;
     generator
         .emission
-        .add(&site_of(&body), Step::Plain(Instr::Hlt))
+        .add(&site_of(&body), Step::Plain(Instr::Hlt))?;
+    Ok(())
 }

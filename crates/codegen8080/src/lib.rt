@@ -16,4 +16,5 @@ mod statements;
 mod targets;
 
 pub use fault::Fault;
+pub use meeting::Here;
 pub use module::generate;

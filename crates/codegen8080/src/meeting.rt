@@ -9,7 +9,7 @@ use treecode::Location;
 
 /// The end of code: what is known of the registers there, and whether the code goes on to it.
 #[derive(Clone, Copy)]
-pub(crate) struct Here {
+pub struct Here {
     pub facts: Facts,
     pub goes_on: bool,
 }

@@ -1,18 +1,22 @@
 //! Modules of tree code as object modules.
 
-ghost use Rattle.std.specs.Prelude.{IfOk};
+ghost use Rattle.std.specs.Prelude.{◌≡◌, ◌+◌, false, slice_index_or, IfOk, OnOk};
+ghost use Rattle.codegen8080.specs.Modules.{IsCodeWritten, all_routines, content_items, contents_items, has_main};
+ghost use Rattle.codegen8080.specs.internal.Bodies.{AddsCalled, AddsCodeOfMain, AddsOwnCode, AddsProcedures, AddsRoutines, first_routines, last_routines, next_routines};
 ghost use Rattle.codegen8080.specs.internal.Segments.{KeepsFixes};
+ghost use Rattle.steps8080.specs.Writer.{Writes};
 
 use crate::bodies::{put_main, put_procedure};
 use crate::fault::Fault;
 use crate::generator::Generator;
 use crate::names::{listed_names, with_publics};
 use crate::object::object_of;
-use exprgen8080::{Externals, Finished, LabelNumber, ROUTINES, Writer, routine_label};
+use exprgen8080::{Externals, Finished, LabelNumber, Writer, routine_label};
 use failure::Failure;
 use object_modules::ObjectModule;
+use runtime8080::Routine;
 use std::alloc::{AllocError, Global};
-use treecode::{Content, TreeModule};
+use treecode::{Content, TreeModule, TreeProcedure};
 
 // The code of a module, and the label of its main program.
 struct ModuleCode {
@@ -21,7 +25,9 @@ struct ModuleCode {
 }
 
 // Adds what stands in a segment.
-fn put_content(writer: &mut Writer, content: Content) -> Result<(), AllocError> {
+fn put_content(writer: &mut Writer, content: Content) -> Result<(), AllocError>
+    ensures { OnOk result (Writes writer.old writer.new (content_items content)) }
+{
     match content {
         Content::Byte(value) => writer.byte(value),
         Content::Word(place) => writer.address(place),
@@ -30,29 +36,139 @@ fn put_content(writer: &mut Writer, content: Content) -> Result<(), AllocError> 
 }
 
 // Adds what stands in a segment, from its start on.
-fn put_contents(writer: &mut Writer, contents: &[Content]) -> Result<(), AllocError> {
-    for content in contents {
+#[tactic(auto, using(crate::proofs::ModuleParts::putting_begins, crate::proofs::ModuleParts::putting_ends))]
+fn put_contents(writer: &mut Writer, contents: &[Content]) -> Result<(), AllocError>
+    ensures { OnOk result (Writes writer.old writer.new (contents_items contents.now)) }
+{
+    let mut left = contents;
+    while let [content, others @ ..] = left {
         put_content(writer, *content)?;
+        left = others;
     }
     Ok(())
 }
 
 // Whether a module has a main program: a statement at its outer level.
-fn is_main(tree: &TreeModule) -> bool {
+fn is_main(tree: &TreeModule) -> bool
+    ensures { result ≡ has_main tree.now }
+{
     tree.main.body.count > 0
 }
 
-// Adds the code of all procedures.
+// The number after another one. Fails where there is none.
+fn next_number(number: u32) -> Result<u32, AllocError>
+    ensures { IfOk result (λ next. next ≡ number + 1) }
+{
+    match number.checked_add(1) {
+        Some(next) => Ok(next),
+        None => Err(AllocError),
+    }
+}
+
+// Adds the code of procedures, which are numbered from 0 on.
+#[tactic(auto, using(crate::proofs::ModuleParts::procedures_begin))]
 fn put_procedures(
     alloc: Global,
     generator: &mut Generator,
     tree: &TreeModule,
-) -> Result<(), AllocError> {
-    let count = u32::try_from(tree.procedures.len()).unwrap_or(u32::MAX);
-    for number in 0..count {
-        put_procedure(alloc, generator, tree, number)?;
+    procedures: &[TreeProcedure],
+) -> Result<(), AllocError>
+    ensures { OnOk result (AddsProcedures tree.now 0 procedures.now generator.old generator.new) }
+{
+    let mut left = procedures;
+    let mut number = 0;
+    while let [procedure, others @ ..] = left {
+        put_procedure(alloc, generator, tree, procedure, number)?;
+        number = next_number(number)?;
+        left = others;
     }
     Ok(())
+}
+
+// Adds the code of a main program, from a label on, where there is one.
+#[tactic(auto, using(crate::proofs::ModuleParts::main_there, crate::proofs::ModuleParts::no_main_there))]
+fn put_main_if_any(
+    alloc: Global,
+    generator: &mut Generator,
+    tree: &TreeModule,
+    start: LabelNumber,
+) -> Result<(), AllocError>
+    ensures { OnOk result (AddsCodeOfMain tree.now start.index generator.old generator.new) }
+{
+    if is_main(tree) {
+        put_main(alloc, generator, tree, start)
+    } else {
+        Ok(())
+    }
+}
+
+// Whether the routine of an index is called.
+fn is_called_at(is_called: &[bool], index: u32) -> bool
+    ensures { result ≡ slice_index_or is_called.now index false }
+{
+    match is_called.get(index as usize) {
+        Some(is_called) => *is_called,
+        None => false,
+    }
+}
+
+// Adds a routine, by its place among them, where it is called.
+fn with_called(
+    writer: Writer,
+    tree: &TreeModule,
+    is_called: &[bool],
+    index: u32,
+    routine: Routine,
+) -> Result<Writer, AllocError>
+    ensures { IfOk result (λ after. AddsCalled tree.now is_called.now index routine writer after) }
+{
+    if is_called_at(is_called, index) {
+        writer.with_routine(routine, routine_label(tree, index))
+    } else {
+        Ok(writer)
+    }
+}
+
+// Adds the routines of arithmetic that are called.
+fn with_arithmetic(
+    writer: Writer,
+    tree: &TreeModule,
+    is_called: &[bool],
+) -> Result<Writer, AllocError>
+    ensures { IfOk result (λ after. AddsRoutines tree.now is_called.now first_routines writer after) }
+{
+    let writer = with_called(writer, tree, is_called, 0, Routine::Multiply)?;
+    let writer = with_called(writer, tree, is_called, 1, Routine::Divide)?;
+    let writer = with_called(writer, tree, is_called, 2, Routine::ShiftLeftByte)?;
+    Ok(writer)
+}
+
+// Adds the other shifts that are called.
+fn with_shifts(
+    writer: Writer,
+    tree: &TreeModule,
+    is_called: &[bool],
+) -> Result<Writer, AllocError>
+    ensures { IfOk result (λ after. AddsRoutines tree.now is_called.now next_routines writer after) }
+{
+    let writer = with_called(writer, tree, is_called, 3, Routine::ShiftRightByte)?;
+    let writer = with_called(writer, tree, is_called, 4, Routine::ShiftLeftAddress)?;
+    let writer = with_called(writer, tree, is_called, 5, Routine::ShiftRightAddress)?;
+    Ok(writer)
+}
+
+// Adds the rotations and MOVE, where they are called.
+fn with_others(
+    writer: Writer,
+    tree: &TreeModule,
+    is_called: &[bool],
+) -> Result<Writer, AllocError>
+    ensures { IfOk result (λ after. AddsRoutines tree.now is_called.now last_routines writer after) }
+{
+    let writer = with_called(writer, tree, is_called, 6, Routine::RotateLeft)?;
+    let writer = with_called(writer, tree, is_called, 7, Routine::RotateRight)?;
+    let writer = with_called(writer, tree, is_called, 8, Routine::Move)?;
+    Ok(writer)
 }
 
 // Adds the routines that are called.
@@ -60,31 +176,39 @@ fn with_routines(
     writer: Writer,
     tree: &TreeModule,
     is_called: &[bool],
-) -> Result<Writer, AllocError> {
-    let mut writer = writer;
-    for (index, routine) in ROUTINES.iter().enumerate() {
-        if let Some(true) = is_called.get(index) {
-            let label = routine_label(tree, (index % 256) as u32);
-            writer = writer.with_routine(*routine, label)?;
-        }
-    }
+) -> Result<Writer, AllocError>
+    ensures { IfOk result (λ after. AddsRoutines tree.now is_called.now all_routines writer after) }
+{
+    let writer = with_arithmetic(writer, tree, is_called)?;
+    let writer = with_shifts(writer, tree, is_called)?;
+    let writer = with_others(writer, tree, is_called)?;
     Ok(writer)
 }
 
-// The code segment of a module: its constants, its main program, its procedures and the routines that these call.
-fn code_of(alloc: Global, tree: &TreeModule) -> Result<ModuleCode, AllocError> {
-    let mut generator = Generator::new(alloc, tree)?;
+// Adds the constants of a module, its main program and its procedures. Gives the label of the main program.
+fn put_own_code(
+    alloc: Global,
+    generator: &mut Generator,
+    tree: &TreeModule,
+) -> Result<LabelNumber, AllocError>
+    ensures { IfOk result (λ start. AddsOwnCode tree.now start.index generator.old generator.new) }
+{
     put_contents(&mut generator.emission.writer, tree.constants.as_slice())?;
     let start = generator.emission.steps.label();
-    if is_main(tree) {
-        put_main(alloc, &mut generator, tree, start)?;
-    }
-    put_procedures(alloc, &mut generator, tree)?;
+    put_main_if_any(alloc, generator, tree, start)?;
+    put_procedures(alloc, generator, tree, tree.procedures.as_slice())?;
+    Ok(start)
+}
+
+// The code segment of a module: its constants, its main program, its procedures and the routines that these call.
+fn code_of(alloc: Global, tree: &TreeModule) -> Result<ModuleCode, AllocError>
+    ensures { IfOk result (λ code. IsCodeWritten tree.now code.start.index code.writer) }
+{
+    let mut generator = Generator::new(alloc, tree)?;
+    let start = put_own_code(alloc, &mut generator, tree)?;
     let (writer, is_called) = generator.into_emission().into_code();
-    Ok(ModuleCode {
-        writer: with_routines(writer, tree, is_called.as_slice())?,
-        start,
-    })
+    let writer = with_routines(writer, tree, is_called.as_slice())?;
+    Ok(ModuleCode { writer, start })
 }
 
 // The data segment of a module, which shares the names of other modules with its code.

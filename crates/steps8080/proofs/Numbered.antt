@@ -82,7 +82,7 @@ front_stays None later_item (Some others) later made stays others_stay given =
 front_stays None later_item None later made stays others_stay given =
     let bad : None ≡ Some made = given in cc
 
-items_stay :
+pub items_stay :
     (before after : Written) (items made : List Item)
     → Extends before.labels after.labels
     → Extends before.externals after.externals

@@ -1,6 +1,6 @@
 -- Code as it is written. Its items speak of labels and of names of other modules by their numbers in the
 -- module; the code itself numbers both in the order of their first use.
-use Rattle.std.specs.Prelude.{◌≡◌, ℕ, List, [], ◌∷◌, ◌++◌, Option, Some, None, option_map}
+use Rattle.std.specs.Prelude.{◌≡◌, ℕ, if◌then◌else◌, nat_lt, List, [], ◌∷◌, ◌++◌, map, Option, Some, None, option_map}
 use Rattle.object_modules.specs.declared.segment.Segment.TheVariants as segments
 use Rattle.object_modules.specs.declared.segment.Target.TheVariants.{InSegment, External}
 use Rattle.asm8080.specs.declared.item.Item.{Item}
@@ -9,7 +9,8 @@ use Rattle.asm8080.specs.declared.item.Reference.{Reference}
 use Rattle.asm8080.specs.declared.item.Reference.TheVariants.{AtLabel, AtTarget}
 use Rattle.asm8080.specs.declared.item.WordForm.{WordForm}
 use Rattle.asm8080.specs.declared.item.WordForm.TheVariants.{CallTo}
-use Rattle.asm8080.specs.Items.{Assembly, instruction_with}
+use Rattle.asm8080.specs.Assembled.{Assembled, Assembles, place_of}
+use Rattle.asm8080.specs.Items.{Assembly, IsAssembly, instruction_with}
 use Rattle.runtime8080.specs.declared.routine.Routine.{Routine}
 use Rattle.runtime8080.specs.Routines.{AddsRoutine}
 use Rattle.treecode.specs.declared.place.Place.{Place}
@@ -91,3 +92,24 @@ address_items (places.Number number) = Byte (low number) ∷ Byte (high number) 
 address_items (places.Code offset) = Address (AtTarget (InSegment segments.Code) offset) ∷ []
 address_items (places.Data offset) = Address (AtTarget (InSegment segments.Data) offset) ∷ []
 address_items (places.External offset name) = Address (AtTarget (External name) offset) ∷ []
+
+-- a label by the number that code has for it, where there are so many
+abbrev pub known_label : (count : ℕ) → Option ℕ → Option ℕ
+known_label count None = None
+known_label count (Some label) = if nat_lt label count then Some label else None
+
+-- how far a label is from the start of assembled code; 0 where the code has none
+abbrev pub place_of_known : Assembled → Option ℕ → ℕ
+place_of_known bytes None = 0
+place_of_known bytes (Some label) = place_of bytes label
+
+-- how far a label of the module, by its number, is from the start of its code; 0 where the code does not use it
+abbrev pub place_of_label : Written → Assembled → (number : ℕ) → ℕ
+place_of_label written bytes number =
+    place_of_known bytes (known_label written.code.labels (entry written.labels number))
+
+-- Code is finished: its items are assembled, and its labels are kept by their numbers in the module.
+pub record Finishes (written : Written) (bytes : Assembled) (labels : List (Option ℕ)) : Type 0 where
+  pub assembles : Assembles written.code bytes
+  pub is_assembly : IsAssembly written.code
+  pub known : labels ≡ map (known_label written.code.labels) written.labels

@@ -1,15 +1,15 @@
 //! Code with numbered labels and the names of other modules.
 
-ghost use Rattle.std.specs.Prelude.{◌≡◌, [], ◌∷◌, ◌++◌, None, Some, replicate, IfOk, IsTrue, OnErr, OnOk};
+ghost use Rattle.std.specs.Prelude.{◌≡◌, [], ◌∷◌, ◌++◌, None, Some, map, replicate, IfOk, IsTrue, OnErr, OnOk};
 ghost use Rattle.asm8080.specs.declared.item.Item.TheVariants.{Plain, WithWord, Byte, Address, Gap, Mark};
 ghost use Rattle.asm8080.specs.declared.item.Reference.TheVariants.{AtTarget};
 ghost use Rattle.object_modules.specs.declared.segment.Target.TheVariants.{External, InSegment};
 ghost use Rattle.object_modules.specs.Module.{is_movable};
-ghost use Rattle.asm8080.specs.Assembled.{Assembles};
+ghost use Rattle.asm8080.specs.Items.{IsAssembly};
 ghost use Rattle.runtime8080.specs.Routines.{AddsRoutine};
 ghost use Rattle.steps8080.specs.Externals.{Extends, entry};
 ghost use Rattle.steps8080.specs.Instructions.{high, low};
-ghost use Rattle.steps8080.specs.Writer.{Writes, WritesRoutine, address_items, external_call_item, jump_item, stack_end_item, word_item};
+ghost use Rattle.steps8080.specs.Writer.{Finishes, Writes, WritesRoutine, address_items, external_call_item, jump_item, known_label, place_of_known, stack_end_item, word_item};
 ghost use Rattle.steps8080.specs.internal.Labels.{Follows};
 
 use crate::externals::Externals;
@@ -288,7 +288,7 @@ impl Writer {
 
     /// The code as bytes and fixes with its labels, and the names that it refers to.
     pub fn finish(self) -> Result<(Finished, Externals), Failure<Fault>>
-        ensures code { IfOk result (λ both. Assembles self.code both.0.bytes) }
+        ensures code { IfOk result (λ both. Finishes self both.0.bytes both.0.labels.items) }
         ensures externals { IfOk result (λ both. both.1 ≡ self.externals) }
     {
         let Writer {
@@ -303,19 +303,35 @@ impl Writer {
     }
 }
 
+// A label of code by its number, where there are so many.
+fn known_label(code: &Code, number: Option<usize>) -> Result<Option<Label>, AllocError>
+    ensures { IfOk result (λ label. label ≡ known_label code.now.labels number) }
+{
+    let Some(number) = number else {
+        return Ok(None);
+    };
+    if number >= code.label_count() {
+        return Ok(None);
+    }
+    match code.known(number) {
+        Some(label) => Ok(Some(label)),
+        None => Err(AllocError),
+    }
+}
+
 // The labels of code by their numbers, where they are used.
 fn known_labels(
     code: &Code,
     numbers: Vec<Option<usize>>,
-) -> Result<Vec<Option<Label>>, AllocError> {
+) -> Result<Vec<Option<Label>>, AllocError>
+    ensures known { IfOk result (λ labels. labels.items ≡ map (known_label code.now.labels) numbers.items) }
+    ensures is_assembly { IsAssembly code.now }
+{
+    let _ = code.label_count();
     let alloc = *numbers.allocator();
     let mut labels = Vec::new(alloc);
     for number in numbers.iter() {
-        let label = match *number {
-            Some(index) => code.known(index),
-            None => None,
-        };
-        labels.push(label)?;
+        labels.push(known_label(code, *number)?)?;
     }
     Ok(labels)
 }
@@ -345,7 +361,9 @@ pub struct Finished {
 
 impl Finished {
     /// How far a label is from the start of the code; 0 where the code does not use it.
-    pub fn place(&self, number: LabelNumber) -> u16 {
+    pub fn place(&self, number: LabelNumber) -> u16
+        ensures { result ≡ place_of_known self.now.bytes (entry self.now.labels.items number.index) }
+    {
         match self.labels.get(number.index as usize) {
             Some(Some(label)) => self.bytes.place(*label),
             _ => 0,

@@ -20,12 +20,11 @@ use Rattle.asm8080.specs.declared.item.Item.{Item}
 use Rattle.asm8080.specs.Items.{Layout, Stands}
 use Rattle.runtime8080.specs.declared.routine.Routine.{Routine}
 use Rattle.runtime8080.specs.Routines.{IsRoutine}
-use Rattle.treecode.specs.declared.expression.Expression.{Expression}
-use Rattle.treecode.specs.declared.expression.ExpressionForm.TheVariants as forms
 use Rattle.treecode.specs.declared.place.Home.TheVariants.{Static}
 use Rattle.treecode.specs.declared.place.Place.{Place}
 use Rattle.treecode.specs.Homes.{frame_number}
 use Rattle.treecode.specs.Lowered.{IsLowered}
+pub use Rattle.treecode.specs.Nodes.{NumbersAreWords}
 use Rattle.treecode.specs.Nodes.{Nodes, home_at, nodes_of}
 use Rattle.treecode.specs.Resolved.{Resolves}
 use Rattle.frames.specs.Frames.{distance_of}
@@ -159,14 +158,6 @@ FrameIsPlanned context =
     → (context.activation.distance object
     ≡ distances_in context (frame_number context.typed procedure object))
     × (context.activation.size object ≡ size_of_object found)
-
--- numbers in tree code have the width of a word
-abbrev pub NumbersAreWords : Nodes → Type 0
-NumbersAreWords nodes =
-    (index number : ℕ) (found : Expression)
-    → slice_get nodes.expressions index ≡ Some found
-    → found.form ≡ forms.Number number
-    → number < 65536
 
 -- what an object is BASED on stands before it in the table
 abbrev pub BasesStandBefore : TypedModule → Type 0

@@ -72,12 +72,12 @@ pub names_gathered : (typed : TypedModule)
     → (all_gathered typed none_gathered typed.globals).names ≡ externals_of typed
 names_gathered typed = names_from typed none_gathered typed.globals
 
-latest_group : (one two three : Option ℕ) → latest (latest one two) three ≡ latest one (latest two three)
+pub latest_group : (one two three : Option ℕ) → latest (latest one two) three ≡ latest one (latest two three)
 latest_group one two None = refl
 latest_group one two (Some three) = refl
 
 -- what is found with one number more
-found_with : (entries : List (Option ℕ)) (index number other : ℕ)
+pub found_with : (entries : List (Option ℕ)) (index number other : ℕ)
     → number_in (with_number entries index number) other
     ≡ latest (number_in entries other) (cond (index == other) (Some number) None)
 found_with entries index number other = by_test (eqb_tells index other)

@@ -20,3 +20,9 @@ pub mod Bodies
 pub mod ModuleBodies
 pub mod PublicLoop
 pub mod GatheredLaws
+pub mod ContentLoops
+pub mod PlacedTables
+pub mod PlacedLaws
+pub mod FrameVariables
+pub mod Words
+pub mod Below

@@ -1,7 +1,8 @@
--- The bodies of a module.
-use Rattle.std.proofs.Common.{◌≡◌, ℕ, ◌<◌, List, [], length, map, None, Some, slice_get, sym, ap, ◌∙◌, subst}
+-- The bodies of a module, and its procedures.
+use Rattle.std.proofs.Common.{◌≡◌, ℕ, suc, ◌<◌, List, [], ◌∷◌, length, map, None, Some, option_map, slice_get, refl, sym, ap, ◌∙◌, subst}
+use Rattle.std.specs.Prelude.{vec_items}
 use Rattle.std.proofs.lemmas.List.{length-map}
-use Rattle.std.proofs.lemmas.Option.{slice_get_within}
+use Rattle.std.proofs.lemmas.Option.{none-some, same_Some, slice_get-map, slice_get_within}
 use Rattle.typed_trees.specs.declared.module.TypedProcedure.{TypedProcedure as Procedure}
 use Rattle.typed_trees.specs.TypedTrees.{TypedModule, TypedProcedure}
 use Rattle.typed_trees.specs.Views.{procedure_view}
@@ -10,10 +11,11 @@ use Rattle.treecode.specs.declared.expression.Expression.{Expression}
 use Rattle.treecode.specs.declared.lowering.Lowering.{Lowering}
 use Rattle.treecode.specs.declared.module.TreeModule.{TreeModule}
 use Rattle.treecode.specs.declared.procedure.TreeProcedure.{TreeProcedure}
-use Rattle.treecode.specs.Lowered.{BodiesAreLowered}
+use Rattle.treecode.specs.Lowered.{IsProcedure}
 use Rattle.treecode.specs.Nodes.{Nodes, nodes_of}
 use Rattle.treecode.specs.internal.Beside.{Outside, beside, outside, walk_of}
-use Rattle.treecode.specs.internal.Completed.{AreComplete, BodiesAreAdded, MainIsComplete, SameHeading}
+use Rattle.treecode.specs.internal.Completed.{AreComplete, BodiesAreAdded, HasHeading, MainIsComplete, SameHeading}
+use Rattle.treecode.specs.internal.Placed.{Heading, HeadingsAre, heading_at, heading_of, headings_of}
 use Rattle.treecode.specs.internal.Sound.{AreSound}
 use Rattle.treecode.proofs.AddedExpressions.{leads_on}
 use Rattle.treecode.proofs.Bodies.{body_stays}
@@ -65,11 +67,42 @@ bodies_added typed storage first second third procedures same done main = record
         subst (λ (count : ℕ). number < count) (ap length same ∙ length-map procedures procedure_view)
         (slice_get_within typed.procedures number tree heading)
 
--- bodies that were added are lowered
-pub bodies_lowered : (typed : TypedModule) (storage : Storage) (before after : TreeModule)
-    → BodiesAreAdded typed storage before after → BodiesAreLowered typed storage after
-bodies_lowered typed storage before after added = record {
-  procedures = added.complete;
-  main = added.main;
-  traits = added.leads.sound.keeps;
-}
+-- lists of which each has something where the other one has are as long
+as_long : {A B : Type 0} (f : ℕ → B → A) (xs : List A) (ys : List B)
+    → ((number : ℕ) → slice_get xs number ≡ option_map (f number) (slice_get ys number))
+    → length xs ≡ length ys
+as_long f [] [] same = refl
+as_long f [] (y ∷ ys) same = absurd (none-some (f 0 y) (same 0))
+as_long f (x ∷ xs) [] same = absurd (none-some x (sym (same 0)))
+as_long f (x ∷ xs) (y ∷ ys) same =
+    ap suc (as_long (λ (number : ℕ). f (suc number)) xs ys (λ (number : ℕ). same (suc number)))
+
+module _ (typed : TypedModule) (storage : Storage) (before after : TreeModule)
+    (headings : HeadingsAre typed (headings_of before)) (added : BodiesAreAdded typed storage before after) where
+  -- there are as many procedures as in the module
+  pub procedures_counted : length after.procedures.items ≡ length typed.procedures
+  procedures_counted =
+      added.count
+      ∙ sym (length-map before.procedures.items heading_of)
+      ∙ as_long (heading_at typed) (headings_of before) typed.procedures headings
+
+  -- each procedure is that of the module
+  pub procedures_are : (number : ℕ) (procedure : TreeProcedure) (heading : TypedProcedure)
+      → slice_get after.procedures.items number ≡ Some procedure
+      → slice_get typed.procedures number ≡ Some heading
+      → IsProcedure typed (nodes_of after) storage number procedure heading
+  procedures_are number procedure heading at there = record {
+    kind = old.same.kind ∙ ap (λ (one : Heading). one.kind) is;
+    result = old.same.result ∙ ap (λ (one : Heading). one.result) is;
+    frame = ap vec_items old.same.frame ∙ ap (λ (one : Heading). one.frame) is;
+    frame_bytes = old.same.frame_bytes ∙ ap (λ (one : Heading). one.frame_bytes) is;
+    has_body = added.complete number procedure heading at there;
+  }
+    where
+      old : HasHeading before.procedures.items number procedure
+      old = added.headed number procedure at
+
+      is : heading_of old.old ≡ heading_at typed number heading
+      is = same_Some (heading_of old.old) (heading_at typed number heading)
+          (sym (slice_get-map heading_of before.procedures.items number ∙ ap (option_map heading_of) old.at)
+          ∙ headings number ∙ ap (option_map (heading_at typed number)) there)

@@ -184,14 +184,15 @@ homes_from typed storage before (object ∷ others) =
 unfoldable pub homes_of : TypedModule → Storage → List Home
 homes_of typed storage = homes_from typed storage [] typed.objects
 
--- how a procedure comes to its code
+-- how a procedure comes to its code, by its index among the EXTERNAL names, if it has one there
+abbrev pub kind_with : (external : Option ℕ) → Visibility → (is_reentrant : Bool) → ProcedureKind
+kind_with external visibilities.External is_reentrant = kinds.External (unwrap_or external 0)
+kind_with external visibility is_reentrant = if is_reentrant then kinds.Reentrant else kinds.Static
+
+-- how the procedure of a number comes to its code
 abbrev pub kind_of : TypedModule → (number : ℕ) → TypedProcedure → ProcedureKind
-kind_of typed number procedure = by_visibility procedure.visibility procedure.is_reentrant
-  where
-    by_visibility : Visibility → Bool → ProcedureKind
-    by_visibility visibilities.External is_reentrant =
-        kinds.External (unwrap_or (external_number typed (is_global_procedure number)) 0)
-    by_visibility visibility is_reentrant = if is_reentrant then kinds.Reentrant else kinds.Static
+kind_of typed number procedure =
+    kind_with (external_number typed (is_global_procedure number)) procedure.visibility procedure.is_reentrant
 
 -- the parameters of a procedure, each where its object begins
 abbrev pub parameter_at : List Home → ScalarType × ℕ → Parameter

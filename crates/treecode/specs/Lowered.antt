@@ -345,16 +345,6 @@ pub record IsProcedure
   pub frame_bytes : procedure.frame_bytes ≡ tree.frame_bytes
   pub has_body : HasBody nodes storage procedure tree
 
--- What stands in the procedures of a module and at its outer level is what their trees say.
-pub record BodiesAreLowered (typed : TypedModule) (storage : Storage) (tree : TreeModule) : Type 0 where
-  pub procedures :
-      (number : ℕ) (procedure : TreeProcedure) (heading : TypedProcedure)
-      → slice_get tree.procedures.items number ≡ Some procedure
-      → slice_get typed.procedures number ≡ Some heading
-      → HasBody (nodes_of tree) storage procedure heading
-  pub main : HasBody (nodes_of tree) storage tree.main typed.main
-  pub traits : KeepTraits (nodes_of tree)
-
 -- Tree code is a typed module with its storage.
 pub record IsLowered (typed : TypedModule) (storage : Storage) (tree : TreeModule) : Type 0 where
   pub name : tree.name ≡ typed.name

@@ -1,7 +1,8 @@
 -- The tables of nodes of a module, and what an object or an expression of a number is.
-use Rattle.std.specs.Prelude.{◌+◌, nat_lt, Option, Some, None, slice_get, if◌then◌else◌, ℕ, List, slice_index_or}
+use Rattle.std.specs.Prelude.{◌≡◌, ◌+◌, ◌<◌, nat_lt, Option, Some, None, slice_get, if◌then◌else◌, ℕ, List, slice_index_or}
 use Rattle.std.specs.Option.{option_and_then}
 use Rattle.treecode.specs.declared.expression.Expression.{Expression}
+use Rattle.treecode.specs.declared.expression.ExpressionForm.TheVariants as forms
 use Rattle.treecode.specs.declared.expression.ExpressionNumber.{ExpressionNumber}
 use Rattle.treecode.specs.declared.lists.Range.{Range}
 use Rattle.treecode.specs.declared.module.TreeModule.{TreeModule}
@@ -42,3 +43,11 @@ entry_of range index = if nat_lt index range.count then Some (range.first + inde
 -- an item of a range of a table
 abbrev pub item_of : {A : Type 0} → List A → Range → (index : ℕ) → Option A
 item_of table range index = option_and_then (slice_get table) (entry_of range index)
+
+-- numbers in tree code have the width of a word
+abbrev pub NumbersAreWords : Nodes → Type 0
+NumbersAreWords nodes =
+    (index number : ℕ) (found : Expression)
+    → slice_get nodes.expressions index ≡ Some found
+    → found.form ≡ forms.Number number
+    → number < 65536

@@ -7,3 +7,5 @@ pub mod Beside
 pub mod Sound
 pub mod Completed
 pub mod Gathered
+pub mod Placed
+pub mod Words

@@ -1,14 +1,18 @@
 //! Where the objects of a module begin.
 
-ghost use Rattle.std.specs.Prelude.{◌≡◌, Some, OnOk};
-ghost use Rattle.treecode.specs.Homes.{home_after, location_of, place_of_slot};
+ghost use Rattle.std.specs.Prelude.{◌≡◌, [], map, Some, None, slice_index_or, IfOk, OnOk};
+ghost use Rattle.typed_trees.specs.Views.{module_view, object_view, procedure_view};
+ghost use Rattle.layout.specs.Views.{layout_view};
+ghost use Rattle.treecode.specs.Homes.{external_place, home_after, location_of, place_of_slot};
+ghost use Rattle.treecode.specs.internal.Numbers.{number_in};
+ghost use Rattle.treecode.specs.internal.Placed.{all_placed, headings_after, headings_of, home_in, placed_in, variable_of, with_all_parameters, with_parameters, with_placed};
 
 use crate::globals::Externals;
-use crate::lowering::wrapped;
+use crate::lowering::{capped, next_number, wrapped};
 use crate::module::TreeModule;
 use crate::numbers::Numbers;
 use crate::place::{Home, Location, Place};
-use crate::procedure::FrameVariable;
+use crate::procedure::{FrameVariable, TreeProcedure};
 use layout::{Layout, Segment, Slot};
 use std::alloc::{AllocError, Global};
 use typed_trees::{AtAddress, Home as TypedHome, Typed, TypedObject, TypedProcedure};
@@ -48,28 +52,40 @@ pub(crate) fn location_of(home: Home) -> Location
 }
 
 // Adds which parameters of their procedure objects are, counted from 0.
-fn add_parameters(parameters: &mut Numbers, objects: &[u32]) -> Result<(), AllocError> {
+fn add_parameters(parameters: &mut Numbers, objects: &[u32]) -> Result<(), AllocError>
+    ensures { OnOk result (parameters.new.entries.items
+        ≡ with_parameters parameters.old.entries.items 0 objects.now) }
+{
     let mut index: u32 = 0;
-    for object in objects {
+    let mut rest = objects;
+    while let [object, more @ ..] = rest {
         parameters.insert(*object, index)?;
-        index = index.saturating_add(1);
+        index = next_number(index)?;
+        rest = more;
     }
     Ok(())
 }
 
 // Which parameter of its procedure each object is that is one, counted from 0.
-fn parameters_of(alloc: Global, procedures: &[TypedProcedure]) -> Result<Numbers, AllocError> {
+fn parameters_of(alloc: Global, procedures: &[TypedProcedure]) -> Result<Numbers, AllocError>
+    ensures { IfOk result (λ parameters. parameters.entries.items
+        ≡ with_all_parameters [] (map procedure_view procedures.now)) }
+{
     let mut parameters = Numbers::new(alloc);
-    for procedure in procedures {
+    let mut rest = procedures;
+    while let [procedure, more @ ..] = rest {
         add_parameters(&mut parameters, procedure.parameters.as_slice())?;
+        rest = more;
     }
     Ok(parameters)
 }
 
 // A variable or a parameter in the frame of a procedure.
-fn frame_variable(object: &TypedObject, parameter: Option<u32>) -> FrameVariable {
+fn frame_variable(object: &TypedObject, parameter: Option<u32>) -> FrameVariable
+    ensures { result ≡ variable_of (object_view object.now) parameter }
+{
     FrameVariable {
-        size: u16::try_from(object.size()).unwrap_or(u16::MAX),
+        size: capped(object.size()),
         parameter: match parameter {
             Some(parameter) => Some(wrapped(parameter)),
             None => None,
@@ -77,8 +93,25 @@ fn frame_variable(object: &TypedObject, parameter: Option<u32>) -> FrameVariable
     }
 }
 
+impl TreeProcedure {
+    ghost use Rattle.std.specs.Prelude.{◌≡◌, length, min, IfOk, OnOk};
+    ghost use Rattle.treecode.specs.internal.Placed.{heading_of, with_variable};
+
+    // Adds a variable to its frame, and gives its number there.
+    fn add_variable(&mut self, variable: FrameVariable) -> Result<u16, AllocError>
+        ensures heading { OnOk result (heading_of self.new ≡ with_variable variable (heading_of self.old)) }
+        ensures number { IfOk result (λ number. number ≡ min (length (heading_of self.old).frame) 65535) }
+    {
+        let number = u16::try_from(self.frame.len()).unwrap_or(u16::MAX);
+        self.frame.push(variable)?;
+        Ok(number)
+    }
+}
+
 impl TreeModule {
-    ghost use Rattle.std.specs.Prelude.{◌≡◌};
+    ghost use Rattle.std.specs.Prelude.{◌≡◌, IfOk, OnOk};
+    ghost use Rattle.treecode.specs.internal.Placed.{headings_of, home_at_address, variable_number, with_variable_in};
+    ghost use Rattle.treecode.specs.Nodes.{nodes_of};
 
     // Adds a variable to the frame of a procedure, and gives its number there.
     fn add_frame_variable(
@@ -87,19 +120,20 @@ impl TreeModule {
         variable: FrameVariable,
     ) -> Result<u16, AllocError>
         ensures kept { self.new ≡ record self.old { procedures = self.new.procedures } }
+        ensures headings { OnOk result (headings_of self.new
+            ≡ with_variable_in (headings_of self.old) procedure variable) }
+        ensures number { IfOk result (λ number. number ≡ variable_number (headings_of self.old) procedure) }
     {
         match self.procedures.get_mut(procedure as usize) {
-            Some(procedure) => {
-                let number = u16::try_from(procedure.frame.len()).unwrap_or(u16::MAX);
-                procedure.frame.push(variable)?;
-                Ok(number)
-            }
+            Some(procedure) => procedure.add_variable(variable),
             None => Ok(0),
         }
     }
 
     // Where an object begins that AT puts there. Objects that AT names come before.
-    fn home_at(&self, at: AtAddress) -> Home {
+    fn home_at(&self, at: AtAddress) -> Home
+        ensures { result ≡ home_at_address (nodes_of self.now).homes at }
+    {
         match at {
             AtAddress::AtNumber(number) => Home::Static(Place::Number(number)),
             AtAddress::AtObject { object, offset } => home_after(self.home(object), offset),
@@ -108,29 +142,44 @@ impl TreeModule {
 }
 
 // The place of an object of another module.
-fn external_place(externals: &Externals, number: u32) -> Place {
+fn external_place(externals: &Externals, number: u32) -> Place
+    ensures { result ≡ external_place (number_in externals.now.objects.entries.items number) }
+{
     match externals.objects.get(number) {
         Some(name) => Place::External { name, offset: 0 },
         None => Place::Number(0),
     }
 }
 
-// The home of an object of a number, where those before it have theirs.
+// The place of an object of a number in its segment.
+fn place_in_segment(storage: &Layout, number: u32) -> Place
+    ensures { result ≡ place_of_slot (slice_index_or (layout_view storage.now).objects number None) }
+{
+    match storage.objects.get(number as usize) {
+        Some(Some(slot)) => place_of_slot(*slot),
+        Some(None) | None => Place::Number(0),
+    }
+}
+
+// The home of an object of a number, where those before it have theirs. One in a frame is added to that.
 fn home_of(
     tree: &mut TreeModule,
     externals: &Externals,
+    storage: &Layout,
     object: &TypedObject,
     number: u32,
-    slot: Option<Slot>,
     parameter: Option<u32>,
 ) -> Result<Home, AllocError>
     ensures kept { tree.new ≡ record tree.old { procedures = tree.new.procedures } }
+    ensures headings { OnOk result (headings_of tree.new ≡ headings_after (headings_of tree.old)
+        (variable_of (object_view object.now) parameter) (object_view object.now).home) }
+    ensures home { IfOk result (λ home. home ≡ home_in externals.now.objects.entries.items
+        (layout_view storage.now) (placed_in tree.old) number (object_view object.now).home) }
 {
     match &object.home {
-        TypedHome::Data(_) | TypedHome::Constant(_) => match slot {
-            Some(slot) => Ok(Home::Static(place_of_slot(slot))),
-            None => Ok(Home::Static(Place::Number(0))),
-        },
+        TypedHome::Data(_) | TypedHome::Constant(_) => {
+            Ok(Home::Static(place_in_segment(storage, number)))
+        }
         TypedHome::At(at) => Ok(tree.home_at(*at)),
         TypedHome::Based(base) => Ok(Home::Based(location_of(tree.home(*base)))),
         TypedHome::External => Ok(Home::Static(external_place(externals, number))),
@@ -142,12 +191,31 @@ fn home_of(
     }
 }
 
-// The slot of an object.
-fn slot_of(storage: &Layout, number: u32) -> Option<Slot> {
-    match storage.objects.get(number as usize) {
-        Some(slot) => *slot,
-        None => None,
-    }
+// Adds where an object of a number begins.
+fn add_home(
+    tree: &mut TreeModule,
+    externals: &Externals,
+    parameters: &Numbers,
+    storage: &Layout,
+    object: &TypedObject,
+    number: u32,
+) -> Result<(), AllocError>
+    ensures kept { OnOk result
+        (tree.new ≡ record tree.old { homes = tree.new.homes; procedures = tree.new.procedures }) }
+    ensures placed { OnOk result (placed_in tree.new ≡ with_placed externals.now.objects.entries.items
+        parameters.now.entries.items (layout_view storage.now) (placed_in tree.old) number
+        (object_view object.now)) }
+{
+    let home = home_of(
+        tree,
+        externals,
+        storage,
+        object,
+        number,
+        parameters.get(number),
+    )?;
+    tree.homes.push(home)?;
+    Ok(())
 }
 
 /// Adds where the objects of a module begin, and to each frame its variables. The procedures stand already.
@@ -160,21 +228,17 @@ pub(crate) fn add_homes(
 ) -> Result<(), AllocError>
     ensures kept { OnOk result
         (tree.new ≡ record tree.old { homes = tree.new.homes; procedures = tree.new.procedures }) }
+    ensures placed { OnOk result (placed_in tree.new ≡ all_placed externals.now.objects.entries.items
+        (with_all_parameters [] (module_view typed.now).procedures) (layout_view storage.now)
+        (placed_in tree.old) 0 (module_view typed.now).objects) }
 {
     let parameters = parameters_of(alloc, typed.procedures.as_slice())?;
     let mut number: u32 = 0;
-    for object in &typed.objects {
-        let slot = slot_of(storage, number);
-        let home = home_of(
-            tree,
-            externals,
-            object,
-            number,
-            slot,
-            parameters.get(number),
-        )?;
-        tree.homes.push(home)?;
-        number = number.saturating_add(1);
+    let mut rest = typed.objects.as_slice();
+    while let [object, more @ ..] = rest {
+        add_home(tree, externals, &parameters, storage, object, number)?;
+        number = next_number(number)?;
+        rest = more;
     }
     Ok(())
 }

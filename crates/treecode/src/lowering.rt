@@ -1,16 +1,16 @@
 //! Typed modules as tree code.
 
-ghost use Rattle.std.specs.Prelude.{◌≡◌, ◌+◌, ◌%◌, [], IfOk, OnOk};
+ghost use Rattle.std.specs.Prelude.{◌≡◌, suc, ◌+◌, ◌%◌, min, [], IfOk, OnOk};
 ghost use Rattle.typed_trees.specs.Jumps.{JumpsAreSound};
 ghost use Rattle.typed_trees.specs.Views.{module_view};
 ghost use Rattle.layout.specs.Views.{layout_view};
 ghost use Rattle.treecode.specs.Known.{offset_of_list};
-ghost use Rattle.treecode.specs.Contents.{publics_of};
-ghost use Rattle.treecode.specs.Homes.{externals_of};
-ghost use Rattle.treecode.specs.Lowered.{BodiesAreLowered};
+ghost use Rattle.treecode.specs.Homes.{externals_of, homes_of};
+ghost use Rattle.treecode.specs.Lowered.{IsLowered};
 ghost use Rattle.treecode.specs.declared.procedure.ProcedureKind.TheVariants.{Static};
 ghost use Rattle.treecode.specs.internal.Beside.{outside, walk_of};
 ghost use Rattle.treecode.specs.internal.Completed.{BodiesAreAdded};
+ghost use Rattle.treecode.specs.internal.Placed.{HeadingsAre, headings_of};
 ghost use Rattle.treecode.specs.internal.Walking.{begun, label_in, noted, numbered, with_label};
 
 use crate::contents::{constants_of, variables_of};
@@ -43,6 +43,8 @@ fn empty_module(alloc: Global, typed: &Typed) -> TreeModule
     ensures name { result.name ≡ typed.now.name }
     ensures main_kind { result.main.kind ≡ Static }
     ensures main_frame { result.main.frame.items ≡ [] }
+    ensures homes { result.homes.items ≡ [] }
+    ensures procedures { result.procedures.items ≡ [] }
 {
     TreeModule {
         name: typed.name,
@@ -66,6 +68,23 @@ pub(crate) fn wrapped(offset: u32) -> u16
     ensures { result ≡ offset % 65536 }
 {
     (offset % 65536) as u16
+}
+
+/// A size, or the greatest number of 16 bits where it is more.
+pub(crate) fn capped(size: u32) -> u16
+    ensures { result ≡ min size 65535 }
+{
+    u16::try_from(size).unwrap_or(u16::MAX)
+}
+
+/// The number after another one. One past the greatest number of 32 bits is out of memory.
+pub(crate) fn next_number(number: u32) -> Result<u32, AllocError>
+    ensures { IfOk result (λ next. next ≡ suc number) }
+{
+    match number.checked_add(1) {
+        Some(next) => Ok(next),
+        None => Err(AllocError),
+    }
 }
 
 /// Where a constant list lies, from the start of the code segment.
@@ -203,6 +222,9 @@ fn with_declarations(
     ensures main_kind { IfOk result (λ tree. tree.main.kind ≡ Static) }
     ensures main_frame { IfOk result (λ tree. tree.main.frame.items ≡ []) }
     ensures externals { IfOk result (λ tree. tree.externals.items ≡ externals_of (module_view typed.now)) }
+    ensures homes { IfOk result (λ tree. tree.homes.items
+        ≡ homes_of (module_view typed.now) (layout_view storage.now)) }
+    ensures headings { IfOk result (λ tree. HeadingsAre (module_view typed.now) (headings_of tree)) }
 {
     let mut tree = empty_module(alloc, typed);
     let externals = externals_of(alloc, typed)?;
@@ -237,13 +259,7 @@ fn with_bodies(
 /// A typed module as tree code, with its objects where its storage has them.
 pub fn lower(alloc: Global, typed: &Typed, storage: &Layout) -> Result<TreeModule, AllocError>
     requires jumps { JumpsAreSound (module_view typed.now) }
-    ensures bodies { IfOk result (BodiesAreLowered (module_view typed.now) (layout_view storage.now)) }
-    ensures name { IfOk result (λ tree. tree.name ≡ typed.now.name) }
-    ensures main_kind { IfOk result (λ tree. tree.main.kind ≡ Static) }
-    ensures main_frame { IfOk result (λ tree. tree.main.frame.items ≡ []) }
-    ensures externals { IfOk result (λ tree. tree.externals.items ≡ externals_of (module_view typed.now)) }
-    ensures publics { IfOk result (λ tree. tree.publics.items
-        ≡ publics_of (module_view typed.now) tree.homes.items) }
+    ensures lowered { IfOk result (IsLowered (module_view typed.now) (layout_view storage.now)) }
 {
     let tree = with_declarations(alloc, typed, storage)?;
     let mut tree = with_bodies(alloc, tree, typed, storage)?;

@@ -1,7 +1,8 @@
 //! Modules of tree code.
 
-ghost use Rattle.std.specs.Prelude.{◌≡◌, IfOk};
+ghost use Rattle.std.specs.Prelude.{◌≡◌, ◌<◌, IfOk};
 ghost use Rattle.treecode.specs.Nodes.{entry_of};
+ghost use Rattle.treecode.specs.internal.Words.{FormIsWord};
 
 use crate::expression::{Expression, ExpressionForm, ExpressionNumber};
 use crate::lists::Range;
@@ -71,7 +72,7 @@ pub struct TreeModule {
 
 impl TreeModule {
     ghost use Rattle.std.specs.Prelude.{◌≡◌, [], ◌∷◌, ◌++◌, length, slice_get, IfOk};
-    ghost use Rattle.treecode.specs.Nodes.{home_at, item_of, nodes_of};
+    ghost use Rattle.treecode.specs.Nodes.{NumbersAreWords, home_at, item_of, nodes_of};
     ghost use Rattle.treecode.specs.Traits.{expression_of, number_at, traits_at};
 
     /// Where an object begins; the address 0 where there is none of that number.
@@ -148,6 +149,17 @@ impl TreeModule {
         }
     }
 
+    /// Tells that its numbers have the width of a word, and does nothing.
+    pub fn hold_words(&self)
+        ensures { NumbersAreWords (nodes_of self.now) }
+    {
+        let mut rest = self.expressions.as_slice();
+        while let [expression, more @ ..] = rest {
+            hold_form(expression.form);
+            rest = more;
+        }
+    }
+
     /// Adds an expression of a type, whose parts stand already.
     pub(crate) fn add_expression(
         &mut self,
@@ -219,6 +231,22 @@ impl TreeModule {
         let count = next_index(list.len())?;
         self.lists.extend_from_slice(list)?;
         Ok(Range { first, count })
+    }
+}
+
+// Tells that a number of 16 bits has the width of a word.
+fn hold_word(number: u16)
+    ensures { number < 65536 }
+{
+    let _ = number;
+}
+
+// Tells that the number of a form, if it is one, has the width of a word.
+fn hold_form(form: ExpressionForm)
+    ensures { FormIsWord form }
+{
+    if let ExpressionForm::Number(number) = form {
+        hold_word(number);
     }
 }
 

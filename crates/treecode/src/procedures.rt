@@ -1,19 +1,20 @@
 //! Typed procedures as tree code.
 
-ghost use Rattle.std.specs.Prelude.{◌≡◌, map, zip, length, IfOk, OnOk};
+ghost use Rattle.std.specs.Prelude.{◌≡◌, ◌++◌, map, zip, length, IfOk, OnOk};
 ghost use Rattle.typed_trees.specs.Jumps.{BodyIsSound};
 ghost use Rattle.typed_trees.specs.Views.{list_view, procedure_view};
 ghost use Rattle.layout.specs.Views.{layout_view};
-ghost use Rattle.treecode.specs.Homes.{parameter_at};
+ghost use Rattle.treecode.specs.Homes.{kind_with, parameter_at};
 ghost use Rattle.treecode.specs.Nodes.{nodes_of};
 ghost use Rattle.treecode.specs.internal.Beside.{outside, walk_of};
 ghost use Rattle.treecode.specs.internal.Completed.{AreComplete, BodiesAreSound, IsBody, MainIsComplete, completed, with_body, with_main};
+ghost use Rattle.treecode.specs.internal.Placed.{heading_in, heading_of, headings_in, headings_of};
 ghost use Rattle.treecode.specs.internal.Sound.{AreSound};
 
 use crate::globals::Externals;
 use crate::homes::location_of;
 use crate::lists::Range;
-use crate::lowering::Lowering;
+use crate::lowering::{Lowering, next_number};
 use crate::module::TreeModule;
 use crate::procedure::{Parameter, ProcedureKind, TreeProcedure};
 use layout::Layout;
@@ -21,15 +22,31 @@ use std::alloc::{AllocError, Global};
 use trees::ScalarType;
 use typed_trees::{TypedProcedure, Visibility};
 
-// How a procedure of a number comes to its code.
-fn kind_of(externals: &Externals, number: u32, typed: &TypedProcedure) -> ProcedureKind {
+// How a procedure comes to its code, by its index among the EXTERNAL names.
+fn kind_of(external: Option<u32>, typed: &TypedProcedure) -> ProcedureKind
+    ensures { result ≡ kind_with external typed.now.visibility typed.now.is_reentrant }
+{
     match (typed.visibility, typed.is_reentrant) {
-        (Visibility::External, _) => {
-            ProcedureKind::External(externals.procedures.get(number).unwrap_or(0))
-        }
+        (Visibility::External, _) => ProcedureKind::External(external.unwrap_or(0)),
         (Visibility::Private | Visibility::Public, true) => ProcedureKind::Reentrant,
         (Visibility::Private | Visibility::Public, false) => ProcedureKind::Static,
     }
+}
+
+// A procedure of a number, of which only the heading is known.
+fn heading_of(
+    alloc: Global,
+    externals: &Externals,
+    number: u32,
+    typed: &TypedProcedure,
+) -> TreeProcedure
+    ensures { heading_of result
+        ≡ heading_in externals.now.procedures.entries.items number (procedure_view typed.now) }
+{
+    let kind = kind_of(externals.procedures.get(number), typed);
+    let mut procedure = TreeProcedure::new(alloc, kind, typed.result);
+    procedure.frame_bytes = typed.frame_bytes;
+    procedure
 }
 
 /// Adds the procedures of a module, of which only the headings are known.
@@ -40,14 +57,16 @@ pub(crate) fn add_headings(
     procedures: &[TypedProcedure],
 ) -> Result<(), AllocError>
     ensures kept { OnOk result (tree.new ≡ record tree.old { procedures = tree.new.procedures }) }
+    ensures headings { OnOk result (headings_of tree.new ≡ headings_of tree.old
+        ++ headings_in externals.now.procedures.entries.items 0 (map procedure_view procedures.now)) }
 {
     let mut number: u32 = 0;
-    for typed in procedures {
-        let kind = kind_of(externals, number, typed);
-        let mut procedure = TreeProcedure::new(alloc, kind, typed.result);
-        procedure.frame_bytes = typed.frame_bytes;
-        tree.procedures.push(procedure)?;
-        number = number.saturating_add(1);
+    let mut rest = procedures;
+    while let [typed, more @ ..] = rest {
+        tree.procedures
+            .push(heading_of(alloc, externals, number, typed))?;
+        number = next_number(number)?;
+        rest = more;
     }
     Ok(())
 }

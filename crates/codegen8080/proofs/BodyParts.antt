@@ -1,0 +1,279 @@
+-- The code of procedures and of main programs, from that of their parts.
+use Rattle.std.proofs.Common.{◌≡◌, ℕ, Bool, true, false, List, [], ◌∷◌, ◌++◌, length, Option, Some, None, Result, Ok, Err, OnOk, drop, refl, sym, ap, subst, ◌∙◌, append_assoc, append-nil}
+use Rattle.std.proofs.lemmas.List.{drop_at}
+use Rattle.std.specs.Prelude.{IfOk}
+use Rattle.isa8080.specs.declared.instr.Instr.{Instr}
+use Rattle.isa8080.specs.declared.instr.Instr.TheVariants.{Hlt}
+use Rattle.isa8080.specs.declared.instr.Pair.TheVariants.{Sp}
+use Rattle.asm8080.specs.declared.item.Item.{Item}
+use Rattle.asm8080.specs.declared.item.Item.TheVariants as items
+use Rattle.asm8080.specs.declared.item.WordForm.TheVariants.{LoadPair}
+use Rattle.treecode.specs.declared.module.TreeModule.{TreeModule}
+use Rattle.treecode.specs.declared.procedure.ProcedureKind.{ProcedureKind}
+use Rattle.treecode.specs.declared.procedure.ProcedureKind.TheVariants as kinds
+use Rattle.treecode.specs.declared.procedure.TreeProcedure.{TreeProcedure}
+use Rattle.frames.specs.declared.frame_plan.FramePlan.{FramePlan}
+use Rattle.frames.specs.Frames.{HasFrame, HasNothing, IsPlanOf, LiesApart}
+use Rattle.steps8080.specs.declared.facts.Facts.{Facts}
+use Rattle.steps8080.specs.declared.step.LabelNumber.{LabelNumber}
+use Rattle.steps8080.specs.declared.step.Step.{Step}
+use Rattle.steps8080.specs.declared.step.Step.TheVariants as steps
+use Rattle.steps8080.specs.Facts.{no_facts}
+use Rattle.steps8080.specs.Writer.{Written, Writes, stack_end_item}
+use Rattle.steps8080.proofs.Numbered.{writes_nothing, writes_then}
+use Rattle.sites8080.specs.declared.site.Site.{Site}
+use Rattle.exprgen8080.specs.declared.emission.Emission.{Emission}
+use Rattle.exprgen8080.specs.Emission.{AreWritten, MarkWritten, NoneWritten, PlainWritten}
+use Rattle.exprgen8080.specs.Emitted.{EmitsSteps, HasAll}
+use Rattle.exprgen8080.proofs.Emitting.{has_itself}
+use Rattle.statements8080.specs.declared.body.Body.{Body}
+use Rattle.statements8080.specs.declared.plan.Planned.{Planned}
+use Rattle.codegen8080.specs.declared.generator.Generator.{Generator}
+use Rattle.codegen8080.specs.declared.meeting.Here.{Here}
+use Rattle.codegen8080.specs.Driven.{AddsCode, AddsList, AddsPlanned, here_of}
+use Rattle.codegen8080.specs.Generated.{AreCarriedOut, IsListCarriedOut, site_of}
+use Rattle.codegen8080.specs.Modules.{AreCodeOf, IsCodeOf, IsEndCode, IsFrameOf, IsMainCode, IsProcedureCode}
+use Rattle.codegen8080.specs.Procedures.{end_steps, entry_steps}
+use Rattle.codegen8080.specs.internal.Bodies.{AddsEnd, AddsEntry, AddsMain, AddsOwn, AddsProcedure, AddsProcedures}
+use Rattle.codegen8080.proofs.Driving.{all_kept, list_kept}
+
+-- the plan of a frame has what is said of it by the kind of the procedure
+pub frame_is :
+    (procedure : TreeProcedure) {E : Type 0} (result : Result FramePlan E)
+    → (procedure.kind ≡ kinds.Reentrant → HasFrame procedure → IfOk result (λ plan. IsPlanOf procedure plan))
+    → (procedure.kind ≡ kinds.Reentrant → HasFrame procedure → IfOk result (λ plan. LiesApart procedure plan))
+    → ((procedure.kind ≡ kinds.Reentrant → ⊥) → IfOk result (λ plan. HasNothing plan))
+    → IfOk result (λ plan. IsFrameOf procedure plan)
+frame_is procedure (Ok plan) planned apart empty = record { planned = planned; apart = apart; empty = empty }
+frame_is procedure (Err fault) planned apart empty = tt
+
+-- steps that are planned after others are carried out
+pub planned_added :
+    (body : Body) (list : List Planned) (start : ℕ) (before ready after : Generator)
+    → ready.emission ≡ record (before.emission) { steps = ready.emission.steps }
+    → ready.goes_on ≡ before.goes_on
+    → ready.plan.list.items ≡ before.plan.list.items ++ list
+    → start ≡ length before.plan.list.items
+    → AddsPlanned body (drop start ready.plan.list.items) ready after
+    → AddsCode (λ called added. AreCarriedOut body called (here_of before) None list added (here_of after)) before
+    after
+planned_added body list start before ready after emission goes_on plan begins adds =
+    let called : List Bool = after.emission.is_called.items in
+    let left : drop start ready.plan.list.items ≡ list =
+    ap (drop start) plan ∙ drop_at before.plan.list.items list start (sym begins) in
+    let written : AreCarriedOut body called (here_of ready) None list adds.list (here_of after) =
+    subst (λ all. AreCarriedOut body called (here_of ready) None all adds.list (here_of after)) left adds.written in
+    record {
+      list = adds.list;
+      writes = subst (λ (from : Emission). Writes from.writer after.emission.writer adds.list) emission adds.writes;
+      written =
+          subst (λ (from : Emission). AreCarriedOut body called
+          (record { facts = from.facts; goes_on = before.goes_on }) None list adds.list (here_of after)) emission
+          (subst (λ goes. AreCarriedOut body called (record { facts = ready.emission.facts; goes_on = goes }) None
+          list adds.list (here_of after)) goes_on written);
+      called = subst (λ (from : Emission). HasAll from.is_called.items called) emission adds.called;
+    }
+
+-- and so is how a procedure begins
+pub entry_added :
+    (body : Body) (first start : ℕ) (before ready after : Generator) {E : Type 0} (result : Result (Unit {0}) E)
+    → ready.emission ≡ record (before.emission) { steps = ready.emission.steps }
+    → ready.goes_on ≡ before.goes_on
+    → ready.plan.list.items ≡ before.plan.list.items ++ entry_steps body first
+    → start ≡ length before.plan.list.items
+    → OnOk result (AddsPlanned body (drop start ready.plan.list.items) ready after)
+    → OnOk result (AddsEntry body before after)
+entry_added body first start before ready after (Ok done) emission goes_on plan begins adds =
+    let added = planned_added body (entry_steps body first) start before ready after emission goes_on plan begins adds in
+    record { list = added.list; writes = added.writes; written = (first, added.written); called = added.called }
+entry_added body first start before ready after (Err fault) emission goes_on plan begins adds = adds
+
+-- and how it ends
+pub end_added :
+    (body : Body) (start : ℕ) (before ready after : Generator) {E : Type 0} (result : Result (Unit {0}) E)
+    → body.procedure.now.reaches_its_end ≡ true
+    → ready.emission ≡ before.emission
+    → ready.goes_on ≡ before.goes_on
+    → ready.plan.list.items ≡ before.plan.list.items ++ end_steps body
+    → start ≡ length before.plan.list.items
+    → OnOk result (AddsPlanned body (drop start ready.plan.list.items) ready after)
+    → OnOk result (AddsEnd body before after)
+end_added body start before ready after (Ok done) reached emission goes_on plan begins adds =
+    let same : ready.emission ≡ record (before.emission) { steps = ready.emission.steps } =
+    emission ∙ ap (λ (from : Emission). record (before.emission) { steps = from.steps }) (sym emission) in
+    let added = planned_added body (end_steps body) start before ready after same goes_on plan begins adds in
+    record {
+      list = added.list;
+      writes = added.writes;
+      written =
+          subst (λ is_reached. IsEndCode body after.emission.is_called.items (here_of before) is_reached added.list)
+          (sym reached) (here_of after, added.written);
+      called = added.called;
+    }
+end_added body start before ready after (Err fault) reached emission goes_on plan begins adds = adds
+
+pub no_end_added :
+    (body : Body) (before : Generator) → body.procedure.now.reaches_its_end ≡ false → AddsEnd body before before
+no_end_added body before reached = record {
+  list = [];
+  writes = writes_nothing before.emission.writer;
+  written =
+      subst (λ is_reached. IsEndCode body before.emission.is_called.items (here_of before) is_reached [])
+      (sym reached) refl;
+  called = has_itself before.emission.is_called.items;
+}
+
+-- a label is added
+record IsMarked (label : ℕ) (before after : Emission) : Type 0 where
+  writes : Writes before.writer after.writer (items.Mark label ∷ [])
+  facts : after.facts ≡ no_facts
+  called : HasAll before.is_called.items after.is_called.items
+
+mark_is :
+    {site : Site} {called : List Bool} {facts last : Facts} {label : LabelNumber} {list : List Item}
+    → AreWritten site called facts (steps.Mark label ∷ []) list last
+    → (list ≡ items.Mark label.index ∷ []) × (last ≡ no_facts)
+mark_is (MarkWritten NoneWritten) = (refl, refl)
+
+marked : (site : Site) (label : LabelNumber) (before after : Emission)
+    → EmitsSteps site (steps.Mark label ∷ []) before after
+    → IsMarked label.index before after
+marked site label before after emits =
+    let is = mark_is emits.written in
+    record {
+      writes = subst (Writes before.writer after.writer) is.0 emits.writes;
+      facts = is.1;
+      called = emits.called;
+    }
+
+-- an instruction is added
+plain_is :
+    {site : Site} {called : List Bool} {facts last : Facts} {i : Instr} {list : List Item}
+    → AreWritten site called facts (steps.Plain i ∷ []) list last
+    → list ≡ items.Plain i ∷ []
+plain_is (PlainWritten NoneWritten) = refl
+
+-- the code of the end of a procedure where more routines are called
+pub end_kept :
+    (body : Body) (called wider : List Bool) (here : Here) (is_reached : Bool) (list : List Item)
+    → HasAll called wider
+    → IsEndCode body called here is_reached list
+    → IsEndCode body wider here is_reached list
+end_kept body called wider here true list more is = (is.0, all_kept more is.1)
+end_kept body called wider here false list more is = is
+
+-- a procedure is written part by part
+pub own_added :
+    (tree : TreeModule) (procedure : TreeProcedure) (label : LabelNumber) (body : Body) (site : Site)
+    (before begun labelled entered listed after : Generator)
+    → body.tree.now ≡ tree
+    → body.procedure.now ≡ procedure
+    → IsFrameOf procedure body.frame.now
+    → begun.emission ≡ record (before.emission) { steps = begun.emission.steps }
+    → EmitsSteps site (steps.Mark label ∷ []) begun.emission labelled.emission
+    → labelled.goes_on ≡ true
+    → AddsEntry body labelled entered
+    → AddsList body procedure.body entered listed
+    → AddsEnd body listed after
+    → AddsOwn tree label.index procedure before after
+own_added tree procedure label body site before begun labelled entered listed after tree_is procedure_is frame same
+    emits goes_on entry list end =
+    let called : List Bool = after.emission.is_called.items in
+    let mark = marked site label begun.emission labelled.emission emits in
+    let from_entry : HasAll entered.emission.is_called.items called =
+    λ routine given. end.called routine (list.called routine given) in
+    let here : here_of labelled ≡ record { facts = no_facts; goes_on = true } =
+    ap (λ (facts : Facts). record { facts = facts; goes_on = labelled.goes_on }) mark.facts
+    ∙ ap (λ goes. record { facts = no_facts; goes_on = goes }) goes_on in
+    record {
+      list = items.Mark label.index ∷ (entry.list ++ (list.list ++ end.list));
+      writes =
+          subst
+          (λ (from : Emission). Writes from.writer after.emission.writer
+          (items.Mark label.index ∷ (entry.list ++ (list.list ++ end.list))))
+          same
+          (writes_then begun.emission.writer labelled.emission.writer after.emission.writer
+          (items.Mark label.index ∷ []) (entry.list ++ (list.list ++ end.list)) mark.writes
+          (writes_then labelled.emission.writer entered.emission.writer after.emission.writer entry.list
+          (list.list ++ end.list) entry.writes
+          (writes_then entered.emission.writer listed.emission.writer after.emission.writer list.list end.list
+          list.writes end.writes)));
+      written = record {
+        body = body;
+        tree_is = tree_is;
+        procedure_is = procedure_is;
+        frame = frame;
+        first = entry.written.0;
+        beginning = entry.list;
+        statements = list.list;
+        ending = end.list;
+        entered = here_of entered;
+        last = here_of listed;
+        begins =
+            subst (λ at. AreCarriedOut body called at None (entry_steps body entry.written.0) entry.list
+            (here_of entered)) here (all_kept from_entry entry.written.1);
+        written = list_kept end.called list.written;
+        ends = subst (λ (own : TreeProcedure). IsEndCode body called (here_of listed) own.reaches_its_end end.list)
+            procedure_is end.written;
+        list_is = refl;
+      };
+      called =
+          subst (λ (from : Emission). HasAll from.is_called.items called) same
+          (λ routine given. from_entry routine (entry.called routine (mark.called routine given)));
+    }
+
+-- and so is a main program
+pub main_added :
+    (tree : TreeModule) (label : LabelNumber) (body : Body) (site last : Site)
+    (before begun labelled ready listed after : Generator)
+    → body.tree.now ≡ tree
+    → body.procedure.now ≡ tree.main
+    → HasNothing body.frame.now
+    → begun.emission ≡ record (before.emission) { steps = begun.emission.steps }
+    → EmitsSteps site (steps.Mark label ∷ []) begun.emission labelled.emission
+    → Writes labelled.emission.writer ready.emission.writer (stack_end_item (LoadPair Sp) ∷ [])
+    → ready.emission ≡ record (labelled.emission) { writer = ready.emission.writer }
+    → AddsList body tree.main.body ready listed
+    → EmitsSteps last (steps.Plain Hlt ∷ []) listed.emission after.emission
+    → AddsMain tree label.index before after
+main_added tree label body site last before begun labelled ready listed after tree_is procedure_is frame same emits stack
+    kept list halts =
+    let called : List Bool = after.emission.is_called.items in
+    let mark = marked site label begun.emission labelled.emission emits in
+    let facts : ready.emission.facts ≡ no_facts = ap (λ (at : Emission). at.facts) kept ∙ mark.facts in
+    let table : ready.emission.is_called.items ≡ labelled.emission.is_called.items =
+    ap (λ (at : Emission). at.is_called.items) kept in
+    let halt : Writes listed.emission.writer after.emission.writer (items.Plain Hlt ∷ []) =
+    subst (Writes listed.emission.writer after.emission.writer) (plain_is halts.written) halts.writes in
+    record {
+      list = items.Mark label.index ∷ stack_end_item (LoadPair Sp) ∷ (list.list ++ (items.Plain Hlt ∷ []));
+      writes =
+          subst
+          (λ (from : Emission). Writes from.writer after.emission.writer
+          (items.Mark label.index ∷ stack_end_item (LoadPair Sp) ∷ (list.list ++ (items.Plain Hlt ∷ []))))
+          same
+          (writes_then begun.emission.writer labelled.emission.writer after.emission.writer
+          (items.Mark label.index ∷ []) (stack_end_item (LoadPair Sp) ∷ (list.list ++ (items.Plain Hlt ∷ [])))
+          mark.writes
+          (writes_then labelled.emission.writer ready.emission.writer after.emission.writer
+          (stack_end_item (LoadPair Sp) ∷ []) (list.list ++ (items.Plain Hlt ∷ [])) stack
+          (writes_then ready.emission.writer listed.emission.writer after.emission.writer list.list
+          (items.Plain Hlt ∷ []) list.writes halt)));
+      written = record {
+        body = body;
+        tree_is = tree_is;
+        procedure_is = procedure_is;
+        frame = frame;
+        statements = list.list;
+        last = here_of listed;
+        written =
+            subst (λ at. IsListCarriedOut body called at tree.main.body list.list (here_of listed)) facts
+            (list_kept halts.called list.written);
+        list_is = refl;
+      };
+      called =
+          subst (λ (from : Emission). HasAll from.is_called.items called) same
+          (λ routine given. halts.called routine (list.called routine
+          (subst (λ at. HasAll labelled.emission.is_called.items at) (sym table)
+          (λ one is. is) routine (mark.called routine given))));
+    }

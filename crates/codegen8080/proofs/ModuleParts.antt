@@ -1,0 +1,428 @@
+-- The code of a module, from that of its parts.
+use Rattle.std.proofs.Common.{◌≡◌, ℕ, suc, ◌+◌, Bool, true, false, List, [], ◌∷◌, ◌++◌, Option, Some, None, Result, Ok, Err, OnOk, slice_index_or, slice_get, length, take, drop, ◌-◌, ◌<◌, arith, unwrap_or, refl, sym, ap, subst, ◌∙◌, append_assoc, append-nil, add-one}
+use Rattle.std.specs.Prelude.{option_map}
+use Rattle.std.proofs.lemmas.Option.{none-some}
+use Rattle.asm8080.specs.declared.item.Item.{Item}
+use Rattle.asm8080.specs.declared.item.Item.TheVariants as items
+use Rattle.runtime8080.specs.declared.routine.Routine.{Routine}
+use Rattle.treecode.specs.declared.module.Content.{Content}
+use Rattle.treecode.specs.declared.module.TreeModule.{TreeModule}
+use Rattle.treecode.specs.declared.procedure.ProcedureKind.{ProcedureKind}
+use Rattle.treecode.specs.declared.procedure.ProcedureKind.TheVariants as kinds
+use Rattle.treecode.specs.declared.procedure.TreeProcedure.{TreeProcedure}
+use Rattle.steps8080.specs.Externals.{Extends, entry}
+use Rattle.steps8080.specs.Writer.{Written, Writes, WritesRoutine, in_front, numbered}
+use Rattle.steps8080.proofs.Numbered.{items_stay, writes_nothing, writes_then}
+use Rattle.exprgen8080.specs.declared.emission.Emission.{Emission}
+use Rattle.exprgen8080.specs.Emission.{has_routine, index_of_routine, module_routine_label}
+use Rattle.exprgen8080.specs.Emitted.{HasAll, IsEmpty}
+use Rattle.exprgen8080.proofs.Emitting.{has_itself}
+use Rattle.codegen8080.specs.declared.generator.Generator.{Generator}
+use Rattle.codegen8080.specs.Modules.{AreCodeOf, AreRoutines, IsCodeOf, IsCodeOfMain, IsCodeOfRoutine, IsCodeWritten, IsMainCode, IsOwnCode, IsProcedureCode, IsRoutineCode, all_routines, content_items, contents_items, has_main}
+use Rattle.codegen8080.specs.internal.Bodies.{AddsCalled, AddsCodeOfMain, AddsMain, AddsOwnCode, AddsProcedure, AddsProcedures, AddsRoutineIf, AddsRoutines}
+use Rattle.codegen8080.proofs.BodyParts.{end_kept}
+use Rattle.codegen8080.proofs.Driving.{all_kept, list_kept}
+
+-- all of a list are as many as it has
+take_all : {A : Type 0} (list : List A) (count : ℕ) → count ≡ length list → take count list ≡ list
+take_all [] count same = ap (λ number. take number []) same
+take_all (first ∷ others) count same =
+    ap (λ number. take number (first ∷ others)) same ∙ ap (λ rest. first ∷ rest) (take_all others (length others) refl)
+
+same_item : {A : Type 0} (one other : A) → Some one ≡ Some other → one ≡ other
+same_item one other same = ap (λ (found : Option _). unwrap_or found one) same
+
+-- What stands in a segment is being added; some of it is left.
+pub record IsPutting (before now : Written) (whole left : List Content) : Type 0 where
+  pub list : List Item
+  pub writes : Writes before now list
+  pub left_is : list ++ contents_items left ≡ contents_items whole
+
+pub putting_begins : (before : Written) (whole : List Content) → IsPutting before before whole whole
+putting_begins before whole = record { list = []; writes = writes_nothing before; left_is = refl }
+
+pub putting_goes_on :
+    (before now next : Written) (whole : List Content) (content : Content) (others : List Content)
+    → IsPutting before now whole (content ∷ others)
+    → Writes now next (content_items content)
+    → IsPutting before next whole others
+putting_goes_on before now next whole content others putting writes = record {
+  list = putting.list ++ content_items content;
+  writes = writes_then before now next putting.list (content_items content) putting.writes writes;
+  left_is = append_assoc putting.list (content_items content) (contents_items others) ∙ putting.left_is;
+}
+
+pub putting_step :
+    (before now next : Written) (whole left : List Content) (content : Content)
+    → slice_get left 0 ≡ Some content
+    → IsPutting before now whole left
+    → Writes now next (content_items content)
+    → IsPutting before next whole (take (length left - 1) (drop 1 left))
+putting_step before now next whole [] content at putting writes = absurd (none-some content at)
+putting_step before now next whole (first ∷ others) content at putting writes =
+    subst (IsPutting before next whole) (sym (take_all others (length (first ∷ others) - 1) (omega arith)))
+    (putting_goes_on before now next whole first others putting
+    (subst (λ one. Writes now next (content_items one)) (same_item content first (sym at)) writes))
+
+pub putting_ends :
+    (before now : Written) (whole : List Content)
+    → IsPutting before now whole []
+    → Writes before now (contents_items whole)
+putting_ends before now whole putting =
+    subst (Writes before now) (sym (append-nil putting.list) ∙ putting.left_is) putting.writes
+
+-- The code of a procedure where more routines are called.
+module _ (tree : TreeModule) (called wider : List Bool) (more : HasAll called wider) where
+  own_kept : (number : ℕ) (procedure : TreeProcedure) (list : List Item)
+      → IsProcedureCode tree called number procedure list
+      → IsProcedureCode tree wider number procedure list
+  own_kept number procedure list is = record {
+    body = is.body;
+    tree_is = is.tree_is;
+    procedure_is = is.procedure_is;
+    frame = is.frame;
+    first = is.first;
+    beginning = is.beginning;
+    statements = is.statements;
+    ending = is.ending;
+    entered = is.entered;
+    last = is.last;
+    begins = all_kept more is.begins;
+    written = list_kept more is.written;
+    ends = end_kept is.body called wider is.last procedure.reaches_its_end is.ending more is.ends;
+    list_is = is.list_is;
+  }
+
+  kind_kept : (number : ℕ) (procedure : TreeProcedure) (kind : ProcedureKind) (list : List Item)
+      → IsCodeOf tree called number procedure kind list
+      → IsCodeOf tree wider number procedure kind list
+  kind_kept number procedure (kinds.External name) list is = is
+  kind_kept number procedure kinds.Static list is = own_kept number procedure list is
+  kind_kept number procedure kinds.Reentrant list is = own_kept number procedure list is
+
+  -- and that of a main program
+  main_kept : (start : ℕ) (is_there : Bool) (list : List Item)
+      → IsCodeOfMain tree called start is_there list
+      → IsCodeOfMain tree wider start is_there list
+  main_kept start true list is = record {
+    body = is.body;
+    tree_is = is.tree_is;
+    procedure_is = is.procedure_is;
+    frame = is.frame;
+    statements = is.statements;
+    last = is.last;
+    written = list_kept more is.written;
+    list_is = is.list_is;
+  }
+  main_kept start false list is = is
+
+-- Procedures are being added; some are left, of which the first has this number.
+pub record AreBeingPut
+    (tree : TreeModule) (before now : Generator) (number : ℕ) (whole left : List TreeProcedure) : Type 0 where
+  pub list : List Item
+  pub writes : Writes before.emission.writer now.emission.writer list
+  pub left_is : (called : List Bool) (more : List Item)
+      → HasAll now.emission.is_called.items called
+      → AreCodeOf tree called number left more
+      → AreCodeOf tree called 0 whole (list ++ more)
+  pub called : HasAll before.emission.is_called.items now.emission.is_called.items
+
+pub procedures_begin :
+    (tree : TreeModule) (before : Generator) (whole : List TreeProcedure)
+    → AreBeingPut tree before before 0 whole whole
+procedures_begin tree before whole = record {
+  list = [];
+  writes = writes_nothing before.emission.writer;
+  left_is = λ called more wider rest. rest;
+  called = has_itself before.emission.is_called.items;
+}
+
+pub procedures_go_on :
+    (tree : TreeModule) (before now next : Generator) (number following : ℕ) (whole : List TreeProcedure)
+    (procedure : TreeProcedure) (others : List TreeProcedure)
+    → following ≡ number + 1
+    → AreBeingPut tree before now number whole (procedure ∷ others)
+    → AddsProcedure tree number procedure now next
+    → AreBeingPut tree before next following whole others
+procedures_go_on tree before now next number following whole procedure others follows putting adds = record {
+  list = putting.list ++ adds.list;
+  writes = writes_then before.emission.writer now.emission.writer next.emission.writer putting.list adds.list
+      putting.writes adds.writes;
+  left_is = λ called more wider rest.
+      subst (AreCodeOf tree called 0 whole) (sym (append_assoc putting.list adds.list more))
+      (putting.left_is called (adds.list ++ more)
+      (λ routine given. wider routine (adds.called routine given))
+      (adds.list, more,
+      kind_kept tree next.emission.is_called.items called wider number procedure procedure.kind adds.list adds.written,
+      subst (λ at. AreCodeOf tree called at others more) (follows ∙ add-one number) rest,
+      refl));
+  called = λ routine given. adds.called routine (putting.called routine given);
+}
+
+pub procedures_step :
+    (tree : TreeModule) (before now next : Generator) (number following : ℕ) (whole left : List TreeProcedure)
+    (procedure : TreeProcedure)
+    → following ≡ number + 1
+    → slice_get left 0 ≡ Some procedure
+    → AreBeingPut tree before now number whole left
+    → AddsProcedure tree number procedure now next
+    → AreBeingPut tree before next following whole (take (length left - 1) (drop 1 left))
+procedures_step tree before now next number following whole [] procedure follows at putting adds =
+    absurd (none-some procedure at)
+procedures_step tree before now next number following whole (first ∷ others) procedure follows at putting adds =
+    subst (AreBeingPut tree before next following whole) (sym (take_all others (length (first ∷ others) - 1) (omega arith)))
+    (procedures_go_on tree before now next number following whole first others follows putting
+    (subst (λ one. AddsProcedure tree number one now next) (same_item procedure first (sym at)) adds))
+
+procedures_end :
+    (tree : TreeModule) (before now : Generator) (number : ℕ) (whole : List TreeProcedure)
+    → AreBeingPut tree before now number whole []
+    → AddsProcedures tree 0 whole before now
+procedures_end tree before now number whole putting = record {
+  list = putting.list;
+  writes = putting.writes;
+  written =
+      subst (AreCodeOf tree now.emission.is_called.items 0 whole) (append-nil putting.list)
+      (putting.left_is now.emission.is_called.items [] (has_itself now.emission.is_called.items) refl);
+  called = putting.called;
+}
+
+pub procedures_done :
+    (tree : TreeModule) (before now : Generator) (number : ℕ) (whole left : List TreeProcedure)
+    → length left < 1
+    → AreBeingPut tree before now number whole left
+    → AddsProcedures tree 0 whole before now
+procedures_done tree before now number whole [] none putting =
+    procedures_end tree before now number whole putting
+procedures_done tree before now number whole (first ∷ others) none putting = absurd (omega (arith, none))
+
+-- a main program is added where there is one
+pub main_there :
+    (tree : TreeModule) (start : ℕ) (before after : Generator) {E : Type 0} (result : Result (Unit {0}) E)
+    → has_main tree ≡ true
+    → OnOk result (AddsMain tree start before after)
+    → OnOk result (AddsCodeOfMain tree start before after)
+main_there tree start before after (Err fault) there adds = tt
+main_there tree start before after (Ok done) there adds = record {
+  list = adds.list;
+  writes = adds.writes;
+  written =
+      subst (λ is_there. IsCodeOfMain tree after.emission.is_called.items start is_there adds.list) (sym there)
+      adds.written;
+  called = adds.called;
+}
+
+pub no_main_there :
+    (tree : TreeModule) (start : ℕ) (before : Generator)
+    → has_main tree ≡ false
+    → AddsCodeOfMain tree start before before
+no_main_there tree start before none = record {
+  list = [];
+  writes = writes_nothing before.emission.writer;
+  written =
+      subst (λ is_there. IsCodeOfMain tree before.emission.is_called.items start is_there []) (sym none) refl;
+  called = has_itself before.emission.is_called.items;
+}
+
+-- all of a module's code but the routines
+pub own_code_added :
+    (tree : TreeModule) (start : ℕ) (before ready between after : Generator)
+    → Writes before.emission.writer ready.emission.writer (contents_items tree.constants.items)
+    → ready.emission.is_called ≡ before.emission.is_called
+    → AddsCodeOfMain tree start ready between
+    → AddsProcedures tree 0 tree.procedures.items between after
+    → AddsOwnCode tree start before after
+own_code_added tree start before ready between after constants same main procedures = record {
+  list = contents_items tree.constants.items ++ (main.list ++ procedures.list);
+  writes =
+      writes_then before.emission.writer ready.emission.writer after.emission.writer
+      (contents_items tree.constants.items) (main.list ++ procedures.list) constants
+      (writes_then ready.emission.writer between.emission.writer after.emission.writer main.list procedures.list
+      main.writes procedures.writes);
+  written = record {
+    main = main.list;
+    procedures = procedures.list;
+    main_is =
+        main_kept tree between.emission.is_called.items after.emission.is_called.items procedures.called start
+        (has_main tree) main.list main.written;
+    procedures_are = procedures.written;
+    list_is = refl;
+  };
+  called =
+      subst (λ table. HasAll table after.emission.is_called.items)
+      (ap (λ (flags : _). flags.items) same)
+      (λ routine given. procedures.called routine (main.called routine given));
+}
+
+-- The code of a routine where code has more labels.
+routine_kept :
+    (tree : TreeModule) (before after : Written) (routine : Routine) (is_called : Bool) (list : List Item)
+    → Extends before.labels after.labels
+    → IsCodeOfRoutine tree before routine is_called list
+    → IsCodeOfRoutine tree after routine is_called list
+routine_kept tree before after routine true list labels is = record {
+  label = is.label;
+  known = labels _ is.label is.known;
+  listing = is.listing;
+  is_routine = is.is_routine;
+  size = is.size;
+  list_is = is.list_is;
+}
+routine_kept tree before after routine false list labels is = is
+
+-- one item by its number
+one_front : (made : List Item) (label : Option ℕ)
+    → in_front (option_map items.Mark label) (Some []) ≡ Some made
+    → (found : ℕ) × (label ≡ Some found) × (made ≡ items.Mark found ∷ [])
+one_front made None given = let bad : None ≡ Some made = given in cc
+one_front made (Some found) given =
+    (found, refl, ap (λ (list : Option (List Item)). elim list [ Some all ↦ all | None ↦ [] ]) (sym given))
+
+-- what is added where a routine is called
+record AddsOne (tree : TreeModule) (is_called : Bool) (routine : Routine) (before after : Written) : Type 0 where
+  list : List Item
+  added : after.code.items ≡ before.code.items ++ list
+  is : IsCodeOfRoutine tree after routine is_called list
+  labels : Extends before.labels after.labels
+  externals : Extends before.externals after.externals
+
+one_added :
+    (tree : TreeModule) (routine : Routine) (is_called : Bool) (before after : Written)
+    → AddsRoutineIf tree (index_of_routine routine) routine before after is_called
+    → AddsOne tree is_called routine before after
+one_added tree routine false before after same = record {
+  list = [];
+  added = ap (λ (written : Written). written.code.items) same ∙ sym (append-nil before.code.items);
+  is = refl;
+  labels = λ number found given. ap (λ (written : Written). entry written.labels number) same ∙ given;
+  externals = λ number found given. ap (λ (written : Written). entry written.externals number) same ∙ given;
+}
+one_added tree routine true before after writes =
+    let entered : Written = writes.entered in
+    let at : ℕ = (module_routine_label tree (index_of_routine routine)).index in
+    let front = one_front writes.marked.made (entry entered.labels at) writes.marked.same in
+    record {
+      list = items.Mark front.0 ∷ writes.added.items;
+      added =
+          writes.added.added
+          ∙ ap (λ list. list ++ writes.added.items)
+          (writes.marked.added ∙ ap (λ list. before.code.items ++ list) front.2)
+          ∙ append_assoc before.code.items (items.Mark front.0 ∷ []) writes.added.items;
+      is = record {
+        label = front.0;
+        known = ap (λ table. entry table at) writes.labels ∙ front.1;
+        listing = writes.added.items;
+        is_routine = writes.added.is_routine;
+        size = writes.added.size;
+        list_is = refl;
+      };
+      labels = λ number found given.
+          ap (λ table. entry table number) writes.labels ∙ writes.marked.labels number found given;
+      externals = λ number found given.
+          ap (λ table. entry table number) writes.externals ∙ writes.marked.externals number found given;
+    }
+
+-- no routine is added
+pub no_routines : (tree : TreeModule) (called : List Bool) (written : Written) → AddsRoutines tree called [] written written
+no_routines tree called written = record {
+  list = [];
+  added = sym (append-nil written.code.items);
+  are = refl;
+  labels = λ number found given. given;
+  externals = λ number found given. given;
+}
+
+-- a routine is added, and others after it
+pub routine_then :
+    (tree : TreeModule) (called : List Bool) (routine : Routine) (others : List Routine)
+    (before between after : Written)
+    → AddsCalled tree called (index_of_routine routine) routine before between
+    → AddsRoutines tree called others between after
+    → AddsRoutines tree called (routine ∷ others) before after
+routine_then tree called routine others before between after first rest =
+    let one = one_added tree routine (has_routine called routine) before between first in
+    record {
+      list = one.list ++ rest.list;
+      added =
+          rest.added ∙ ap (λ list. list ++ rest.list) one.added
+          ∙ append_assoc before.code.items one.list rest.list;
+      are =
+          (one.list, rest.list,
+          routine_kept tree between after routine (has_routine called routine) one.list rest.labels one.is,
+          rest.are, refl);
+      labels = λ number found given. rest.labels number found (one.labels number found given);
+      externals = λ number found given. rest.externals number found (one.externals number found given);
+    }
+
+-- routines where code has more labels
+are_kept :
+    (tree : TreeModule) (called : List Bool) (before after : Written) (routines : List Routine) (list : List Item)
+    → Extends before.labels after.labels
+    → AreRoutines tree called before routines list
+    → AreRoutines tree called after routines list
+are_kept tree called before after [] list labels are = are
+are_kept tree called before after (routine ∷ others) list labels are =
+    (are.0, are.1, routine_kept tree before after routine (has_routine called routine) are.0 labels are.2,
+    are_kept tree called before after others are.1 labels are.3, are.4)
+
+-- and before others
+are_then :
+    (tree : TreeModule) (called : List Bool) (written : Written) (routines others : List Routine)
+    (list more : List Item)
+    → AreRoutines tree called written routines list
+    → AreRoutines tree called written others more
+    → AreRoutines tree called written (routines ++ others) (list ++ more)
+are_then tree called written [] others list more first second =
+    subst (λ all. AreRoutines tree called written others (all ++ more)) (sym first) second
+are_then tree called written (routine ∷ routines) others list more first second =
+    (first.0, first.1 ++ more, first.2, are_then tree called written routines others first.1 more first.3 second,
+    ap (λ all. all ++ more) first.4 ∙ append_assoc first.0 first.1 more)
+
+-- routines are added, and others after them
+pub routines_then :
+    (tree : TreeModule) (called : List Bool) (routines others : List Routine) (before between after : Written)
+    → AddsRoutines tree called routines before between
+    → AddsRoutines tree called others between after
+    → AddsRoutines tree called (routines ++ others) before after
+routines_then tree called routines others before between after first second = record {
+  list = first.list ++ second.list;
+  added =
+      second.added ∙ ap (λ list. list ++ second.list) first.added
+      ∙ append_assoc before.code.items first.list second.list;
+  are =
+      are_then tree called after routines others first.list second.list
+      (are_kept tree called between after routines first.list second.labels first.are) second.are;
+  labels = λ number found given. second.labels number found (first.labels number found given);
+  externals = λ number found given. second.externals number found (first.externals number found given);
+}
+
+-- the code of a module, from its own and the routines
+pub code_written :
+    (tree : TreeModule) (start : ℕ) (before between : Generator) (called : List Bool) (written after : Written)
+    → IsEmpty tree before.emission
+    → AddsOwnCode tree start before between
+    → called ≡ between.emission.is_called.items
+    → written ≡ between.emission.writer
+    → AddsRoutines tree called all_routines written after
+    → IsCodeWritten tree start after
+code_written tree start before between called written after none own called_is written_is added =
+    let routines : AddsRoutines tree between.emission.is_called.items all_routines between.emission.writer after =
+    subst (λ (from : Written). AddsRoutines tree between.emission.is_called.items all_routines from after) written_is
+    (subst (λ table. AddsRoutines tree table all_routines written after) called_is added) in
+    let nothing : before.emission.writer.code.items ≡ [] =
+    ap (λ (written : Written). written.code.items) none.items in
+    record {
+      called = between.emission.is_called.items;
+      own = own.list;
+      made = own.writes.made;
+      listed = routines.list;
+      own_is = own.written;
+      same =
+          items_stay between.emission.writer after own.list own.writes.made routines.labels routines.externals
+          own.writes.same;
+      listed_are = routines.are;
+      items_are =
+          routines.added
+          ∙ ap (λ list. list ++ routines.list)
+          (own.writes.added ∙ ap (λ list. list ++ own.writes.made) nothing);
+    }

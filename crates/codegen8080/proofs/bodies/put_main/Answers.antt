@@ -1,0 +1,19 @@
+use Rattle.std.proofs.Common.{refl, subst, sym}
+use Rattle.frames.specs.Frames.{HasNothing}
+use Rattle.exprgen8080.specs.declared.emission.Emission.{Emission}
+use Rattle.codegen8080.specs.declared.generator.Generator.{Generator}
+use Rattle.codegen8080.proofs.BodyParts.{main_added}
+use Rattle.codegen8080.proofs.bodies.put_main.Goals as goal
+
+pub returns : goal.returns
+returns c =
+    let labelled : Generator = record (c.body_of-body.new.generator) { emission = c.add.new.self } in
+    let written : Emission = record (c.add.new.self) { writer = c.stack_end.new.self } in
+    let ready : Generator = record (c.body_of-body.new.generator) { emission = written } in
+    let after : Generator = record (c.list.new.self) { emission = c.add-2.new.self } in
+    main_added c.args.tree.now c.args.entry c.body_of-body.result c.site_of.result c.site_of-2.result
+    c.args.generator.now c.body_of-body.new.generator labelled ready c.list.new.self after
+    c.body_of-body.ensures.tree c.body_of-body.ensures.procedure
+    (subst HasNothing (sym c.body_of-body.ensures.frame) c.empty-frame.ensures)
+    c.body_of-body.ensures.emission c.in_ok-add.ensures c.in_ok-stack_end.ensures refl
+    c.in_ok-list.ensures.code c.in_ok-add-2.ensures

@@ -1,0 +1,15 @@
+use Rattle.std.proofs.Common.{true, refl, subst, sym}
+use Rattle.codegen8080.specs.declared.generator.Generator.{Generator}
+use Rattle.codegen8080.specs.Modules.{IsFrameOf}
+use Rattle.codegen8080.proofs.BodyParts.{own_added}
+use Rattle.codegen8080.proofs.bodies.put_own.Goals as goal
+
+pub returns : goal.returns
+returns c =
+    let labelled : Generator = record (c.body_of-body.new.generator) { emission = c.add.new.self; goes_on = true } in
+    own_added c.args.tree.now c.args.procedure.now c.args.entry c.body_of-body.result c.site_of.result
+    c.args.generator.now c.body_of-body.new.generator labelled c.put_entry.new.generator c.list.new.self
+    c.put_end.new.generator c.body_of-body.ensures.tree c.body_of-body.ensures.procedure
+    (subst (IsFrameOf c.args.procedure.now) (sym c.body_of-body.ensures.frame) c.in_ok-frame.ensures)
+    c.body_of-body.ensures.emission c.in_ok-add.ensures refl c.in_ok-put_entry.ensures
+    c.in_ok-list.ensures.code c.in_ok-put_end.ensures

@@ -1,0 +1,14 @@
+use Rattle.std.proofs.Common.{ap, ◌∙◌}
+use Rattle.exprgen8080.specs.declared.emission.Emission.{Emission}
+use Rattle.codegen8080.proofs.ModuleParts.{code_written}
+use Rattle.codegen8080.proofs.module.code_of.Goals as goal
+
+pub returns : goal.returns
+returns c =
+    code_written c.args.tree.now c.in_ok-start.start.index c.in_ok-generator.generator c.put_own_code.new.generator
+    c.as_slice.result.now _ c.in_ok-writer.writer c.in_ok-generator.ensures.emission c.in_ok-start.ensures
+    (c.as_slice.ensures.value
+    ∙ ap (λ table. table.items)
+    (c.into_code-writer.ensures.called ∙ ap (λ (emission : Emission). emission.is_called) c.into_emission.ensures))
+    (c.into_code-writer.ensures.writer ∙ ap (λ (emission : Emission). emission.writer) c.into_emission.ensures)
+    c.in_ok-writer.ensures

@@ -1,0 +1,2 @@
+//! What it means that code of procedures and modules does what its source says. Nothing here runs.
+#![tactic(auto)]

@@ -1,0 +1,160 @@
+-- The parts of an expression or a statement have lower numbers than itself, and the items of a list stand in the
+-- table: that is what the walk over a body tests at each step.
+use Rattle.std.proofs.Common.{◌≡◌, ℕ, zero, suc, ◌+◌, ◌<◌, ◌≤◌, Bool, List, length, Option, Some, None, slice_get, cond, sym, ap, ◌∙◌, subst, arith}
+use Rattle.std.specs.Option.{option_and_then}
+use Rattle.std.proofs.lemmas.Bool.{lt-ltb}
+use Rattle.std.proofs.lemmas.Option.{same_Some}
+use Rattle.typed_trees.specs.TypedTrees.{TypedExpression, TypedElse, TypedList, TypedProcedure, TypedStatement, TypedStatements}
+use Rattle.layout.specs.Storage.{Storage}
+use Rattle.treecode.specs.declared.expression.Expression.{Expression}
+use Rattle.treecode.specs.declared.expression.ExpressionNumber.{ExpressionNumber}
+use Rattle.treecode.specs.declared.lists.Range.{Range}
+use Rattle.treecode.specs.declared.procedure.TreeProcedure.{TreeProcedure}
+use Rattle.treecode.specs.declared.reference.Reference.{Reference}
+use Rattle.treecode.specs.declared.reference.Subscript.{Subscript}
+use Rattle.treecode.specs.declared.reference.Target.{Target}
+use Rattle.treecode.specs.declared.reference.Target.TheVariants as targets
+use Rattle.treecode.specs.declared.statement.Statement.{Statement}
+use Rattle.treecode.specs.declared.statement.Statement.TheVariants as statements
+use Rattle.treecode.specs.declared.statement.StatementNumber.{StatementNumber}
+use Rattle.treecode.specs.Lowered.{HasBody, IsExpression, IsNode, IsStatement, IsStatementNode, IsStatementForm, IsLabel, IsNull, IsAssignment, IsCall, IsMove, IsReturn, IsHalt, IsGoto, IsIf, IsDo, IsWhile, IsIterate, IsCase, IsElse, IsNoElse, IsSomeElse, AreStatements, AreNoStatements, AreMoreStatements, IsList, IsListOf}
+use Rattle.treecode.specs.Nodes.{Nodes, item_of}
+use Rattle.treecode.specs.Queries.{number_bound, reference_bound, subscript_bound, target_bound}
+pub use Rattle.treecode.specs.internal.Rising.{PartsAreBelow, ReferenceIsBelow, SubscriptIsBelow, TargetIsBelow}
+use Rattle.treecode.proofs.AddedExpressions.{parts_below}
+
+-- each of so many statements in a row stands in the table of lists, and has a number below a bound
+abbrev pub ItemsAreBelow : Nodes → (bound : ℕ) → Range → Type 0
+ItemsAreBelow nodes bound range =
+    (index : ℕ) → index < range.count
+    → (number : StatementNumber) × (item_of nodes.lists range index ≡ Some number) × (number.index < bound)
+
+abbrev pub ElseIsBelow : (bound : ℕ) → Option StatementNumber → Type 0
+ElseIsBelow bound None = Unit {0}
+ElseIsBelow bound (Some number) = number.index < bound
+
+-- the statements in a statement have numbers below a bound
+abbrev pub StatementsAreBelow : Nodes → (bound : ℕ) → Statement → Type 0
+StatementsAreBelow nodes bound (statements.Label number) = Unit {0}
+StatementsAreBelow nodes bound statements.Null = Unit {0}
+StatementsAreBelow nodes bound (statements.Assignment range value) = Unit {0}
+StatementsAreBelow nodes bound (statements.Call procedure range) = Unit {0}
+StatementsAreBelow nodes bound (statements.Move count source destination) = Unit {0}
+StatementsAreBelow nodes bound (statements.Return value) = Unit {0}
+StatementsAreBelow nodes bound statements.Halt = Unit {0}
+StatementsAreBelow nodes bound (statements.Goto number) = Unit {0}
+StatementsAreBelow nodes bound (statements.If condition body otherwise) =
+    (body.index < bound) × ElseIsBelow bound otherwise
+StatementsAreBelow nodes bound (statements.Do range) = ItemsAreBelow nodes bound range
+StatementsAreBelow nodes bound (statements.While condition range) = ItemsAreBelow nodes bound range
+StatementsAreBelow nodes bound (statements.Iterate head range) = ItemsAreBelow nodes bound range
+StatementsAreBelow nodes bound (statements.Case choice range) = ItemsAreBelow nodes bound range
+
+module _ {nodes : Nodes} {storage : Storage} {labels : List ℕ} where
+  statement_below : {bound number : ℕ} {tree : TypedStatement}
+      → IsStatement nodes storage labels bound number tree → number < bound
+  statement_below (IsStatementNode below at form) = below
+
+  else_below : {bound : ℕ} {otherwise : Option StatementNumber} {tree : TypedElse}
+      → IsElse nodes storage labels bound otherwise tree → ElseIsBelow bound otherwise
+  else_below IsNoElse = tt
+  else_below (IsSomeElse is) = statement_below is
+
+  found_below : {bound first count : ℕ} {trees : TypedStatements}
+      → AreStatements nodes storage labels bound first count trees
+      → (index : ℕ) → index < count
+      → (number : StatementNumber) × (slice_get nodes.lists (first + index) ≡ Some number) × (number.index < bound)
+  found_below AreNoStatements index less = absurd (omega arith)
+  found_below (AreMoreStatements {first = first} {number = number} at is others) zero less = (
+    number,
+    subst (λ (place : ℕ). slice_get nodes.lists place ≡ Some number) (omega arith) at,
+    statement_below is,
+  )
+  found_below (AreMoreStatements {first = first} at is others) (suc index) less =
+      let found : _ = found_below others index (omega arith) in (
+        found.0,
+        subst (λ (place : ℕ). slice_get nodes.lists place ≡ Some found.0) (omega arith) found.1,
+        found.2,
+      )
+
+  -- the items of a list that is in tree code
+  pub items_below : {bound : ℕ} {range : Range} {trees : TypedStatements}
+      → AreStatements nodes storage labels bound range.first range.count trees → ItemsAreBelow nodes bound range
+  items_below {range = range} are index less =
+      let found : _ = found_below are index less in (
+        found.0,
+        ap (λ (within : Bool). option_and_then (slice_get nodes.lists) (cond within (Some (range.first + index)) None))
+            (lt-ltb index range.count less)
+            ∙ found.1,
+        found.2,
+      )
+
+  pub list_below : {bound : ℕ} {range : Range} {tree : TypedList}
+      → IsList nodes storage labels bound range tree → ItemsAreBelow nodes bound range
+  list_below (IsListOf are) = items_below are
+
+  -- the statements in a statement that is in tree code
+  form_below : {bound : ℕ} {statement : Statement} {tree : TypedStatement}
+      → IsStatementForm nodes storage labels bound statement tree → StatementsAreBelow nodes bound statement
+  form_below (IsLabel at) = tt
+  form_below IsNull = tt
+  form_below (IsAssignment to value) = tt
+  form_below (IsCall given) = tt
+  form_below (IsMove count source destination) = tt
+  form_below (IsReturn value) = tt
+  form_below IsHalt = tt
+  form_below (IsGoto at) = tt
+  form_below (IsIf condition body otherwise) = (statement_below body, else_below otherwise)
+  form_below (IsDo list) = list_below list
+  form_below (IsWhile condition list) = list_below list
+  form_below (IsIterate head list) = list_below list
+  form_below (IsCase choice are) = items_below are
+
+  -- a statement of a number that is in tree code contains statements of lower numbers alone
+  pub statements_below : {bound number : ℕ} {tree : TypedStatement} (statement : Statement)
+      → IsStatement nodes storage labels bound number tree
+      → slice_get nodes.statements number ≡ Some statement
+      → StatementsAreBelow nodes number statement
+  statements_below {number = number} statement (IsStatementNode {statement = own} below at form) found =
+      subst (StatementsAreBelow nodes number) (same_Some own statement (sym at ∙ found)) (form_below form)
+
+-- an expression of a number that is in tree code has parts of lower numbers alone
+pub expressions_below : {nodes : Nodes} {storage : Storage} {bound number : ℕ} {tree : TypedExpression}
+    (expression : Expression)
+    → IsExpression nodes storage bound number tree
+    → slice_get nodes.expressions number ≡ Some expression
+    → PartsAreBelow nodes number expression.form
+expressions_below {nodes} {number = number} expression (IsNode {expression = own} below at scalar form) found =
+    subst (λ (one : Expression). PartsAreBelow nodes number one.form) (same_Some own expression (sym at ∙ found))
+    (parts_below form)
+
+-- the statements of a body stand in the table
+pub body_below : {nodes : Nodes} {storage : Storage} {procedure : TreeProcedure} {tree : TypedProcedure}
+    → HasBody nodes storage procedure tree
+    → ItemsAreBelow nodes (length nodes.statements) procedure.body
+body_below has_body = list_below has_body.body
+
+-- the bounds by which tasks rank: that of a part is no greater than the number of what it is a part of
+pub number_bound_below : (number : ExpressionNumber) (bound : ℕ) → number.index < bound → number_bound number ≤ bound
+number_bound_below number bound below = omega arith
+
+subscript_bound_below : (subscript : Option Subscript) (bound : ℕ) → SubscriptIsBelow bound subscript
+    → subscript_bound subscript ≤ bound
+subscript_bound_below None bound below = omega arith
+subscript_bound_below (Some subscript) bound below = number_bound_below subscript.index bound below
+
+pub reference_bound_below : (reference : Reference) (bound : ℕ) → ReferenceIsBelow bound reference
+    → reference_bound reference ≤ bound
+reference_bound_below reference bound below =
+    let first : _ = subscript_bound_below reference.subscript bound below.0 in
+    let second : _ = subscript_bound_below reference.member_subscript bound below.1 in
+    omega arith
+
+pub target_bound_below : (target : Target) (bound : ℕ) → TargetIsBelow bound target → target_bound target ≤ bound
+target_bound_below (targets.Stored from to reference) bound below = reference_bound_below reference bound below
+target_bound_below (targets.Sent from port) bound below = omega arith
+
+-- what is no greater than the number of an expression is below its own bound, unless the table is full
+pub below_own_bound : (number : ExpressionNumber) (bound : ℕ) → number.index < 4294967295 → bound ≤ number.index
+    → bound < number_bound number
+below_own_bound number bound room below = omega arith

@@ -1,0 +1,27 @@
+-- What is added to the contents of a segment, piece by piece.
+use Rattle.std.proofs.Common.{◌≡◌, ℕ, List, [], ◌∷◌, ◌++◌, map, option_map, slice_get, Global, refl, ap, ◌∙◌}
+use Rattle.std.specs.Prelude.{Vec, vec_items}
+use Rattle.std.proofs.lemmas.Option.{slice_get-map}
+use Rattle.treecode.specs.declared.module.Content.{Content}
+use Rattle.treecode.specs.declared.module.Content.TheVariants as contents
+use Rattle.treecode.specs.Contents.{with_gap}
+
+gap_after : (first second : Content) (others : List Content) (count : ℕ)
+    → with_gap (first ∷ second ∷ others) count ≡ first ∷ with_gap (second ∷ others) count
+gap_after (contents.Byte byte) second others count = refl
+gap_after (contents.Word place) second others count = refl
+gap_after (contents.Gap before) second others count = refl
+
+-- bytes that are not set, after contents of which the last piece is known
+pub gap_added : (front : List Content) (last : Content) (count : ℕ)
+    → with_gap (front ++ last ∷ []) count ≡ front ++ with_gap (last ∷ []) count
+gap_added [] last count = refl
+gap_added (first ∷ []) last count = gap_after first last [] count
+gap_added (first ∷ second ∷ front) last count =
+    gap_after first second (front ++ last ∷ []) count
+    ∙ ap (λ more. first ∷ more) (gap_added (second ∷ front) last count)
+
+-- a constant list of a number, seen from that of the code
+pub list_at : (lists : List (Vec ℕ Global)) (number : ℕ)
+    → slice_get (map vec_items lists) number ≡ option_map vec_items (slice_get lists number)
+list_at lists number = slice_get-map vec_items lists number

@@ -1,0 +1,13 @@
+use Rattle.std.proofs.Common.{◌≡◌, [], length}
+use Rattle.typed_trees.specs.Views.{module_view}
+use Rattle.treecode.specs.Contents.{constants_from}
+use Rattle.treecode.specs.Nodes.{nodes_of}
+use Rattle.treecode.proofs.contents.constants_of.Given as goal
+
+abbrev pub invariant-loop-rest : goal.invariant-loop-rest
+invariant-loop-rest l =
+    constants_from (module_view l.typed) (nodes_of l.tree).homes l.contents.items l.rest
+    ≡ constants_from (module_view l.typed) (nodes_of l.tree).homes [] l.typed.constants.items
+
+abbrev pub decreases-loop-rest : goal.decreases-loop-rest
+decreases-loop-rest l = length l.rest

@@ -1,0 +1,13 @@
+use Rattle.std.proofs.Common.{◌≡◌, [], length, map}
+use Rattle.typed_trees.specs.Views.{object_view}
+use Rattle.treecode.specs.Contents.{variables_from}
+use Rattle.treecode.specs.Nodes.{nodes_of}
+use Rattle.treecode.proofs.contents.variables_of.Given as goal
+
+abbrev pub invariant-loop-rest : goal.invariant-loop-rest
+invariant-loop-rest l =
+    variables_from (nodes_of l.tree).homes l.contents.items (map object_view l.rest)
+    ≡ variables_from (nodes_of l.tree).homes [] (map object_view l.typed.objects.items)
+
+abbrev pub decreases-loop-rest : goal.decreases-loop-rest
+decreases-loop-rest l = length l.rest
