@@ -40,7 +40,7 @@ use Rattle.exprgen8080.specs.Halves.{low_of_word_steps}
 use Rattle.task_meaning.specs.Contexts.{Context, IsSound, nodes_in}
 use Rattle.task_meaning.specs.Steps.{StepsStand}
 use Rattle.task_meaning.specs.Tasks.{PartDoes}
-use Rattle.task_meaning.proofs.ByteCode.{ByteCarried, OfOne, free_effects}
+use Rattle.task_meaning.proofs.ByteCode.{ByteCarried, OfOne}
 use Rattle.task_meaning.proofs.ByteNumbers.{from_number, low_of_result, with_number}
 use Rattle.task_meaning.proofs.ByteProducts.{product_by_number}
 use Rattle.task_meaning.proofs.ByteQuotients.{of_left, of_right, quotient_law, remainder_law}
@@ -157,7 +157,7 @@ module _
       by_left none (Some k) here given =
           let small : k < values_of operands =
           subst (λ (scalar : ScalarType). k < values_of scalar) is_type (number_small facts k sound one.is one.types here) in
-          from_number context sound (free_effects context)
+          from_number context sound
           (of_right facts number operator operands k (λ w. result_by operation operands k w) sound one two here
           (λ w. gives k w)
           (λ w fits. as_operands k w small (subst (λ (scalar : ScalarType). w < values_of scalar) other_is_type fits))
@@ -199,7 +199,7 @@ module _
       by_right (Some k) here given =
           let small : k < values_of operands =
           subst (λ (scalar : ScalarType). k < values_of scalar) other_is_type (number_small facts k sound two.is two.types here) in
-          with_number context sound (free_effects context)
+          with_number context sound
           (of_left facts number operator operands k (λ v. result_by operation operands v k) sound one two here
           (λ v. gives v k)
           (λ v fits. as_operands v k (subst (λ (scalar : ScalarType). v < values_of scalar) is_type fits) small)
@@ -234,7 +234,7 @@ module _
           ]) last to
           → ByteCarried context facts number (BinaryNode operands operators.Multiply first second) pushed from last to
       by_left (Some k) here given =
-          product_by_number context sound (free_effects context) operands k (k % 256) refl
+          product_by_number context sound operands k (k % 256) refl
           (of_right facts number operators.Multiply operands k (λ w. (w * k) % values_of operands) sound one two here
           (λ w. ap (λ (n : ℕ). Some (n % values_of operands)) (turned_product k w))
           (λ w fits. product_small operands (w * k)) (λ free. absurd (never_free node refl free)))
@@ -252,7 +252,7 @@ module _
           ]) last to
           → ByteCarried context facts number (BinaryNode operands operators.Multiply first second) pushed from last to
       by_right (Some k) here given =
-          product_by_number context sound (free_effects context) operands k (k % 256) refl
+          product_by_number context sound operands k (k % 256) refl
           (of_left facts number operators.Multiply operands k (λ v. (v * k) % values_of operands) sound one two here
           (λ v. refl) (λ v fits. product_small operands (v * k)) (λ free. absurd (never_free node refl free)))
           (never_free node refl) given
@@ -297,9 +297,9 @@ module _
   binary_law operators.Xor node stand = operation_law operators.Xor ExclusiveOr tt (λ v w. refl) refl node stand
   binary_law operators.Multiply node stand = product_law node stand
   binary_law operators.Divide node stand =
-      quotient_law context number operands sound (free_effects context) one is_type two (never_free node refl) node.is node.types stand
+      quotient_law context number operands sound one is_type two (never_free node refl) node.is node.types stand
   binary_law operators.Modulo node stand =
-      remainder_law context number operands sound (free_effects context) one is_type two (never_free node refl) node.is node.types stand
+      remainder_law context number operands sound one is_type two (never_free node refl) node.is node.types stand
   binary_law operators.Equal node stand = relation_law operators.Equal _ refl refl node stand
   binary_law operators.Unequal node stand = relation_law operators.Unequal _ refl refl node stand
   binary_law operators.Less node stand = relation_law operators.Less _ refl refl node stand
@@ -352,19 +352,19 @@ module _
       → ByteCarried context facts number (ShiftNode scalar function first second) pushed from last to
   unfolding by_number_steps
   by_number_law scalar ShiftLeft n one is_type two in_type is node stand =
-      left_by_number context sound (free_effects context) scalar n (of_shift number sound scalar ShiftLeft n one is_type two in_type is node) stand
+      left_by_number context sound scalar n (of_shift number sound scalar ShiftLeft n one is_type two in_type is node) stand
   by_number_law scalars.Address ShiftRight n one is_type two in_type is node stand =
-      right_shifted context sound (free_effects context) n (of_shift number sound scalars.Address ShiftRight n one is_type two in_type is node)
+      right_shifted context sound n (of_shift number sound scalars.Address ShiftRight n one is_type two in_type is node)
       (λ wide free. never_free node refl free) stand
   by_number_law scalars.Byte ShiftRight n one is_type two in_type is node stand =
-      right_shifted context sound (free_effects context) n (of_shift number sound scalars.Byte ShiftRight n one is_type two in_type is node)
+      right_shifted context sound n (of_shift number sound scalars.Byte ShiftRight n one is_type two in_type is node)
       (λ wide free. false≢true (sym wide ∙ byte_fits facts sound one.is is_type)) stand
   by_number_law scalar RotateLeft n one is_type two in_type is node stand =
-      turned_by_number context sound (free_effects context) (n % 8) (rotation_few n)
+      turned_by_number context sound (n % 8) (rotation_few n)
       (subst (λ (limit : ℕ). OfOne context number moved (ShiftNode scalar RotateLeft first second) first (λ v. turned (v % 256) (n % 8)) limit)
       (ap values_of (is_type ∙ in_type)) (of_shift number sound scalar RotateLeft n one is_type two in_type is node)) stand
   by_number_law scalar RotateRight n one is_type two in_type is node stand =
-      turned_by_number context sound (free_effects context) ((8 - n % 8) % 8) (rotation_few (8 - n % 8))
+      turned_by_number context sound ((8 - n % 8) % 8) (rotation_few (8 - n % 8))
       (subst (λ (limit : ℕ). OfOne context number moved (ShiftNode scalar RotateRight first second) first (λ v. turned (v % 256) ((8 - n % 8) % 8)) limit)
       (ap values_of (is_type ∙ in_type)) (of_shift number sound scalar RotateRight n one is_type two in_type is node)) stand
 

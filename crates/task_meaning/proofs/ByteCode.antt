@@ -268,7 +268,6 @@ module _
   -- whatever its value is, after what it does
   pub byte_alone :
       (instructions : List Instr) (k : ℕ)
-      → FreeEffects context
       → AreStraight instructions
       → ((r : Registers) → (effect instructions r).a ≡ k)
       → (is_free context.site number ≡ true → (r : Registers) → IsBeside r (effect instructions r))
@@ -276,7 +275,7 @@ module _
       → StepsStand context (PartDoes context) facts from
       (part (tasks.Effects inner) pushed ∷ plain instructions) last to
       → ByteCarried context facts number tree pushed from last to
-  byte_alone instructions k effects on makes beside bytes (PartThere {found = found} {middle = middle} does stand) top base s r memory below room ready known nothing =
+  byte_alone instructions k on makes beside bytes (PartThere {found = found} {middle = middle} does stand) top base s r memory below room ready known nothing =
       does_same _ (one.means s) (by (is_free context.site number) refl)
     where
       stage : Stage context top pushed (2 * height_of tree) base s facts r memory
@@ -301,7 +300,7 @@ module _
           (then_do (value_in context inside s) (λ v u. Gave (g v) u))
           (Arrives context.activation top base to (ByteIsGiven context last number (type_of tree) r memory))
       by true is =
-          at_carried _ _ _ (effects facts found inner pushed from middle one.bound inside does (one.free is) one.node one.types)
+          at_carried _ _ _ (free_effects context facts found inner pushed from middle one.bound inside does (one.free is) one.node one.types)
           one.fewer tt
           (λ v now memory_now (given : FreeEffectsAreGiven context found r memory v now memory_now). given.known) stage
           (λ v u now memory_now same given next. ends v u now memory_now same (λ free. given.free) next)

@@ -25,7 +25,7 @@ use Rattle.exprgen8080.specs.Halves.{byte_number_steps}
 use Rattle.task_meaning.specs.Contexts.{Context, IsSound}
 use Rattle.task_meaning.specs.Steps.{StepsStand}
 use Rattle.task_meaning.specs.Tasks.{PartDoes}
-use Rattle.task_meaning.proofs.ByteCode.{ByteCarried, CodeOfA, FreeEffects, OfOne, beside_a, beside_itself, beside_on, byte_alone, byte_by_code}
+use Rattle.task_meaning.proofs.ByteCode.{ByteCarried, CodeOfA, OfOne, beside_a, beside_itself, beside_on, byte_alone, byte_by_code}
 use Rattle.task_meaning.proofs.LogicNumbers.{and_full, or_full, or_none, xor_full, xor_none}
 use Rattle.task_meaning.proofs.TwoBytes.{IsSimple, result_by}
 
@@ -184,7 +184,7 @@ low_byte_small v = omega arith
 
 module _
     (context : Context) {facts last : Facts} {from to pushed : ℕ} {number inner : ExpressionNumber}
-    {tree inside : TypedExpression} {g : ℕ → ℕ} {limit : ℕ} (sound : IsSound context) (effects : FreeEffects context)
+    {tree inside : TypedExpression} {g : ℕ → ℕ} {limit : ℕ} (sound : IsSound context)
     (one : OfOne context number inner tree inside g limit) where
   -- 0, after what an expression does
   pub zero_after :
@@ -193,7 +193,7 @@ module _
       (part (tasks.Effects inner) pushed ∷ Plain clear_a ∷ []) last to
       → ByteCarried context facts number tree pushed from last to
   zero_after bytes stand =
-      byte_alone context sound one (clear_a ∷ []) 0 effects (tt, tt) cleared (λ free r. beside_a _ _ r)
+      byte_alone context sound one (clear_a ∷ []) 0 (tt, tt) cleared (λ free r. beside_a _ _ r)
       bytes stand
 
   -- an operation with a byte on the left and a number on the right
@@ -224,7 +224,7 @@ module _
           else part (tasks.Byte inner) pushed ∷ immediate_steps Or n) last to
           → ByteCarried context facts number tree pushed from last to
       by true here given =
-          byte_alone context sound one (set A 255 ∷ []) 255 effects (tt, tt) (λ r. refl) (λ free r. beside_a _ _ r)
+          byte_alone context sound one (set A 255 ∷ []) 255 (tt, tt) (λ r. refl) (λ free r. beside_a _ _ r)
           (λ v fits.
           sym (ap (bit_or (v % 256)) (eqb-true n 255 here) ∙ or_full (v % 256) (low_byte_small v)) ∙ bytes v fits) given
       by false here given = byte_by_code context sound one (immediate_code Or n is small) bytes given

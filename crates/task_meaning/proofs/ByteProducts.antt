@@ -23,7 +23,7 @@ use Rattle.operands8080.specs.Products.{byte_multiple_steps, byte_product_steps,
 use Rattle.task_meaning.specs.Contexts.{Context, IsSound}
 use Rattle.task_meaning.specs.Steps.{StepsStand}
 use Rattle.task_meaning.specs.Tasks.{PartDoes}
-use Rattle.task_meaning.proofs.ByteCode.{ByteCarried, FreeEffects, OfOne, all_straight, byte_by_code, byte_makes}
+use Rattle.task_meaning.proofs.ByteCode.{ByteCarried, OfOne, all_straight, byte_by_code, byte_makes}
 use Rattle.task_meaning.proofs.ByteNumbers.{zero_after}
 use Rattle.task_meaning.proofs.ByteShiftNumbers.{doubled_code, low_of_type}
 use Rattle.task_meaning.proofs.Multiples.{bit_clear, bit_instructions, bit_is, bit_set, chain_instructions, chain_on, chain_same, effect_on, factor, fewer_bits, first_quotient, last_quotient, less_bits, next_quotient, power_is}
@@ -118,7 +118,7 @@ low_product scalar v k n same =
 
 module _
     (context : Context) {facts last : Facts} {from to pushed : ℕ} {number inner : ExpressionNumber}
-    {tree inside : TypedExpression} {limit : ℕ} (sound : IsSound context) (effects : FreeEffects context) where
+    {tree inside : TypedExpression} {limit : ℕ} (sound : IsSound context) where
   -- the low byte of a product with a number, by that of the number
   pub product_by_number :
       (scalar : ScalarType) (k n : ℕ)
@@ -170,7 +170,7 @@ module _
           else part (tasks.Byte inner) pushed ∷ byte_multiple_steps n) last to
           → ByteCarried context facts number tree pushed from last to
       by_none true is given =
-          zero_after context sound effects one
+          zero_after context sound one
           (λ v fits. nothing v ∙ ap (λ m. ((v % 256) * m) % 256) (sym (eqb-true n 0 is)) ∙ low_product scalar v k n same) given
         where
           nothing : (v : ℕ) → 0 ≡ ((v % 256) * 0) % 256

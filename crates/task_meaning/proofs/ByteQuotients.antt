@@ -41,7 +41,7 @@ use Rattle.exprgen8080.specs.Halves.{low_of_word_steps}
 use Rattle.task_meaning.specs.Contexts.{Context, IsSound, nodes_in}
 use Rattle.task_meaning.specs.Steps.{StepsStand, NoneThere}
 use Rattle.task_meaning.specs.Tasks.{PartDoes}
-use Rattle.task_meaning.proofs.ByteCode.{ByteCarried, FreeEffects, OfOne}
+use Rattle.task_meaning.proofs.ByteCode.{ByteCarried, OfOne}
 use Rattle.task_meaning.proofs.ByteNumbers.{with_number}
 use Rattle.task_meaning.proofs.ByteShiftsRight.{right_shifted}
 use Rattle.task_meaning.proofs.KnownOperands.{number_known, number_small, quotient_less}
@@ -202,7 +202,6 @@ nothing_more NoneThere going rest = rest going
 module _
     (context : Context) {facts last : Facts} {from to pushed bound : ℕ} {left right : ExpressionNumber}
     {first second : TypedExpression} (number : ExpressionNumber) (operands : ScalarType) (sound : IsSound context)
-    (effects : FreeEffects context)
     (one : IsOperand context left first) (is_type : type_of first ≡ operands)
     (two : IsOperand context right second)
     (not_free : is_free context.site number ≡ true → ⊥) where
@@ -227,7 +226,7 @@ module _
           → ByteCarried context facts number
           (BinaryNode operands operators.Divide first second) pushed from last to
       by (Some count) here given =
-          right_shifted context sound effects count
+          right_shifted context sound count
           (of_left facts number operators.Divide operands (2 ^ count) (λ v. v / 2 ^ count) sound one two
           (power_there context facts right count here)
           (λ v. some_of (2 ^ count) (v / 2 ^ count) (not_none count))
@@ -263,7 +262,7 @@ module _
           let power_is_there : IsPower context facts right n = two_there context facts right n here in
           let count : ℕ = power_is_there.count in
           let small : 2 ^ count < 65536 = wide (type_of second) (2 ^ count) (number_small facts (2 ^ count) sound two.is two.types power_is_there.there) in
-          with_number context sound effects
+          with_number context sound
           (of_left facts number operators.Modulo operands (2 ^ count) (λ v. v % 2 ^ count) sound one two power_is_there.there
           (λ v. some_of (2 ^ count) (v % 2 ^ count) (not_none count))
           (λ v fits. subst (λ scalar. v % 2 ^ count < values_of scalar) is_type

@@ -23,7 +23,7 @@ use Rattle.exprgen8080.specs.ByteShifts.{byte_shifted_right_steps, kept_bits, ri
 use Rattle.task_meaning.specs.Contexts.{Context, IsSound}
 use Rattle.task_meaning.specs.Steps.{StepsStand}
 use Rattle.task_meaning.specs.Tasks.{PartDoes}
-use Rattle.task_meaning.proofs.ByteCode.{AreStraight, ByteCarried, CodeOfA, FreeEffects, IsBeside, OfOne, all_straight, beside_a, beside_itself, beside_on, byte_by_code, repeats_on_a}
+use Rattle.task_meaning.proofs.ByteCode.{AreStraight, ByteCarried, CodeOfA, IsBeside, OfOne, all_straight, beside_a, beside_itself, beside_on, byte_by_code, repeats_on_a}
 use Rattle.task_meaning.proofs.ByteNumbers.{zero_after}
 use Rattle.task_meaning.proofs.KnownOperands.{quotient_less, turned_fits}
 use Rattle.task_meaning.proofs.Multiples.{effect_on, plain_on, repeated, repeated_on}
@@ -225,7 +225,7 @@ none_of_type scalar n none = sym none ∙ low_of_type scalar n
 
 module _
     (context : Context) {facts last : Facts} {from to pushed : ℕ} {number inner : ExpressionNumber}
-    {tree inside : TypedExpression} (sound : IsSound context) (effects : FreeEffects context) where
+    {tree inside : TypedExpression} (sound : IsSound context) where
   -- a shift to the left by a number
   pub left_by_number :
       {limit : ℕ} (scalar : ScalarType) (count : ℕ)
@@ -241,7 +241,7 @@ module _
           else part (tasks.Byte inner) pushed ∷ repeat_steps (with_register Add A) count) last to
           → ByteCarried context facts number tree pushed from last to
       by true is given =
-          zero_after context sound effects one
+          zero_after context sound one
           (λ v fits. none_of_type scalar (v * 2 ^ count) (none_left count v (leb-true 8 count is))) given
       by false is given =
           byte_by_code context sound one (doubled_code count (leb-false 8 count is))
@@ -262,7 +262,7 @@ module _
           else part (tasks.Byte inner) pushed ∷ right_shift_steps count) last to
           → ByteCarried context facts number tree pushed from last to
       by true is given =
-          zero_after context sound effects one
+          zero_after context sound one
           (λ v fits. sym (ap (λ n. n % 256) (none_right count v (leb-true 8 count is) fits))) given
       by false is given =
           byte_by_code context sound one (shifted_code count (leb-false 8 count is))

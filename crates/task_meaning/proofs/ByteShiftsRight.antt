@@ -28,7 +28,7 @@ use Rattle.exprgen8080.specs.Halves.{high_byte_steps}
 use Rattle.task_meaning.specs.Contexts.{Context, IsSound}
 use Rattle.task_meaning.specs.Steps.{StepsStand}
 use Rattle.task_meaning.specs.Tasks.{PartDoes}
-use Rattle.task_meaning.proofs.ByteCode.{ByteCarried, FreeEffects, OfOne, all_straight, at_last_instructions, beside_itself, byte_makes, byte_of_word}
+use Rattle.task_meaning.proofs.ByteCode.{ByteCarried, OfOne, all_straight, at_last_instructions, beside_itself, byte_makes, byte_of_word}
 use Rattle.task_meaning.proofs.ByteForms.{byte_given}
 use Rattle.task_meaning.proofs.ByteNumbers.{zero_after}
 use Rattle.task_meaning.proofs.ByteShiftNumbers.{quotient_byte, right_by_number, shifted_code}
@@ -108,7 +108,7 @@ halves v = omega arith
 
 module _
     (context : Context) {facts last : Facts} {from to pushed : ℕ} {number inner : ExpressionNumber}
-    {tree inside : TypedExpression} (sound : IsSound context) (effects : FreeEffects context) where
+    {tree inside : TypedExpression} (sound : IsSound context) where
   -- the middle byte
   middle_by_number :
       (count : ℕ) → 1 ≤ count → count < 8
@@ -212,7 +212,7 @@ module _
           else if count == 0 then part (tasks.Byte inner) pushed ∷ [] else middle_byte_steps inner count pushed) last to
           → ByteCarried context facts number tree pushed from last to
       by_word true is wide given =
-          zero_after context sound effects one
+          zero_after context sound one
           (λ v fits. sym (ap (λ n. n % 256) (past_word v count (leb-true 16 count is) (word_at_most (type_of inside) v fits)))) given
       by_word false is wide given = by_byte (nat_le 8 count) refl wide given is
 
@@ -225,7 +225,7 @@ module _
           else if count == 0 then part (tasks.Byte inner) pushed ∷ [] else middle_byte_steps inner count pushed) last to
           → ByteCarried context facts number tree pushed from last to
       by_fits true is given =
-          right_by_number context {number = number} {inner = inner} {tree = tree} {inside = inside} sound effects count
+          right_by_number context {number = number} {inner = inner} {tree = tree} {inside = inside} sound count
           (record {
             bound = one.bound;
             node = one.node;
