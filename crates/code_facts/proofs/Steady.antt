@@ -1,5 +1,5 @@
 -- Which bytes are steady in an activation that lies well, and what instructions ask of them there.
-use Rattle.std.proofs.Common.{◌≡◌, ℕ, ◌+◌, ◌<◌, ◌≤◌, true, Option, Some, None, refl, sym, arith}
+use Rattle.std.proofs.Common.{◌≡◌, ℕ, ◌+◌, ◌<◌, ◌≤◌, true, Option, Some, None, sym, arith}
 use Rattle.mem80.specs.declared.memory.TheConstants.{MEMORY_SIZE}
 use Rattle.meaning.specs.Access.{is_declared}
 use Rattle.isa8080.specs.State.{word, wrap}
