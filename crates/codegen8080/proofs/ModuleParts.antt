@@ -24,12 +24,12 @@ use Rattle.codegen8080.proofs.BodyParts.{end_kept}
 use Rattle.codegen8080.proofs.Driving.{all_kept, list_kept}
 
 -- all of a list are as many as it has
-take_all : {A : Type 0} (list : List A) (count : ℕ) → count ≡ length list → take count list ≡ list
+pub take_all : {A : Type 0} (list : List A) (count : ℕ) → count ≡ length list → take count list ≡ list
 take_all [] count same = ap (λ number. take number []) same
 take_all (first ∷ others) count same =
     ap (λ number. take number (first ∷ others)) same ∙ ap (λ rest. first ∷ rest) (take_all others (length others) refl)
 
-same_item : {A : Type 0} (one other : A) → Some one ≡ Some other → one ≡ other
+pub same_item : {A : Type 0} (one other : A) → Some one ≡ Some other → one ≡ other
 same_item one other same = ap (λ (found : Option _). unwrap_or found one) same
 
 -- What stands in a segment is being added; some of it is left.
