@@ -7,3 +7,4 @@ pub mod BodyParts
 pub mod ModuleParts
 pub mod ObjectParts
 pub mod NameLoops
+pub mod ItemsByName

@@ -62,8 +62,8 @@ ArePublicsIn labels bytes names publics = ⊥
 
 -- the names of a module are listed
 pub record AreNamesOf
-    (tree : TreeModule) (numbers : List (Option ℕ)) (bytes : Assembled) (labels : List (Option ℕ)) (places : List ℕ)
-    (names : Linkage) : Type 0 where
+    (tree : TreeModule) (numbers : List (Option ℕ)) (bytes : Assembled) (labels : List (Option ℕ))
+    (places : List ℕ) (names : Linkage) : Type 0 where
   pub listed : Linkage
   pub externals : AreListed tree.externals.items numbers places listed
   pub same : names.externals ≡ listed.externals
