@@ -8,3 +8,4 @@ pub mod ModuleParts
 pub mod ObjectParts
 pub mod NameLoops
 pub mod ItemsByName
+pub mod RoutinesStand
