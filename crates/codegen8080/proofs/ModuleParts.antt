@@ -1,5 +1,5 @@
 -- The code of a module, from that of its parts.
-use Rattle.std.proofs.Common.{◌≡◌, ℕ, suc, ◌+◌, Bool, true, false, List, [], ◌∷◌, ◌++◌, Option, Some, None, Result, Ok, Err, OnOk, slice_index_or, slice_get, length, take, drop, ◌-◌, ◌<◌, arith, unwrap_or, refl, sym, ap, subst, ◌∙◌, append_assoc, append-nil, add-one}
+use Rattle.std.proofs.Common.{◌≡◌, ℕ, ◌+◌, Bool, true, false, List, [], ◌∷◌, ◌++◌, Option, Some, None, Result, Ok, Err, OnOk, slice_get, length, take, drop, ◌-◌, ◌<◌, arith, unwrap_or, refl, sym, ap, subst, ◌∙◌, append_assoc, append-nil, add-one}
 use Rattle.std.specs.Prelude.{option_map}
 use Rattle.std.proofs.lemmas.Option.{none-some}
 use Rattle.asm8080.specs.declared.item.Item.{Item}
@@ -11,25 +11,24 @@ use Rattle.treecode.specs.declared.procedure.ProcedureKind.{ProcedureKind}
 use Rattle.treecode.specs.declared.procedure.ProcedureKind.TheVariants as kinds
 use Rattle.treecode.specs.declared.procedure.TreeProcedure.{TreeProcedure}
 use Rattle.steps8080.specs.Externals.{Extends, entry}
-use Rattle.steps8080.specs.Writer.{Written, Writes, WritesRoutine, in_front, numbered}
+use Rattle.steps8080.specs.Writer.{Written, Writes, in_front}
 use Rattle.steps8080.proofs.Numbered.{items_stay, writes_nothing, writes_then}
-use Rattle.exprgen8080.specs.declared.emission.Emission.{Emission}
 use Rattle.exprgen8080.specs.Emission.{has_routine, index_of_routine, module_routine_label}
 use Rattle.exprgen8080.specs.Emitted.{HasAll, IsEmpty}
 use Rattle.exprgen8080.proofs.Emitting.{has_itself}
 use Rattle.codegen8080.specs.declared.generator.Generator.{Generator}
-use Rattle.codegen8080.specs.Modules.{AreCodeOf, AreRoutines, IsCodeOf, IsCodeOfMain, IsCodeOfRoutine, IsCodeWritten, IsMainCode, IsOwnCode, IsProcedureCode, IsRoutineCode, all_routines, content_items, contents_items, has_main}
+use Rattle.codegen8080.specs.Modules.{AreCodeOf, AreRoutines, IsCodeOf, IsCodeOfMain, IsCodeOfRoutine, IsCodeWritten, IsProcedureCode, all_routines, content_items, contents_items, has_main}
 use Rattle.codegen8080.specs.internal.Bodies.{AddsCalled, AddsCodeOfMain, AddsMain, AddsOwnCode, AddsProcedure, AddsProcedures, AddsRoutineIf, AddsRoutines}
 use Rattle.codegen8080.proofs.BodyParts.{end_kept}
 use Rattle.codegen8080.proofs.Driving.{all_kept, list_kept}
 
 -- all of a list are as many as it has
-take_all : {A : Type 0} (list : List A) (count : ℕ) → count ≡ length list → take count list ≡ list
+pub take_all : {A : Type 0} (list : List A) (count : ℕ) → count ≡ length list → take count list ≡ list
 take_all [] count same = ap (λ number. take number []) same
 take_all (first ∷ others) count same =
     ap (λ number. take number (first ∷ others)) same ∙ ap (λ rest. first ∷ rest) (take_all others (length others) refl)
 
-same_item : {A : Type 0} (one other : A) → Some one ≡ Some other → one ≡ other
+pub same_item : {A : Type 0} (one other : A) → Some one ≡ Some other → one ≡ other
 same_item one other same = ap (λ (found : Option _). unwrap_or found one) same
 
 -- What stands in a segment is being added; some of it is left.
