@@ -1,3 +1,4 @@
 pub mod Outcomes
 pub mod FirstSteps
 pub mod Lists
+pub mod Written
