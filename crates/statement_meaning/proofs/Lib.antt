@@ -1,4 +1,5 @@
-pub mod Outcomes
 pub mod FirstSteps
+pub mod Outcomes
 pub mod Lists
 pub mod Written
+pub mod Simple

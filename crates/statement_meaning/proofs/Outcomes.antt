@@ -1,5 +1,5 @@
 -- Ways out of statements, and what follows them.
-use Rattle.std.proofs.Common.{◌≡◌, ℕ, suc, ◌+◌, ◌-◌, ◌<◌, ◌≤◌, ◌==◌, Bool, true, false, if◌then◌else◌, List, refl, sym, ap, subst, ◌∙◌, arith}
+use Rattle.std.proofs.Common.{◌≡◌, ℕ, suc, ◌+◌, ◌-◌, ◌<◌, ◌≤◌, ◌==◌, Bool, true, false, if◌then◌else◌, List, slice_get, Some, refl, sym, ap, subst, ◌∙◌, arith}
 use Rattle.std.proofs.lemmas.Bool.{eqb-true, eqb-false}
 use Rattle.meaning.specs.Outcomes.{State as SourceState, Ended, More, Outside, Outcome, Gave, Stopped, then_do, taking_one, Flow, Onward, Returned, Jumped}
 use Rattle.isa8080.specs.declared.registers.Status.TheVariants.{Running}
@@ -11,9 +11,11 @@ use Rattle.code_meaning.proofs.Landing.{after_paid_step, after_step, gives, land
 use Rattle.code_facts.proofs.Changes.{no_facts_hold}
 use Rattle.steps8080.specs.declared.facts.Facts.{Facts}
 use Rattle.steps8080.specs.Facts.{no_facts}
+use Rattle.statements8080.specs.Bodies.{body_label}
 use Rattle.codegen8080.specs.declared.meeting.Here.{Here}
 use Rattle.task_meaning.specs.Tasks.{Know}
 use Rattle.task_meaning.proofs.Stages.{Stage, gives_then, script_of}
+use Rattle.statement_meaning.proofs.FirstSteps.{Ends}
 use Rattle.statement_meaning.specs.Bodies.{BodyContext, Comes, ComesToLabel, ComesToReturn, GoesOn, Leaves}
 
 -- a machine of a body may go on between statements, of which this is known
@@ -66,15 +68,15 @@ does_later {at = at} {base = base} {to = to} {before = before} {after = after} o
 
 -- one of the budget, where the next step leads to what follows
 pub taking_does :
-    {A : Type 0} {script : List (List ℕ)} {from to : State} {go : SourceState → Outcome A}
-    {Good : A → SourceState → State → Type 0} (t : SourceState)
+    {A : Type 0} {script : List (List ℕ)} {from to : State} {Good : A → SourceState → State → Type 0}
+    (t : SourceState) (go : SourceState → Outcome A)
     → step_of script from ≡ to
     → to.status ≡ Running
     → to.events ≡ t.events
-    → ((u : SourceState) → u ≡ record t { budget = t.budget - 1 } → suc u.budget ≡ t.budget
-    → Does script u.budget 0 to (go u) Good)
+    → (suc (t.budget - 1) ≡ t.budget
+    → Does script (t.budget - 1) 0 to (go (record t { budget = t.budget - 1 })) Good)
     → Does script t.budget 0 from (taking_one t go) Good
-taking_does {A = A} {script = script} {from = from} {to = to} {go = go} {Good = Good} t step runs events rest =
+taking_does {A = A} {script = script} {from = from} {to = to} {Good = Good} t go step runs events rest =
     by (t.budget == 0) refl
   where
     none : t.budget ≡ 0 → Does script t.budget 0 from (Stopped More t) Good
@@ -88,10 +90,58 @@ taking_does {A = A} {script = script} {from = from} {to = to} {go = go} {Good = 
         let differs = eqb-false t.budget 0 not_zero in
         let is : suc (t.budget - 1) ≡ t.budget = omega (arith, differs) in
         subst (λ (n : ℕ). Does script n 0 from (go (record t { budget = t.budget - 1 })) Good) is
-        (after_paid_step step (rest (record t { budget = t.budget - 1 }) refl is))
+        (after_paid_step step (rest is))
 
     by : (test : Bool) → (t.budget == 0) ≡ test
         → Does script t.budget 0 from
         (if test then Stopped More t else go (record t { budget = t.budget - 1 })) Good
     by true is = none (eqb-true t.budget 0 is)
     by false is = some is
+
+-- a machine at the end of a statement
+pub onward :
+    {at : BodyContext} {base : List ℕ} {to before need : ℕ} {after : Here} {t : SourceState} {r : Registers}
+    {memory : List ℕ}
+    → after.goes_on ≡ true
+    → Between at need base t after.facts r memory
+    → Does (script_of at.context) t.budget 0 (at_place to r memory t.events) (Gave Onward t)
+    (Leaves at base to after before)
+onward {r = r} {memory = memory} goes_on stage =
+    gives (record {
+      goes_on = goes_on;
+      comes = record { r = r; memory = memory; is_at = refl; ready = stage.ready; holds = stage.known };
+    })
+
+-- where no step is left
+pub ends_onward :
+    {at : BodyContext} {base : List ℕ} {from to before need : ℕ} {here after : Here} {t : SourceState} {r : Registers}
+    {memory : List ℕ}
+    → Ends here from after to
+    → here.goes_on ≡ true
+    → Between at need base t here.facts r memory
+    → Does (script_of at.context) t.budget 0 (at_place from r memory t.events) (Gave Onward t)
+    (Leaves at base to after before)
+ends_onward {at = at} {base = base} {from = from} {to = to} {before = before} {here = here} {after = after} {t = t} {r = r} {memory = memory} ends goes_on stage =
+    subst (λ (last : Here). Does (script_of at.context) t.budget 0 (at_place from r memory t.events) (Gave Onward t)
+    (Leaves at base to last before)) (sym ends.same)
+    (subst (λ (place : ℕ). Does (script_of at.context) t.budget 0 (at_place place r memory t.events) (Gave Onward t)
+    (Leaves at base to here before)) ends.place
+    (onward goes_on stage))
+
+-- a machine at a label
+pub to_label :
+    {at : BodyContext} {base : List ℕ} {to before : ℕ} {after : Here} {t : SourceState} {r : Registers}
+    {memory : List ℕ} (number label : ℕ)
+    → slice_get at.labels number ≡ Some label
+    → t.budget < before
+    → IsReady at.context.activation at.context.activation.level base t.memory t.frame r memory
+    → Does (script_of at.context) t.budget 0
+    (at_place (at.context.activation.layout.place_of (body_label at.body number).index) r memory t.events)
+    (Gave (Jumped label) t) (Leaves at base to after before)
+to_label {at = at} {r = r} {memory = memory} number label names spent ready =
+    gives (record {
+      place = at.context.activation.layout.place_of (body_label at.body number).index;
+      lies = record { number = number; is_label = names; place_is = refl };
+      spent = spent;
+      comes = record { r = r; memory = memory; is_at = refl; ready = ready; holds = tt };
+    })
