@@ -3,3 +3,6 @@ pub mod Outcomes
 pub mod Lists
 pub mod Written
 pub mod Simple
+pub mod Meetings
+pub mod Whiles
+pub mod Ifs
