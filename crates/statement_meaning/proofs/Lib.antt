@@ -4,5 +4,5 @@ pub mod Lists
 pub mod Written
 pub mod Simple
 pub mod Meetings
-pub mod Whiles
 pub mod Ifs
+pub mod Whiles

@@ -52,7 +52,7 @@ pub data AllDo (at : BodyContext) : Here → (first count from : ℕ) → Here �
       → AllDo at here first (suc count) from last to
 
 -- what follows a statement
-goes_then :
+pub goes_then :
     (at : BodyContext) (base : List ℕ) (middle : Here) (place : ℕ) (last : Here) (to before : ℕ)
     (go : SourceState → Outcome Flow) (flow : Flow) (t : SourceState) (end : State)
     → t.budget ≤ before
