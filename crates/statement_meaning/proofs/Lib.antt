@@ -6,3 +6,5 @@ pub mod Simple
 pub mod Meetings
 pub mod Ifs
 pub mod Whiles
+pub mod Returns
+pub mod Together
