@@ -8,3 +8,5 @@ pub mod Ifs
 pub mod Whiles
 pub mod Returns
 pub mod Together
+pub mod Targets
+pub mod Singles
