@@ -10,3 +10,5 @@ pub mod Returns
 pub mod Together
 pub mod Targets
 pub mod Singles
+pub mod Firsts
+pub mod Assignments

@@ -142,7 +142,7 @@ module _
     (others : List Planned) (last : Here) (to : ℕ)
     where
   -- what follows the target
-  abbrev Rest : Type 0
+  abbrev pub Rest : Type 0
   Rest =
       (here : Here) (place : ℕ) (u : SourceState) (r : Registers) (memory : List ℕ)
       → here.goes_on ≡ true
@@ -150,14 +150,14 @@ module _
       → Between at need base u here.facts r memory
       → Does (script_of at.context) u.budget 0 (at_place place r memory u.events) (go tt u) Good
 
-  abbrev Goal : (to_tree : TypedTarget) (from : ℕ) (s : SourceState) (r : Registers) (memory : List ℕ) → Type 0
+  abbrev pub Goal : (to_tree : TypedTarget) (from : ℕ) (s : SourceState) (r : Registers) (memory : List ℕ) → Type 0
   Goal to_tree from s r memory =
       Does (script_of at.context) s.budget 0 (at_place from r memory s.events)
       (then_do (value at.context.later at.context.activation.around tree s)
       (λ n t. then_do (stored at.context.later at.context.activation.around to_tree n t) go)) Good
 
   -- through a register
-  through :
+  pub through :
       (scalar there : ScalarType) (bound : ℕ) (target : Target) (to_tree : TypedTarget)
       (from : ℕ) (here : Here) (s : SourceState) (r : Registers) (memory : List ℕ)
       → here.goes_on ≡ true
@@ -192,7 +192,7 @@ module _
         (value_is s)) does
 
     -- a BYTE
-    byte_number :
+    pub byte_number :
         (from_scalar : ScalarType) (bound : ℕ) (reference : Reference) (part_tree : TypedReference)
         (from : ℕ) (here : Here) (s : SourceState) (r : Registers) (memory : List ℕ)
         → here.goes_on ≡ true
@@ -223,7 +223,7 @@ module _
         (λ v there_now. rest (going here.goes_on (after first.known (Mvi M (low known)))) _ v now _ goes second.rest there_now)))))
 
     -- an ADDRESS, byte by byte
-    word_number :
+    pub word_number :
         (from_scalar : ScalarType) (bound : ℕ) (reference : Reference) (part_tree : TypedReference)
         (from : ℕ) (here : Here) (s : SourceState) (r : Registers) (memory : List ℕ)
         → here.goes_on ≡ true
