@@ -77,7 +77,7 @@ module _
   After = Rest at sound facts need base of tree is types fits go Good others last to
 
   -- a BYTE that is counted
-  abbrev Counted : Type 0
+  abbrev pub Counted : Type 0
   Counted =
       (i : Instr) (from_scalar : ScalarType) (bound : ℕ) (reference : Reference) (part_tree : TypedReference)
       (from : ℕ) (here : Here) (s : SourceState) (r : Registers) (memory : List ℕ)

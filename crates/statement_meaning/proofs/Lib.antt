@@ -7,8 +7,9 @@ pub mod Meetings
 pub mod Ifs
 pub mod Whiles
 pub mod Returns
-pub mod Together
 pub mod Targets
 pub mod Singles
 pub mod Firsts
 pub mod Assignments
+pub mod Assigned
+pub mod Together
