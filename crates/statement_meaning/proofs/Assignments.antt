@@ -1,54 +1,44 @@
 -- Assignments.
-use Rattle.std.proofs.Common.{◌≡◌, ℕ, zero, suc, ◌+◌, ◌-◌, ◌*◌, ◌%◌, ◌<◌, ◌≤◌, max, Bool, true, false, ◌&&◌, ◌||◌, not, if◌then◌else◌, is_some, nat_eq, nat_lt, List, [], ◌∷◌, ◌++◌, slice_get, Option, Some, None, refl, sym, ap, subst, ◌∙◌, arith}
-use Rattle.std.proofs.lemmas.Bool.{eqb-true}
+use Rattle.std.proofs.Common.{◌≡◌, ℕ, ◌+◌, ◌*◌, ◌%◌, ◌<◌, ◌≤◌, Bool, true, false, if◌then◌else◌, List, [], ◌∷◌, ◌++◌, Option, Some, None, refl, sym, ap, subst, ◌∙◌, arith}
 use Rattle.trees.specs.declared.declaration.ScalarType.{ScalarType}
 use Rattle.trees.specs.declared.declaration.ScalarType.TheVariants.{Byte, Address}
-use Rattle.typed_trees.specs.Charge.{height_of, height_of_reference, height_of_target, height_of_targets}
+use Rattle.typed_trees.specs.Charge.{height_of, height_of_reference, height_of_target}
 use Rattle.typed_trees.specs.ExpressionTypes.{type_of}
-use Rattle.typed_trees.specs.TypedTrees.{TypedExpression, TypedReference, TypedTarget, AssignmentStatement, SentTo, StoredIn}
-use Rattle.typed_trees.specs.WellTyped.{RefersToScalar, TypesHold, TypesHoldInReference, TypesHoldInTarget, TypesHoldInTargets}
-use Rattle.meaning.specs.Meaning.{done, stored, stored_in_each, value}
-use Rattle.meaning.specs.Outcomes.{State as SourceState, Outcome, Gave, then_do, Flow, Onward}
+use Rattle.typed_trees.specs.TypedTrees.{TypedExpression, TypedReference, TypedTarget, SentTo, StoredIn}
+use Rattle.typed_trees.specs.WellTyped.{RefersToScalar, TypesHold, TypesHoldInReference, TypesHoldInTarget}
+use Rattle.meaning.specs.Meaning.{value}
+use Rattle.meaning.specs.Outcomes.{State as SourceState, Outcome, Gave}
 use Rattle.meaning.specs.Values.{values_of}
 use Rattle.isa8080.specs.declared.instr.Instr.{Instr}
 use Rattle.isa8080.specs.declared.instr.Instr.TheVariants.{MovToMemory}
 use Rattle.isa8080.specs.declared.instr.Register.TheVariants.{A}
 use Rattle.isa8080.specs.State.{Registers, State}
 use Rattle.treecode.specs.declared.expression.ExpressionNumber.{ExpressionNumber}
-use Rattle.treecode.specs.declared.lists.Range.{Range}
 use Rattle.treecode.specs.declared.reference.Reference.{Reference}
 use Rattle.treecode.specs.declared.reference.Target.{Target}
 use Rattle.treecode.specs.declared.reference.Target.TheVariants.{Stored, Sent}
-use Rattle.treecode.specs.declared.statement.Statement.TheVariants as statements
-use Rattle.treecode.specs.Lowered.{AreTargets, IsAssignment, IsExpressionIn, IsReference, IsSent, IsStored, IsTarget, MoreTargets, NoTargets}
-use Rattle.treecode.specs.Queries.{source, target as target_at}
-use Rattle.code_meaning.specs.Landing.{Does, at_place}
+use Rattle.treecode.specs.Lowered.{IsExpressionIn, IsReference, IsSent, IsStored, IsTarget}
 use Rattle.steps8080.specs.declared.facts.Facts.{Facts}
 use Rattle.steps8080.specs.declared.step.Task.TheVariants as tasks
 use Rattle.sites8080.specs.declared.site.Site.{Site}
 use Rattle.sites8080.specs.Queries.{location_of, number}
-use Rattle.sites8080.specs.Site.{expression, scalar}
+use Rattle.sites8080.specs.Site.{scalar}
 use Rattle.exprgen8080.specs.Calls.{value_task}
 use Rattle.exprgen8080.specs.Emission.{knowing}
 use Rattle.statements8080.specs.declared.plan.Planned.{Planned}
-use Rattle.statements8080.specs.Assignments.{any_target, assignment_steps, byte_steps, count_of, each_at, each_steps, from_byte_steps, from_type, from_word_steps, is_address_first, number_steps, other_byte_steps, other_word_steps, several_by, single_steps, store_at, takes_byte, takes_word, together_steps, types_by, value_steps, word_steps}
+use Rattle.statements8080.specs.Assignments.{byte_steps, count_of, from_byte_steps, from_word_steps, is_address_first, number_steps, other_byte_steps, other_word_steps, single_steps, word_steps}
 use Rattle.statements8080.specs.Bodies.{is_near}
-use Rattle.statements8080.specs.Plans.{part, plain, steps_from}
+use Rattle.statements8080.specs.Plans.{part, plain}
 use Rattle.codegen8080.specs.declared.meeting.Here.{Here}
 use Rattle.codegen8080.specs.Generated.{site_of}
-use Rattle.codegen8080.specs.Statements.{statement_steps}
 use Rattle.task_meaning.specs.Contexts.{nodes_in}
-use Rattle.task_meaning.proofs.Effects.{then_again}
 use Rattle.task_meaning.proofs.KnownOperands.{number_is, number_small}
-use Rattle.task_meaning.proofs.Stages.{does_same, script_of}
-use Rattle.statement_meaning.specs.Bodies.{Behaves, BodyContext, IsSoundBody, Leaves}
-use Rattle.statement_meaning.specs.Statements.{StatementStands}
+use Rattle.statement_meaning.specs.Bodies.{BodyContext, IsSoundBody}
 use Rattle.statement_meaning.proofs.Firsts.{address_first_does}
-use Rattle.statement_meaning.proofs.FirstSteps.{Stand, ended, going, part_first}
-use Rattle.statement_meaning.proofs.Outcomes.{Between, ends_onward}
-use Rattle.statement_meaning.proofs.Simple.{FormDoes}
+use Rattle.statement_meaning.proofs.FirstSteps.{Stand}
+use Rattle.statement_meaning.proofs.Outcomes.{Between}
 use Rattle.statement_meaning.proofs.Singles.{Goal, Rest, byte_number, through, word_number}
-use Rattle.statement_meaning.proofs.Targets.{Suits, address_suits, as_register, at_any_value, byte_suits, none_passes, small_suits, target_of_index, targets_stored}
+use Rattle.statement_meaning.proofs.Targets.{small_suits}
 
 as_number : (scalar : ScalarType) (n : ℕ) → n < values_of scalar → n < 65536
 as_number Byte n small = omega (arith, small)

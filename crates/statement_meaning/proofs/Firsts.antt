@@ -1,13 +1,13 @@
 -- A BYTE whose address comes before its value.
-use Rattle.std.proofs.Common.{◌≡◌, ℕ, ◌+◌, ◌*◌, ◌%◌, ◌<◌, ◌≤◌, Bool, true, false, ◌&&◌, not, List, [], ◌∷◌, Option, Some, None, refl, sym, ap, subst, ◌∙◌, arith}
+use Rattle.std.proofs.Common.{◌≡◌, ℕ, ◌+◌, ◌*◌, ◌%◌, ◌≤◌, Bool, true, false, ◌&&◌, not, List, ◌∷◌, Option, Some, None, refl, sym, ap, subst, ◌∙◌, arith}
 use Rattle.trees.specs.declared.declaration.ScalarType.{ScalarType}
 use Rattle.trees.specs.declared.declaration.ScalarType.TheVariants.{Byte}
 use Rattle.typed_trees.specs.Charge.{height_of, height_of_reference}
 use Rattle.typed_trees.specs.ExpressionTypes.{type_of}
 use Rattle.typed_trees.specs.TypedTrees.{TypedExpression, TypedReference, StoredIn}
 use Rattle.typed_trees.specs.WellTyped.{RefersToScalar, TypesHold, TypesHoldInReference}
-use Rattle.meaning.specs.Access.{Place, write_byte, write_scalar}
-use Rattle.meaning.specs.Meaning.{located, stored, value}
+use Rattle.meaning.specs.Access.{write_byte, write_scalar}
+use Rattle.meaning.specs.Meaning.{located, value}
 use Rattle.meaning.specs.Outcomes.{State as SourceState, Ended, More, Outside, Outcome, Gave, Stopped, then_do}
 use Rattle.meaning.specs.Values.{as_type}
 use Rattle.isa8080.specs.declared.instr.Instr.TheVariants.{MovToMemory}
@@ -17,30 +17,27 @@ use Rattle.treecode.specs.declared.expression.ExpressionNumber.{ExpressionNumber
 use Rattle.treecode.specs.declared.reference.Reference.{Reference}
 use Rattle.treecode.specs.declared.reference.Subscript.{Subscript as IndexNode}
 use Rattle.treecode.specs.Lowered.{IsExpressionIn, IsReference}
-use Rattle.treecode.specs.Traits.{free_at, reference_is_quiet, subscript_is_quiet}
+use Rattle.treecode.specs.Traits.{reference_is_quiet, subscript_is_quiet}
 use Rattle.quiet_expressions.specs.internal.Evaluations.{AreAlike, AreSame, BothOutside, GoesOutside}
 use Rattle.quiet_expressions.specs.internal.Trees.{stores_nothing}
-use Rattle.quiet_expressions.proofs.Exchanging.{exchanged, in_order}
 use Rattle.quiet_expressions.proofs.FreeNodes.{free_stores_nothing}
 use Rattle.quiet_expressions.proofs.Operands.{location_exchanged}
-use Rattle.code_meaning.specs.Landing.{Does, at_place}
+use Rattle.code_meaning.specs.Landing.{Does}
 use Rattle.code_facts.specs.Holding.{IsSteady, place_at}
 use Rattle.code_facts.proofs.Steady.{address_asks}
 use Rattle.steps8080.specs.declared.facts.Facts.{Facts}
 use Rattle.steps8080.specs.declared.step.Task.TheVariants as tasks
-use Rattle.sites8080.specs.declared.site.Site.{Site}
-use Rattle.sites8080.specs.Queries.{is_free, is_quiet, keeps_of_address}
+use Rattle.sites8080.specs.Queries.{is_free, keeps_of_address}
 use Rattle.exprgen8080.specs.Emission.{knowing}
 use Rattle.statements8080.specs.declared.plan.Planned.{Planned}
 use Rattle.statements8080.specs.Assignments.{is_address_first, is_quiet_subscript}
 use Rattle.statements8080.specs.Plans.{part, plain}
 use Rattle.codegen8080.specs.declared.meeting.Here.{Here}
-use Rattle.codegen8080.specs.Generated.{site_of}
 use Rattle.task_meaning.specs.Contexts.{distances_in, nodes_in}
-use Rattle.task_meaning.specs.Tasks.{AddressIsGiven, ByteIsGiven, address_on_machine}
+use Rattle.task_meaning.specs.Tasks.{ByteIsGiven, address_on_machine}
 use Rattle.task_meaning.proofs.Fitting.{located_fits}
 use Rattle.task_meaning.proofs.SiteNodes.{free_is, quiet_is}
-use Rattle.task_meaning.proofs.Stages.{at_byte, does_same, script_of}
+use Rattle.task_meaning.proofs.Stages.{at_byte, does_same}
 use Rattle.statement_meaning.specs.Bodies.{BodyContext, IsSoundBody}
 use Rattle.statement_meaning.proofs.FirstSteps.{Stand, part_first, plain_first}
 use Rattle.statement_meaning.proofs.Outcomes.{Between}

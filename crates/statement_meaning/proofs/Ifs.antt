@@ -15,7 +15,7 @@ use Rattle.treecode.specs.declared.expression.ExpressionNumber.{ExpressionNumber
 use Rattle.treecode.specs.declared.statement.Statement.{Statement}
 use Rattle.treecode.specs.declared.statement.Statement.TheVariants as statements
 use Rattle.treecode.specs.declared.statement.StatementNumber.{StatementNumber}
-use Rattle.treecode.specs.Lowered.{IsElse, IsExpression, IsExpressionIn, IsGoto, IsIf, IsNoElse, IsSomeElse, IsStatement, IsStatementForm, IsStatementNode}
+use Rattle.treecode.specs.Lowered.{IsElse, IsExpressionIn, IsGoto, IsIf, IsNoElse, IsSomeElse, IsStatement, IsStatementForm, IsStatementNode}
 use Rattle.treecode.specs.Queries.{statement}
 use Rattle.code_meaning.specs.Activations.{HasRoom, IsReady, IsThere}
 use Rattle.code_meaning.specs.Landing.{Does, at_place}
@@ -33,10 +33,10 @@ use Rattle.sites8080.specs.Queries.{number}
 use Rattle.exprgen8080.specs.Emission.{knowing}
 use Rattle.statements8080.specs.declared.plan.Planned.{Planned}
 use Rattle.statements8080.specs.Bodies.{body_label}
-use Rattle.statements8080.specs.Branches.{both_steps, branch, computed_if_steps, either_steps, goto_label, goto_label_of, has_one_jump, if_steps, statement_if_any, tested_if_steps, then_steps}
+use Rattle.statements8080.specs.Branches.{both_steps, branch, computed_if_steps, goto_label, goto_label_of, has_one_jump, if_steps, statement_if_any, tested_if_steps, then_steps}
 use Rattle.statements8080.specs.Plans.{nth_label}
 use Rattle.codegen8080.specs.declared.meeting.Here.{Here}
-use Rattle.codegen8080.specs.Generated.{arriving, jump_on_steps, known_here, met, site_of}
+use Rattle.codegen8080.specs.Generated.{jump_on_steps, known_here, site_of}
 use Rattle.codegen8080.specs.Statements.{statement_steps}
 use Rattle.task_meaning.specs.Contexts.{nodes_in}
 use Rattle.task_meaning.specs.Conditions.{jumps_once}
@@ -44,11 +44,11 @@ use Rattle.task_meaning.specs.Steps.{StepsStand, JumpThere, MarkThere, NoneThere
 use Rattle.task_meaning.specs.Tasks.{BranchDoes, Goes, Know, PartDoes, Parts, Passes}
 use Rattle.task_meaning.proofs.KnownOperands.{number_is}
 use Rattle.task_meaning.proofs.Stages.{does_same, gives_then, has_less_room, script_of}
-use Rattle.statement_meaning.specs.Bodies.{BodyContext, GoesOn, IsSoundBody, Leaves}
+use Rattle.statement_meaning.specs.Bodies.{BodyContext, IsSoundBody, Leaves}
 use Rattle.statement_meaning.specs.Statements.{StatementDoes, StatementStands}
-use Rattle.statement_meaning.proofs.FirstSteps.{Ends, Stand, ended, going, jumped_first, meet_first, part_first, statement_first, turn_first}
-use Rattle.statement_meaning.proofs.Meetings.{Meets, has_one_jump_is, meets_here, meets_waiting, waits_here}
-use Rattle.statement_meaning.proofs.Outcomes.{Between, does_later, ends_onward, onward, taking_does, to_label}
+use Rattle.statement_meaning.proofs.FirstSteps.{Stand, ended, going, jumped_first, meet_first, part_first, statement_first, turn_first}
+use Rattle.statement_meaning.proofs.Meetings.{has_one_jump_is, meets_here, meets_waiting, waits_here}
+use Rattle.statement_meaning.proofs.Outcomes.{Between, does_later, ends_onward, taking_does, to_label}
 use Rattle.statement_meaning.proofs.Simple.{FormDoes}
 
 -- a statement, and then the code behind it

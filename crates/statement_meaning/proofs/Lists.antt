@@ -3,13 +3,13 @@ use Rattle.std.proofs.Common.{◌≡◌, ◌≢◌, ℕ, zero, suc, ◌+◌, ◌
 use Rattle.std.proofs.lemmas.Bool.{cases_lt}
 use Rattle.std.proofs.lemmas.Option.{same_Some}
 use Rattle.typed_trees.specs.Charge.{height_of_statement, height_of_statements}
-use Rattle.typed_trees.specs.Jumps.{LabelsStand, ListStands, ListsStand, ListsStandInStatements}
-use Rattle.typed_trees.specs.TypedTrees.{TypedStatement, LabelStatement, TypedStatements, NoStatements, MoreStatements, TypedList, ListOf}
-use Rattle.typed_trees.specs.WellTyped.{TypesHoldIn, TypesHoldInStatements}
-use Rattle.meaning.specs.Meaning.{Later, caught_in, done, done_all, dropped, going_on, landed, later_by, rest_from, rest_of}
-use Rattle.meaning.specs.Outcomes.{State as SourceState, Outcome, Gave, then_do, Flow, Onward, Returned, Jumped}
+use Rattle.typed_trees.specs.Jumps.{ListStands, ListsStandInStatements}
+use Rattle.typed_trees.specs.TypedTrees.{TypedStatement, LabelStatement, TypedStatements, NoStatements, MoreStatements, ListOf}
+use Rattle.typed_trees.specs.WellTyped.{TypesHoldInStatements}
+use Rattle.meaning.specs.Meaning.{Later, caught_in, done_all, dropped, going_on, landed, later_by, rest_from, rest_of}
+use Rattle.meaning.specs.Outcomes.{State as SourceState, Outcome, then_do, Flow, Onward, Returned, Jumped}
 use Rattle.meaning.proofs.AgreementStatements.{onto_is}
-use Rattle.stack_code.proofs.Labels.{RestAt, rest_at}
+use Rattle.stack_code.proofs.Labels.{rest_at}
 use Rattle.isa8080.specs.State.{Registers, State}
 use Rattle.treecode.specs.declared.lists.Range.{Range}
 use Rattle.treecode.specs.declared.statement.Statement.{Statement}
@@ -27,9 +27,9 @@ use Rattle.codegen8080.specs.declared.meeting.Here.{Here}
 use Rattle.task_meaning.specs.Contexts.{nodes_in}
 use Rattle.task_meaning.specs.Tasks.{Know}
 use Rattle.task_meaning.proofs.Stages.{does_same, has_less_room, script_of}
-use Rattle.statement_meaning.specs.Bodies.{BodyContext, Comes, ComesToLabel, GoesOn, IsSoundBody, LabelLies, Leaves}
+use Rattle.statement_meaning.specs.Bodies.{BodyContext, ComesToLabel, IsSoundBody, LabelLies, Leaves}
 use Rattle.statement_meaning.specs.Statements.{ListDoes, StatementDoes}
-use Rattle.statement_meaning.proofs.Outcomes.{Between, does_later, leaves_later}
+use Rattle.statement_meaning.proofs.Outcomes.{Between, does_later}
 use Rattle.statement_meaning.proofs.FirstSteps.{going}
 
 -- where the code of a statement that is a label lies, and what is known after it

@@ -1,15 +1,13 @@
 -- What is known where ways meet, and conditions at whose one jump the same is known as at their end.
-use Rattle.std.proofs.Common.{◌≡◌, ℕ, zero, suc, Bool, true, false, not, ◌&&◌, if◌then◌else◌, List, Option, Some, None, refl, sym, ap, subst, ◌∙◌}
+use Rattle.std.proofs.Common.{◌≡◌, ℕ, zero, suc, Bool, true, false, not, ◌&&◌, if◌then◌else◌, List, Option, Some, None, refl, sym, subst, ◌∙◌}
 use Rattle.std.proofs.lemmas.Bool.{true≢false}
 use Rattle.trees.specs.declared.expression.BinaryOperator.{BinaryOperator}
 use Rattle.trees.specs.declared.expression.BinaryOperator.TheVariants as operators
-use Rattle.trees.specs.declared.expression.UnaryOperator.{UnaryOperator}
 use Rattle.trees.specs.declared.expression.UnaryOperator.TheVariants.{Negate, Not}
-use Rattle.typed_trees.specs.TypedTrees.{TypedExpression, BinaryNode}
+use Rattle.typed_trees.specs.TypedTrees.{TypedExpression}
 use Rattle.isa8080.specs.State.{Registers}
 use Rattle.treecode.specs.declared.expression.Expression.{Expression}
 use Rattle.treecode.specs.declared.expression.ExpressionForm.{ExpressionForm}
-use Rattle.treecode.specs.declared.expression.ExpressionForm.TheVariants as forms
 use Rattle.treecode.specs.declared.expression.ExpressionNumber.{ExpressionNumber}
 use Rattle.treecode.specs.declared.place.Location.{Location}
 use Rattle.treecode.specs.Lowered.{IsExpression, IsForm, IsNumber, IsValue, IsLocation, IsConstantList, IsConversion, IsEmbedded, IsUnary, IsBinary, IsCallOf, IsFunction, IsShift, IsInput}
@@ -18,7 +16,6 @@ use Rattle.code_facts.specs.Holding.{AddressHolds, AllHold, ByteHolds, Distances
 use Rattle.code_facts.proofs.Places.{same_locations}
 use Rattle.steps8080.specs.declared.facts.Facts.{Facts}
 use Rattle.steps8080.specs.Facts.{same_location}
-use Rattle.sites8080.specs.Site.{expression}
 use Rattle.exprgen8080.specs.Emission.{knowing}
 use Rattle.statements8080.specs.Branches.{has_one_jump_within, inner_of_form, is_and_or_or, may_jump_twice_by}
 use Rattle.codegen8080.specs.declared.meeting.Here.{Here}
@@ -27,7 +24,6 @@ use Rattle.task_meaning.specs.Conditions.{is_plain, jumps_once}
 use Rattle.task_meaning.specs.Contexts.{Context, IsSound, nodes_in}
 use Rattle.task_meaning.specs.Tasks.{Know}
 use Rattle.task_meaning.proofs.Nodes.{node_of}
-use Rattle.statement_meaning.specs.Bodies.{BodyContext}
 
 module _ (activation : Activation) (distance : Distances) where
   -- one of two locations that are the same, or none

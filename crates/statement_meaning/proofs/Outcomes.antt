@@ -1,22 +1,19 @@
 -- Ways out of statements, and what follows them.
-use Rattle.std.proofs.Common.{◌≡◌, ℕ, suc, ◌+◌, ◌-◌, ◌<◌, ◌≤◌, ◌==◌, Bool, true, false, if◌then◌else◌, List, slice_get, Some, refl, sym, ap, subst, ◌∙◌, arith}
+use Rattle.std.proofs.Common.{◌≡◌, ℕ, suc, ◌-◌, ◌<◌, ◌≤◌, ◌==◌, Bool, true, false, if◌then◌else◌, List, slice_get, Some, refl, sym, subst, arith}
 use Rattle.std.proofs.lemmas.Bool.{eqb-true, eqb-false}
-use Rattle.meaning.specs.Outcomes.{State as SourceState, Ended, More, Outside, Outcome, Gave, Stopped, then_do, taking_one, Flow, Onward, Returned, Jumped}
+use Rattle.meaning.specs.Outcomes.{State as SourceState, Ended, More, Outside, Outcome, Gave, Stopped, taking_one, Flow, Onward, Returned, Jumped}
 use Rattle.isa8080.specs.declared.registers.Status.TheVariants.{Running}
 use Rattle.isa8080.specs.State.{Registers, State}
 use Rattle.isa8080.specs.Step.{step_of}
 use Rattle.code_meaning.specs.Landing.{Does, IsLeft, Lands, at_place}
-use Rattle.code_meaning.specs.Activations.{Arrives, HasRoom, IsReady}
-use Rattle.code_meaning.proofs.Landing.{after_paid_step, after_step, gives, landed, then_does, told_on}
-use Rattle.code_facts.proofs.Changes.{no_facts_hold}
+use Rattle.code_meaning.specs.Activations.{IsReady}
+use Rattle.code_meaning.proofs.Landing.{after_paid_step, after_step, gives, landed}
 use Rattle.steps8080.specs.declared.facts.Facts.{Facts}
-use Rattle.steps8080.specs.Facts.{no_facts}
 use Rattle.statements8080.specs.Bodies.{body_label}
 use Rattle.codegen8080.specs.declared.meeting.Here.{Here}
-use Rattle.task_meaning.specs.Tasks.{Know}
-use Rattle.task_meaning.proofs.Stages.{Stage, gives_then, script_of}
+use Rattle.task_meaning.proofs.Stages.{Stage, script_of}
 use Rattle.statement_meaning.proofs.FirstSteps.{Ends}
-use Rattle.statement_meaning.specs.Bodies.{BodyContext, Comes, ComesToLabel, ComesToReturn, GoesOn, Leaves}
+use Rattle.statement_meaning.specs.Bodies.{BodyContext, Leaves}
 
 -- a machine of a body may go on between statements, of which this is known
 abbrev pub Between :

@@ -1,16 +1,14 @@
 -- RETURN.
-use Rattle.std.proofs.Common.{◌≡◌, ℕ, zero, suc, ◌+◌, ◌-◌, ◌*◌, ◌/◌, ◌%◌, ◌<◌, ◌≤◌, min, Bool, true, false, if◌then◌else◌, nat_eq, nat_le, List, [], ◌∷◌, ◌++◌, replicate, Option, Some, None, refl, sym, ap, subst, ◌∙◌, arith}
+use Rattle.std.proofs.Common.{◌≡◌, ℕ, zero, suc, ◌+◌, ◌-◌, ◌*◌, ◌/◌, ◌%◌, ◌≤◌, Bool, true, false, if◌then◌else◌, nat_eq, List, [], ◌∷◌, ◌++◌, replicate, Option, Some, None, refl, sym, ap, subst, ◌∙◌, arith}
 use Rattle.trees.specs.declared.declaration.ScalarType.{ScalarType}
 use Rattle.trees.specs.declared.declaration.ScalarType.TheVariants as scalars
-use Rattle.typed_trees.specs.Charge.{height_of, height_of_optional}
-use Rattle.typed_trees.specs.ExpressionTypes.{type_of}
-use Rattle.typed_trees.specs.TypedTrees.{TypedExpression, ReturnStatement}
-use Rattle.typed_trees.specs.WellTyped.{HasType, IsReturned, TypesHold, Within, WithinMain, WithinProcedure}
-use Rattle.meaning.specs.Meaning.{returned, value}
-use Rattle.meaning.specs.Outcomes.{State as SourceState, Outcome, Gave, Returned}
-use Rattle.meaning.specs.Values.{values_of}
+use Rattle.typed_trees.specs.Charge.{height_of_optional}
+use Rattle.typed_trees.specs.TypedTrees.{TypedExpression}
+use Rattle.typed_trees.specs.WellTyped.{IsReturned, TypesHold, Within, WithinMain, WithinProcedure}
+use Rattle.meaning.specs.Meaning.{returned}
+use Rattle.meaning.specs.Outcomes.{State as SourceState, Gave, Returned}
 use Rattle.isa8080.specs.declared.instr.Instr.{Instr}
-use Rattle.isa8080.specs.State.{Registers, State}
+use Rattle.isa8080.specs.State.{Registers}
 use Rattle.asm8080.specs.declared.item.Item.{Item}
 use Rattle.asm8080.specs.declared.item.Item.TheVariants as items
 use Rattle.asm8080.specs.Standing.{size_of_instruction}
@@ -19,11 +17,10 @@ use Rattle.treecode.specs.declared.procedure.ProcedureKind.{ProcedureKind}
 use Rattle.treecode.specs.declared.procedure.ProcedureKind.TheVariants as kinds
 use Rattle.treecode.specs.declared.statement.Statement.TheVariants as statements
 use Rattle.treecode.specs.Lowered.{IsNoValue, IsOptional, IsReturn, IsSomeValue}
-use Rattle.code_meaning.specs.Activations.{IsReady, IsThere}
+use Rattle.code_meaning.specs.Activations.{IsThere}
 use Rattle.code_meaning.specs.Landing.{Does, at_place}
 use Rattle.code_meaning.proofs.Landing.{gives}
 use Rattle.steps8080.specs.declared.facts.Facts.{Facts}
-use Rattle.steps8080.specs.declared.step.Task.TheVariants as tasks
 use Rattle.exprgen8080.specs.Calls.{value_task}
 use Rattle.exprgen8080.specs.Emission.{NoneWritten, PlainWritten}
 use Rattle.statements8080.specs.declared.body.Body.{Body}
@@ -35,13 +32,12 @@ use Rattle.codegen8080.specs.Generated.{AreCarriedOut, NoneCarriedOut, StepCarri
 use Rattle.codegen8080.specs.Procedures.{drop_steps, kept_steps, pops_steps, return_of_frame_steps, return_over_any_steps, return_over_steps, return_steps, return_steps_by}
 use Rattle.codegen8080.specs.Statements.{return_of_steps, returned_value_steps, statement_steps}
 use Rattle.task_meaning.specs.Contexts.{ResultLies, nodes_in}
-use Rattle.task_meaning.specs.Tasks.{TaskDoes}
 use Rattle.task_meaning.proofs.StoredValues.{at_value}
 use Rattle.task_meaning.proofs.Stages.{script_of}
 use Rattle.statement_meaning.specs.Bodies.{BodyContext, IsSoundBody, IsWithin, Leaves}
 use Rattle.statement_meaning.specs.Statements.{StatementStands}
 use Rattle.statement_meaning.proofs.FirstSteps.{Stand, going, part_first, plain_first}
-use Rattle.statement_meaning.proofs.Outcomes.{Between, does_later}
+use Rattle.statement_meaning.proofs.Outcomes.{Between}
 use Rattle.statement_meaning.proofs.Simple.{FormDoes}
 
 -- planned steps that are instructions alone

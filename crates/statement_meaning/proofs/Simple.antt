@@ -1,15 +1,15 @@
 -- Labels, null statements, calls, HALT, GOTO and DO.
-use Rattle.std.proofs.Common.{◌≡◌, ℕ, suc, ◌+◌, ◌-◌, ◌*◌, ◌<◌, ◌≤◌, true, List, [], ◌∷◌, slice_get, Some, refl, sym, ap, subst, ◌∙◌, arith}
+use Rattle.std.proofs.Common.{◌≡◌, ℕ, ◌+◌, ◌*◌, [], slice_get, Some, refl, sym, subst, ◌∙◌, arith}
 use Rattle.std.proofs.lemmas.Option.{same_Some}
-use Rattle.typed_trees.specs.Charge.{count_of_arguments, height_of_arguments, height_of_list, height_of_statement}
+use Rattle.typed_trees.specs.Charge.{count_of_arguments, height_of_arguments, height_of_statement}
 use Rattle.typed_trees.specs.Jumps.{ListsStand}
-use Rattle.typed_trees.specs.TypedTrees.{TypedStatement, LabelStatement, NullStatement, CallStatement, HaltStatement, GotoStatement, DoStatement}
+use Rattle.typed_trees.specs.TypedTrees.{TypedStatement, DoStatement}
 use Rattle.typed_trees.specs.WellTyped.{TypesHoldIn}
 use Rattle.meaning.specs.Meaning.{called_for, callee_in, done, values}
-use Rattle.meaning.specs.Outcomes.{State as SourceState, Outcome, Gave, Stopped, Ended, then_do, Flow, Onward, Jumped}
+use Rattle.meaning.specs.Outcomes.{Gave, Onward, Jumped}
 use Rattle.isa8080.specs.declared.instr.Instr.TheVariants.{Hlt}
 use Rattle.isa8080.specs.declared.registers.Status.TheVariants.{Halted}
-use Rattle.isa8080.specs.State.{Registers, State}
+use Rattle.isa8080.specs.State.{State}
 use Rattle.asm8080.specs.declared.item.Reference.TheVariants.{AtLabel}
 use Rattle.asm8080.specs.declared.item.WordForm.TheVariants.{Jump}
 use Rattle.treecode.specs.declared.lists.Range.{Range}
@@ -17,13 +17,11 @@ use Rattle.treecode.specs.declared.statement.Statement.{Statement}
 use Rattle.treecode.specs.declared.statement.Statement.TheVariants as statements
 use Rattle.treecode.specs.declared.statement.StatementNumber.{StatementNumber}
 use Rattle.treecode.specs.Lowered.{IsCall, IsDo, IsGoto, IsHalt, IsLabel, IsNull, IsStatementForm, IsStatementNode}
-use Rattle.code_meaning.specs.Activations.{IsThere}
 use Rattle.code_meaning.specs.Landing.{Does, IsLeft, at_place}
 use Rattle.code_meaning.proofs.FirstItems.{plain_step, word_step}
-use Rattle.code_meaning.proofs.Landing.{after_step, gives, landed, then_does}
+use Rattle.code_meaning.proofs.Landing.{after_step, landed, then_does}
 use Rattle.code_facts.proofs.Changes.{no_facts_hold}
 use Rattle.steps8080.specs.declared.facts.Facts.{Facts}
-use Rattle.steps8080.specs.Facts.{no_facts}
 use Rattle.statements8080.specs.Bodies.{body_label}
 use Rattle.codegen8080.specs.declared.meeting.Here.{Here}
 use Rattle.codegen8080.specs.Statements.{statement_steps}
@@ -32,8 +30,8 @@ use Rattle.task_meaning.proofs.Effects.{then_again}
 use Rattle.task_meaning.proofs.Stages.{does_same, has_less_room, script_of}
 use Rattle.statement_meaning.specs.Bodies.{Behaves, BodyContext, IsSoundBody, Leaves}
 use Rattle.statement_meaning.specs.Statements.{StatementDoes, StatementStands}
-use Rattle.statement_meaning.proofs.FirstSteps.{Ends, ended, going, jump_first, list_first, mark_first, part_first, plain_first, reaches_first}
-use Rattle.statement_meaning.proofs.Outcomes.{Between, ends_onward, taking_does, to_label}
+use Rattle.statement_meaning.proofs.FirstSteps.{ended, jump_first, list_first, mark_first, part_first, plain_first}
+use Rattle.statement_meaning.proofs.Outcomes.{ends_onward, taking_does, to_label}
 
 -- code does what a statement of a form says
 abbrev pub FormDoes :

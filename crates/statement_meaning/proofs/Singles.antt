@@ -1,20 +1,18 @@
 -- One target that gets a value.
-use Rattle.std.proofs.Common.{◌≡◌, ℕ, zero, suc, ◌+◌, ◌-◌, ◌*◌, ◌/◌, ◌%◌, ◌<◌, ◌≤◌, max, Bool, true, false, ◌&&◌, ◌||◌, not, if◌then◌else◌, List, [], ◌∷◌, ◌++◌, slice_set, Option, Some, None, refl, sym, ap, subst, ◌∙◌, arith}
-use Rattle.mem80.proofs.MemoryLemmas.{byte_small}
+use Rattle.std.proofs.Common.{◌≡◌, ℕ, ◌+◌, ◌*◌, ◌/◌, ◌%◌, ◌<◌, ◌≤◌, true, false, List, [], ◌∷◌, ◌++◌, slice_set, None, refl, sym, ap, subst, ◌∙◌, arith}
 use Rattle.trees.specs.declared.declaration.ScalarType.{ScalarType}
 use Rattle.trees.specs.declared.declaration.ScalarType.TheVariants.{Byte, Address}
 use Rattle.typed_trees.specs.Charge.{height_of, height_of_reference, height_of_target}
 use Rattle.typed_trees.specs.ExpressionTypes.{type_of}
-use Rattle.typed_trees.specs.TypedTrees.{TypedExpression, TypedReference, TypedTarget, StoredIn, SentTo}
+use Rattle.typed_trees.specs.TypedTrees.{TypedExpression, TypedReference, TypedTarget, StoredIn}
 use Rattle.typed_trees.specs.WellTyped.{RefersToScalar, TypesHold, TypesHoldInReference, TypesHoldInTarget}
 use Rattle.meaning.specs.Access.{Place, next_place, write_byte, write_scalar}
 use Rattle.meaning.specs.Meaning.{located, stored, value}
 use Rattle.meaning.specs.Outcomes.{State as SourceState, Outcome, Gave, then_do}
 use Rattle.meaning.specs.Values.{as_type, values_of}
 use Rattle.isa8080.specs.declared.instr.Instr.{Instr}
-use Rattle.isa8080.specs.declared.instr.Instr.TheVariants.{Inx, Mvi}
+use Rattle.isa8080.specs.declared.instr.Instr.TheVariants.{Mvi}
 use Rattle.isa8080.specs.declared.instr.Operand.TheVariants.{M}
-use Rattle.isa8080.specs.declared.instr.Pair.TheVariants.{Hl}
 use Rattle.isa8080.specs.Act.{act}
 use Rattle.isa8080.specs.State.{HoldBytes, Registers, State, high_byte, low_byte, word, wrap}
 use Rattle.asm8080.specs.declared.item.Item.TheVariants as items
@@ -22,9 +20,7 @@ use Rattle.asm8080.specs.Standing.{size_of_instruction}
 use Rattle.treecode.specs.declared.expression.ExpressionNumber.{ExpressionNumber}
 use Rattle.treecode.specs.declared.reference.Reference.{Reference}
 use Rattle.treecode.specs.declared.reference.Target.{Target}
-use Rattle.treecode.specs.declared.reference.Target.TheVariants.{Stored, Sent}
-use Rattle.treecode.specs.Lowered.{IsExpression, IsExpressionIn, IsReference, IsSent, IsStored, IsTarget}
-use Rattle.treecode.specs.Queries.{source}
+use Rattle.treecode.specs.Lowered.{IsExpressionIn, IsReference, IsTarget}
 use Rattle.code_meaning.specs.Activations.{IsReady, IsThere}
 use Rattle.code_meaning.specs.Landing.{Does, at_place}
 use Rattle.code_facts.specs.Asking.{Asks, IsSteadyByte}
@@ -32,30 +28,24 @@ use Rattle.steps8080.specs.declared.facts.Facts.{Facts}
 use Rattle.steps8080.specs.declared.step.Task.TheVariants as tasks
 use Rattle.steps8080.specs.Facts.{after}
 use Rattle.steps8080.specs.Instructions.{high, low}
-use Rattle.sites8080.specs.declared.site.Site.{Site}
-use Rattle.sites8080.specs.Queries.{location_of, number}
 use Rattle.exprgen8080.specs.Calls.{value_task}
-use Rattle.exprgen8080.specs.Emission.{knowing}
 use Rattle.statements8080.specs.declared.plan.Planned.{Planned}
-use Rattle.statements8080.specs.Assignments.{byte_steps, count_of, from_byte_steps, from_type, from_word_steps, number_steps, other_byte_steps, other_word_steps, single_steps, takes_word, word_steps}
-use Rattle.statements8080.specs.Bodies.{is_near}
+use Rattle.statements8080.specs.Assignments.{from_type, number_steps}
 use Rattle.statements8080.specs.Plans.{part, plain}
 use Rattle.codegen8080.specs.declared.meeting.Here.{Here}
-use Rattle.codegen8080.specs.Generated.{site_of}
-use Rattle.task_meaning.specs.Contexts.{Context, InRegister, IsSound, distances_in, nodes_in}
-use Rattle.task_meaning.specs.Tasks.{AddressDoes, AddressIsGiven, IsReferred, Know, StoreDoes, address_on_machine}
+use Rattle.task_meaning.specs.Contexts.{distances_in, nodes_in}
+use Rattle.task_meaning.specs.Tasks.{AddressDoes, AddressIsGiven, address_on_machine}
 use Rattle.task_meaning.proofs.Effects.{then_again}
 use Rattle.task_meaning.proofs.Fitting.{located_fits, refers_is_referred}
-use Rattle.task_meaning.proofs.KnownOperands.{number_is}
 use Rattle.task_meaning.proofs.Reading.{FitsIn}
-use Rattle.task_meaning.proofs.Rules.{GoesOn, plain_goes, ready_with_registers, registers_go}
-use Rattle.task_meaning.proofs.Stages.{Stage, at_carried, does_same, script_of}
+use Rattle.task_meaning.proofs.Rules.{plain_goes, ready_with_registers, registers_go}
+use Rattle.task_meaning.proofs.Stages.{at_carried, does_same, script_of}
 use Rattle.task_meaning.proofs.WordWriting.{first_fits, next_address, second_fits}
 use Rattle.task_meaning.proofs.Writing.{byte_written}
-use Rattle.statement_meaning.specs.Bodies.{BodyContext, IsSoundBody, Leaves}
+use Rattle.statement_meaning.specs.Bodies.{BodyContext, IsSoundBody}
 use Rattle.statement_meaning.proofs.FirstSteps.{Stand, going, part_first, plain_first}
 use Rattle.statement_meaning.proofs.Outcomes.{Between}
-use Rattle.statement_meaning.proofs.Targets.{address_suits, as_register, at_any_value, byte_suits, small_suits, Suits, target_stored}
+use Rattle.statement_meaning.proofs.Targets.{as_register, at_any_value, Suits, target_stored}
 
 -- an instruction that writes a byte at the address in HL
 pub byte_goes :

@@ -1,5 +1,5 @@
 -- Targets that get a value that is in a register, one after another.
-use Rattle.std.proofs.Common.{◌≡◌, ℕ, zero, suc, ◌+◌, ◌-◌, ◌*◌, ◌/◌, ◌%◌, ◌<◌, ◌≤◌, max, Bool, true, false, ◌||◌, not, if◌then◌else◌, nat_eq, nat_lt, List, [], ◌∷◌, ◌++◌, slice_get, Option, Some, None, refl, sym, ap, subst, ◌∙◌, arith}
+use Rattle.std.proofs.Common.{◌≡◌, ℕ, zero, suc, ◌+◌, ◌-◌, ◌*◌, ◌%◌, ◌<◌, ◌≤◌, Bool, true, false, ◌||◌, if◌then◌else◌, nat_eq, nat_lt, List, [], ◌∷◌, ◌++◌, slice_get, Option, Some, None, refl, sym, ap, subst, ◌∙◌, arith}
 use Rattle.std.specs.Option.{option_and_then}
 use Rattle.std.proofs.lemmas.Bool.{eqb-false, eqb-true, lt-ltb}
 use Rattle.trees.specs.declared.declaration.ScalarType.{ScalarType}
@@ -10,16 +10,14 @@ use Rattle.typed_trees.specs.TypedTrees.{TypedExpression, TypedTarget, StoredIn,
 use Rattle.typed_trees.specs.WellTyped.{TypesHold, TypesHoldInTarget, TypesHoldInTargets}
 use Rattle.meaning.specs.Access.{write_scalar}
 use Rattle.meaning.specs.Meaning.{located, stored, stored_in_each, value}
-use Rattle.meaning.specs.Outcomes.{State as SourceState, Outcome, Gave, then_do, Flow, Onward}
+use Rattle.meaning.specs.Outcomes.{State as SourceState, Outcome, Gave, then_do, Onward}
 use Rattle.meaning.specs.Values.{as_type, values_of}
 use Rattle.isa8080.specs.State.{Registers, State}
 use Rattle.ports.specs.Events.{write_event}
 use Rattle.treecode.specs.declared.expression.ExpressionNumber.{ExpressionNumber}
 use Rattle.treecode.specs.declared.lists.Range.{Range}
 use Rattle.treecode.specs.declared.reference.Target.{Target}
-use Rattle.treecode.specs.declared.reference.Target.TheVariants.{Stored, Sent}
 use Rattle.treecode.specs.Lowered.{AreTargets, IsExpression, IsSent, IsStored, IsTarget, MoreTargets, NoTargets}
-use Rattle.treecode.specs.Nodes.{entry_of}
 use Rattle.treecode.specs.Queries.{target as target_at}
 use Rattle.code_meaning.specs.Landing.{Does, at_place}
 use Rattle.steps8080.specs.declared.facts.Facts.{Facts}
@@ -33,7 +31,7 @@ use Rattle.codegen8080.specs.declared.meeting.Here.{Here}
 use Rattle.task_meaning.specs.Contexts.{InRegister, nodes_in}
 use Rattle.task_meaning.specs.Tasks.{ByteIsGiven, StoreDoes, TaskDoes, WordIsGiven}
 use Rattle.task_meaning.proofs.Effects.{then_again}
-use Rattle.task_meaning.proofs.Stages.{Stage, at_byte, at_word, does_same, script_of}
+use Rattle.task_meaning.proofs.Stages.{at_byte, at_word, does_same, script_of}
 use Rattle.task_meaning.proofs.StoredValues.{at_store}
 use Rattle.statement_meaning.specs.Bodies.{BodyContext, IsSoundBody, Leaves}
 use Rattle.statement_meaning.proofs.FirstSteps.{Stand, ended, going, part_first}

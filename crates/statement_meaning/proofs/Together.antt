@@ -1,16 +1,14 @@
 -- Statements of each form do what they say.
-use Rattle.std.proofs.Common.{◌≡◌, ℕ, Option, slice_get, Some}
+use Rattle.std.proofs.Common.{ℕ}
 use Rattle.treecode.specs.declared.expression.ExpressionNumber.{ExpressionNumber}
 use Rattle.treecode.specs.declared.lists.Range.{Range}
 use Rattle.treecode.specs.declared.statement.Iteration.{Iteration}
 use Rattle.treecode.specs.declared.statement.Statement.{Statement}
 use Rattle.treecode.specs.declared.statement.Statement.TheVariants as statements
-use Rattle.treecode.specs.declared.statement.StatementNumber.{StatementNumber}
 use Rattle.steps8080.specs.declared.facts.Facts.{Facts}
 use Rattle.codegen8080.specs.declared.meeting.Here.{Here}
-use Rattle.task_meaning.specs.Contexts.{nodes_in}
 use Rattle.statement_meaning.specs.Bodies.{BodyContext, IsSoundBody}
-use Rattle.statement_meaning.specs.Statements.{StatementDoes, StatementStands, StatementsDo}
+use Rattle.statement_meaning.specs.Statements.{StatementStands, StatementsDo}
 use Rattle.statement_meaning.proofs.Assigned.{CountsDo, assignment_does}
 use Rattle.statement_meaning.proofs.Ifs.{if_does}
 use Rattle.statement_meaning.proofs.Returns.{return_does}

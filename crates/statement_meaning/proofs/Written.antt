@@ -1,5 +1,5 @@
 -- Items that are written for statements and stand in the code do what the statements say, where the steps of each do.
-use Rattle.std.proofs.Common.{◌≡◌, ℕ, suc, true, List, [], ◌∷◌, ◌++◌, slice_get, Option, Some, None, refl, sym, ap, subst, ◌∙◌}
+use Rattle.std.proofs.Common.{◌≡◌, ℕ, List, slice_get, Option, Some, refl, ap, ◌∙◌}
 use Rattle.asm8080.specs.declared.item.Item.{Item}
 use Rattle.treecode.specs.declared.lists.Range.{Range}
 use Rattle.treecode.specs.declared.statement.Statement.{Statement}
@@ -10,9 +10,7 @@ use Rattle.code_meaning.specs.Activations.{IsThere}
 use Rattle.code_meaning.proofs.Sequences.{both_there}
 use Rattle.steps8080.specs.declared.facts.Facts.{Facts}
 use Rattle.sites8080.specs.declared.site.Site.{Site}
-use Rattle.exprgen8080.specs.Emission.{knowing}
 use Rattle.statements8080.specs.declared.plan.Planned.{Planned}
-use Rattle.statements8080.specs.Bodies.{body_label}
 use Rattle.codegen8080.specs.declared.meeting.Here.{Here}
 use Rattle.codegen8080.specs.Generated as generated
 use Rattle.codegen8080.specs.Generated.{AreAllCarriedOut, AreCarriedOut, IsCarriedOut, IsListCarriedOut, ListCarriedOut, MoreStatements, NoneCarriedOut, NoStatements, StatementCarriedOut, StepCarriedOut, carried_steps, site_of}
@@ -20,8 +18,8 @@ use Rattle.codegen8080.specs.Statements.{statement_steps}
 use Rattle.task_meaning.specs.Contexts.{nodes_in}
 use Rattle.task_meaning.proofs.Written.{CarryOut, steps_stand}
 use Rattle.statement_meaning.specs.Bodies.{BodyContext, IsSoundBody}
-use Rattle.statement_meaning.specs.Statements.{ListDoes, ListPlanned, NonePlanned, PlannedStand, StatementDoes, StatementPlanned, StatementStands, StatementsDo, StepPlanned}
-use Rattle.statement_meaning.proofs.FirstSteps.{Stand, ended, going, mark_first}
+use Rattle.statement_meaning.specs.Statements.{ListDoes, ListPlanned, NonePlanned, StatementDoes, StatementPlanned, StatementStands, StatementsDo, StepPlanned}
+use Rattle.statement_meaning.proofs.FirstSteps.{Stand, ended, mark_first}
 use Rattle.statement_meaning.proofs.Lists.{AllDo, IsMarked, MoreDo, NoneDo, list_does}
 
 -- the tables of a body
