@@ -13,7 +13,7 @@ use Rattle.statement_meaning.proofs.Assigned.{CountsDo, assignment_does}
 use Rattle.statement_meaning.proofs.Ifs.{if_does}
 use Rattle.statement_meaning.proofs.Returns.{return_does}
 use Rattle.statement_meaning.proofs.Simple.{FormDoes, call_does, do_does, form_does, goto_does, halt_does, label_does, null_does}
-use Rattle.statement_meaning.proofs.Whiles.{ForeversDo, while_does}
+use Rattle.statement_meaning.proofs.Whiles.{while_does}
 
 -- where the steps of a statement stand, its code does what statements of the form say
 abbrev pub FormStands : BodyContext → Statement → Type 0
@@ -28,7 +28,6 @@ pub record OthersDo (at : BodyContext) : Type 0 where
   pub moves : (count source destination : ExpressionNumber) → FormStands at (statements.Move count source destination)
   pub iterations : (head : Iteration) (list : Range) → FormStands at (statements.Iterate head list)
   pub cases : (choice : ExpressionNumber) (list : Range) → FormStands at (statements.Case choice list)
-  pub forevers : ForeversDo at
 
 pub statements_do : (at : BodyContext) → IsSoundBody at → OthersDo at → StatementsDo at
 statements_do at sound others before number statement label from after to there stands =
@@ -46,6 +45,6 @@ statements_do at sound others before number statement label from after to there 
     by (statements.If condition then_part else_part) stands =
         if_does at before condition then_part else_part label from after to sound stands
     by (statements.Do list) stands = do_does at before list label from after to stands
-    by (statements.While condition list) stands = while_does at before condition list label from after to sound others.forevers stands
+    by (statements.While condition list) stands = while_does at before condition list label from after to sound stands
     by (statements.Iterate head list) stands = others.iterations head list before label from after to stands
     by (statements.Case choice list) stands = others.cases choice list before label from after to stands

@@ -308,12 +308,12 @@ tested_does at before condition list label from after to sound stands bound _ (I
         (λ u. done at.context.later at.context.activation.around (WhileStatement test body) u) flow t end less leaves
         (λ now kept goes there known. test_does t now kept less there))))
 
--- a loop without an end, where a step was made before it
-pub forever_does :
+-- a loop without an end
+forever_does :
     (at : BodyContext) (before : Facts) (list : Range) (label from : ℕ) (after : Here) (to : ℕ) (bound n : ℕ)
     (condition : ExpressionNumber) (test : TypedExpression) (body : TypedList)
     → IsSoundBody at
-    → Stand at (going true before) None from (plain Nop ∷ forever_steps list label) after to
+    → Stand at (going true before) None from (forever_steps list label) after to
     → IsExpressionIn (nodes_in at.context) at.context.storage condition test
     → IsList (nodes_in at.context) at.context.storage at.labels bound list body
     → TypesHold at.context.typed at.context.within test
@@ -343,31 +343,13 @@ forever_does at before list label from after to bound n condition test body soun
     room (from + 1) listed.middle (label_of label) listed.after n top.lies listed.does jumps holds value_is
     s.budget s.budget (record s { budget = s.budget - 1 }) r memory (omega (arith, one_less)) below (omega (arith, one_less)) ready))
 
--- What is asked of the code of loops whose condition is known to hold. That there is a step before the first turn, as
--- `forever_does` has it, no law of code without one can replace: the first turn takes one of the budget.
-abbrev pub ForeversDo : BodyContext → Type 0
-ForeversDo at =
-    (before : Facts) (list : Range) (label from : ℕ) (after : Here) (to : ℕ) (bound n : ℕ)
-    (condition : ExpressionNumber) (test : TypedExpression) (body : TypedList)
-    → Stand at (going true before) None from (forever_steps list label) after to
-    → IsExpressionIn (nodes_in at.context) at.context.storage condition test
-    → IsList (nodes_in at.context) at.context.storage at.labels bound list body
-    → TypesHold at.context.typed at.context.within test
-    → TypesHoldInList at.context.typed at.context.within body
-    → ListStands body
-    → is_true n ≡ true
-    → ((s : SourceState) → value at.context.later at.context.activation.around test s ≡ Gave n s)
-    → Behaves at before (2 + 2 * max (height_of test) (height_of_list body)) from after to
-    (done at.context.later at.context.activation.around (WhileStatement test body))
-
 pub while_does :
     (at : BodyContext) (before : Facts) (condition : ExpressionNumber) (list : Range) (label from : ℕ) (after : Here) (to : ℕ)
     → IsSoundBody at
-    → ForeversDo at
     → StatementStands at before (statements.While condition list) label from after to
     → FormDoes at before (statements.While condition list) from after to
 unfolding statement_steps
-while_does at before condition list label from after to sound forevers stands bound _ (IsWhile {test = test} {list = body} is is_list) types lists base s r memory below room ready known =
+while_does at before condition list label from after to sound stands bound _ (IsWhile {test = test} {list = body} is is_list) types lists base s r memory below room ready known =
     by (number (knowing (site_of at.body) before) condition) refl stands
   where
     at_site : (found : Option ℕ) → number (knowing (site_of at.body) before) condition ≡ found
@@ -385,7 +367,7 @@ while_does at before condition list label from after to sound forevers stands bo
         → Does (script_of at.context) s.budget 0 (at_place from r memory s.events)
         (done at.context.later at.context.activation.around (WhileStatement test body) s) (Leaves at base to after s.budget)
     by_number n true same holds stand =
-        forevers before list label from after to bound n condition test body stand is is_list types.0 types.1 lists holds (given n same)
+        forever_does at before list label from after to bound n condition test body sound stand is is_list types.0 types.1 lists holds (given n same)
         base s r memory below room ready known
     by_number n false same holds stand =
         does_same (Gave Onward s)
