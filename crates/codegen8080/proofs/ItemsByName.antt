@@ -94,10 +94,11 @@ module _ (layout : Layout) (written : Written) (memory : List ℕ) where
       by None is none = absurd (none-some found none)
       by (Some known) is some =
           let here = subst (λ one. Stands layout memory (one ∷ made) from to)
-          (sym (same_item (WithWord form known) found some)) stands in
-          (subst (λ word. BytesStand memory from (bytes_of (instruction_with form word)))
-          (sym (same_word reference known is)) here.0,
-          rest _ here.1)
+          (sym (same_item (WithWord form known) found some)) stands in (
+            subst (λ word. BytesStand memory from (bytes_of (instruction_with form word)))
+                (sym (same_word reference known is)) here.0,
+            rest _ here.1,
+          )
   item_stands (Address reference) found others made from to given rest stands =
       by (numbered_reference written reference) refl given
     where
@@ -111,10 +112,11 @@ module _ (layout : Layout) (written : Written) (memory : List ℕ) where
       by None is none = absurd (none-some found none)
       by (Some known) is some =
           let here = subst (λ one. Stands layout memory (one ∷ made) from to)
-          (sym (same_item (Address known) found some)) stands in
-          (subst (λ word. BytesStand memory from (low_byte word ∷ high_byte word ∷ []))
-          (sym (same_word reference known is)) here.0,
-          rest _ here.1)
+          (sym (same_item (Address known) found some)) stands in (
+            subst (λ word. BytesStand memory from (low_byte word ∷ high_byte word ∷ []))
+                (sym (same_word reference known is)) here.0,
+            rest _ here.1,
+          )
 
   -- items that stand by the numbers of the code stand by those of the module
   pub items_by_name : (items made : List Item) (from to : ℕ)

@@ -150,11 +150,13 @@ procedures_go_on tree before now next number following whole procedure others fo
   left_is = λ called more wider rest.
       subst (AreCodeOf tree called 0 whole) (sym (append_assoc putting.list adds.list more))
       (putting.left_is called (adds.list ++ more)
-      (λ routine given. wider routine (adds.called routine given))
-      (adds.list, more,
-      kind_kept tree next.emission.is_called.items called wider number procedure procedure.kind adds.list adds.written,
-      subst (λ at. AreCodeOf tree called at others more) (follows ∙ add-one number) rest,
-      refl));
+      (λ routine given. wider routine (adds.called routine given)) (
+        adds.list,
+        more,
+        kind_kept tree next.emission.is_called.items called wider number procedure procedure.kind adds.list adds.written,
+        subst (λ at. AreCodeOf tree called at others more) (follows ∙ add-one number) rest,
+        refl,
+      ));
   called = λ routine given. adds.called routine (putting.called routine given);
 }
 
@@ -345,10 +347,13 @@ routine_then tree called routine others before between after first rest =
       added =
           rest.added ∙ ap (λ list. list ++ rest.list) one.added
           ∙ append_assoc before.code.items one.list rest.list;
-      are =
-          (one.list, rest.list,
-          routine_kept tree between after routine (has_routine called routine) one.list rest.labels one.is,
-          rest.are, refl);
+      are = (
+        one.list,
+        rest.list,
+        routine_kept tree between after routine (has_routine called routine) one.list rest.labels one.is,
+        rest.are,
+        refl,
+      );
       labels = λ number found given. rest.labels number found (one.labels number found given);
       externals = λ number found given. rest.externals number found (one.externals number found given);
     }
@@ -360,9 +365,13 @@ are_kept :
     → AreRoutines tree called before routines list
     → AreRoutines tree called after routines list
 are_kept tree called before after [] list labels are = are
-are_kept tree called before after (routine ∷ others) list labels are =
-    (are.0, are.1, routine_kept tree before after routine (has_routine called routine) are.0 labels are.2,
-    are_kept tree called before after others are.1 labels are.3, are.4)
+are_kept tree called before after (routine ∷ others) list labels are = (
+  are.0,
+  are.1,
+  routine_kept tree before after routine (has_routine called routine) are.0 labels are.2,
+  are_kept tree called before after others are.1 labels are.3,
+  are.4,
+)
 
 -- and before others
 are_then :
@@ -373,9 +382,13 @@ are_then :
     → AreRoutines tree called written (routines ++ others) (list ++ more)
 are_then tree called written [] others list more first second =
     subst (λ all. AreRoutines tree called written others (all ++ more)) (sym first) second
-are_then tree called written (routine ∷ routines) others list more first second =
-    (first.0, first.1 ++ more, first.2, are_then tree called written routines others first.1 more first.3 second,
-    ap (λ all. all ++ more) first.4 ∙ append_assoc first.0 first.1 more)
+are_then tree called written (routine ∷ routines) others list more first second = (
+  first.0,
+  first.1 ++ more,
+  first.2,
+  are_then tree called written routines others first.1 more first.3 second,
+  ap (λ all. all ++ more) first.4 ∙ append_assoc first.0 first.1 more,
+)
 
 -- routines are added, and others after them
 pub routines_then :

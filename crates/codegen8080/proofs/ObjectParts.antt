@@ -60,9 +60,10 @@ publics_of :
 publics_of written bytes labels [] [] known are = tt
 publics_of written bytes labels [] (public ∷ publics) known are = absurd are
 publics_of written bytes labels (name ∷ names) [] known are = absurd are
-publics_of written bytes labels (name ∷ names) (public ∷ publics) known are =
-    (public_of written bytes labels name.name name.place public known are.0,
-    publics_of written bytes labels names publics known are.1)
+publics_of written bytes labels (name ∷ names) (public ∷ publics) known are = (
+  public_of written bytes labels name.name name.place public known are.0,
+  publics_of written bytes labels names publics known are.1,
+)
 
 -- a name that code has a number for, in the list of names and in the table of places
 record IsFound

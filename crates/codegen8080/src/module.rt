@@ -146,11 +146,7 @@ fn with_arithmetic(
 }
 
 // Adds the other shifts that are called.
-fn with_shifts(
-    writer: Writer,
-    tree: &TreeModule,
-    is_called: &[bool],
-) -> Result<Writer, AllocError>
+fn with_shifts(writer: Writer, tree: &TreeModule, is_called: &[bool]) -> Result<Writer, AllocError>
     ensures { IfOk result (λ after. AddsRoutines tree.now is_called.now next_routines writer after) }
 {
     let writer = with_called(writer, tree, is_called, 3, Routine::ShiftRightByte)?;
@@ -160,11 +156,7 @@ fn with_shifts(
 }
 
 // Adds the rotations and MOVE, where they are called.
-fn with_others(
-    writer: Writer,
-    tree: &TreeModule,
-    is_called: &[bool],
-) -> Result<Writer, AllocError>
+fn with_others(writer: Writer, tree: &TreeModule, is_called: &[bool]) -> Result<Writer, AllocError>
     ensures { IfOk result (λ after. AddsRoutines tree.now is_called.now last_routines writer after) }
 {
     let writer = with_called(writer, tree, is_called, 6, Routine::RotateLeft)?;

@@ -40,10 +40,10 @@ HavePlaces places place (number ∷ numbers) (external ∷ externals) =
 -- the names that code has numbers for are listed, at the places that a table has
 pub record AreListed
     (externals : List ExternalName) (numbers : List (Option ℕ)) (places : List ℕ) (names : Linkage) : Type 0
-    where
-  pub names_are : names.externals ≡ used_names numbers externals
-  pub places_are : HavePlaces places 0 numbers externals
-  pub publics : names.publics ≡ []
+  where
+    pub names_are : names.externals ≡ used_names numbers externals
+    pub places_are : HavePlaces places 0 numbers externals
+    pub publics : names.publics ≡ []
 
 -- a public is a PUBLIC name, in code whose labels have these numbers
 abbrev pub IsPublicIn :
