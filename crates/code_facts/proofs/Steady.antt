@@ -1,6 +1,7 @@
 -- Which bytes are steady in an activation that lies well, and what instructions ask of them there.
-use Rattle.std.proofs.Common.{◌≡◌, ℕ, ◌+◌, ◌<◌, ◌≤◌, inl, inr, Option, Some, None, refl, sym, arith}
+use Rattle.std.proofs.Common.{◌≡◌, ℕ, ◌+◌, ◌<◌, ◌≤◌, true, Option, Some, None, sym, arith}
 use Rattle.mem80.specs.declared.memory.TheConstants.{MEMORY_SIZE}
+use Rattle.meaning.specs.Access.{is_declared}
 use Rattle.isa8080.specs.State.{word, wrap}
 use Rattle.machine_runs.proofs.Calls.{one_below, two_below}
 use Rattle.treecode.specs.declared.place.Location.{Location}
@@ -9,13 +10,21 @@ use Rattle.code_meaning.specs.Activations.{Activation, LiesWell}
 use Rattle.code_facts.specs.Asking.{AddressAsks, IsSteadyByte, PushAsks}
 use Rattle.code_facts.specs.Holding.{AddressHolds, Distances, IsSteady, location_at}
 
+-- a byte that is declared
+pub declared_is_steady :
+    (activation : Activation) (address : ℕ)
+    → LiesWell activation
+    → is_declared activation.around.program address ≡ true
+    → IsSteady activation address
+declared_is_steady activation address lies declared =
+    let above = lies.above in
+    record { apart = λ low below. lies.placed.stack_free address declared low (omega (arith, below, above)) }
+
 -- a byte of an object in the frame
 pub frame_byte_is_steady :
     (activation : Activation) (object offset : ℕ)
-    → offset < activation.size object
     → IsSteady activation (activation.level + activation.distance object + offset)
-frame_byte_is_steady activation object offset within =
-    inr (record { object = object; offset = offset; within = within; is_there = refl })
+frame_byte_is_steady activation object offset = record { apart = λ low below. omega (arith, below) }
 
 -- and where a variable of tree code begins where the object does, the address of the byte in the frame
 pub frame_location_is_steady :
@@ -35,22 +44,17 @@ frame_location_is_steady activation distance variable object offset lies same wi
     let is : wrap (activation.level + distance variable + offset) ≡ activation.level + activation.distance object + offset
     = omega (arith, same, small) in
     let low : wrap (activation.level + distance variable + offset) < MEMORY_SIZE = omega arith in
-    (is, (inr (record { object = object; offset = offset; within = within; is_there = is }), low))
+    (is, (record { apart = λ start below. omega (arith, is, below) }, low))
 
 -- no byte below the level that may be pushed is steady
 pub pushed_is_not_steady :
     (activation : Activation) (top address : ℕ)
-    → LiesWell activation
     → activation.around.program.placement.stack.start ≤ address
     → address < top
     → top ≤ activation.level
     → IsSteady activation address
     → ⊥
-pushed_is_not_steady activation top address lies low high below (inl declared) =
-    let above = lies.above in
-    lies.placed.stack_free address declared low (omega (arith, high, below, above))
-pushed_is_not_steady activation top address lies low high below (inr framed) =
-    let is = framed.is_there in omega (arith, is, high, below)
+pushed_is_not_steady activation top address low high below steady = steady.apart low (omega (arith, high, below))
 
 -- so a PUSH may be carried out where there is room for it
 pub push_asks :
@@ -66,9 +70,9 @@ push_asks activation sp top lies pointer room below address steady =
     let limit : top ≤ MEMORY_SIZE = omega (arith, above, stack, below) in
     let one = one_below sp top pointer limit (omega (arith, room)) in
     let two = two_below sp top pointer limit (omega (arith, room)) in (
-      λ same. pushed_is_not_steady activation top address lies (omega (arith, same, one, room))
+      λ same. pushed_is_not_steady activation top address (omega (arith, same, one, room))
           (omega (arith, same, one, room)) below steady,
-      λ same. pushed_is_not_steady activation top address lies (omega (arith, same, two, room))
+      λ same. pushed_is_not_steady activation top address (omega (arith, same, two, room))
           (omega (arith, same, two, room)) below steady,
     )
 

@@ -1,9 +1,8 @@
 -- What it means that facts of the registers hold: of the registers and the memory of the machine alone.
-use Rattle.std.specs.Prelude.{◌≡◌, ℕ, ◌+◌, ◌<◌, ◌==◌, ◌⊎◌, Bool, true, false, List, Option, Some, None}
+use Rattle.std.specs.Prelude.{◌≡◌, ℕ, ◌+◌, ◌<◌, ◌≤◌, ◌==◌, Bool, true, false, List, Option, Some, None}
 use Rattle.object_modules.specs.declared.segment.Segment.TheVariants as segments
 use Rattle.object_modules.specs.declared.segment.Target.TheVariants as targets
 use Rattle.mem80.specs.Memory.{byte_at}
-use Rattle.meaning.specs.Access.{is_declared}
 use Rattle.isa8080.specs.State.{Registers, word, wrap}
 use Rattle.asm8080.specs.declared.item.Reference.TheVariants.{AtTarget}
 use Rattle.asm8080.specs.Items.{Layout, word_of}
@@ -30,17 +29,9 @@ abbrev pub location_at : Activation → Distances → Location → ℕ
 location_at activation distance (Static place) = place_at activation.layout place
 location_at activation distance (Frame variable offset) = wrap (activation.level + distance variable + offset)
 
--- a byte of an object in the frame
-pub record IsOfFrame (activation : Activation) (address : ℕ) : Type 0 where
-  pub object : ℕ
-  pub offset : ℕ
-  pub within : offset < activation.size object
-  pub is_there : address ≡ activation.level + activation.distance object + offset
-
--- a byte that stays while others are pushed: it is declared, or one of the frame
-abbrev pub IsSteady : Activation → (address : ℕ) → Type 0
-IsSteady activation address =
-    (is_declared activation.around.program address ≡ true) ⊎ IsOfFrame activation address
+-- a byte that stays while others are pushed: it is none of the part of the stack below the level
+pub record IsSteady (activation : Activation) (address : ℕ) : Type 0 where
+  pub apart : activation.around.program.placement.stack.start ≤ address → address < activation.level → ⊥
 
 -- A byte is the one at an address, and so is a word; all bytes there are steady.
 abbrev pub IsByteAt : Activation → (memory : List ℕ) → (address byte : ℕ) → Type 0

@@ -1,6 +1,6 @@
 -- Where a call of a procedure, or the main program, lies on the machine, and what its memory has in common with that of
 -- the source.
-use Rattle.std.specs.Prelude.{◌≡◌, ◌≢◌, ℕ, ◌+◌, ◌<◌, ◌≤◌, ◌⊎◌, Bool, true, false, List, length}
+use Rattle.std.specs.Prelude.{◌≡◌, ◌≢◌, ℕ, ◌+◌, ◌%◌, ◌<◌, ◌≤◌, ◌⊎◌, Bool, true, false, List, length}
 use Rattle.mem80.specs.declared.memory.TheConstants.{MEMORY_SIZE}
 use Rattle.mem80.specs.Memory.{IsMemory, byte_at}
 use Rattle.meaning.specs.Outcomes.{Program, State as SourceState}
@@ -68,9 +68,10 @@ pub record IsReady
   pub frame_lies : FrameLies activation frame memory
   pub kept : Keeps (Owns activation top) base memory
 
--- so many bytes are pushed, and there is room for so many more below the room that calls have
+-- so many bytes are pushed, all of words, and there is room for so many more below the room that calls have
 pub record HasRoom (activation : Activation) (top pushed need : ℕ) : Type 0 where
   pub depth : top + pushed ≡ activation.level
+  pub even : pushed % 2 ≡ 0
   pub enough : activation.around.program.placement.stack.start + activation.around.room + need ≤ top
 
 -- what is true of where a program lies, whatever runs

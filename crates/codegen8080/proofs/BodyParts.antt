@@ -1,5 +1,5 @@
 -- The code of procedures and of main programs, from that of their parts.
-use Rattle.std.proofs.Common.{◌≡◌, ℕ, Bool, true, false, List, [], ◌∷◌, ◌++◌, length, Option, Some, None, Result, Ok, Err, OnOk, drop, refl, sym, ap, subst, ◌∙◌, append_assoc, append-nil}
+use Rattle.std.proofs.Common.{◌≡◌, ℕ, Bool, true, false, List, [], ◌∷◌, ◌++◌, length, None, Result, Ok, Err, OnOk, drop, refl, sym, ap, subst, ◌∙◌}
 use Rattle.std.proofs.lemmas.List.{drop_at}
 use Rattle.std.specs.Prelude.{IfOk}
 use Rattle.isa8080.specs.declared.instr.Instr.{Instr}
@@ -9,17 +9,15 @@ use Rattle.asm8080.specs.declared.item.Item.{Item}
 use Rattle.asm8080.specs.declared.item.Item.TheVariants as items
 use Rattle.asm8080.specs.declared.item.WordForm.TheVariants.{LoadPair}
 use Rattle.treecode.specs.declared.module.TreeModule.{TreeModule}
-use Rattle.treecode.specs.declared.procedure.ProcedureKind.{ProcedureKind}
 use Rattle.treecode.specs.declared.procedure.ProcedureKind.TheVariants as kinds
 use Rattle.treecode.specs.declared.procedure.TreeProcedure.{TreeProcedure}
 use Rattle.frames.specs.declared.frame_plan.FramePlan.{FramePlan}
 use Rattle.frames.specs.Frames.{HasFrame, HasNothing, IsPlanOf, LiesApart}
 use Rattle.steps8080.specs.declared.facts.Facts.{Facts}
 use Rattle.steps8080.specs.declared.step.LabelNumber.{LabelNumber}
-use Rattle.steps8080.specs.declared.step.Step.{Step}
 use Rattle.steps8080.specs.declared.step.Step.TheVariants as steps
 use Rattle.steps8080.specs.Facts.{no_facts}
-use Rattle.steps8080.specs.Writer.{Written, Writes, stack_end_item}
+use Rattle.steps8080.specs.Writer.{Writes, stack_end_item}
 use Rattle.steps8080.proofs.Numbered.{writes_nothing, writes_then}
 use Rattle.sites8080.specs.declared.site.Site.{Site}
 use Rattle.exprgen8080.specs.declared.emission.Emission.{Emission}
@@ -31,10 +29,10 @@ use Rattle.statements8080.specs.declared.plan.Planned.{Planned}
 use Rattle.codegen8080.specs.declared.generator.Generator.{Generator}
 use Rattle.codegen8080.specs.declared.meeting.Here.{Here}
 use Rattle.codegen8080.specs.Driven.{AddsCode, AddsList, AddsPlanned, here_of}
-use Rattle.codegen8080.specs.Generated.{AreCarriedOut, IsListCarriedOut, site_of}
-use Rattle.codegen8080.specs.Modules.{AreCodeOf, IsCodeOf, IsEndCode, IsFrameOf, IsMainCode, IsProcedureCode}
+use Rattle.codegen8080.specs.Generated.{AreCarriedOut, IsListCarriedOut}
+use Rattle.codegen8080.specs.Modules.{IsEndCode, IsFrameOf}
 use Rattle.codegen8080.specs.Procedures.{end_steps, entry_steps}
-use Rattle.codegen8080.specs.internal.Bodies.{AddsEnd, AddsEntry, AddsMain, AddsOwn, AddsProcedure, AddsProcedures}
+use Rattle.codegen8080.specs.internal.Bodies.{AddsEnd, AddsEntry, AddsMain, AddsOwn}
 use Rattle.codegen8080.proofs.Driving.{all_kept, list_kept}
 
 -- the plan of a frame has what is said of it by the kind of the procedure

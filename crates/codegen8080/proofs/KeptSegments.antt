@@ -24,11 +24,17 @@ use Rattle.object_merges.proofs.RunsJoined.{runs_append}
 use Rattle.asm8080.specs.Assembled.{Assembled, Assembles, FitsSegment, fixed_bytes, places_of, segment_of, set_bytes}
 use Rattle.asm8080.specs.Items.{Assembly}
 use Rattle.asm8080.proofs.Segments.{and_true, places_length, run_places, runs_longest, set_length, set_well, valid_bytes}
+use Rattle.steps8080.specs.Writer.{Finishes, Written}
 use Rattle.codegen8080.specs.internal.Segments.{IsKept, KeepsFixes, listed_target, retarget, retargeted, with_targets}
 
 -- what was assembled keeps its fixes
 pub assembled_keeps : (assembly : Assembly) (code : Assembled) → Assembles assembly code → KeepsFixes code
 assembled_keeps assembly code is = record { filled = is.filled; whole = is.whole }
+
+-- and so does what was finished
+pub finished_keeps : (written : Written) (code : Assembled) (labels : List (Option ℕ))
+    → Finishes written code labels → KeepsFixes code
+finished_keeps written code labels is = assembled_keeps written.code code is.assembles
 
 -- Other targets change neither the order of fixes nor the runs that they are in.
 module _ (to : Target → Target) where
@@ -120,7 +126,7 @@ targets_valid numbers count (fix ∷ others) =
     (target_valid numbers count fix.target) (targets_valid numbers count others)
 
 -- the places of a segment that is kept are those of its code
-places_in :
+pub places_in :
     (segment : Segment) (code : Assembled) → same_segment segment segment ≡ true
     → (places_stored segment (segment_of code)).places ≡ places_of code
 places_in segment code same =

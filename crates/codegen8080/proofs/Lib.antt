@@ -5,3 +5,7 @@ pub mod Planning
 pub mod Driving
 pub mod BodyParts
 pub mod ModuleParts
+pub mod ObjectParts
+pub mod NameLoops
+pub mod ItemsByName
+pub mod RoutinesStand

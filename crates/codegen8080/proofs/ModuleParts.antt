@@ -1,5 +1,5 @@
 -- The code of a module, from that of its parts.
-use Rattle.std.proofs.Common.{◌≡◌, ℕ, suc, ◌+◌, Bool, true, false, List, [], ◌∷◌, ◌++◌, Option, Some, None, Result, Ok, Err, OnOk, slice_index_or, slice_get, length, take, drop, ◌-◌, ◌<◌, arith, unwrap_or, refl, sym, ap, subst, ◌∙◌, append_assoc, append-nil, add-one}
+use Rattle.std.proofs.Common.{◌≡◌, ℕ, ◌+◌, Bool, true, false, List, [], ◌∷◌, ◌++◌, Option, Some, None, Result, Ok, Err, OnOk, slice_get, length, take, drop, ◌-◌, ◌<◌, arith, unwrap_or, refl, sym, ap, subst, ◌∙◌, append_assoc, append-nil, add-one}
 use Rattle.std.specs.Prelude.{option_map}
 use Rattle.std.proofs.lemmas.Option.{none-some}
 use Rattle.asm8080.specs.declared.item.Item.{Item}
@@ -11,25 +11,24 @@ use Rattle.treecode.specs.declared.procedure.ProcedureKind.{ProcedureKind}
 use Rattle.treecode.specs.declared.procedure.ProcedureKind.TheVariants as kinds
 use Rattle.treecode.specs.declared.procedure.TreeProcedure.{TreeProcedure}
 use Rattle.steps8080.specs.Externals.{Extends, entry}
-use Rattle.steps8080.specs.Writer.{Written, Writes, WritesRoutine, in_front, numbered}
+use Rattle.steps8080.specs.Writer.{Written, Writes, in_front}
 use Rattle.steps8080.proofs.Numbered.{items_stay, writes_nothing, writes_then}
-use Rattle.exprgen8080.specs.declared.emission.Emission.{Emission}
 use Rattle.exprgen8080.specs.Emission.{has_routine, index_of_routine, module_routine_label}
 use Rattle.exprgen8080.specs.Emitted.{HasAll, IsEmpty}
 use Rattle.exprgen8080.proofs.Emitting.{has_itself}
 use Rattle.codegen8080.specs.declared.generator.Generator.{Generator}
-use Rattle.codegen8080.specs.Modules.{AreCodeOf, AreRoutines, IsCodeOf, IsCodeOfMain, IsCodeOfRoutine, IsCodeWritten, IsMainCode, IsOwnCode, IsProcedureCode, IsRoutineCode, all_routines, content_items, contents_items, has_main}
+use Rattle.codegen8080.specs.Modules.{AreCodeOf, AreRoutines, IsCodeOf, IsCodeOfMain, IsCodeOfRoutine, IsCodeWritten, IsProcedureCode, all_routines, content_items, contents_items, has_main}
 use Rattle.codegen8080.specs.internal.Bodies.{AddsCalled, AddsCodeOfMain, AddsMain, AddsOwnCode, AddsProcedure, AddsProcedures, AddsRoutineIf, AddsRoutines}
 use Rattle.codegen8080.proofs.BodyParts.{end_kept}
 use Rattle.codegen8080.proofs.Driving.{all_kept, list_kept}
 
 -- all of a list are as many as it has
-take_all : {A : Type 0} (list : List A) (count : ℕ) → count ≡ length list → take count list ≡ list
+pub take_all : {A : Type 0} (list : List A) (count : ℕ) → count ≡ length list → take count list ≡ list
 take_all [] count same = ap (λ number. take number []) same
 take_all (first ∷ others) count same =
     ap (λ number. take number (first ∷ others)) same ∙ ap (λ rest. first ∷ rest) (take_all others (length others) refl)
 
-same_item : {A : Type 0} (one other : A) → Some one ≡ Some other → one ≡ other
+pub same_item : {A : Type 0} (one other : A) → Some one ≡ Some other → one ≡ other
 same_item one other same = ap (λ (found : Option _). unwrap_or found one) same
 
 -- What stands in a segment is being added; some of it is left.
@@ -151,11 +150,13 @@ procedures_go_on tree before now next number following whole procedure others fo
   left_is = λ called more wider rest.
       subst (AreCodeOf tree called 0 whole) (sym (append_assoc putting.list adds.list more))
       (putting.left_is called (adds.list ++ more)
-      (λ routine given. wider routine (adds.called routine given))
-      (adds.list, more,
-      kind_kept tree next.emission.is_called.items called wider number procedure procedure.kind adds.list adds.written,
-      subst (λ at. AreCodeOf tree called at others more) (follows ∙ add-one number) rest,
-      refl));
+      (λ routine given. wider routine (adds.called routine given)) (
+        adds.list,
+        more,
+        kind_kept tree next.emission.is_called.items called wider number procedure procedure.kind adds.list adds.written,
+        subst (λ at. AreCodeOf tree called at others more) (follows ∙ add-one number) rest,
+        refl,
+      ));
   called = λ routine given. adds.called routine (putting.called routine given);
 }
 
@@ -346,10 +347,13 @@ routine_then tree called routine others before between after first rest =
       added =
           rest.added ∙ ap (λ list. list ++ rest.list) one.added
           ∙ append_assoc before.code.items one.list rest.list;
-      are =
-          (one.list, rest.list,
-          routine_kept tree between after routine (has_routine called routine) one.list rest.labels one.is,
-          rest.are, refl);
+      are = (
+        one.list,
+        rest.list,
+        routine_kept tree between after routine (has_routine called routine) one.list rest.labels one.is,
+        rest.are,
+        refl,
+      );
       labels = λ number found given. rest.labels number found (one.labels number found given);
       externals = λ number found given. rest.externals number found (one.externals number found given);
     }
@@ -361,9 +365,13 @@ are_kept :
     → AreRoutines tree called before routines list
     → AreRoutines tree called after routines list
 are_kept tree called before after [] list labels are = are
-are_kept tree called before after (routine ∷ others) list labels are =
-    (are.0, are.1, routine_kept tree before after routine (has_routine called routine) are.0 labels are.2,
-    are_kept tree called before after others are.1 labels are.3, are.4)
+are_kept tree called before after (routine ∷ others) list labels are = (
+  are.0,
+  are.1,
+  routine_kept tree before after routine (has_routine called routine) are.0 labels are.2,
+  are_kept tree called before after others are.1 labels are.3,
+  are.4,
+)
 
 -- and before others
 are_then :
@@ -374,9 +382,13 @@ are_then :
     → AreRoutines tree called written (routines ++ others) (list ++ more)
 are_then tree called written [] others list more first second =
     subst (λ all. AreRoutines tree called written others (all ++ more)) (sym first) second
-are_then tree called written (routine ∷ routines) others list more first second =
-    (first.0, first.1 ++ more, first.2, are_then tree called written routines others first.1 more first.3 second,
-    ap (λ all. all ++ more) first.4 ∙ append_assoc first.0 first.1 more)
+are_then tree called written (routine ∷ routines) others list more first second = (
+  first.0,
+  first.1 ++ more,
+  first.2,
+  are_then tree called written routines others first.1 more first.3 second,
+  ap (λ all. all ++ more) first.4 ∙ append_assoc first.0 first.1 more,
+)
 
 -- routines are added, and others after them
 pub routines_then :

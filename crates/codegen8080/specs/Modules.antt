@@ -69,7 +69,8 @@ pub record IsMainCode (tree : TreeModule) (called : List Bool) (start : ℕ) (li
       ≡ items.Mark start ∷ stack_end_item (LoadPair Sp) ∷ (statements ++ (items.Plain Hlt ∷ []))
 
 -- where there is one
-abbrev pub IsCodeOfMain : TreeModule → (called : List Bool) → (start : ℕ) → (is_there : Bool) → List Item → Type 0
+abbrev pub IsCodeOfMain :
+    TreeModule → (called : List Bool) → (start : ℕ) → (is_there : Bool) → List Item → Type 0
 IsCodeOfMain tree called start true list = IsMainCode tree called start list
 IsCodeOfMain tree called start false list = list ≡ []
 
@@ -147,8 +148,8 @@ all_routines =
 
 -- A routine that is called, after its label, which the code has by a number of its own. The labels of its listing are
 -- known to nobody else.
-pub record IsRoutineCode (tree : TreeModule) (written : Written) (routine : Routine) (list : List Item) : Type 0
-    where
+pub record IsRoutineCode
+    (tree : TreeModule) (written : Written) (routine : Routine) (list : List Item) : Type 0 where
   pub label : ℕ
   pub known : entry written.labels (module_label_of_routine tree routine).index ≡ Some label
   pub listing : List Item
@@ -196,8 +197,8 @@ pub record IsSegmentOf
 
 -- A name that code knows by a number is one of the external names of an object module, which the target of that number is.
 pub record IsNamed
-    (externals : List ExternalName) (listed : List (List ℕ)) (to : Target → Target) (index number : ℕ) : Type 0
-    where
+    (externals : List ExternalName) (listed : List (List ℕ)) (to : Target → Target) (index number : ℕ) :
+    Type 0 where
   pub external : ExternalName
   pub place : ℕ
   pub name : slice_get externals index ≡ Some external
@@ -206,11 +207,13 @@ pub record IsNamed
 
 -- targets that code knows as an object module has them: its segments, and external names by their places among these
 pub record AreTargets
-    (externals : List ExternalName) (numbers : List (Option ℕ)) (listed : List (List ℕ)) (to : Target → Target) :
-    Type 0 where
+    (externals : List ExternalName) (numbers : List (Option ℕ)) (listed : List (List ℕ))
+    (to : Target → Target) : Type 0 where
   pub starts : (segment : Segment) → is_movable segment ≡ true → to (InSegment segment) ≡ InSegment segment
   pub names :
-      (index number : ℕ) → entry numbers index ≡ Some number → IsNamed externals listed to index number
+      (index number : ℕ)
+      → entry numbers index ≡ Some number
+      → IsNamed externals listed to index number
 
 -- the names that code has numbers for, in their order
 abbrev pub used_names : (numbers : List (Option ℕ)) → List ExternalName → List (List ℕ)

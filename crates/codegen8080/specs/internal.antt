@@ -3,3 +3,4 @@ pub mod Names
 pub mod Segments
 pub mod Carrying
 pub mod Bodies
+pub mod Listing

@@ -1,6 +1,6 @@
 //! The code of procedures and of the main program.
 
-ghost use Rattle.std.specs.Prelude.{◌≡◌, ◌++◌, true, IfOk, OnOk};
+ghost use Rattle.std.specs.Prelude.{◌≡◌, ◌++◌, IfOk, OnOk};
 ghost use Rattle.steps8080.specs.Step.{label_after};
 ghost use Rattle.codegen8080.specs.Modules.{IsFrameOf};
 ghost use Rattle.codegen8080.specs.Procedures.{entry_steps};

@@ -1,6 +1,6 @@
 //! The names by which modules know each other, none of them twice.
 
-ghost use Rattle.std.specs.Prelude.{◌≡◌, [], length, map, IfOk, IsTrue, OnOk};
+ghost use Rattle.std.specs.Prelude.{◌≡◌, [], ◌∷◌, ◌++◌, length, map, IfOk, IsTrue, OnOk};
 ghost use Rattle.std.specs.Str.{bytes_eq};
 ghost use Rattle.indexmap.specs.IndexSet.{insert_key};
 ghost use Rattle.symbols.specs.Names.{is_name};
@@ -60,8 +60,7 @@ pub(crate) fn valid(name: Name) -> Name
     name
 }
 
-/// The EXTERNAL names that a module refers to, and its PUBLIC names, both in the order of the text. A name that is there
-/// already is not taken: there is none in what `lower` gives.
+/// The EXTERNAL names that a module refers to, and its PUBLIC names, both in the order of the text. No name is taken twice.
 pub(crate) struct LinkageNames {
     known: NameSet,
     externals: Vec<Name>,
@@ -108,14 +107,16 @@ impl LinkageNames {
         self.externals.len()
     }
 
-    /// One more EXTERNAL name, where there is no PUBLIC one yet.
+    /// One more EXTERNAL name, where there is no PUBLIC one yet. Fails where it is there already: there is none in what
+    /// `lower` gives.
     pub(crate) fn with_external(self, name: Name) -> Result<LinkageNames, AllocError>
         requires { self.publics ≡ [] }
-        ensures { IfOk result (λ names. names.publics ≡ []) }
+        ensures publics { IfOk result (λ names. names.publics ≡ []) }
+        ensures externals { IfOk result (λ names. names.externals ≡ self.externals ++ name ∷ []) }
     {
         let name = valid(name);
         if self.known.contains(name) {
-            return Ok(self);
+            return Err(AllocError);
         }
         let LinkageNames {
             mut known,
@@ -131,14 +132,15 @@ impl LinkageNames {
         })
     }
 
-    /// One more PUBLIC name.
+    /// One more PUBLIC name. Fails where it is there already: there is none in what `lower` gives.
     pub(crate) fn with_public(self, public: OwnedPublic) -> Result<LinkageNames, AllocError>
         requires { IsTrue (may_have_publics public.segment) }
-        ensures { IfOk result (λ names. names.externals ≡ self.externals) }
+        ensures externals { IfOk result (λ names. names.externals ≡ self.externals) }
+        ensures publics { IfOk result (λ names. names.publics ≡ self.publics ++ owned_public_view public ∷ []) }
     {
         let name = valid(public.name);
         if self.known.contains(name) {
-            return Ok(self);
+            return Err(AllocError);
         }
         let LinkageNames {
             mut known,

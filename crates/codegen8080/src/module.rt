@@ -1,15 +1,17 @@
 //! Modules of tree code as object modules.
 
-ghost use Rattle.std.specs.Prelude.{◌≡◌, ◌+◌, false, slice_index_or, IfOk, OnOk};
-ghost use Rattle.codegen8080.specs.Modules.{IsCodeWritten, all_routines, content_items, contents_items, has_main};
+ghost use Rattle.std.specs.Prelude.{◌≡◌, ◌+◌, false, slice_index_or, Some, IfOk, OnOk};
+ghost use Rattle.codegen8080.specs.Modules.{IsCodeWritten, IsGenerated, all_routines, content_items, contents_items, has_main};
 ghost use Rattle.codegen8080.specs.internal.Bodies.{AddsCalled, AddsCodeOfMain, AddsOwnCode, AddsProcedures, AddsRoutines, first_routines, last_routines, next_routines};
 ghost use Rattle.codegen8080.specs.internal.Segments.{KeepsFixes};
-ghost use Rattle.steps8080.specs.Writer.{Writes};
+ghost use Rattle.codegen8080.specs.internal.Listing.{AreNamesOf, start_in};
+ghost use Rattle.steps8080.specs.Externals.{Extends};
+ghost use Rattle.steps8080.specs.Writer.{Finishes, Writes, numbered};
 
 use crate::bodies::{put_main, put_procedure};
 use crate::fault::Fault;
 use crate::generator::Generator;
-use crate::names::{listed_names, with_publics};
+use crate::names::{ListedNames, listed_names, with_publics};
 use crate::object::object_of;
 use exprgen8080::{Externals, Finished, LabelNumber, Writer, routine_label};
 use failure::Failure;
@@ -144,11 +146,7 @@ fn with_arithmetic(
 }
 
 // Adds the other shifts that are called.
-fn with_shifts(
-    writer: Writer,
-    tree: &TreeModule,
-    is_called: &[bool],
-) -> Result<Writer, AllocError>
+fn with_shifts(writer: Writer, tree: &TreeModule, is_called: &[bool]) -> Result<Writer, AllocError>
     ensures { IfOk result (λ after. AddsRoutines tree.now is_called.now next_routines writer after) }
 {
     let writer = with_called(writer, tree, is_called, 3, Routine::ShiftRightByte)?;
@@ -158,11 +156,7 @@ fn with_shifts(
 }
 
 // Adds the rotations and MOVE, where they are called.
-fn with_others(
-    writer: Writer,
-    tree: &TreeModule,
-    is_called: &[bool],
-) -> Result<Writer, AllocError>
+fn with_others(writer: Writer, tree: &TreeModule, is_called: &[bool]) -> Result<Writer, AllocError>
     ensures { IfOk result (λ after. AddsRoutines tree.now is_called.now last_routines writer after) }
 {
     let writer = with_called(writer, tree, is_called, 6, Routine::RotateLeft)?;
@@ -216,16 +210,22 @@ fn variables_of(
     alloc: Global,
     tree: &TreeModule,
     externals: Externals,
-) -> Result<Writer, AllocError> {
+) -> Result<Writer, AllocError>
+    ensures items { IfOk result (λ written. numbered written (contents_items tree.now.variables.items)
+        ≡ Some written.code.items) }
+    ensures externals { IfOk result (λ written. Extends externals written.externals) }
+{
     let mut writer = Writer::sharing(alloc, externals);
     put_contents(&mut writer, tree.variables.as_slice())?;
     Ok(writer)
 }
 
 // Code as bytes, with the names that it refers to.
-#[tactic(auto, using(crate::proofs::KeptSegments::assembled_keeps))]
+#[tactic(auto, using(crate::proofs::KeptSegments::finished_keeps))]
 fn finish(writer: Writer) -> Result<(Finished, Externals), Failure<Fault>>
-    ensures { IfOk result (λ both. KeepsFixes both.0.bytes) }
+    ensures keeps { IfOk result (λ both. KeepsFixes both.0.bytes) }
+    ensures finishes { IfOk result (λ both. Finishes writer both.0.bytes both.0.labels.items) }
+    ensures externals { IfOk result (λ both. both.1 ≡ writer.externals) }
 {
     match writer.finish() {
         Ok(both) => Ok(both),
@@ -238,7 +238,9 @@ fn finish(writer: Writer) -> Result<(Finished, Externals), Failure<Fault>>
 }
 
 // Where the code of a main program begins.
-fn start_of(tree: &TreeModule, code: &Finished, start: LabelNumber) -> Option<u16> {
+fn start_of(tree: &TreeModule, code: &Finished, start: LabelNumber) -> Option<u16>
+    ensures { result ≡ start_in tree.now code.now.bytes code.now.labels.items start.index }
+{
     if is_main(tree) {
         Some(code.place(start))
     } else {
@@ -246,14 +248,30 @@ fn start_of(tree: &TreeModule, code: &Finished, start: LabelNumber) -> Option<u1
     }
 }
 
+// The names of a module as its object module lists them.
+fn names_of(
+    alloc: Global,
+    tree: &TreeModule,
+    externals: &Externals,
+    code: &Finished,
+) -> Result<ListedNames, AllocError>
+    ensures { IfOk result (λ names. AreNamesOf tree.now externals.now code.now.bytes code.now.labels.items
+        names.numbers.items names.names) }
+{
+    let listed = listed_names(alloc, tree.externals.as_slice(), externals.numbers())?;
+    let listed = with_publics(listed, tree, code)?;
+    Ok(listed)
+}
+
 /// The object module of a module: its constants and its code in the code segment, its variables in the data segment, its
 /// PUBLIC names, and the EXTERNAL names that it refers to. Refuses a module whose code segment has more than 65535 bytes.
-pub fn generate(alloc: Global, tree: &TreeModule) -> Result<ObjectModule, Failure<Fault>> {
+pub fn generate(alloc: Global, tree: &TreeModule) -> Result<ObjectModule, Failure<Fault>>
+    ensures { IfOk result (λ object. IsGenerated tree.now object) }
+{
     let ModuleCode { writer, start } = code_of(alloc, tree)?;
     let (code, externals) = finish(writer)?;
     let (variables, externals) = finish(variables_of(alloc, tree, externals)?)?;
-    let listed = listed_names(alloc, tree.externals.as_slice(), externals.numbers())?;
-    let listed = with_publics(listed, tree, &code)?;
+    let listed = names_of(alloc, tree, &externals, &code)?;
     let start = start_of(tree, &code, start);
     let (names, numbers) = listed.into_parts();
     let object = object_of(

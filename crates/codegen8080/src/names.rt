@@ -1,15 +1,18 @@
 //! The names of a module that other modules know, and those that it knows of them.
 
-ghost use Rattle.std.specs.Prelude.{◌≡◌, [], IfOk, IfSome, IsTrue};
+ghost use Rattle.std.specs.Prelude.{◌≡◌, ◌+◌, [], ◌++◌, true, Some, slice_get, IfOk, IsTrue};
 ghost use Rattle.object_modules.specs.Module.{may_have_publics};
+ghost use Rattle.object_modules.specs.Views.{owned_public_view};
+ghost use Rattle.codegen8080.specs.Modules.{IsAtPlace};
+ghost use Rattle.codegen8080.specs.internal.Listing.{AreListed, ArePublicsIn, IsPlaceAfter, IsPublicIn, used_name};
 
 use crate::linkage::LinkageNames;
 use exprgen8080::{Finished, LabelNumber};
 use object_modules::{Name, OwnedPublic, Segment};
 use std::alloc::{AllocError, Global};
-use treecode::{ExternalName, Place, PublicPlace, TreeModule};
+use treecode::{ExternalName, Place, PublicName, PublicPlace, TreeModule};
 
-/// The EXTERNAL names that code refers to, and the number of each among them by the number by which the code knows it.
+/// The EXTERNAL names that code refers to, and the place of each among them by the number by which the code knows it.
 pub(crate) struct ListedNames {
     pub names: LinkageNames,
     pub numbers: Vec<u16>,
@@ -19,69 +22,158 @@ impl ListedNames {
     /// The names, and the numbers.
     pub(crate) fn into_parts(self) -> (LinkageNames, Vec<u16>)
         ensures names { result.0 ≡ self.names }
+        ensures numbers { result.1 ≡ self.numbers }
     {
         let ListedNames { names, numbers } = self;
         (names, numbers)
     }
 }
 
-// Sets the number that a name has among others, by the number by which the code knows it.
-fn set_number(numbers: &mut Vec<u16>, known_by: u16, number: usize) {
-    if let Some(entry) = numbers.get_mut(known_by as usize) {
-        *entry = u16::try_from(number).unwrap_or(u16::MAX);
+// Sets the place that a name has among others, by the number by which the code knows it.
+fn set_place(places: &mut Vec<u16>, number: u16, place: u16) {
+    if let Some(entry) = places.get_mut(number as usize) {
+        *entry = place;
     }
+}
+
+// The place after another one. Fails where there is none.
+fn next_place(place: u16) -> Result<u16, AllocError>
+    ensures { IfOk result (λ next. next ≡ place + 1) }
+{
+    match place.checked_add(1) {
+        Some(next) => Ok(next),
+        None => Err(AllocError),
+    }
+}
+
+// The place among the names that code refers to of each of them, by the number by which the code knows it.
+fn places_of(alloc: Global, numbers: &[Option<u16>]) -> Result<Vec<u16>, AllocError> {
+    let mut places = vec![in alloc; 0; numbers.len()]?;
+    let mut place = 0;
+    for number in numbers {
+        if let Some(number) = *number {
+            set_place(&mut places, number, place);
+            place = next_place(place)?;
+        }
+    }
+    Ok(places)
+}
+
+// Whether a name that code knows by a number has a place.
+fn has_place(places: &[u16], number: u16, place: u16) -> bool
+    ensures { result ≡ true → slice_get places.now number ≡ Some place }
+{
+    match places.get(number as usize) {
+        Some(found) => *found == place,
+        None => false,
+    }
+}
+
+// The place after that of a name, if it has one. Fails where the table has another one for it: no two names have a number.
+fn place_after(places: &[u16], number: Option<u16>, place: u16) -> Result<u16, AllocError>
+    ensures { IfOk result (λ next. IsPlaceAfter places.now number place next) }
+{
+    let Some(number) = number else {
+        return Ok(place);
+    };
+    if has_place(places, number, place) {
+        next_place(place)
+    } else {
+        Err(AllocError)
+    }
+}
+
+// Names with one of them more, if code refers to it.
+fn with_used(
+    names: LinkageNames,
+    external: ExternalName,
+    number: Option<u16>,
+) -> Result<LinkageNames, AllocError>
+    requires { names.publics ≡ [] }
+    ensures publics { IfOk result (λ after. after.publics ≡ []) }
+    ensures externals { IfOk result (λ after. after.externals ≡ names.externals ++ used_name number external) }
+{
+    match number {
+        Some(_) => names.with_external(external.name),
+        None => Ok(names),
+    }
+}
+
+// The names that code refers to, each at the place that a table has for it.
+fn names_at(
+    alloc: Global,
+    externals: &[ExternalName],
+    numbers: &[Option<u16>],
+    places: &[u16],
+) -> Result<LinkageNames, AllocError>
+    ensures { IfOk result (λ names. AreListed externals.now numbers.now places.now names) }
+{
+    let mut names = LinkageNames::new(alloc);
+    let mut left = numbers;
+    let mut rest = externals;
+    let mut place = 0;
+    while let [number, more @ ..] = left {
+        let [external, others @ ..] = rest else {
+            return Err(AllocError);
+        };
+        place = place_after(places, *number, place)?;
+        names = with_used(names, *external, *number)?;
+        left = more;
+        rest = others;
+    }
+    Ok(names)
 }
 
 /// The names that code refers to, from all EXTERNAL names of a module and the numbers by which the code knows them.
 pub(crate) fn listed_names(
     alloc: Global,
     externals: &[ExternalName],
-    known_by: &[Option<u16>],
+    numbers: &[Option<u16>],
 ) -> Result<ListedNames, AllocError>
-    ensures { IfOk result (λ listed. listed.names.publics ≡ []) }
+    ensures { IfOk result (λ listed. AreListed externals.now numbers.now listed.numbers.items listed.names) }
 {
-    let mut names = LinkageNames::new(alloc);
-    let mut numbers = vec![in alloc; 0; known_by.len()]?;
-    for (index, external) in externals.iter().enumerate() {
-        if let Some(Some(number)) = known_by.get(index) {
-            set_number(&mut numbers, *number, names.external_count());
-            names = names.with_external(external.name)?;
-        }
-    }
-    Ok(ListedNames { names, numbers })
+    let places = places_of(alloc, numbers)?;
+    let names = names_at(alloc, externals, numbers, places.as_slice())?;
+    Ok(ListedNames {
+        names,
+        numbers: places,
+    })
 }
 
-// A public name of an object, unless it lies in another module.
-fn public_object(name: Name, place: Place) -> Option<OwnedPublic>
-    ensures { IfSome result (λ public. IsTrue (may_have_publics public.segment)) }
+// A public name of an object. Fails where it lies in another module: there is none in what `lower` gives.
+fn public_object(name: Name, place: Place) -> Result<OwnedPublic, AllocError>
+    ensures may { IfOk result (λ public. IsTrue (may_have_publics public.segment)) }
+    ensures is { IfOk result (λ public. IsAtPlace name place (owned_public_view public)) }
 {
     match place {
-        Place::Number(offset) => Some(OwnedPublic {
+        Place::Number(offset) => Ok(OwnedPublic {
             segment: Segment::Absolute,
             offset,
             name,
         }),
-        Place::Code(offset) => Some(OwnedPublic {
+        Place::Code(offset) => Ok(OwnedPublic {
             segment: Segment::Code,
             offset,
             name,
         }),
-        Place::Data(offset) => Some(OwnedPublic {
+        Place::Data(offset) => Ok(OwnedPublic {
             segment: Segment::Data,
             offset,
             name,
         }),
-        Place::External { .. } => None,
+        Place::External { .. } => Err(AllocError),
     }
 }
 
 // A public name, with its place in code.
-fn public_of(name: Name, place: PublicPlace, code: &Finished) -> Option<OwnedPublic>
-    ensures { IfSome result (λ public. IsTrue (may_have_publics public.segment)) }
+fn public_of(name: Name, place: PublicPlace, code: &Finished) -> Result<OwnedPublic, AllocError>
+    ensures may { IfOk result (λ public. IsTrue (may_have_publics public.segment)) }
+    ensures is { IfOk result (λ public. IsPublicIn code.now.labels.items code.now.bytes name place
+        (owned_public_view public)) }
 {
     match place {
         PublicPlace::Object(place) => public_object(name, place),
-        PublicPlace::Procedure(number) => Some(OwnedPublic {
+        PublicPlace::Procedure(number) => Ok(OwnedPublic {
             segment: Segment::Code,
             offset: code.place(LabelNumber { index: number }),
             name,
@@ -89,18 +181,39 @@ fn public_of(name: Name, place: PublicPlace, code: &Finished) -> Option<OwnedPub
     }
 }
 
+// Names with PUBLIC ones.
+fn with_all_publics(
+    names: LinkageNames,
+    publics: &[PublicName],
+    code: &Finished,
+) -> Result<LinkageNames, AllocError>
+    requires { names.publics ≡ [] }
+    ensures externals { IfOk result (λ after. after.externals ≡ names.externals) }
+    ensures publics { IfOk result (λ after. ArePublicsIn code.now.labels.items code.now.bytes publics.now after.publics) }
+{
+    let mut names = names;
+    let mut left = publics;
+    while let [public, others @ ..] = left {
+        names = names.with_public(public_of(public.name, public.place, code)?)?;
+        left = others;
+    }
+    Ok(names)
+}
+
 /// The names of a module with its PUBLIC ones.
 pub(crate) fn with_publics(
     listed: ListedNames,
     tree: &TreeModule,
     code: &Finished,
-) -> Result<ListedNames, AllocError> {
-    let (mut names, numbers) = listed.into_parts();
-    for public in tree.publics.iter() {
-        if let Some(public) = public_of(public.name, public.place, code) {
-            names = names.with_public(public)?;
-        }
-    }
+) -> Result<ListedNames, AllocError>
+    requires { listed.names.publics ≡ [] }
+    ensures names { IfOk result (λ after. after.names.externals ≡ listed.names.externals) }
+    ensures numbers { IfOk result (λ after. after.numbers ≡ listed.numbers) }
+    ensures publics { IfOk result (λ after. ArePublicsIn code.now.labels.items code.now.bytes tree.now.publics.items
+        after.names.publics) }
+{
+    let (names, numbers) = listed.into_parts();
+    let names = with_all_publics(names, tree.publics.as_slice(), code)?;
     Ok(ListedNames { names, numbers })
 }
 

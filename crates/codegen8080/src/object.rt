@@ -1,5 +1,7 @@
 //! Object modules of assembled code.
 
+ghost use Rattle.std.specs.Prelude.{IfOk};
+ghost use Rattle.codegen8080.specs.internal.Listing.{IsMadeOf};
 ghost use Rattle.codegen8080.specs.internal.Segments.{KeepsFixes};
 
 use crate::linkage::{LinkageNames, valid};
@@ -21,6 +23,7 @@ pub(crate) fn object_of(
 ) -> Result<ObjectModule, AllocError>
     requires code { KeepsFixes code }
     requires variables { KeepsFixes variables }
+    ensures { IfOk result (λ object. IsMadeOf name code variables names numbers.now start object) }
 {
     let name = valid(name);
     let count = names.external_count();

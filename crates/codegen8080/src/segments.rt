@@ -4,8 +4,8 @@ ghost use Rattle.std.specs.Prelude.{◌≡◌, ◌∷◌, ◌++◌, ◌≤◌, �
 ghost use Rattle.object_modules.specs.declared.segment.TheConstants.{SEGMENT_LIMIT};
 ghost use Rattle.object_modules.specs.Text.{runs_from};
 ghost use Rattle.object_modules.specs.internal.Joining.{run_at, with_run};
-ghost use Rattle.asm8080.specs.Assembled.{set_bytes};
-ghost use Rattle.codegen8080.specs.internal.Segments.{IsKept, KeepsFixes};
+ghost use Rattle.asm8080.specs.Assembled.{segment_of, set_bytes};
+ghost use Rattle.codegen8080.specs.internal.Segments.{IsKept, KeepsFixes, retarget, with_targets};
 
 use crate::targets::retargeted;
 use asm8080::CodeBytes;
@@ -91,7 +91,8 @@ pub(crate) fn segment_of(
     count: usize,
 ) -> Result<SegmentBytes, AllocError>
     requires { KeepsFixes code }
-    ensures { IfOk result (λ made. IsKept count made) }
+    ensures kept { IfOk result (λ made. IsKept count made) }
+    ensures same { IfOk result (λ made. made ≡ segment_of (with_targets (retarget numbers.now count) code)) }
 {
     let size = count_of(code.bytes());
     let runs = runs_of(alloc, code.bytes(), code.is_set())?;

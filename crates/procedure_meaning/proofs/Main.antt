@@ -110,7 +110,7 @@ main_goes code entries start budget room s r memory lies known lists fit stands 
         stands.list_written parts.first (length (nodes_of code.tree.now).statements) code.typed.main.body
         lowered.body lies.types.main lies.jumps.main.stands memory s
         (record r { sp = wrap (code.program.placement.stack.start + code.program.placement.stack.len) }) memory
-        (omega (arith, below)) (record { depth = omega arith; enough = omega (arith, fits, charge, enough) }) ready
+        (omega (arith, below)) (record { depth = omega arith; enough = omega (arith, fits, charge, enough); even = refl }) ready
         no_facts_hold)
         (λ flow t end gave leaves spent.
         by_flow flow t end

@@ -142,7 +142,7 @@ entered_does at number found range room entry middle end_place to top bound fact
     (sym begun.is_at)
     (then_does_where (done_list at.context.later activation.around found.body t)
     (does bound found.body is types stands begun.memory t begun.r begun.memory (omega (arith, spent, below))
-    (record { depth = omega arith; enough = has_room }) begun.ready begun.known)
+    (record { depth = omega arith; enough = has_room; even = refl }) begun.ready begun.known)
     (λ flow u state gave leaves spent_too.
     by_flow flow t u state (subst (λ (outcome : Outcome Flow). IsLeftBy ways outcome) gave (left t))
     begun.r begun.memory begun.kept begun.return_lies leaves)))

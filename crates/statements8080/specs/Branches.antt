@@ -1,5 +1,6 @@
 -- The code of IF and DO WHILE.
 use Rattle.std.specs.Prelude.{ℕ, zero, suc, ◌%◌, Bool, true, false, not, if◌then◌else◌, nat_eq, nat_lt, List, [], ◌∷◌, ◌++◌, Option, Some, None}
+use Rattle.isa8080.specs.declared.instr.Instr.TheVariants.{Nop}
 use Rattle.asm8080.specs.declared.item.WordForm.TheVariants.{Jump}
 use Rattle.trees.specs.declared.expression.BinaryOperator.{BinaryOperator}
 use Rattle.trees.specs.declared.expression.BinaryOperator.TheVariants.{And, Or}
@@ -22,7 +23,7 @@ use Rattle.statements8080.specs.declared.body.Body.{Body}
 use Rattle.statements8080.specs.declared.branching.TheConstants.{LOOKED_THROUGH}
 use Rattle.statements8080.specs.declared.plan.Planned.{Planned}
 use Rattle.statements8080.specs.declared.plan.Planned.TheVariants.{Jumped, JumpOn, List as ListOf, Meet, Reaches, Statement, Turn}
-use Rattle.statements8080.specs.Plans.{jump, mark, nth_label, part}
+use Rattle.statements8080.specs.Plans.{jump, mark, nth_label, part, plain}
 use Rattle.statements8080.specs.Bodies.{body_label}
 
 -- an expression inside NOT or a conversion that is an expression of a form
@@ -174,10 +175,10 @@ if_labels body site condition then_part else_part = elim (number site condition)
   | None ↦ tested_if_labels body then_part else_part
 ]
 
--- a list that is carried out again and again
+-- a list that is carried out again and again, behind an instruction that the first turn is counted by
 abbrev pub forever_steps : Range → (first : ℕ) → List Planned
 forever_steps list first =
-    mark (label_of first) ∷ ListOf list ∷ JumpOn (label_of first) ∷ Reaches false ∷ []
+    plain Nop ∷ mark (label_of first) ∷ ListOf list ∷ JumpOn (label_of first) ∷ Reaches false ∷ []
 
 -- DO WHILE of a condition that is not known: it is tested at the end, to which the code before the loop jumps
 -- unless the list is empty

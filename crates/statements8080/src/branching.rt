@@ -9,6 +9,7 @@ use crate::body::Body;
 use crate::plan::{Plan, Planned, label_at};
 use asm8080::WordForm;
 use exprgen8080::{LabelNumber, Site, Task};
+use isa8080::Instr;
 use std::alloc::AllocError;
 use treecode::{ExpressionForm, ExpressionNumber, Range, Statement, StatementNumber};
 use trees::{BinaryOperator, UnaryOperator};
@@ -197,12 +198,14 @@ pub fn plan_if(
     }
 }
 
-// A list that is carried out again and again.
+// A list that is carried out again and again. Each turn has a step of its own: the first one NOP, any other one the jump
+// back.
 fn plan_forever(plan: &mut Plan, list: Range) -> Result<(), AllocError>
     ensures { OnOk result (PlanAddsWithLabels plan.old plan.new 1
         (forever_steps list)) }
 {
     let begin = plan.label();
+    plan.plain(Instr::Nop)?;
     plan.mark(begin)?;
     plan.push(Planned::List(list))?;
     plan.push(Planned::JumpOn(begin))?;

@@ -320,10 +320,7 @@ fn known_label(code: &Code, number: Option<usize>) -> Result<Option<Label>, Allo
 }
 
 // The labels of code by their numbers, where they are used.
-fn known_labels(
-    code: &Code,
-    numbers: Vec<Option<usize>>,
-) -> Result<Vec<Option<Label>>, AllocError>
+fn known_labels(code: &Code, numbers: Vec<Option<usize>>) -> Result<Vec<Option<Label>>, AllocError>
     ensures known { IfOk result (λ labels. labels.items ≡ map (known_label code.now.labels) numbers.items) }
     ensures is_assembly { IsAssembly code.now }
 {

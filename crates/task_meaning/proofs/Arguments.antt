@@ -1,17 +1,15 @@
 -- Code of the arguments of a call: all but the last are pushed.
-use Rattle.std.proofs.Common.{◌≡◌, ℕ, zero, suc, ◌+◌, ◌-◌, ◌*◌, ◌/◌, ◌%◌, ◌<◌, ◌≤◌, max, inl, inr, nat_lt, true, if◌then◌else◌, List, [], ◌∷◌, ◌++◌, length, slice_get, Option, Some, None, refl, sym, ap, subst, ◌∙◌, arith, lt-ltb, length-set, append-nil}
+use Rattle.std.proofs.Common.{◌≡◌, ℕ, zero, suc, ◌+◌, ◌-◌, ◌*◌, ◌%◌, ◌<◌, ◌≤◌, inl, inr, nat_lt, true, List, [], ◌∷◌, ◌++◌, length, slice_get, Some, None, refl, sym, ap, subst, ◌∙◌, arith, lt-ltb, length-set}
 use Rattle.mem80.specs.declared.memory.TheConstants.{MEMORY_SIZE}
 use Rattle.mem80.specs.Memory.{byte_at}
 use Rattle.trees.specs.declared.declaration.ScalarType.{ScalarType}
 use Rattle.trees.specs.declared.declaration.ScalarType.TheVariants.{Byte, Address}
-use Rattle.typed_trees.specs.Charge.{count_of_arguments, height_of, height_of_arguments}
+use Rattle.typed_trees.specs.Charge.{count_of_arguments, height_of_arguments}
 use Rattle.typed_trees.specs.ExpressionTypes.{type_of}
 use Rattle.typed_trees.specs.TypedTrees.{MoreArguments, NoArguments, TypedArguments, TypedExpression}
-use Rattle.typed_trees.specs.WellTyped.{TypesHold, TypesHoldInArguments, types_of}
+use Rattle.typed_trees.specs.WellTyped.{TypesHoldInArguments, types_of}
 use Rattle.meaning.specs.Meaning.{value, values}
 use Rattle.meaning.specs.Outcomes.{State as SourceState, Outcome, Gave, then_do}
-use Rattle.isa8080.specs.declared.instr.Instr.TheVariants.{Push}
-use Rattle.isa8080.specs.declared.instr.StackPair.TheVariants.{Psw, StackHl}
 use Rattle.isa8080.specs.Flags.{flag_byte}
 use Rattle.isa8080.specs.State.{Registers, State, word, wrap}
 use Rattle.asm8080.specs.Standing.{Keeps}
@@ -22,7 +20,6 @@ use Rattle.treecode.specs.Lowered.{AreArguments, AreMore, AreNone, IsExpression}
 use Rattle.treecode.specs.Queries.{argument}
 use Rattle.steps8080.specs.declared.facts.Facts.{Facts}
 use Rattle.steps8080.specs.declared.step.Step.{Step}
-use Rattle.sites8080.specs.declared.site.Site.{Site}
 use Rattle.sites8080.specs.Site.{scalar}
 use Rattle.code_meaning.specs.Activations.{Activation, IsReady, LiesWell, Owns}
 use Rattle.code_meaning.specs.Landing.{Does, at_place}

@@ -37,7 +37,7 @@ use Rattle.task_meaning.proofs.Values.{then_does_where}
 use Rattle.task_meaning.proofs.Reading.{FitsIn, byte_read, word_read}
 use Rattle.task_meaning.proofs.Located.{located_in}
 use Rattle.task_meaning.proofs.Fitting.{located_fits, refers_is_referred}
-use Rattle.task_meaning.proofs.LocationBytes.{NeighboursOf, load_a_goes, location_byte_goes}
+use Rattle.task_meaning.proofs.LocationBytes.{load_a_goes, location_byte_goes}
 use Rattle.task_meaning.proofs.Loads.{given_last, lies_there, same_location_found, static_only}
 
 low_of : (low high : ℕ) → low < 256 → (low + 256 * high) % 256 ≡ low
@@ -73,7 +73,7 @@ scalar_read {context = context} {memory = memory} Address place s go sound ready
     word_read place s go sound ready fits
     (λ steady next. does (low + 256 * high) steady (sym (low_of low high small)) (two_bytes low high small small_too))
 
-place_small : (activation : Activation) (size : ℕ) (place : SourcePlace) → FitsIn activation size place
+pub place_small : (activation : Activation) (size : ℕ) (place : SourcePlace) → FitsIn activation size place
     → address_on_machine activation place < MEMORY_SIZE
 place_small activation size (InMemory address) fits = fits
 place_small activation size (InTheFrame object offset is_inside) fits = omega arith
@@ -88,13 +88,11 @@ pub record ByteIsLoaded
   pub free : (location : Location) → location_of (knowing context.site before) reference ≡ Some location
       → is_static_location location ≡ true → ChangesAOnly r memory now memory_now
 
--- The code of the low byte of a part of memory, where bytes of the frame that are next to the stack pointer have steady
--- ones beside them.
+-- The code of the low byte of a part of memory.
 pub byte_in_memory_law :
     {context : Context} {facts last : Facts} {reference : Reference} {pushed from to bound : ℕ} {tree : TypedReference}
     (scalar : ScalarType)
     → IsSound context
-    → ((location : Location) → location_of (knowing context.site facts) reference ≡ Some location → NeighboursOf context pushed location)
     → StepsStand context (PartDoes context) facts from (byte_in_memory_steps (knowing context.site facts) reference pushed) last to
     → IsReference (nodes_in context) context.storage bound reference tree
     → RefersToScalar context.typed context.within scalar tree
@@ -102,7 +100,7 @@ pub byte_in_memory_law :
     → Carries context facts pushed (2 * height_of_reference tree) 0 from to Nothing
     (λ s. then_do (located_in context tree s) (λ place t. read_scalar context.activation.around.program scalar place t))
     (ByteIsLoaded context facts last reference scalar)
-byte_in_memory_law {context = context} {facts = facts} {last = last} {reference = reference} {pushed = pushed} {from = from} {to = to} {bound = bound} {tree = tree} scalar sound neighbours stand is refers types top base s r memory less room ready known asked =
+byte_in_memory_law {context = context} {facts = facts} {last = last} {reference = reference} {pushed = pushed} {from = from} {to = to} {bound = bound} {tree = tree} scalar sound stand is refers types top base s r memory less room ready known asked =
     by_location (location_of (knowing context.site facts) reference) refl stand
   where
     by_location : (found : Option Location) → location_of (knowing context.site facts) reference ≡ found
@@ -123,7 +121,7 @@ byte_in_memory_law {context = context} {facts = facts} {last = last} {reference 
         ∙ sym (ap (λ (outcome : Outcome SourcePlace). then_do outcome (λ place t. read_scalar context.activation.around.program scalar place t)) (lies.means s)))
         (scalar_read scalar lies.place s (λ n t. Gave n t) sound ready fits
         (λ n steady low small.
-        location_byte_goes facts location r sound room (neighbours location found)
+        location_byte_goes facts location r sound room
         (subst (λ (n : ℕ). n < MEMORY_SIZE) lies.is_at (place_small context.activation (size_of_scalar scalar) lies.place fits))
         (subst (λ (n : ℕ). IsSteady context.activation n) lies.is_at steady)
         known stand (record { ready = ready; known = known })

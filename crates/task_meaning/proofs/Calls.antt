@@ -1,5 +1,5 @@
 -- Code of a call of a procedure.
-use Rattle.std.proofs.Common.{◌≡◌, ℕ, zero, suc, ◌+◌, ◌-◌, ◌*◌, ◌<◌, ◌≤◌, ◌⊎◌, inl, inr, get_or, List, [], ◌∷◌, ◌++◌, length, slice_get, Option, Some, None, refl, sym, ap, subst, ◌∙◌, arith}
+use Rattle.std.proofs.Common.{◌≡◌, ℕ, suc, ◌+◌, ◌%◌, ◌-◌, ◌*◌, ◌<◌, ◌≤◌, ◌⊎◌, inl, inr, get_or, List, [], ◌∷◌, ◌++◌, length, slice_get, Option, Some, None, refl, sym, ap, subst, ◌∙◌, arith}
 use Rattle.std.proofs.lemmas.Option.{slice_get_cases, slice_get_within}
 use Rattle.std.specs.Prelude.{IsSomeAnd}
 use Rattle.trees.specs.declared.declaration.ScalarType.{ScalarType}
@@ -7,21 +7,18 @@ use Rattle.typed_trees.specs.Charge.{count_of_arguments, height_of_arguments}
 use Rattle.typed_trees.specs.TypedTrees.{MoreArguments, NoArguments, TypedArguments, TypedProcedure}
 use Rattle.typed_trees.specs.WellTyped.{Takes, TypesHoldInArguments, types_of}
 use Rattle.meaning.specs.Meaning.{called_for, callee_in, values}
-use Rattle.meaning.specs.Outcomes.{State as SourceState, Outcome, Gave, then_do}
-use Rattle.isa8080.specs.State.{Registers, State}
-use Rattle.asm8080.specs.declared.item.Item.{Item}
+use Rattle.meaning.specs.Outcomes.{State as SourceState, then_do}
+use Rattle.isa8080.specs.State.{Registers}
 use Rattle.asm8080.specs.Standing.{Keeps}
-use Rattle.machine_runs.proofs.Kept.{stands_size}
 use Rattle.treecode.specs.declared.lists.Range.{Range}
 use Rattle.treecode.specs.declared.procedure.ProcedureKind.{ProcedureKind}
 use Rattle.treecode.specs.declared.procedure.ProcedureKind.TheVariants as kinds
 use Rattle.treecode.specs.declared.procedure.TreeProcedure.{TreeProcedure}
 use Rattle.treecode.specs.Lowered.{AreArguments, AreMore, AreNone}
 use Rattle.steps8080.specs.declared.facts.Facts.{Facts}
-use Rattle.steps8080.specs.declared.step.Step.{Step}
 use Rattle.steps8080.specs.declared.step.Step.TheVariants as steps
 use Rattle.steps8080.specs.Facts.{no_facts}
-use Rattle.code_meaning.specs.Activations.{Activation, Arrives, IsReady, IsThere, Owns}
+use Rattle.code_meaning.specs.Activations.{Arrives, IsReady, IsThere, Owns}
 use Rattle.code_meaning.specs.Landing.{Does, at_place}
 use Rattle.code_meaning.proofs.Landing.{gives}
 use Rattle.code_meaning.proofs.Owning.{keeps_both}
@@ -32,7 +29,7 @@ use Rattle.task_meaning.specs.Contexts.{ArgumentsLie, Context, IsSound, ResultLi
 use Rattle.task_meaning.specs.Steps.{CallThere, NoneThere, StepsStand}
 use Rattle.task_meaning.specs.Tasks.{CallDoes, PartDoes, ResultIsGiven}
 use Rattle.task_meaning.proofs.Rules.{split}
-use Rattle.task_meaning.proofs.Stages.{Stage, does_same, gives_then, script_of}
+use Rattle.task_meaning.proofs.Stages.{Stage, gives_then, script_of}
 use Rattle.task_meaning.proofs.Arguments.{ArePassed, at_arguments, ready_now}
 
 -- the heading of a procedure that is called
@@ -97,18 +94,19 @@ at_call :
     → HeadingOf context procedure result (types_of trees)
     → IsThere context.activation (call_items context.site procedure) from to
     → top ≤ context.activation.level
+    → (context.activation.level - top) % 2 ≡ 0
     → ArePassed context (types_of trees) top base given low u now memory_now
     → Does (script_of context) u.budget 0 (at_place from now memory_now u.events)
     (called_for context.later (callee_in context.activation.around procedure) given context.activation.around u)
     (Arrives context.activation top base to (ResultIsGiven context no_facts result r memory))
-at_call {context = context} {result = result} {top = top} {low = low} {from = from} {to = to} {procedure = procedure} {base = base} {given = given} {u = u} {r = r} {now = now} {memory = memory} {memory_now = memory_now} trees sound of there below passed =
+at_call {context = context} {result = result} {top = top} {low = low} {from = from} {to = to} {procedure = procedure} {base = base} {given = given} {u = u} {r = r} {now = now} {memory = memory} {memory_now = memory_now} trees sound of there below words passed =
     let place = call_size sound of there in
     let height = passed.height in
     let room = passed.room in
     gives_then _
     (sound.calls procedure from low (context.activation.level - low) of.heading given memory_now u now memory_now
     of.is_there passed.below (subst (λ n. IsThere context.activation (call_items context.site procedure) from n) place there)
-    (record { depth = omega (arith, height, below); enough = omega (arith, room) })
+    (record { depth = omega (arith, height, below); even = omega (arith, height, below, words); enough = omega (arith, room) })
     (omega (arith, height, below)) passed.ready
     (subst (λ types. ArgumentsLie types given low now memory_now) (sym of.types_are) passed.lie))
     (λ found t end arrives spent.
@@ -156,8 +154,9 @@ pub call_goes :
 unfolding arguments_steps
 call_goes {context = context} procedure arguments sound same_first same_count AreNone takes types (CallThere there NoneThere) top base s r memory stage =
     let depth = stage.room.depth in
+    let even = stage.room.even in
     let enough = stage.room.enough in
-    at_call NoArguments sound (heading_of context procedure _ NoArguments takes) there (omega (arith, depth))
+    at_call NoArguments sound (heading_of context procedure _ NoArguments takes) there (omega (arith, depth)) (omega (arith, depth, even))
     (record {
       below = stage.below;
       room = omega (arith, enough);
@@ -169,24 +168,26 @@ call_goes {context = context} procedure arguments sound same_first same_count Ar
     })
 call_goes {context = context} {facts = facts} {last = last} {pushed = pushed} {from = from} {to = to} {result = result} procedure arguments sound same_first same_count (AreMore {first = first} {count = others} {number = number} {tree = tree} {others = more} at node are) takes types stand top base s r memory stage =
     let depth = stage.room.depth in
+    let even = stage.room.even in
     let parts = split (arguments_steps (knowing context.site facts) arguments (suc others) pushed) (steps.CallProcedure procedure ∷ []) stand in
-    finishes parts.first parts.second (omega (arith, depth))
+    finishes parts.first parts.second (omega (arith, depth)) (omega (arith, depth, even))
   where
     finishes : {found final : Facts} {middle finish : ℕ}
         → StepsStand context (PartDoes context) facts from
         (arguments_steps (knowing context.site facts) arguments (suc others) pushed) found middle
         → StepsStand context (PartDoes context) found middle (steps.CallProcedure procedure ∷ []) final finish
         → top ≤ context.activation.level
+        → (context.activation.level - top) % 2 ≡ 0
         → Does (script_of context) s.budget 0 (at_place from r memory s.events)
         (then_do (values context.later context.activation.around (MoreArguments tree more) s)
         (λ given t.
         called_for context.later (callee_in context.activation.around procedure) given context.activation.around t))
         (Arrives context.activation top base finish (ResultIsGiven context final result r memory))
-    finishes {middle = middle} before (CallThere there NoneThere) below =
+    finishes {middle = middle} before (CallThere there NoneThere) below words =
         at_arguments facts arguments from middle _ sound (omega (arith, same_first, same_count))
         (omega (arith, same_count)) (AreMore at node are) types before (omega arith) stage
         (λ given low u now memory_now passed.
-        at_call (MoreArguments tree more) sound (heading_of context procedure result (MoreArguments tree more) takes) there below passed)
+        at_call (MoreArguments tree more) sound (heading_of context procedure result (MoreArguments tree more) takes) there below words passed)
 
 -- the task of a call
 pub call_does :

@@ -1,32 +1,28 @@
 -- Code of what an expression does beside its value.
-use Rattle.std.proofs.Common.{◌≡◌, ℕ, ◌+◌, ◌*◌, ◌<◌, ◌≤◌, ◌&&◌, max, Bool, true, false, if◌then◌else◌, List, [], ◌∷◌, ◌++◌, Option, Some, None, refl, sym, ap, subst, ◌∙◌, arith}
-use Rattle.trees.specs.declared.declaration.ScalarType.{ScalarType}
-use Rattle.typed_trees.specs.Charge.{height_of, height_of_reference, height_of_subscript}
-use Rattle.typed_trees.specs.TypedTrees.{TypedExpression, TypedReference, PartOf, Subscript, NoSubscript, At}
-use Rattle.typed_trees.specs.WellTyped.{TypesHold, TypesHoldInReference, TypesHoldInSubscript}
+use Rattle.std.proofs.Common.{◌≡◌, ℕ, ◌+◌, ◌*◌, ◌≤◌, ◌&&◌, List, Option, refl, ap, arith}
+use Rattle.typed_trees.specs.Charge.{height_of_reference, height_of_subscript}
+use Rattle.typed_trees.specs.TypedTrees.{TypedReference, Subscript}
+use Rattle.typed_trees.specs.WellTyped.{TypesHoldInReference, TypesHoldInSubscript}
 use Rattle.meaning.specs.Meaning.{Displacement, based_place, displacement, displaced, located, no_displacement, value}
-use Rattle.meaning.specs.Access.{Place, home_of, read_scalar}
-use Rattle.meaning.specs.Outcomes.{State as SourceState, Outcome, Gave, Stopped, Outside, then_do}
-use Rattle.meaning.specs.declared.reason.Reason.{Reason}
+use Rattle.meaning.specs.Access.{Place, home_of}
+use Rattle.meaning.specs.Outcomes.{State as SourceState, Outcome, Gave, Stopped, then_do}
 use Rattle.isa8080.specs.State.{Registers, State}
-use Rattle.treecode.specs.declared.expression.Expression.{Expression}
-use Rattle.treecode.specs.declared.expression.ExpressionNumber.{ExpressionNumber}
 use Rattle.treecode.specs.declared.reference.Reference.{Reference}
 use Rattle.treecode.specs.declared.reference.Subscript.{Subscript as IndexNode}
-use Rattle.treecode.specs.Lowered.{IsExpression, IsReference, IsPart, IsSubscript, IsAbsent, IsIndex}
+use Rattle.treecode.specs.Lowered.{IsReference, IsPart, IsSubscript, IsAbsent, IsIndex}
 use Rattle.quiet_expressions.specs.internal.Evaluations.{Answer, Found, Fails, IsQuiet, outcome_of}
-use Rattle.quiet_expressions.proofs.Evaluating.{quiet_base, quiet_scalar}
+use Rattle.quiet_expressions.proofs.Evaluating.{quiet_base}
 use Rattle.steps8080.specs.declared.facts.Facts.{Facts}
 use Rattle.code_meaning.specs.Activations.{Arrives}
 use Rattle.code_meaning.specs.Landing.{Does, at_place}
 use Rattle.code_meaning.proofs.Access.{outside_does}
 use Rattle.code_meaning.proofs.Landing.{gives}
 use Rattle.exprgen8080.specs.Effects.{reference_effects_steps, subscript_effects_steps}
-use Rattle.task_meaning.specs.Contexts.{Context, IsSound, nodes_in}
+use Rattle.task_meaning.specs.Contexts.{Context, nodes_in}
 use Rattle.task_meaning.specs.Steps.{NoneThere, PartThere, StepsStand}
 use Rattle.task_meaning.specs.Tasks.{NothingIsGiven, PartDoes}
 use Rattle.task_meaning.proofs.Rules.{split}
-use Rattle.task_meaning.proofs.Stages.{Stage, at_effects, does_same, has_less_room, script_of}
+use Rattle.task_meaning.proofs.Stages.{Stage, at_effects, does_same, script_of}
 
 -- one part after two is two parts after one
 pub then_again :

@@ -1,5 +1,5 @@
 -- An expression whose code keeps A or DE is quiet, and so is one that is known.
-use Rattle.std.proofs.Common.{◌≡◌, ℕ, zero, suc, ◌+◌, ◌%◌, ◌<◌, ◌≤◌, ◌&&◌, ◌⊎◌, inl, inr, Bool, true, false, not, ◌||◌, if◌then◌else◌, nat_lt, Option, Some, None, is_some, option_and_then, option_map, slice_get, refl, sym, ap, subst, ◌∙◌, arith}
+use Rattle.std.proofs.Common.{◌≡◌, ℕ, zero, suc, ◌%◌, ◌<◌, ◌≤◌, ◌&&◌, ◌⊎◌, inl, inr, Bool, true, false, not, ◌||◌, if◌then◌else◌, Option, Some, None, is_some, option_and_then, option_map, slice_get, refl, sym, ap, subst, ◌∙◌, arith}
 use Rattle.std.proofs.lemmas.Bool.{and_parts}
 use Rattle.trees.specs.declared.declaration.ScalarType.{ScalarType}
 use Rattle.trees.specs.declared.declaration.ScalarType.TheVariants.{Byte, Address}
@@ -40,7 +40,7 @@ both_true : (one other : Bool) → one ≡ true → other ≡ true → (one && o
 both_true one other first second = ap (λ b. b && other) first ∙ second
 
 -- both subscripts of a known place are known
-place_known :
+pub place_known :
     (home : Home) (offset : ℕ) (first second : Option ℕ)
     → is_some (place_of_part home offset first second) ≡ true
     → (is_some first ≡ true) × (is_some second ≡ true)
@@ -52,12 +52,12 @@ place_known (homes.Frame variable) offset first second some = false_is_true some
 
 module _ (nodes : Nodes) (storage : Storage) (keeps : KeepTraits nodes) where
   -- what the entry of a node keeps
-  known_of_entry : (number : ℕ) (expression : Expression) → slice_get nodes.expressions number ≡ Some expression
+  pub known_of_entry : (number : ℕ) (expression : Expression) → slice_get nodes.expressions number ≡ Some expression
       → known_at nodes (record { index = number }) ≡ known_of nodes expression.traits.scalar expression.form
   unfolding traits_of
   known_of_entry number expression at = ap (λ (traits : Traits). traits.known) (node_traits nodes number expression keeps at)
 
-  quiet_of_entry : (number : ℕ) (expression : Expression) → slice_get nodes.expressions number ≡ Some expression
+  pub quiet_of_entry : (number : ℕ) (expression : Expression) → slice_get nodes.expressions number ≡ Some expression
       → quiet_at nodes (record { index = number }) ≡ is_quiet_form nodes expression.form
   unfolding traits_of
   quiet_of_entry number expression at = ap (λ (traits : Traits). traits.is_quiet) (node_traits nodes number expression keeps at)
@@ -104,7 +104,7 @@ module _ (nodes : Nodes) (storage : Storage) (keeps : KeepTraits nodes) where
         second_of go None other some = false_is_true some
     form_known_quiet scalar IsInput some = false_is_true some
 
-    part_known_quiet : {bound : ℕ} {reference : Reference} {part : TypedReference}
+    pub part_known_quiet : {bound : ℕ} {reference : Reference} {part : TypedReference}
         → IsReference nodes storage bound reference part
         → is_some (place_of_reference nodes reference) ≡ true
         → reference_is_quiet nodes reference ≡ true
@@ -112,7 +112,7 @@ module _ (nodes : Nodes) (storage : Storage) (keeps : KeepTraits nodes) where
         let both = place_known (home_at nodes.homes object) (offset % 65536) (distance_of nodes first) (distance_of nodes second) some in
         both_true _ _ (index_known_quiet one both.0) (index_known_quiet two both.1)
 
-    index_known_quiet : {bound : ℕ} {index : Option IndexNode} {subscript : Subscript}
+    pub index_known_quiet : {bound : ℕ} {index : Option IndexNode} {subscript : Subscript}
         → IsSubscript nodes storage bound index subscript
         → is_some (distance_of nodes index) ≡ true
         → subscript_is_quiet nodes index ≡ true

@@ -34,6 +34,7 @@ use Rattle.task_meaning.proofs.Rules.{GoesOn, split as split_steps}
 use Rattle.task_meaning.proofs.Products.{ProductsDo, product_then}
 use Rattle.task_meaning.proofs.Subscripts.{IsSplit, AllKnown, IsComputed, is_split}
 use Rattle.task_meaning.proofs.SecondSubscripts.{second_then}
+use Rattle.task_meaning.proofs.Strides.{HasStride, has_stride}
 use Rattle.task_meaning.proofs.Bases.{IsBase, base_further, base_is, small_after}
 use Rattle.task_meaning.proofs.BaseCode.{added_base_keeps_de, base_added_goes, base_goes, base_keeps_a}
 
@@ -143,6 +144,8 @@ located_goes :
     (object offset : ℕ) (first second : Option IndexNode) (subscript member_subscript : Subscript) (member : Option ℕ)
     (one_index two_index : Option IndexNode) (one_known two_known : ℕ) (s : SourceState) (r : Registers) (memory : List ℕ)
     → ProductsDo context
+    → HasStride one_index
+    → HasStride two_index
     → IsSound context
     → IsSomeAnd (slice_get context.typed.objects object)
     (λ (found : TypedObject). IsSeen context.typed context.within found.home)
@@ -159,7 +162,7 @@ located_goes :
     (located_in context (PartOf object subscript member offset member_subscript) s)
     (Arrives context.activation top base to
     (AddressIsGiven context last (record { object = object; subscript = first; offset = offset % 65536; member_subscript = second }) r memory))
-located_goes {context = context} {facts = facts} {last = last} {from = from} {to = to} {top = top} {base = base} object offset first second tree_one member_subscript member _ _ one_known two_known s r memory products sound referred less room
+located_goes {context = context} {facts = facts} {last = last} {from = from} {to = to} {top = top} {base = base} object offset first second tree_one member_subscript member _ _ one_known two_known s r memory products small small_too sound referred less room
     (AllKnown shift means bytes kept_none) (AllKnown shift_too means_too bytes_too kept_none_too) stand on =
     let reference : Reference = record { object = object; subscript = first; offset = offset % 65536; member_subscript = second } in
     let start : Home = home_at context.site.tree.now.homes.items object in
@@ -195,7 +198,7 @@ located_goes {context = context} {facts = facts} {last = last} {from = from} {to
         e = λ kept. beside.e refl;
       };
     }))))
-located_goes {context = context} {facts = facts} {last = last} {pushed = pushed} {from = from} {to = to} {top = top} {base = base} object offset first second tree_one member_subscript member _ _ one_known two_known s r memory products sound referred less room
+located_goes {context = context} {facts = facts} {last = last} {pushed = pushed} {from = from} {to = to} {top = top} {base = base} object offset first second tree_one member_subscript member _ _ one_known two_known s r memory products small small_too sound referred less room
     (IsComputed {index = index} of bound inner shift is types address high means bytes kept_of keeps_less) (AllKnown shift_too means_too bytes_too kept_none_too) stand on =
     let reference : Reference = record { object = object; subscript = first; offset = offset % 65536; member_subscript = second } in
     let start : Home = home_at context.site.tree.now.homes.items object in
@@ -212,7 +215,7 @@ located_goes {context = context} {facts = facts} {last = last} {pushed = pushed}
     (sym (ap (λ (outcome : Outcome Displacement). then_do outcome go) (means s)
     ∙ changed_first (value context.later context.activation.around inner s) shift go))
     (product_then from s r memory
-    (products facts parts.found index.index index.stride pushed from parts.middle parts.first)
+    (products facts parts.found index.index index.stride pushed from parts.middle small parts.first)
     is types address less room (low_enough (height_of inner) (height_of_subscript tree_one) (height_of_subscript member_subscript) high) on
     (λ n t there ended fewer on_there given.
     subst (λ (outcome : Outcome Displacement).
@@ -246,7 +249,7 @@ located_goes {context = context} {facts = facts} {last = last} {pushed = pushed}
             beside.e (both.1 refl) ∙ given.e (keeps_less.de both.0);
       };
     })))))
-located_goes {context = context} {facts = facts} {last = last} {pushed = pushed} {from = from} {to = to} {top = top} {base = base} object offset first second tree_one member_subscript member _ _ one_known two_known s r memory products sound referred less room
+located_goes {context = context} {facts = facts} {last = last} {pushed = pushed} {from = from} {to = to} {top = top} {base = base} object offset first second tree_one member_subscript member _ _ one_known two_known s r memory products small small_too sound referred less room
     (AllKnown shift means bytes kept_none) (IsComputed {index = index} of bound inner shift_too is types address high means_too bytes_too kept_of keeps_less) stand on =
     let reference : Reference = record { object = object; subscript = first; offset = offset % 65536; member_subscript = second } in
     let start : Home = home_at context.site.tree.now.homes.items object in
@@ -266,7 +269,7 @@ located_goes {context = context} {facts = facts} {last = last} {pushed = pushed}
     ∙ ap (λ (outcome : Outcome Displacement). then_do outcome go) (means_too s)
     ∙ changed_first (value context.later context.activation.around inner s) shift_too go))
     (product_then from s r memory
-    (products facts parts.found index.index index.stride pushed from parts.middle parts.first)
+    (products facts parts.found index.index index.stride pushed from parts.middle small_too parts.first)
     is types address less room (lower (height_of inner) (height_of_subscript tree_one) (height_of_subscript member_subscript) high) on
     (λ n t there ended fewer on_there given.
     base_added_goes facts (base_with context object offset one_known two_known) (shift.bytes + offset + (shift_too n).bytes)
@@ -294,7 +297,7 @@ located_goes {context = context} {facts = facts} {last = last} {pushed = pushed}
             beside.e (both.1 refl) ∙ given.e (keeps_less.de both.0);
       };
     }))))
-located_goes {context = context} {facts = facts} {last = last} {pushed = pushed} {from = from} {to = to} {top = top} {base = base} object offset first second tree_one member_subscript member _ _ one_known two_known s r memory products sound referred less room
+located_goes {context = context} {facts = facts} {last = last} {pushed = pushed} {from = from} {to = to} {top = top} {base = base} object offset first second tree_one member_subscript member _ _ one_known two_known s r memory products small small_too sound referred less room
     (IsComputed {index = index} of bound inner shift is types address high means bytes kept_of keeps_less)
     (IsComputed {index = index_too} of_too bound_too inner_too shift_too is_too types_too address_too high_too means_too bytes_too kept_of_too keeps_less_too) stand on =
     let reference : Reference = record { object = object; subscript = first; offset = offset % 65536; member_subscript = second } in
@@ -314,7 +317,7 @@ located_goes {context = context} {facts = facts} {last = last} {pushed = pushed}
     (sym (ap (λ (outcome : Outcome Displacement). then_do outcome go) (means s)
     ∙ changed_first (value context.later context.activation.around inner s) shift go))
     (product_then from s r memory
-    (products facts parts.found index.index index.stride pushed from parts.middle parts.first)
+    (products facts parts.found index.index index.stride pushed from parts.middle small parts.first)
     is types address less room (low_enough (height_of inner) (height_of_subscript tree_one) (height_of_subscript member_subscript) high) on
     (λ n t there ended fewer on_there given.
     let go_on : Displacement → SourceState → Outcome SourcePlace
@@ -325,7 +328,7 @@ located_goes {context = context} {facts = facts} {last = last} {pushed = pushed}
     (Arrives context.activation top base to (AddressIsGiven context last reference r memory)))
     (sym (ap (λ (outcome : Outcome Displacement). then_do outcome go_on) (means_too t)
     ∙ changed_first (value context.later context.activation.around inner_too t) shift_too go_on))
-    (second_then facts index_too parts.middle t there ended products sound is_too types_too address_too
+    (second_then facts index_too parts.middle t there ended products small_too sound is_too types_too address_too
     (omega (arith, less, fewer)) room
     (low_enough_too (height_of inner_too) (height_of_subscript tree_one) (height_of_subscript member_subscript) high_too)
     parts.second on_there
@@ -370,8 +373,9 @@ pub address_law :
     → StepsStand context (PartDoes context) facts from (address_steps (knowing context.site facts) reference pushed) last to
     → AddressDoes context facts reference pushed from last to
 unfolding located
-address_law {facts = facts} products sound stand bound tree
+address_law {context = context} {facts = facts} products sound stand bound tree
     (IsPart {object = object} {offset = offset} {member = member} {first = first} {second = second} {subscript = subscript} {member_subscript = member_subscript} one two)
     referred types top base s r memory less room ready known asked =
-    located_goes object offset first second subscript member_subscript member _ _ _ _ s r memory products sound referred less room
+    located_goes object offset first second subscript member_subscript member _ _ _ _ s r memory products
+    (has_stride (knowing context.site facts) one) (has_stride (knowing context.site facts) two) sound referred less room
     (is_split facts sound one types.0) (is_split facts sound two types.1) stand (record { ready = ready; known = known })

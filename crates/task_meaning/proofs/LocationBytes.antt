@@ -1,6 +1,6 @@
 -- The code of the byte at a location, which comes into A.
-use Rattle.std.proofs.Common.{◌≡◌, ℕ, ◌+◌, ◌<◌, ◌==◌, Bool, true, false, if◌then◌else◌, List, [], ◌∷◌, ◌++◌, Option, Some, None, refl, sym, ap, subst, ◌∙◌, arith}
-use Rattle.std.proofs.lemmas.Bool.{eqb-true}
+use Rattle.std.proofs.Common.{◌≡◌, ℕ, ◌+◌, ◌<◌, ◌≤◌, ◌⊎◌, inl, inr, ◌==◌, Bool, true, false, if◌then◌else◌, List, [], ◌∷◌, ◌++◌, Option, Some, None, refl, sym, ap, subst, ◌∙◌, arith}
+use Rattle.std.proofs.lemmas.Bool.{cases_lt, eqb-true}
 use Rattle.mem80.specs.declared.memory.TheConstants.{MEMORY_SIZE}
 use Rattle.mem80.specs.Memory.{byte_at, word_at}
 use Rattle.mem80.proofs.MemoryLemmas.{byte_small}
@@ -15,7 +15,8 @@ use Rattle.treecode.specs.declared.place.Location.{Location}
 use Rattle.treecode.specs.declared.place.Location.TheVariants as locations
 use Rattle.treecode.specs.Traits.{is_static_location}
 use Rattle.code_meaning.specs.Landing.{Does, at_place}
-use Rattle.code_meaning.specs.Activations.{HasRoom}
+use Rattle.asm8080.specs.declared.item.Item.{Item}
+use Rattle.code_meaning.specs.Activations.{Activation, HasRoom, IsThere, LiesWell}
 use Rattle.code_facts.specs.Holding.{IsSteady, location_at, place_at}
 use Rattle.code_facts.proofs.Places.{after_before, location_after_is}
 use Rattle.code_facts.proofs.Steady.{address_asks}
@@ -133,22 +134,87 @@ copy_goes {memory = memory} false address r sound is (PlainThere there stand) on
     (record { a = bytes.l; b = bytes.b; c = bytes.c; d = bytes.d; e = bytes.e; h = bytes.h; l = bytes.l })
     (λ on_now. nothing_goes now stand on_now (rest now (record { a = is; others = λ alone. only_a r r.l memory })))
 
--- The bytes beside one of the frame that is next to the stack pointer are steady. (They lie at the level or above it,
--- where no push reaches.)
-pub record NeighboursAreSteady (context : Context) (pushed variable offset : ℕ) : Type 0 where
-  pub next : distance context.site variable offset pushed ≡ 0
-      → IsSteady context.activation (wrap (location_at context.activation (distances_in context) (locations.Frame variable offset) + 1))
-  pub last : distance context.site variable offset pushed ≡ 1
-      → IsSteady context.activation (location_at context.activation (distances_in context) (before (locations.Frame variable offset)))
+-- The word at the stack pointer, where one byte of it is steady: so is the other one. Where words alone are pushed, the
+-- first one lies at the level.
+next_is_steady :
+    (activation : Activation) (top pushed need sp from : ℕ) (one two : List Item)
+    → LiesWell activation
+    → HasRoom activation top pushed need
+    → sp ≡ wrap top
+    → IsSteady activation sp
+    → IsThere activation one from (from + 1)
+    → IsThere activation two (from + 1) (from + 1 + 1)
+    → IsSteady activation (wrap (sp + 1))
+next_is_steady activation top pushed need sp from one two lies room pointer steady first second =
+    by (cases_lt top activation.level)
+  where
+    by : (top < activation.level) ⊎ (activation.level ≤ top) → IsSteady activation (wrap (sp + 1))
+    by (inl less) =
+        let above = lies.above in
+        let stack = lies.placed.stack_in_memory in
+        let enough = room.enough in
+        absurd (steady.apart (omega (arith, pointer, less, above, stack, enough)) (omega (arith, pointer, less, above, stack)))
+    by (inr more) = record { apart = λ low below. at_end low below (cases_lt (activation.level + 1) 65536) }
+      where
+        at_end : activation.around.program.placement.stack.start ≤ wrap (sp + 1) → wrap (sp + 1) < activation.level
+            → (activation.level + 1 < 65536) ⊎ (65536 ≤ activation.level + 1) → ⊥
+        at_end low below (inl inside) =
+            let depth = room.depth in
+            omega (arith, pointer, more, depth, low, below, inside)
+        at_end low below (inr edge) =
+            at_code (cases_lt (from + 1) (activation.around.program.placement.stack.start + activation.around.program.placement.stack.len))
+          where
+            at_code : (from + 1 < activation.around.program.placement.stack.start + activation.around.program.placement.stack.len)
+                ⊎ (activation.around.program.placement.stack.start + activation.around.program.placement.stack.len ≤ from + 1)
+                → ⊥
+            at_code (inl within) =
+                let depth = room.depth in
+                let above = lies.above in
+                let stack = lies.placed.stack_in_memory in
+                let code_low = second.low in
+                let code_high = second.high in
+                lies.placed.apart (from + 1) code_low (omega (arith, code_high))
+                (omega (arith, pointer, more, depth, above, stack, low, edge)) within
+            at_code (inr past) =
+                let depth = room.depth in
+                let above = lies.above in
+                let stack = lies.placed.stack_in_memory in
+                let code = lies.placed.code_in_memory in
+                let code_low = first.low in
+                let code_high = second.high in
+                lies.placed.apart from code_low (omega (arith, code_high))
+                (omega (arith, pointer, more, depth, above, stack, low, edge, past))
+                (omega (arith, code, code_high, above, edge))
 
-abbrev pub NeighboursOf : Context → (pushed : ℕ) → Location → Type 0
-NeighboursOf context pushed (locations.Static place) = Unit {0}
-NeighboursOf context pushed (locations.Frame variable offset) = NeighboursAreSteady context pushed variable offset
+first_is_steady :
+    (activation : Activation) (top pushed need sp : ℕ)
+    → LiesWell activation
+    → HasRoom activation top pushed need
+    → sp ≡ wrap top
+    → IsSteady activation (wrap (sp + 1))
+    → IsSteady activation sp
+first_is_steady activation top pushed need sp lies room pointer steady =
+    record { apart = λ low below. by low below (cases_lt (top + 1) activation.level) }
+  where
+    by : activation.around.program.placement.stack.start ≤ sp → sp < activation.level
+        → (top + 1 < activation.level) ⊎ (activation.level ≤ top + 1) → ⊥
+    by low below (inl less) =
+        let above = lies.above in
+        let stack = lies.placed.stack_in_memory in
+        let enough = room.enough in
+        steady.apart (omega (arith, pointer, less, above, stack, enough)) (omega (arith, pointer, less, above, stack))
+    by low below (inr more) =
+        let depth = room.depth in
+        let even = room.even in
+        let above = lies.above in
+        let stack = lies.placed.stack_in_memory in
+        steady.apart (omega (arith, pointer, more, depth, even, above, stack, low, below))
+        (omega (arith, pointer, more, depth, even, above, stack, low, below))
 
-at_one : (away sp address : ℕ) → away ≡ 1 → wrap (away + sp) ≡ address → wrap (sp + 1) ≡ address
+pub at_one : (away sp address : ℕ) → away ≡ 1 → wrap (away + sp) ≡ address → wrap (sp + 1) ≡ address
 at_one away sp address one is = omega (arith, one, is)
 
-at_none : (away sp address : ℕ) → away ≡ 0 → sp < MEMORY_SIZE → wrap (away + sp) ≡ address → sp ≡ address
+pub at_none : (away sp address : ℕ) → away ≡ 0 → sp < MEMORY_SIZE → wrap (away + sp) ≡ address → sp ≡ address
 at_none away sp address none small is = omega (arith, none, small, is)
 
 back_one : (sp address before : ℕ) → sp < MEMORY_SIZE → wrap (sp + 1) ≡ address → before ≡ wrap (address + 65535) → sp ≡ before
@@ -177,7 +243,6 @@ frame_byte_goes :
     {events : List Event} {facts : Facts} {from : ℕ} (used : Facts) (variable offset : ℕ) (r : Registers)
     → IsSound context
     → HasRoom context.activation top pushed need
-    → NeighboursAreSteady context pushed variable offset
     → IsSteady context.activation (location_at context.activation (distances_in context) (locations.Frame variable offset))
     → Know context used r memory
     → StepsStand context PartIs facts from
@@ -189,7 +254,7 @@ frame_byte_goes :
     → Does context.activation.around.program.script budget more (at_place to now memory events) outcome Good)
     → Does context.activation.around.program.script budget more (at_place from r memory events) outcome Good
 unfolding distance
-frame_byte_goes {outcome = outcome} {Good = Good} {context = context} {PartIs = PartIs} {last = last} {to = to} {top = top} {pushed = pushed} {need = need} {budget = budget} {more = more} {base = base} {source = source} {memory = memory} {frame = frame} {events = events} {facts = facts} {from = from} used variable offset r sound room neighbours steady known stand on rest =
+frame_byte_goes {outcome = outcome} {Good = Good} {context = context} {PartIs = PartIs} {last = last} {to = to} {top = top} {pushed = pushed} {need = need} {budget = budget} {more = more} {base = base} {source = source} {memory = memory} {frame = frame} {events = events} {facts = facts} {from = from} used variable offset r sound room steady known stand on rest =
     by_test (distance context.site variable offset pushed == 0) (distance context.site variable offset pushed == 1) refl refl stand
   where
     by_test : (none one : Bool)
@@ -200,7 +265,7 @@ frame_byte_goes {outcome = outcome} {Good = Good} {context = context} {PartIs = 
         else if one then top_word_steps ++ hold_word_steps (before (locations.Frame variable offset)) ++ (Plain (copy A H) ∷ [])
         else location_address_steps (knowing context.site used) (locations.Frame variable offset) pushed ++ (Plain (load A) ∷ [])) last to
         → Does context.activation.around.program.script budget more (at_place from r memory events) outcome Good
-    by_test true one none_is one_is stand =
+    by_test true one none_is one_is (PlainThere there (PlainThere again stand)) =
         let mem = on.ready.shares.is_memory in
         let pointer = on.ready.pointer in
         let location : Location = locations.Frame variable offset in
@@ -213,10 +278,13 @@ frame_byte_goes {outcome = outcome} {Good = Good} {context = context} {PartIs = 
         let high : high_byte (word_at memory r.sp) ≡ byte_at memory (wrap (address + 1))
         = high_there memory r.sp mem ∙ ap (λ (n : ℕ). byte_at memory (wrap (n + 1))) here in
         let now : Registers = record r { h = high_byte (word_at memory r.sp); l = low_byte (word_at memory r.sp) } in
-        top_word_goes (hold_word_steps location ++ (Plain (copy A L) ∷ [])) r sound stand on
+        top_word_goes (hold_word_steps location ++ (Plain (copy A L) ∷ [])) r sound (PlainThere there (PlainThere again stand)) on
         (λ middle found stand on.
         held_goes location (Plain (copy A L) ∷ []) now stand on
-        (word_known context now memory location steady (neighbours.next away_is) low high)
+        (word_known context now memory location steady
+        (subst (λ (n : ℕ). IsSteady context.activation (wrap (n + 1))) here
+        (next_is_steady context.activation top pushed need r.sp from _ _ sound.lies room pointer
+        (subst (λ (n : ℕ). IsSteady context.activation n) (sym here) steady) there again)) low high)
         (λ found_too stand on.
         copy_goes false address now sound low stand on
         (λ last_one beside on. rest last_one (record { a = beside.a; others = λ never. absurd cc }) on)))
@@ -240,7 +308,10 @@ frame_byte_goes {outcome = outcome} {Good = Good} {context = context} {PartIs = 
         top_word_goes (hold_word_steps (before location) ++ (Plain (copy A H) ∷ [])) r sound stand on
         (λ middle found stand on.
         held_goes (before location) (Plain (copy A H) ∷ []) now stand on
-        (word_known context now memory (before location) (neighbours.last away_is)
+        (word_known context now memory (before location)
+        (subst (λ (n : ℕ). IsSteady context.activation n) here
+        (first_is_steady context.activation top pushed need r.sp sound.lies room pointer
+        (subst (λ (n : ℕ). IsSteady context.activation n) (sym next) steady)))
         (subst (λ (n : ℕ). IsSteady context.activation n) (sym after_is) steady) low (high ∙ ap (byte_at memory) (sym after_is)))
         (λ found_too stand on.
         copy_goes true address now sound high stand on
@@ -260,7 +331,6 @@ pub location_byte_goes :
     {events : List Event} {facts : Facts} {from : ℕ} (used : Facts) (location : Location) (r : Registers)
     → IsSound context
     → HasRoom context.activation top pushed need
-    → NeighboursOf context pushed location
     → location_at context.activation (distances_in context) location < MEMORY_SIZE
     → IsSteady context.activation (location_at context.activation (distances_in context) location)
     → Know context used r memory
@@ -271,7 +341,7 @@ pub location_byte_goes :
     → GoesOn context last top base source frame now memory
     → Does context.activation.around.program.script budget more (at_place to now memory events) outcome Good)
     → Does context.activation.around.program.script budget more (at_place from r memory events) outcome Good
-location_byte_goes {outcome = outcome} {Good = Good} {context = context} {PartIs = PartIs} {last = last} {to = to} {top = top} {pushed = pushed} {need = need} {budget = budget} {more = more} {base = base} {source = source} {memory = memory} {frame = frame} {events = events} {facts = facts} {from = from} used location r sound room neighbours small steady known stand on rest =
+location_byte_goes {outcome = outcome} {Good = Good} {context = context} {PartIs = PartIs} {last = last} {to = to} {top = top} {pushed = pushed} {need = need} {budget = budget} {more = more} {base = base} {source = source} {memory = memory} {frame = frame} {events = events} {facts = facts} {from = from} used location r sound room small steady known stand on rest =
     by_test (is_at used.byte_in_a location) (is_at used.word_in_hl location) (is_at used.word_in_hl (before location))
     (is_at used.address_in_hl location) refl refl refl refl stand
   where
@@ -297,7 +367,6 @@ location_byte_goes {outcome = outcome} {Good = Good} {context = context} {PartIs
         → Does context.activation.around.program.script budget more (at_place to now memory events) outcome Good) of_is rest)
     by_location (locations.Frame variable offset) of_is stand =
         frame_byte_goes used variable offset r sound room
-        (subst (λ (l : Location). NeighboursOf context pushed l) of_is neighbours)
         (subst (λ (l : Location). IsSteady context.activation (location_at context.activation (distances_in context) l)) of_is steady)
         known stand on
         (subst (λ (l : Location). (now : Registers)

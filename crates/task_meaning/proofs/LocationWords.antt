@@ -67,14 +67,14 @@ pub low_there : (memory : List ℕ) (p : ℕ) → IsMemory memory → low_byte (
 low_there memory p is =
     low_of_two (byte_at memory p) (byte_at memory (wrap (p + 1))) (byte_small memory p is) (byte_small memory (wrap (p + 1)) is)
 
-word_small : (memory : List ℕ) (p : ℕ) → IsMemory memory → word_at memory p < MEMORY_SIZE
+pub word_small : (memory : List ℕ) (p : ℕ) → IsMemory memory → word_at memory p < MEMORY_SIZE
 word_small memory p is =
     let one = byte_small memory p is in
     let two = byte_small memory (wrap (p + 1)) is in
     omega (arith, one, two)
 
 -- a word that was popped is pushed again: the memory is what it was
-push_back :
+pub push_back :
     (script : List (List ℕ)) (pair : StackPair) (place p : ℕ) (r : Registers) (memory : List ℕ) (events : List Event)
     → r.sp ≡ wrap (p + 2)
     → p < MEMORY_SIZE

@@ -50,22 +50,22 @@ bits Or one other = bit_or one other
 bits ExclusiveOr one other = bit_xor one other
 bits operation one other = 0
 
-and_full : (x : ℕ) → x < 256 → bit_and x 255 ≡ x
+pub and_full : (x : ℕ) → x < 256 → bit_and x 255 ≡ x
 and_full x small = equal_below (λ k. bit_and k 255) (λ k. k) 256 x refl small
 
-and_none : (x : ℕ) → x < 256 → bit_and x 0 ≡ 0
+pub and_none : (x : ℕ) → x < 256 → bit_and x 0 ≡ 0
 and_none x small = equal_below (λ k. bit_and k 0) (λ k. 0) 256 x refl small
 
-or_none : (x : ℕ) → x < 256 → bit_or x 0 ≡ x
+pub or_none : (x : ℕ) → x < 256 → bit_or x 0 ≡ x
 or_none x small = equal_below (λ k. bit_or k 0) (λ k. k) 256 x refl small
 
-or_full : (x : ℕ) → x < 256 → bit_or x 255 ≡ 255
+pub or_full : (x : ℕ) → x < 256 → bit_or x 255 ≡ 255
 or_full x small = equal_below (λ k. bit_or k 255) (λ k. 255) 256 x refl small
 
-xor_none : (x : ℕ) → x < 256 → bit_xor x 0 ≡ x
+pub xor_none : (x : ℕ) → x < 256 → bit_xor x 0 ≡ x
 xor_none x small = equal_below (λ k. bit_xor k 0) (λ k. k) 256 x refl small
 
-xor_full : (x : ℕ) → x < 256 → bit_xor x 255 ≡ 255 - x
+pub xor_full : (x : ℕ) → x < 256 → bit_xor x 255 ≡ 255 - x
 xor_full x small = equal_below (λ k. bit_xor k 255) (λ k. 255 - k) 256 x refl small
 
 -- the code of an operation of L and a number
@@ -236,13 +236,13 @@ code_h ExclusiveOr k is = by (k == 0) (k == 255) refl refl
     }
 code_h operation k is = absurd is
 
-bits_low : (operation : Operation) (x n : ℕ) → IsLogic operation → bits operation (x % 256) (n % 256) ≡ bits operation x n % 256
+pub bits_low : (operation : Operation) (x n : ℕ) → IsLogic operation → bits operation (x % 256) (n % 256) ≡ bits operation x n % 256
 bits_low And x n is = and_low x n
 bits_low Or x n is = or_low x n
 bits_low ExclusiveOr x n is = xor_low x n
 bits_low operation x n is = absurd is
 
-bits_high : (operation : Operation) (x n : ℕ) → IsLogic operation → bits operation (x / 256) (n / 256) ≡ bits operation x n / 256
+pub bits_high : (operation : Operation) (x n : ℕ) → IsLogic operation → bits operation (x / 256) (n / 256) ≡ bits operation x n / 256
 bits_high And x n is = and_high x n
 bits_high Or x n is = or_high x n
 bits_high ExclusiveOr x n is = xor_high x n

@@ -40,7 +40,7 @@ IsEither Or = Unit {0}
 IsEither ExclusiveOr = Unit {0}
 IsEither operation = ⊥
 
-either_logic : (operation : Operation) → IsEither operation → IsLogic operation
+pub either_logic : (operation : Operation) → IsEither operation → IsLogic operation
 either_logic Or is = tt
 either_logic ExclusiveOr is = tt
 either_logic operation is = absurd is
@@ -93,6 +93,7 @@ pub either_does :
     → StepsStand context (PartDoes context) facts from (logic_steps (knowing context.site facts) operation operands pushed) last to
     → GoesOn context facts top base s.memory s.frame r memory
     → ((chosen : ExpressionNumber × Simple) → with_simple (knowing context.site facts) operands ≡ Some chosen
+    → StepsStand context (PartDoes context) facts from (logic_with_simple_steps operation chosen.0 chosen.1 pushed) last to
     → LogicGiven context operation from s r memory first second last number top base to)
     → LogicGiven context operation from s r memory first second last number top base to
 unfolding logic_steps computed_logic_steps paired_steps
@@ -105,7 +106,7 @@ either_does {context = context} {pushed = pushed} {top = top} {need = need} {to 
           | None ↦ paired_steps (knowing context.site facts) operands operation operation pushed
         ]) last to
         → LogicGiven context operation from s r memory first second last number top base to
-    by_simple (Some chosen) here stand = simple chosen here
+    by_simple (Some chosen) here stand = simple chosen here stand
     by_simple None here stand =
         paired_does (byte_instructions operation operation) (bits operation) number None from s r memory sound
         (bytes_on operation operation) (logic_makes operation (either_logic operation is))

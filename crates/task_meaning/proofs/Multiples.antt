@@ -30,7 +30,7 @@ use Rattle.task_meaning.specs.Steps.{StepsStand, PartThere, WordThere}
 use Rattle.task_meaning.specs.Tasks.{PartDoes}
 use Rattle.task_meaning.proofs.Addresses.{nothing_goes, registers_end}
 use Rattle.task_meaning.proofs.Rules.{GoesOn, ready_with_registers, word_goes}
-use Rattle.task_meaning.proofs.Products.{ProductDoes, ProductIsGiven}
+use Rattle.task_meaning.proofs.Products.{ProductDoes, ProductIsGiven, ProductsDo}
 use Rattle.task_meaning.proofs.WordArithmetic.{word_below}
 use Rattle.task_meaning.proofs.RegisterCode.{AreOnRegisters, IsOnRegisters, does_to, effect, registers_then}
 use Rattle.task_meaning.proofs.Values.{HasWord, effects_then, word_then}
@@ -129,12 +129,12 @@ power_is (suc others) power number found same =
     by false is same rest = rest same
 
 -- instructions of a bit, and of a chain of bits
-abbrev bit_instructions : (twice once_more : Instr) → (below set : Bool) → List Instr
+abbrev pub bit_instructions : (twice once_more : Instr) → (below set : Bool) → List Instr
 bit_instructions twice once_more false set = []
 bit_instructions twice once_more true false = twice ∷ []
 bit_instructions twice once_more true true = twice ∷ once_more ∷ []
 
-abbrev chain_instructions : (bits number : ℕ) → (twice once_more : Instr) → (below : Bool) → List Instr
+abbrev pub chain_instructions : (bits number : ℕ) → (twice once_more : Instr) → (below : Bool) → List Instr
 chain_instructions zero number twice once_more below = []
 chain_instructions (suc bit) number twice once_more below =
     bit_instructions twice once_more below (has_bit number bit)
@@ -146,7 +146,7 @@ bit_same twice once_more false set = refl
 bit_same twice once_more true false = refl
 bit_same twice once_more true true = refl
 
-chain_same : (bits number : ℕ) (twice once_more : Instr) (below : Bool)
+pub chain_same : (bits number : ℕ) (twice once_more : Instr) (below : Bool)
     → chain_from bits number twice once_more below ≡ plain (chain_instructions bits number twice once_more below)
 unfolding chain_from
 chain_same zero number twice once_more below = refl
@@ -164,7 +164,7 @@ bit_on twice once_more false set one other = tt
 bit_on twice once_more true false one other = (one, tt)
 bit_on twice once_more true true one other = (one, (other, tt))
 
-chain_on : (bits number : ℕ) (twice once_more : Instr) (below : Bool) → IsOnRegisters twice → IsOnRegisters once_more
+pub chain_on : (bits number : ℕ) (twice once_more : Instr) (below : Bool) → IsOnRegisters twice → IsOnRegisters once_more
     → AreOnRegisters (chain_instructions bits number twice once_more below)
 chain_on zero number twice once_more below one other = tt
 chain_on (suc bit) number twice once_more below one other =
@@ -174,7 +174,7 @@ chain_on (suc bit) number twice once_more below one other =
     (chain_on bit number twice once_more (below || has_bit number bit) one other)
 
 -- where the bits from one on have been gone through: HL is the multiple by them, or what it was where all are 0
-abbrev factor : (below : Bool) → (bits_gone : ℕ) → ℕ
+abbrev pub factor : (below : Bool) → (bits_gone : ℕ) → ℕ
 factor true gone = gone
 factor false gone = 1
 
@@ -184,19 +184,19 @@ record Gone (below : Bool) (x gone : ℕ) (r now : Registers) : Type 0 where
   b : now.b ≡ x / 256
   c : now.c ≡ x % 256
 
-next_quotient : (number bit : ℕ) → number / 2 ^ bit / 2 ≡ number / 2 ^ suc bit
+pub next_quotient : (number bit : ℕ) → number / 2 ^ bit / 2 ≡ number / 2 ^ suc bit
 next_quotient number bit =
     div-div-eq-div-mul number (2 ^ bit) 2 ∙ ap (λ (p : ℕ). number / p) (sym (pow-suc 2 bit))
 
-bit_is : (number bit : ℕ) → bit < 16 → has_bit number bit ≡ (number / 2 ^ bit % 2 == 1)
+pub bit_is : (number bit : ℕ) → bit < 16 → has_bit number bit ≡ (number / 2 ^ bit % 2 == 1)
 unfolding has_bit
 bit_is number bit small =
     ap (λ (test : Bool). if test then number / 2 ^ bit % 2 == 1 else false) (lt-ltb bit 16 small)
 
-bit_set : (q half : ℕ) → q / 2 ≡ half → (q % 2 == 1) ≡ true → q ≡ 2 * half + 1
+pub bit_set : (q half : ℕ) → q / 2 ≡ half → (q % 2 == 1) ≡ true → q ≡ 2 * half + 1
 bit_set q half same is = let one = eqb-true (q % 2) 1 is in omega (arith, same, one)
 
-bit_clear : (q half : ℕ) → q / 2 ≡ half → (q % 2 == 1) ≡ false → q ≡ 2 * half
+pub bit_clear : (q half : ℕ) → q / 2 ≡ half → (q % 2 == 1) ≡ false → q ≡ 2 * half
 bit_clear q half same is = let one = eqb-false (q % 2) 1 is in omega (arith, same, one)
 
 twice_high : (h l x q : ℕ) → h ≡ ((x * q) % 65536) / 256 → l ≡ ((x * q) % 65536) % 256
@@ -284,10 +284,10 @@ gone_on true true x half q r now same is gone =
 turned_or : (below : Bool) → Bool
 turned_or below = below
 
-less_bits : (bit : ℕ) → suc bit ≤ 16 → bit < 16
+pub less_bits : (bit : ℕ) → suc bit ≤ 16 → bit < 16
 less_bits bit h = omega (arith, h)
 
-fewer_bits : (bit : ℕ) → suc bit ≤ 16 → bit ≤ 16
+pub fewer_bits : (bit : ℕ) → suc bit ≤ 16 → bit ≤ 16
 fewer_bits bit h = omega (arith, h)
 
 -- all bits that are left
@@ -313,10 +313,10 @@ Reaches outcome Good context budget more top base source frame memory events las
     → GoesOn context last top base source frame now memory
     → Does context.activation.around.program.script budget more (at_place to now memory events) outcome Good
 
-first_quotient : (number : ℕ) → number < 65536 → number / 2 ^ 16 ≡ 0
+pub first_quotient : (number : ℕ) → number < 65536 → number / 2 ^ 16 ≡ 0
 first_quotient number small = omega (arith, small)
 
-last_quotient : (number : ℕ) → number / 2 ^ 0 ≡ number
+pub last_quotient : (number : ℕ) → number / 2 ^ 0 ≡ number
 last_quotient number = omega arith
 
 last_factor : (below : Bool) (x number : ℕ) (r now : Registers) → (number ≡ 0 → ⊥)
@@ -533,3 +533,7 @@ products_do context sound facts last index stride pushed from to fits stand boun
             e = λ kept. given.e kept;
           };
         }))))
+
+pub products_always_do : (context : Context) → IsSound context → ProductsDo context
+products_always_do context sound facts last index stride pushed from to small stand =
+    products_do context sound facts last index stride pushed from to small stand

@@ -1,6 +1,6 @@
 -- The part of memory one byte further on, as tree code and as the typed tree have it.
 use Rattle.std.proofs.Common.{◌≡◌, ℕ, ◌+◌, ◌%◌, sym, subst, arith}
-use Rattle.typed_trees.specs.TypedTrees.{PartOf, Subscript, TypedReference}
+use Rattle.typed_trees.specs.TypedTrees.{PartOf, TypedReference}
 use Rattle.layout.specs.Storage.{Storage}
 use Rattle.treecode.specs.declared.reference.Reference.{Reference}
 use Rattle.treecode.specs.Lowered.{IsReference, IsPart}

@@ -54,7 +54,7 @@ Makes instructions f =
     → HasPair order x y r
     → HasWord (f x y) (effect (instructions order) r)
 
-pair_below : (order : PairOrder) (x y : ℕ) (r : Registers) → HoldBytes r → HasPair order x y r
+pub pair_below : (order : PairOrder) (x y : ℕ) (r : Registers) → HoldBytes r → HasPair order x y r
     → (x < 65536) × (y < 65536)
 pair_below LeftInHl x y r bytes has = (word_below x r.h r.l has.h bytes.h, word_below y r.d r.e has.d bytes.d)
 pair_below RightInHl x y r bytes has = (word_below x r.d r.e has.d bytes.d, word_below y r.h r.l has.h bytes.h)

@@ -42,10 +42,11 @@ ProductDoes context before index stride pushed from after to =
     (value context.later context.activation.around tree)
     (ProductIsGiven context after index stride)
 
--- the code of each product does so
+-- the code of each product with a stride below the size of memory does so
 abbrev pub ProductsDo : Context → Type 0
 ProductsDo context =
     (facts last : Facts) (index : ExpressionNumber) (stride pushed from to : ℕ)
+    → stride < 65536
     → StepsStand context (PartDoes context) facts from (product_steps index stride pushed) last to
     → ProductDoes context facts index stride pushed from last to
 

@@ -463,6 +463,18 @@ pub value_fits :
 value_fits {context = context} {n = n} {tree = tree} {t = t} s sound is types source same =
     (given_by (value context.later context.activation.around tree s) n t same (fits_node context sound s is types source)).0
 
+-- and bytes stay bytes
+pub bytes_fit_after :
+    {context : Context} {bound index n : ℕ} {tree : TypedExpression} {t : State} (s : State)
+    → IsSound context
+    → IsExpression (nodes_in context) context.storage bound index tree
+    → TypesHold context.typed context.within tree
+    → SourceFits context.activation.around s
+    → value context.later context.activation.around tree s ≡ Gave n t
+    → SourceFits context.activation.around t
+bytes_fit_after {context = context} {n = n} {tree = tree} {t = t} s sound is types source same =
+    (given_by (value context.later context.activation.around tree s) n t same (fits_node context sound s is types source)).1
+
 below_number : (found : Option ℕ) (bound : ℕ)
     → elim found [
       | Some number ↦ nat_lt number bound

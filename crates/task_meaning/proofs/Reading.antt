@@ -1,5 +1,5 @@
 -- Scalars that are read: the machine has their bytes at the address of their place, and they are steady.
-use Rattle.std.proofs.Common.{◌≡◌, ℕ, ◌+◌, ◌*◌, ◌<◌, ◌≤◌, inl, inr, Bool, true, false, if◌then◌else◌, List, slice_index, refl, ap, subst, ◌∙◌, arith}
+use Rattle.std.proofs.Common.{◌≡◌, ℕ, ◌+◌, ◌*◌, ◌<◌, ◌≤◌, Bool, true, false, if◌then◌else◌, List, slice_index, refl, ap, subst, ◌∙◌, arith}
 use Rattle.mem80.specs.declared.memory.TheConstants.{MEMORY_SIZE}
 use Rattle.mem80.specs.Memory.{byte_at}
 use Rattle.trees.specs.declared.declaration.ScalarType.TheVariants.{Byte, Address}
@@ -10,6 +10,7 @@ use Rattle.isa8080.specs.State.{Registers, State, wrap}
 use Rattle.code_meaning.specs.Landing.{Does}
 use Rattle.code_meaning.specs.Activations.{Activation, IsReady}
 use Rattle.code_facts.specs.Holding.{IsSteady}
+use Rattle.code_facts.proofs.Steady.{declared_is_steady}
 use Rattle.task_meaning.specs.Contexts.{Context, IsSound}
 use Rattle.task_meaning.specs.Tasks.{address_on_machine}
 
@@ -49,7 +50,7 @@ pub of_frame :
     → address ≡ activation.level + activation.distance object + offset
     → IsSteady activation address
 of_frame activation object offset address within is =
-    inr (record { object = object; offset = offset; within = within; is_there = is })
+    record { apart = λ low below. omega (arith, is, below) }
 
 -- a byte that is read
 pub byte_read :
@@ -72,7 +73,7 @@ byte_read {budget = budget} {more = more} {from = from} {Good = Good} {context =
         (then_do (if declared then Gave (byte_at s.memory address) s else Stopped (Outside UndeclaredByte) s) go) Good
     by_test true is =
         subst (λ (byte : ℕ). Does context.activation.around.program.script budget more from (go byte s) Good)
-        (ready.shares.declared address is) (does (inl is))
+        (ready.shares.declared address is) (does (declared_is_steady context.activation address sound.lies is))
     by_test false is = record { told = tt }
 byte_read {budget = budget} {more = more} {from = from} {Good = Good} {context = context} {memory = memory} (InTheFrame object offset true) s go sound ready fits does =
     let within : offset + 1 ≤ context.activation.size object = fits refl in
@@ -116,7 +117,8 @@ word_read {budget = budget} {more = more} {from = from} {Good = Good} {context =
         subst (λ (number : ℕ). Does context.activation.around.program.script budget more from (go number s) Good)
         (ap (λ (low : ℕ). low + 256 * byte_at memory (wrap (address + 1))) (ready.shares.declared address one)
         ∙ ap (λ (high : ℕ). byte_at s.memory address + 256 * high) (ready.shares.declared (wrap (address + 1)) two))
-        (does (inl one) (inl two))
+        (does (declared_is_steady context.activation address sound.lies one)
+        (declared_is_steady context.activation (wrap (address + 1)) sound.lies two))
     by_test true false one two = record { told = tt }
     by_test false second one two = record { told = tt }
 word_read {budget = budget} {more = more} {from = from} {Good = Good} {context = context} {memory = memory} (InTheFrame object offset true) s go sound ready fits does =

@@ -16,7 +16,7 @@ use Rattle.asm8080.specs.declared.item.Item.TheVariants as items
 use Rattle.asm8080.specs.declared.item.WordForm.{WordForm}
 use Rattle.asm8080.specs.declared.item.WordForm.TheVariants.{LoadPair}
 use Rattle.asm8080.specs.Items.{instruction_with}
-use Rattle.asm8080.specs.Standing.{size_of_instruction}
+use Rattle.asm8080.specs.Standing.{AgreesIn, size_of_instruction}
 use Rattle.machine_runs.proofs.Calls.{pushed}
 use Rattle.treecode.specs.declared.place.Place.{Place}
 use Rattle.treecode.specs.declared.place.Place.TheVariants as places
@@ -168,7 +168,28 @@ size_with_word : (form : WordForm) (word : ℕ) → size_of_instruction (instruc
 size_with_word (LoadPair pair) word = refl
 size_with_word form word = refl
 
--- an instruction with the word of a place: what it does is left, and what is known after it holds then
+-- an instruction with the word of a place: what it does is left
+pub word_acts :
+    {A : Type 0} {budget more : ℕ} {outcome : Outcome A} {Good : A → SourceState → State → Type 0}
+    {context : Context} {memory : List ℕ} {events : List Event} {from : ℕ} (form : WordForm) (place : Place) (r : Registers)
+    → IsSound context
+    → AgreesIn context.activation.around.program.placement.code context.activation.image memory
+    → IsThere context.activation (word_item form place ∷ []) from (from + 3)
+    → Does context.activation.around.program.script budget more
+    (act context.activation.around.program.script
+    (instruction_with form (place_at context.activation.layout place)) (at_place (from + 3) r memory events))
+    outcome Good
+    → Does context.activation.around.program.script budget more (at_place from r memory events) outcome Good
+word_acts {budget = budget} {more = more} {outcome = outcome} {Good = Good} {context = context} {memory = memory} {events = events} {from = from} form (places.Number number) r sound code there rest =
+    plain_first r sound.lies code (there)
+    (subst (λ (size : ℕ). Does context.activation.around.program.script budget more
+    (act context.activation.around.program.script (instruction_with form number) (at_place (from + size) r memory events))
+    outcome Good) (sym (size_with_word form number)) rest)
+word_acts form (places.Code offset) r sound code there rest = word_first r sound.lies code there rest
+word_acts form (places.Data offset) r sound code there rest = word_first r sound.lies code there rest
+word_acts form (places.External offset name) r sound code there rest = word_first r sound.lies code there rest
+
+-- and what is known after it holds then
 pub word_goes :
     {A : Type 0} {budget more : ℕ} {outcome : Outcome A} {Good : A → SourceState → State → Type 0}
     {context : Context} {facts : Facts} {top : ℕ} {base source : List ℕ} {frame : List (List ℕ)}
@@ -184,33 +205,16 @@ pub word_goes :
     → (Know context (after_word facts form place) now ended
     → Does context.activation.around.program.script budget more (at_place (from + 3) now ended events) outcome Good)
     → Does context.activation.around.program.script budget more (at_place from r memory events) outcome Good
-word_goes {A = A} {budget = budget} {more = more} {outcome = outcome} {Good = Good} {context = context} {facts = facts} {memory = memory} {events = events} {from = from} form place r now ended sound there on asks does rest =
+word_goes {budget = budget} {more = more} {outcome = outcome} {Good = Good} {context = context} {facts = facts} {memory = memory} {events = events} {from = from} form place r now ended sound there on asks does rest =
     let script = context.activation.around.program.script in
-    let layout = context.activation.layout in
     let shares = on.ready.shares in
     let known : Know context (after_word facts form place) now ended
     = subst (λ (s : State). Know context (after_word facts form place) s.registers s.memory) does
     (facts_after_word script context.activation (distances_in context) facts form place
     (at_place (from + 3) r memory events)
     shares.is_memory (bytes_at_place (wrap (from + 3)) r on.ready.registers) asks on.known) in
-    by_place place there
+    word_acts form place r sound shares.code there
     (subst (λ (s : State). Does script budget more s outcome Good) (sym does) (rest known))
-  where
-    by_place : (place : Place)
-        → IsThere context.activation (word_item form place ∷ []) from (from + 3)
-        → Does context.activation.around.program.script budget more
-        (act context.activation.around.program.script
-        (instruction_with form (place_at context.activation.layout place)) (at_place (from + 3) r memory events))
-        outcome Good
-        → Does context.activation.around.program.script budget more (at_place from r memory events) outcome Good
-    by_place (places.Number number) there rest =
-        plain_first r sound.lies on.ready.shares.code (there)
-        (subst (λ (size : ℕ). Does context.activation.around.program.script budget more
-        (act context.activation.around.program.script (instruction_with form number) (at_place (from + size) r memory events))
-        outcome Good) (sym (size_with_word form number)) rest)
-    by_place (places.Code offset) there rest = word_first r sound.lies on.ready.shares.code there rest
-    by_place (places.Data offset) there rest = word_first r sound.lies on.ready.shares.code there rest
-    by_place (places.External offset name) there rest = word_first r sound.lies on.ready.shares.code there rest
 
 -- facts that the plan makes up beside those that hold
 pub holds_go :
@@ -266,7 +270,7 @@ pub room_for :
     → HasRoom activation top pushed less
 room_for less is_less room =
     let enough = room.enough in
-    record { depth = room.depth; enough = omega (arith, enough, is_less) }
+    record { depth = room.depth; even = room.even; enough = omega (arith, enough, is_less) }
 
 -- how many bytes are pushed after a PUSH: less than there are in memory
 pub more_pushed :
@@ -278,11 +282,13 @@ pub more_pushed :
     → HasRoom activation (top - 2) ((pushed + 2) % 65536) less
 more_pushed less lies some is_less room =
     let depth = room.depth in
+    let even = room.even in
     let enough = room.enough in
     let above = lies.above in
     let stack = lies.placed.stack_in_memory in
     record {
       depth = omega (arith, depth, enough, above, stack, some, is_less);
+      even = omega (arith, even);
       enough = omega (arith, enough, is_less);
     }
 

@@ -75,6 +75,7 @@ pub second_then :
     {context : Context} {facts last : Facts} {to pushed bound top need : ℕ} {base : List ℕ} {tree : TypedExpression}
     (used : Facts) (second : IndexNode) (from : ℕ) (s : SourceState) (r : Registers) (memory : List ℕ)
     → ProductsDo context
+    → second.stride < 65536
     → IsSound context
     → IsExpression (nodes_in context) context.storage bound (second.index).index tree
     → TypesHold context.typed context.within tree
@@ -92,7 +93,7 @@ pub second_then :
     → Does context.activation.around.program.script t.budget more (at_place to now ended t.events) (go n t) Good)
     → Does context.activation.around.program.script s.budget more (at_place from r memory s.events)
     (then_do (value context.later context.activation.around tree s) go) Good
-second_then {more = more} {go = go} {Good = Good} {context = context} {facts = facts} {last = last} {to = to} {pushed = pushed} {bound = bound} {top = top} {need = need} {base = base} {tree = tree} used second from s r memory products sound is types address less room high stand on rest =
+second_then {more = more} {go = go} {Good = Good} {context = context} {facts = facts} {last = last} {to = to} {pushed = pushed} {bound = bound} {top = top} {need = need} {base = base} {tree = tree} used second from s r memory products small sound is types address less room high stand on rest =
     by_test (keeps (knowing context.site used) second.index).de refl stand
   where
     by_test : (kept : Bool) → (keeps (knowing context.site used) second.index).de ≡ kept
@@ -111,7 +112,7 @@ second_then {more = more} {go = go} {Good = Good} {context = context} {facts = f
         (λ middle found stand on_one.
         let parts = split (product_steps second.index second.stride pushed) (Plain (Dad De) ∷ []) stand in
         product_then middle s one memory
-        (products found parts.found second.index second.stride pushed middle parts.middle parts.first)
+        (products found parts.found second.index second.stride pushed middle parts.middle small parts.first)
         is types address less room (high_enough (height_of tree) need high) on_one
         (λ n t now ended fewer on_now given.
         registers_end (Dad De ∷ []) now sound (tt, tt) parts.second on_now
@@ -130,7 +131,7 @@ second_then {more = more} {go = go} {Good = Good} {context = context} {facts = f
         push_goes StackHl r sound there on two room
         (λ on_lower.
         product_then (from + 1) s lower after
-        (products facts parts.found second.index second.stride ((pushed + 2) % 65536) (from + 1) parts.middle parts.first)
+        (products facts parts.found second.index second.stride ((pushed + 2) % 65536) (from + 1) parts.middle small parts.first)
         is types address less
         (more_pushed (2 * height_of tree) sound.lies (omega (arith, some)) high room) (omega arith) on_lower
         (λ n t now ended fewer on_now given.

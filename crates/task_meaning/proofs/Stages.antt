@@ -109,7 +109,7 @@ pub has_less_room :
     → HasRoom activation top pushed need
     → HasRoom activation top pushed less
 has_less_room less fewer room =
-    let enough = room.enough in record { depth = room.depth; enough = omega (arith, enough, fewer) }
+    let enough = room.enough in record { depth = room.depth; even = room.even; enough = omega (arith, enough, fewer) }
 
 -- an instruction that changes registers other than the stack pointer
 pub at_registers :
@@ -260,7 +260,7 @@ at_push {context = context} {top = top} {pushed = pushed} {need = need} {base = 
     (subst (λ (s : State). Does (script_of context) budget more s outcome Good) (sym acts)
     (rest (record {
       below = stage.below;
-      room = record { depth = more_room.0; enough = more_room.1 };
+      room = record { depth = more_room.0; even = let even = stage.room.even in omega (arith, even); enough = more_room.1 };
       ready = ready_after_push context.activation top word base t.memory t.frame r memory lies low high small ready;
       known = known_now;
     })))

@@ -1,13 +1,8 @@
--- The code of stores at places that are known, and of a BYTE in A at any.
-use Rattle.std.proofs.Common.{◌≡◌, ℕ, ◌+◌, ◌*◌, ◌%◌, ◌<◌, Bool, List, [], ◌∷◌, Option, Some, None, slice_set, refl, sym, ap, subst, ◌∙◌, arith}
+-- Instructions that store at places that are known.
+use Rattle.std.proofs.Common.{◌≡◌, ℕ, ◌+◌, ◌<◌, List, [], ◌∷◌, slice_set, refl, sym, ap, subst, ◌∙◌}
 use Rattle.ports.specs.declared.event.Event.{Event}
-use Rattle.trees.specs.declared.declaration.ScalarType.TheVariants.{Byte}
-use Rattle.typed_trees.specs.Charge.{height_of_reference}
-use Rattle.typed_trees.specs.TypedTrees.{TypedReference}
-use Rattle.typed_trees.specs.WellTyped.{RefersToScalar, TypesHoldInReference}
-use Rattle.meaning.specs.Access.{Place as SourcePlace, write_byte, write_scalar}
-use Rattle.meaning.specs.Values.{as_type}
-use Rattle.meaning.specs.Outcomes.{State as SourceState, Outcome, Gave, then_do}
+use Rattle.meaning.specs.Access.{Place as SourcePlace, write_byte}
+use Rattle.meaning.specs.Outcomes.{State as SourceState, Outcome, then_do}
 use Rattle.isa8080.specs.State.{Registers, State, wrap}
 use Rattle.isa8080.specs.Act.{act}
 use Rattle.asm8080.specs.declared.item.WordForm.{WordForm}
@@ -16,13 +11,8 @@ use Rattle.asm8080.specs.Items.{instruction_with}
 use Rattle.asm8080.specs.Standing.{size_of_instruction}
 use Rattle.treecode.specs.declared.place.Place.{Place}
 use Rattle.treecode.specs.declared.place.Place.TheVariants as places
-use Rattle.treecode.specs.declared.place.Location.{Location}
-use Rattle.treecode.specs.declared.place.Location.TheVariants as locations
-use Rattle.treecode.specs.declared.reference.Reference.{Reference}
-use Rattle.treecode.specs.Lowered.{IsReference}
 use Rattle.code_meaning.specs.Landing.{Does, at_place}
-use Rattle.code_meaning.specs.Activations.{Arrives, IsReady, IsThere}
-use Rattle.code_meaning.proofs.Landing.{gives}
+use Rattle.code_meaning.specs.Activations.{IsReady, IsThere}
 use Rattle.code_meaning.proofs.FirstItems.{plain_step, word_step}
 use Rattle.code_facts.specs.Asking.{IsSteadyByte, WordAsks}
 use Rattle.code_facts.specs.Holding.{place_at}
@@ -31,18 +21,12 @@ use Rattle.steps8080.specs.declared.facts.Facts.{Facts}
 use Rattle.steps8080.specs.declared.step.Step.TheVariants.{Word}
 use Rattle.steps8080.specs.Facts.{after_word}
 use Rattle.steps8080.specs.Writer.{word_item}
-use Rattle.sites8080.specs.Queries.{location_of}
-use Rattle.operands8080.specs.Stores.{goal_of, store_a_at_steps, store_a_steps}
-use Rattle.exprgen8080.specs.Emission.{knowing}
-use Rattle.task_meaning.specs.Contexts.{Context, InRegister, IsSound, distances_in, nodes_in}
+use Rattle.task_meaning.specs.Contexts.{Context, IsSound, distances_in}
 use Rattle.task_meaning.specs.Steps.{StepsStand, WordThere}
-use Rattle.task_meaning.specs.Tasks.{Carries, IsStored, Know, PartDoes, address_on_machine}
+use Rattle.task_meaning.specs.Tasks.{Know, PartDoes, address_on_machine}
 use Rattle.task_meaning.proofs.Rules.{GoesOn, bytes_at_place}
 use Rattle.task_meaning.proofs.Addresses.{nothing_goes}
-use Rattle.task_meaning.proofs.Fitting.{located_fits, refers_is_referred}
-use Rattle.task_meaning.proofs.Loads.{given_last, lies_there}
-use Rattle.task_meaning.proofs.Located.{located_in}
-use Rattle.task_meaning.proofs.Stores.{byte_at_address_law, gains}
+use Rattle.task_meaning.proofs.Stores.{gains}
 use Rattle.task_meaning.proofs.Writing.{byte_written}
 
 size_with_word : (form : WordForm) (word : ℕ) → size_of_instruction (instruction_with form word) ≡ 3
@@ -93,11 +77,8 @@ word_gains {A = A} {budget = budget} {outcome = outcome} {Good = Good} {context 
     by_place (places.External offset name) there does rest =
         gains (word_step context.activation.around.program.script context.activation form _ [] from (from + 3) r memory events sound.lies on.ready.shares.code there ∙ does) rest
 
-twice_low : (n : ℕ) → n < 256 → n ≡ n % 256 % 256
-twice_low n small = omega (arith, small)
-
 -- STA at the place of a byte
-sta_stores :
+pub sta_stores :
     {A : Type 0} {Good : A → SourceState → State → Type 0}
     {context : Context} {facts last : Facts} {top from to : ℕ} {base : List ℕ}
     (go : Unit {0} → SourceState → Outcome A) (static : Place) (place : SourcePlace) (byte : ℕ) (t : SourceState) (r : Registers)
@@ -134,56 +115,3 @@ sta_stores {Good = Good} {context = context} {facts = facts} {last = last} {top 
     subst (λ (budget : ℕ). Does script budget 0 (at_place to r left t.events) (go tt u) Good) budget_same
     (subst (λ (events : List Event). Does script u.budget 0 (at_place to r left events) (go tt u) Good) events_same
     (rest u left on_left)))))
-
--- the code that stores the BYTE in A in a BYTE
-pub byte_store_law :
-    {context : Context} {facts last : Facts} {reference : Reference} {pushed from to bound number : ℕ} {tree : TypedReference}
-    (is_wanted : Bool)
-    → IsSound context
-    → StepsStand context (PartDoes context) facts from
-    (store_a_steps (knowing context.site facts) (goal_of (knowing context.site facts) Byte reference) pushed) last to
-    → IsReference (nodes_in context) context.storage bound reference tree
-    → RefersToScalar context.typed context.within Byte tree
-    → TypesHoldInReference context.typed context.within tree
-    → number < 256
-    → Carries context facts pushed (2 + 2 * height_of_reference tree) 1 from to (InRegister Byte number)
-    (λ s. then_do (located_in context tree s)
-    (λ place t. write_scalar context.activation.around.program Byte place (as_type Byte number) t))
-    (IsStored context last Byte is_wanted number)
-byte_store_law {context = context} {facts = facts} {last = last} {reference = reference} {pushed = pushed} {from = from} {to = to} {bound = bound} {number = number} {tree = tree} is_wanted sound stand is refers types small top base s r memory less room ready known asked =
-    by_location (location_of (knowing context.site facts) reference) refl stand
-  where
-    by_location : (found : Option Location) → location_of (knowing context.site facts) reference ≡ found
-        → StepsStand context (PartDoes context) facts from
-        (elim found [
-          | None ↦ store_a_at_steps (goal_of (knowing context.site facts) Byte reference) pushed
-          | Some location ↦ elim location [
-            | locations.Static place ↦ Word StoreA place ∷ []
-            | locations.Frame variable offset ↦ store_a_at_steps (goal_of (knowing context.site facts) Byte reference) pushed
-          ]
-        ]) last to
-        → Does context.activation.around.program.script s.budget 1 (at_place from r memory s.events)
-        (then_do (located_in context tree s)
-        (λ place t. write_scalar context.activation.around.program Byte place (as_type Byte number) t))
-        (Arrives context.activation top base to (IsStored context last Byte is_wanted number r memory))
-    by_location None found stand =
-        byte_at_address_law is_wanted sound stand is refers types small top base s r memory less room ready known asked
-    by_location (Some (locations.Frame variable offset)) found stand =
-        byte_at_address_law is_wanted sound stand is refers types small top base s r memory less room ready known asked
-    by_location (Some (locations.Static static)) found stand =
-        let lies = lies_there facts (locations.Static static) sound is (refers_is_referred context Byte tree refers) types found in
-        subst (λ (outcome : Outcome (Unit {0})). Does context.activation.around.program.script s.budget 1 (at_place from r memory s.events) outcome
-        (Arrives context.activation top base to (IsStored context last Byte is_wanted number r memory)))
-        (given_last (write_byte context.activation.around.program lies.place (number % 256 % 256) s)
-        ∙ sym (ap (λ (outcome : Outcome SourcePlace). then_do outcome
-        (λ place t. write_scalar context.activation.around.program Byte place (as_type Byte number) t)) (lies.means s)))
-        (sta_stores (λ found u. Gave found u) static lies.place (number % 256 % 256) s r memory sound (omega arith)
-        (asked ∙ twice_low number small) lies.is_at (located_fits context Byte tree lies.place s s sound refers (lies.means s)) stand
-        (record { ready = ready; known = known })
-        (λ u left on_left. gives (record {
-          r = r;
-          memory = left;
-          is_at = refl;
-          ready = on_left.ready;
-          holds = record { known = on_left.known; wanted = λ wanted. asked };
-        })))

@@ -1,10 +1,10 @@
 -- A value in its register, and one that is stored where it is evaluated.
-use Rattle.std.proofs.Common.{◌≡◌, ℕ, ◌+◌, ◌*◌, ◌/◌, ◌%◌, ◌<◌, ◌≤◌, max, Bool, true, false, List, [], ◌∷◌, refl, sym, ap, subst, ◌∙◌, arith}
+use Rattle.std.proofs.Common.{◌≡◌, ℕ, ◌+◌, ◌*◌, ◌%◌, ◌<◌, ◌≤◌, Bool, true, List, sym, subst, ◌∙◌, arith}
 use Rattle.trees.specs.declared.declaration.ScalarType.{ScalarType}
 use Rattle.trees.specs.declared.declaration.ScalarType.TheVariants.{Byte, Address}
 use Rattle.typed_trees.specs.Charge.{height_of, height_of_target}
 use Rattle.typed_trees.specs.ExpressionTypes.{type_of}
-use Rattle.typed_trees.specs.TypedTrees.{TypedExpression, TypedTarget, AssignmentNode, StoredIn, SentTo}
+use Rattle.typed_trees.specs.TypedTrees.{TypedExpression, TypedTarget, AssignmentNode}
 use Rattle.typed_trees.specs.WellTyped.{TypesHold, TypesHoldInTarget}
 use Rattle.meaning.specs.Meaning.{stored, value}
 use Rattle.meaning.specs.Outcomes.{State as SourceState, Ended, More, Outside, Outcome, Gave, Stopped, then_do}
@@ -20,7 +20,7 @@ use Rattle.exprgen8080.specs.Bytes.{embedded_steps}
 use Rattle.exprgen8080.specs.Calls.{value_task}
 use Rattle.task_meaning.specs.Contexts.{Context, InRegister, nodes_in}
 use Rattle.task_meaning.specs.Steps.{NoneThere, PartThere, StepsStand}
-use Rattle.task_meaning.specs.Tasks.{ByteIsGiven, Carries, IsStored as WasStored, Nothing, PartDoes, StoreDoes, TaskDoes, WordIsGiven}
+use Rattle.task_meaning.specs.Tasks.{ByteIsGiven, Carries, IsStored as WasStored, PartDoes, StoreDoes, TaskDoes, WordIsGiven}
 use Rattle.task_meaning.proofs.Stages.{Stage, at_byte, at_carried, at_word, does_same, script_of}
 use Rattle.task_meaning.proofs.Effects.{then_again}
 

@@ -109,7 +109,7 @@ multiply_does {context = context} {facts = facts} {left = left} {right = right} 
     (kept_none context number r after none) going_last))
 
 -- of a division by 0 nothing is asked
-divided_does :
+pub divided_does :
     {script : List (List ℕ)} {budget : ℕ} {from : Rattle.isa8080.specs.State.State} {u : SourceState}
     {Good : ℕ → SourceState → Rattle.isa8080.specs.State.State → Type 0}
     (y f : ℕ)
@@ -121,7 +121,7 @@ divided_does {script = script} {budget = budget} {from = from} {u = u} {Good = G
     by true is = record { told = tt }
     by false is = does is
 
-some_of : (y f : ℕ) → (y == 0) ≡ false → (if y == 0 then None else Some f) ≡ Some f
+pub some_of : (y f : ℕ) → (y == 0) ≡ false → (if y == 0 then None else Some f) ≡ Some f
 some_of y f is = ap (λ (test : Bool). if test then None else Some f) is
 
 quotient_small : (x y : ℕ) → x < 65536 → x / y < 65536
@@ -219,7 +219,7 @@ shift_small : (function : ShiftFunction) (n k : ℕ) → ShiftsIn function Addre
     → shifted Address function n k < 65536
 shift_small function n k in_type small = shift_fits Address function n k in_type small
 
-shift_then :
+pub shift_then :
     {context : Context} {top bytes_pushed need from to : ℕ} {base : List ℕ} {facts last : Facts}
     (function : ShiftFunction) (n k : ℕ) (number : ExpressionNumber) (t : SourceState) (r now : Registers)
     (memory ended : List ℕ) (sound : IsSound context)

@@ -1,5 +1,5 @@
--- The code of words does what the expressions mean, where the forms that are still open do.
-use Rattle.std.proofs.Common.{◌≡◌, ℕ, ◌+◌, ◌*◌, ◌/◌, ◌%◌, ◌<◌, ◌≤◌, max, true, List, [], ◌∷◌, ◌++◌, Option, Some, None, refl, sym, ap, ◌∙◌, subst, arith}
+-- The code of values in HL does what the expressions mean.
+use Rattle.std.proofs.Common.{◌≡◌, ℕ, ◌+◌, ◌-◌, ◌*◌, ◌/◌, ◌%◌, ◌^◌, ◌<◌, ◌≤◌, ◌==◌, max, Bool, true, false, if◌then◌else◌, bit_and, is_some, [], ◌∷◌, ◌++◌, Option, Some, None, refl, sym, ap, ◌∙◌, subst, arith}
 use Rattle.std.proofs.lemmas.List.{append_assoc}
 use Rattle.trees.specs.declared.declaration.ScalarType.{ScalarType}
 use Rattle.trees.specs.declared.declaration.ScalarType.TheVariants.{Address, Byte}
@@ -9,31 +9,30 @@ use Rattle.typed_trees.specs.declared.parts.ShiftFunction.{ShiftFunction}
 use Rattle.typed_trees.specs.declared.parts.ShiftFunction.TheVariants.{RotateLeft, RotateRight, ShiftLeft, ShiftRight}
 use Rattle.typed_trees.specs.declared.parts.UnaryFunction.TheVariants.{Low, High, Double}
 use Rattle.typed_trees.specs.Charge.{height_of}
-use Rattle.typed_trees.specs.ExpressionTypes.{type_of}
-use Rattle.typed_trees.specs.TypedTrees.{TypedExpression}
+use Rattle.typed_trees.specs.ExpressionTypes.{type_of, type_of_result}
+use Rattle.typed_trees.specs.TypedTrees.{BinaryNode, ConversionNode, FunctionNode, ShiftNode, TypedExpression}
 use Rattle.typed_trees.specs.WellTyped.{TypesHold}
 use Rattle.meaning.specs.Meaning.{value}
 use Rattle.meaning.specs.Outcomes.{State as SourceState, Outcome, Gave, Stopped, then_do}
 use Rattle.meaning.specs.Values.{as_type, shifted}
-use Rattle.isa8080.specs.State.{Registers, State}
+use Rattle.isa8080.specs.declared.instr.Instr.TheVariants.{Xchg}
+use Rattle.isa8080.specs.State.{State}
 use Rattle.runtime8080.specs.declared.routine.Routine.TheVariants as routines
 use Rattle.treecode.specs.declared.expression.Expression.{Expression}
 use Rattle.treecode.specs.declared.expression.ExpressionForm.{ExpressionForm}
 use Rattle.treecode.specs.declared.expression.ExpressionForm.TheVariants as forms
 use Rattle.treecode.specs.declared.expression.ExpressionNumber.{ExpressionNumber}
-use Rattle.treecode.specs.declared.lists.Range.{Range}
 use Rattle.treecode.specs.declared.place.Location.TheVariants.{Static}
 use Rattle.treecode.specs.declared.place.Place.{Place}
 use Rattle.treecode.specs.declared.place.Place.TheVariants.{Number}
 use Rattle.treecode.specs.declared.reference.Reference.{Reference}
-use Rattle.treecode.specs.declared.reference.Target.{Target}
 use Rattle.treecode.specs.Lowered.{IsExpression, IsForm, IsNumber, IsValue, IsLocation, IsConstantList, IsConversion, IsEmbedded, IsUnary, IsBinary, IsCallOf, IsFunction, IsShift, IsInput}
 use Rattle.treecode.specs.Traits.{keeps_none, keeps_of_form, keeps_of, keeps_of_address, keeps_of_extended, memory_of_form, keeps_of_shift, same_low_byte, traits_at, known_of, no_traits, number_at, traits_of}
 use Rattle.treecode.specs.declared.traits.Traits.{Traits}
 use Rattle.std.specs.Option.{option_map_or}
 use Rattle.sites8080.specs.Site.{expression}
 use Rattle.code_meaning.specs.Landing.{Does, at_place}
-use Rattle.code_meaning.specs.Activations.{Arrives, HasRoom}
+use Rattle.code_meaning.specs.Activations.{Arrives}
 use Rattle.code_facts.specs.Holding.{place_at}
 use Rattle.steps8080.specs.declared.facts.Facts.{Facts}
 use Rattle.steps8080.specs.declared.step.Step.TheVariants.{CallRoutine, Plain}
@@ -47,7 +46,7 @@ use Rattle.operands8080.specs.Loads.{extended_byte_in_memory_steps}
 use Rattle.operands8080.specs.Pairs.{pair_steps}
 use Rattle.exprgen8080.specs.Emission.{knowing}
 use Rattle.exprgen8080.specs.ByteOperators.{number_of_two}
-use Rattle.exprgen8080.specs.WordOperators.{division_steps, quotient_steps, remainder_steps, with_simple, word_binary_steps}
+use Rattle.exprgen8080.specs.WordOperators.{division_steps, logic_with_number_steps, quotient_steps, remainder_steps, word_binary_steps}
 use Rattle.exprgen8080.specs.WordShifts.{computed_count_steps, word_by_number_steps, word_shift_steps, word_shifted_right_steps}
 use Rattle.exprgen8080.specs.Words.{computed_word_steps, extended_byte_steps, word_form_steps, word_function_steps, word_of_two_steps, word_steps}
 use Rattle.task_meaning.specs.Contexts.{Context, IsSound, nodes_in}
@@ -56,7 +55,6 @@ use Rattle.task_meaning.specs.Tasks.{PartDoes, WordDoes, WordIsGiven}
 use Rattle.task_meaning.proofs.Addresses.{location_address_goes}
 use Rattle.task_meaning.proofs.BytesInMemory.{memory_same}
 use Rattle.task_meaning.proofs.Nodes.{NodeOf, node_of}
-use Rattle.task_meaning.proofs.Rules.{GoesOn}
 use Rattle.task_meaning.proofs.KnownOperands.{bytes_differ, known_is, known_small, number_known, word_fits}
 use Rattle.task_meaning.proofs.Ranges.{wide}
 use Rattle.task_meaning.proofs.Values.{word_ends, word_given, word_then}
@@ -69,65 +67,29 @@ use Rattle.task_meaning.proofs.WordSums.{TwoWords, keeps_at_site, one_high, seco
 use Rattle.task_meaning.proofs.LeftShifts.{left_does}
 use Rattle.task_meaning.proofs.LogicPairs.{either_does}
 use Rattle.isa8080.specs.declared.instr.Operation.TheVariants as operations
-use Rattle.exprgen8080.specs.declared.word_operators.Simple.{Simple}
 use Rattle.task_meaning.proofs.WordForms.{extended_does, unary_does}
 use Rattle.task_meaning.proofs.WordRoutines.{absurd_type, computed_shift_does, quotient_does, remainder_does}
-use Rattle.task_meaning.proofs.WordBinaries.{LeftWordDoes, difference_does, is_number_at, product_does}
-
--- the value of a tree comes into HL
-abbrev pub IsCarriedOut :
-    Context → (facts : Facts) → (number : ExpressionNumber) → TypedExpression → ScalarType → (pushed from : ℕ) → (last : Facts)
-    → (to : ℕ) → Type 0
-IsCarriedOut context facts number tree scalar pushed from last to =
-    (top need : ℕ) (base : List ℕ) (s : SourceState) (r : Registers) (memory : List ℕ)
-    → s.budget < context.number
-    → HasRoom context.activation top pushed need
-    → 2 * height_of tree ≤ need
-    → GoesOn context facts top base s.memory s.frame r memory
-    → Does context.activation.around.program.script s.budget 0 (at_place from r memory s.events)
-    (value context.later context.activation.around tree s)
-    (Arrives context.activation top base to (WordIsGiven context last number scalar r memory))
-
--- forms whose code is followed elsewhere
-pub data IsOther (site : Site) : ExpressionForm → Type 0 where
-  OtherValue : {reference : Reference} → IsOther site (forms.Value reference)
-  OtherLocation : {reference : Reference} → IsOther site (forms.Location reference)
-  OtherEmbedded : {target : Target} {inner : ExpressionNumber} → IsOther site (forms.Assignment target inner)
-  OtherCall : {procedure : ℕ} {range : Range} → IsOther site (forms.Call procedure range)
-  OtherAnd : {left right : ExpressionNumber} → IsOther site (forms.Binary Address operators.And left right)
-  OtherOr : {left right : ExpressionNumber} {chosen : ExpressionNumber × Simple}
-      → with_simple site (record { left = left; right = right }) ≡ Some chosen
-      → IsOther site (forms.Binary Address operators.Or left right)
-  OtherXor : {left right : ExpressionNumber} {chosen : ExpressionNumber × Simple}
-      → with_simple site (record { left = left; right = right }) ≡ Some chosen
-      → IsOther site (forms.Binary Address operators.Xor left right)
-  OtherQuotient : {left right : ExpressionNumber} {count : ℕ} → power site right ≡ Some count
-      → IsOther site (forms.Binary Address operators.Divide left right)
-  OtherRemainder : {left right : ExpressionNumber} {n : ℕ} → number_of_two site right ≡ Some n
-      → IsOther site (forms.Binary Address operators.Modulo left right)
-  OtherShift : {value count : ExpressionNumber} {n : ℕ} → number_of site count ≡ Some n
-      → IsOther site (forms.Shift ShiftRight value count)
-
--- what is asked of them
-pub record OthersDo (context : Context) : Type 0 where
-  pub others :
-      (facts last : Facts) (number : ExpressionNumber) (form : ExpressionForm) (bound pushed from to : ℕ) (tree : TypedExpression)
-      → IsOther (knowing context.site facts) form
-      → IsForm (nodes_in context) context.storage bound form tree
-      → TypesHold context.typed context.within tree
-      → type_of tree ≡ Address
-      → keeps context.site number ≡ keeps_of_form (nodes_in context) Address form
-      → StepsStand context (PartDoes context) facts from (word_form_steps (knowing context.site facts) form pushed) last to
-      → IsCarriedOut context facts number tree Address pushed from last to
-  pub bytes :
-      (facts last : Facts) (number : ExpressionNumber) (reference : Reference) (bound pushed from to : ℕ) (tree : TypedExpression)
-      → IsExpression (nodes_in context) context.storage bound number.index tree
-      → TypesHold context.typed context.within tree
-      → type_of tree ≡ Byte
-      → memory_of (knowing context.site facts) number ≡ Some reference
-      → StepsStand context (PartDoes context) facts from (extended_byte_in_memory_steps (knowing context.site facts) reference pushed) last to
-      → IsCarriedOut context facts number tree Byte pushed from last to
-  pub left_words : LeftWordDoes context
+use Rattle.task_meaning.proofs.WordBinaries.{difference_does, is_number_at, product_does}
+use Rattle.std.proofs.Math.Nat.{pow-le-pow_right}
+use Rattle.std.proofs.lemmas.Bool.{eqb-false, ne_eqb}
+use Rattle.std.proofs.lemmas.Nat.{and_mask}
+use Rattle.std.specs.Option.{option_and_then}
+use Rattle.meaning.specs.Meaning.{computed}
+use Rattle.meaning.specs.Values.{result_of}
+use Rattle.sites8080.specs.Widths.{power_of_two}
+use Rattle.task_meaning.proofs.AndNumbers.{HighHalvesGiven, and_number_does}
+use Rattle.task_meaning.proofs.BytesAsked.{BytesAsked}
+use Rattle.task_meaning.proofs.CarriedWords.{IsCarriedOut}
+use Rattle.task_meaning.proofs.DirectWords.{left_words_do}
+use Rattle.task_meaning.proofs.ExtendedBytes.{extended_carried}
+use Rattle.task_meaning.proofs.KnownOperands.{number_small}
+use Rattle.task_meaning.proofs.LogicAnd.{and_does}
+use Rattle.task_meaning.proofs.Multiples.{power_is}
+use Rattle.task_meaning.proofs.Pairs.{same_rest}
+use Rattle.task_meaning.proofs.RightShifts.{right_does}
+use Rattle.task_meaning.proofs.SimpleLogic.{with_simple_does}
+use Rattle.task_meaning.proofs.WordBinaries.{number_below}
+use Rattle.task_meaning.proofs.WordValues.{call_carried, embedded_carried, location_carried, value_carried}
 
 without_rest :
     (context : Context) {from : State} {budget : ℕ} {Good : ℕ → SourceState → State → Type 0} (outcome : Outcome ℕ)
@@ -171,45 +133,119 @@ operand_of : {context : Context} {bound : ℕ} {of : ExpressionNumber} {tree : T
     → IsOperand context of tree
 operand_of {bound = bound} is types = record { bound = bound; is = is; types = types }
 
-module _ (context : Context) (sound : IsSound context) (asked : OthersDo context) where
+same_number : {one other : ℕ} → Some one ≡ Some other → one ≡ other
+same_number same = cc
+
+-- a number that is a power of 2
+record IsPower (site : Site) (of : ExpressionNumber) (count : ℕ) : Type 0 where
+  n : ℕ
+  is : number_of site of ≡ Some n
+  same : n ≡ 2 ^ count
+
+power_means : (site : Site) (of : ExpressionNumber) (count : ℕ) → power site of ≡ Some count → IsPower site of count
+unfolding power power_of_two
+power_means site of count is = by (number_of site of) refl is
+  where
+    by : (found : Option ℕ) → number_of site of ≡ found → option_and_then power_of_two found ≡ Some count → IsPower site of count
+    by (Some n) here same = record { n = n; is = here; same = power_is 16 0 n count same }
+    by None here same = absurd cc
+
+two_means :
+    (site : Site) (of : ExpressionNumber) (n : ℕ) → number_of_two site of ≡ Some n
+    → (count : ℕ) × (number_of site of ≡ Some n) × (n ≡ 2 ^ count)
+unfolding number_of_two
+two_means site of n is = by (number_of site of) (power site of) refl refl is
+  where
+    by : (found power_found : Option ℕ) → number_of site of ≡ found → power site of ≡ power_found
+        → elim found [
+          | Some number ↦ if is_some power_found then Some number else None
+          | None ↦ None
+        ] ≡ Some n
+        → (count : ℕ) × (number_of site of ≡ Some n) × (n ≡ 2 ^ count)
+    by (Some m) (Some count) here there same =
+        let found = power_means site of count there in
+        let one : m ≡ n = same_number same in
+        (count, here ∙ same, sym one ∙ same_number (sym here ∙ found.is) ∙ found.same)
+    by (Some m) None here there same = absurd cc
+    by None power_found here there same = absurd cc
+
+power_some : (n count : ℕ) → n ≡ 2 ^ count → (n == 0) ≡ false
+power_some n count same = ne_eqb n 0 (λ none. not_none (sym same ∙ none))
+  where
+    some_bit : 1 ≤ 2
+    some_bit = omega arith
+
+    from_none : 0 ≤ count
+    from_none = omega arith
+
+    not_none : 2 ^ count ≡ 0 → ⊥
+    not_none none = let positive : 2 ^ 0 ≤ 2 ^ count = pow-le-pow_right some_bit from_none in omega (arith, none, positive)
+
+-- what a division by a power of 2 gives
+quotient_is : (x n count : ℕ) (u : SourceState) → n ≡ 2 ^ count
+    → computed (result_of Address operators.Divide x n) u ≡ Gave (x / 2 ^ count) u
+quotient_is x n count u same =
+    ap (λ (test : Bool). computed (if test then None else Some (x / n)) u) (power_some n count same)
+    ∙ ap (λ m. Gave (x / m) u) same
+
+rest_mask : (n count : ℕ) → n ≡ 2 ^ count → n < 65536 → (n == 0) ≡ false → (n + 65535) % 65536 ≡ 2 ^ count - 1
+rest_mask n count same small some =
+    let not_none = eqb-false n 0 some in less n small not_none ∙ ap (λ m. m - 1) same
+  where
+    less : (n : ℕ) → n < 65536 → (n ≡ 0 → ⊥) → (n + 65535) % 65536 ≡ n - 1
+    less n small some = omega (arith, small, some)
+
+remainder_is : (x n count : ℕ) (u : SourceState) → n ≡ 2 ^ count → n < 65536
+    → computed (result_of Address operators.Modulo x n) u ≡ Gave (bit_and x ((n + 65535) % 65536)) u
+remainder_is x n count u same small =
+    ap (λ (test : Bool). computed (if test then None else Some (x % n)) u) (power_some n count same)
+    ∙ ap (λ m. Gave (x % m) u) same
+    ∙ ap (λ m. Gave m u) (sym (and_mask x count))
+    ∙ ap (λ m. Gave (bit_and x m) u) (sym (rest_mask n count same small (power_some n count same)))
+
+module _ (context : Context) (sound : IsSound context) (asked : BytesAsked context) (highs : HighHalvesGiven context) where
   -- an ADDRESS operator
   binary_carried :
       {facts last : Facts} {number left right : ExpressionNumber} {first second : TypedExpression} {bound pushed from to : ℕ}
       (operator : BinaryOperator)
       → TwoWords context (record { left = left; right = right }) first second
       → IsForm (nodes_in context) context.storage bound (forms.Binary Address operator left right)
-      (Rattle.typed_trees.specs.TypedTrees.BinaryNode Address operator first second)
-      → TypesHold context.typed context.within (Rattle.typed_trees.specs.TypedTrees.BinaryNode Address operator first second)
-      → Rattle.typed_trees.specs.ExpressionTypes.type_of_result operator Address ≡ Address
+      (BinaryNode Address operator first second)
+      → TypesHold context.typed context.within (BinaryNode Address operator first second)
+      → type_of_result operator Address ≡ Address
       → keeps context.site number ≡ keeps_of_form (nodes_in context) Address (forms.Binary Address operator left right)
       → StepsStand context (PartDoes context) facts from
       (word_form_steps (knowing context.site facts) (forms.Binary Address operator left right) pushed) last to
-      → IsCarriedOut context facts number (Rattle.typed_trees.specs.TypedTrees.BinaryNode Address operator first second) Address pushed from last to
+      → IsCarriedOut context facts number (BinaryNode Address operator first second) Address pushed from last to
   unfolding word_form_steps word_of_two_steps word_binary_steps quotient_steps remainder_steps division_steps
   binary_carried {number = number} {left = left} {right = right} {from = from} operators.Add words form types same kept stand = λ top need base s r memory less room height going.
       sum_does (record { left = left; right = right }) number from s r memory sound words kept less room height stand going
   binary_carried {number = number} {left = left} {right = right} {from = from} operators.Subtract words form types same kept stand = λ top need base s r memory less room height going.
-      difference_does (record { left = left; right = right }) number from s r memory sound asked.left_words words kept less room height stand going
+      difference_does (record { left = left; right = right }) number from s r memory sound (left_words_do context sound asked.places) words kept less room height stand going
   binary_carried {number = number} {left = left} {right = right} {from = from} operators.Multiply words form types same kept stand = λ top need base s r memory less room height going.
       product_does (record { left = left; right = right }) number from s r memory sound words kept less room height stand going
-  binary_carried {facts = facts} {last = last} {number = number} {bound = bound} {pushed = pushed} {from = from} {to = to} operators.And words form types same kept stand =
-      asked.others facts last number _ bound pushed from to _ OtherAnd form types same kept stand
-  binary_carried {facts = facts} {last = last} {number = number} {left = left} {right = right} {bound = bound} {pushed = pushed} {from = from} {to = to} operators.Or words form types same kept stand = λ top need base s r memory less room height going.
+  binary_carried {number = number} {left = left} {right = right} {from = from} operators.And words form types same kept stand = λ top need base s r memory less room height going.
+      and_does (record { left = left; right = right }) number from s r memory sound asked highs words kept less room height stand going
+  binary_carried {number = number} {left = left} {right = right} {from = from} operators.Or words form types same kept stand = λ top need base s r memory less room height going.
       either_does operations.Or (record { left = left; right = right }) number from s r memory sound tt words kept less room height stand going
-      (λ chosen here. asked.others facts last number _ bound pushed from to _ (OtherOr here) form types same kept stand top need base s r memory less room height going)
-  binary_carried {facts = facts} {last = last} {number = number} {left = left} {right = right} {bound = bound} {pushed = pushed} {from = from} {to = to} operators.Xor words form types same kept stand = λ top need base s r memory less room height going.
+      (λ chosen here given.
+      with_simple_does operations.Or (record { left = left; right = right }) chosen number from s r memory sound asked.places tt
+      (λ fits. tt) (λ fits. tt) words here kept less room height given going)
+  binary_carried {number = number} {left = left} {right = right} {from = from} operators.Xor words form types same kept stand = λ top need base s r memory less room height going.
       either_does operations.ExclusiveOr (record { left = left; right = right }) number from s r memory sound tt words kept less room height stand going
-      (λ chosen here. asked.others facts last number _ bound pushed from to _ (OtherXor here) form types same kept stand top need base s r memory less room height going)
+      (λ chosen here given.
+      with_simple_does operations.ExclusiveOr (record { left = left; right = right }) chosen number from s r memory sound asked.places tt
+      (λ fits. tt) (λ fits. tt) words here kept less room height given going)
   binary_carried {facts = facts} {last = last} {number = number} {left = left} {right = right} {first = first} {second = second} {bound = bound} {pushed = pushed} {from = from} {to = to} operators.Divide words form types same kept stand =
-      by (power (knowing context.site facts) right) refl (quotient_is stand)
+      by (power (knowing context.site facts) right) refl (quotient_stands stand)
     where
-      quotient_is :
+      quotient_stands :
           StepsStand context (PartDoes context) facts from (quotient_steps (knowing context.site facts) (record { left = left; right = right }) pushed) last to
           → StepsStand context (PartDoes context) facts from (elim (power (knowing context.site facts) right) [
             | Some count ↦ word_shifted_right_steps (knowing context.site facts) left count pushed
             | None ↦ division_steps (knowing context.site facts) (record { left = left; right = right }) pushed
           ]) last to
-      quotient_is stand = stand
+      quotient_stands stand = stand
 
       divided : StepsStand context (PartDoes context) facts from (division_steps (knowing context.site facts) (record { left = left; right = right }) pushed) last to
           → StepsStand context (PartDoes context) facts from (pair_steps (knowing context.site facts) left right true pushed ++ (CallRoutine routines.Divide ∷ [])) last to
@@ -220,37 +256,58 @@ module _ (context : Context) (sound : IsSound context) (asked : OthersDo context
             | Some count ↦ word_shifted_right_steps (knowing context.site facts) left count pushed
             | None ↦ division_steps (knowing context.site facts) (record { left = left; right = right }) pushed
           ]) last to
-          → IsCarriedOut context facts number (Rattle.typed_trees.specs.TypedTrees.BinaryNode Address operators.Divide first second) Address pushed from last to
-      by (Some count) is given = asked.others facts last number _ bound pushed from to _ (OtherQuotient is) form types same kept stand
+          → IsCarriedOut context facts number (BinaryNode Address operators.Divide first second) Address pushed from last to
+      by (Some count) is given = λ top need base s r memory less room height going.
+          let found = power_means (knowing context.site facts) right count is in
+          subst (λ outcome. Does context.activation.around.program.script s.budget 0 (at_place from r memory s.events) outcome
+          (Arrives context.activation top base to (WordIsGiven context last number Address r memory)))
+          (sym (second_known first facts (Number found.n) (λ x y u. computed (result_of Address operators.Divide x y) u) s sound words.two
+          (number_known context facts right found.n found.is)
+          ∙ same_rest (value context.later context.activation.around first s)
+          (λ x t. computed (result_of Address operators.Divide x found.n) t) (λ x t. Gave (x / 2 ^ count) t)
+          (λ x t. quotient_is x found.n count t found.same)))
+          (right_does count number from s r memory sound words.one words.one_is kept less room
+          (one_high (height_of first) (height_of second) need height) going highs given)
       by None is given = λ top need base s r memory less room height going.
           quotient_does number from s r memory sound words.one words.two kept less room
           (one_high (height_of first) (height_of second) need height) (two_high (height_of first) (height_of second) need height)
           (divided given) going
   binary_carried {facts = facts} {last = last} {number = number} {left = left} {right = right} {first = first} {second = second} {bound = bound} {pushed = pushed} {from = from} {to = to} operators.Modulo words form types same kept stand =
-      by (number_of_two (knowing context.site facts) right) refl (remainder_is stand)
+      by (number_of_two (knowing context.site facts) right) refl (remainder_stands stand)
     where
-      remainder_is :
+      remainder_stands :
           StepsStand context (PartDoes context) facts from (remainder_steps (knowing context.site facts) (record { left = left; right = right }) pushed) last to
           → StepsStand context (PartDoes context) facts from (elim (number_of_two (knowing context.site facts) right) [
-            | Some n ↦ Rattle.exprgen8080.specs.WordOperators.logic_with_number_steps (knowing context.site facts) Rattle.isa8080.specs.declared.instr.Operation.TheVariants.And left ((n + 65535) % 65536) pushed
-            | None ↦ division_steps (knowing context.site facts) (record { left = left; right = right }) pushed ++ (Plain Rattle.isa8080.specs.declared.instr.Instr.TheVariants.Xchg ∷ [])
+            | Some n ↦ logic_with_number_steps (knowing context.site facts) operations.And left ((n + 65535) % 65536) pushed
+            | None ↦ division_steps (knowing context.site facts) (record { left = left; right = right }) pushed ++ (Plain Xchg ∷ [])
           ]) last to
-      remainder_is stand = stand
+      remainder_stands stand = stand
 
-      divided : StepsStand context (PartDoes context) facts from (division_steps (knowing context.site facts) (record { left = left; right = right }) pushed ++ (Plain Rattle.isa8080.specs.declared.instr.Instr.TheVariants.Xchg ∷ [])) last to
-          → StepsStand context (PartDoes context) facts from (pair_steps (knowing context.site facts) left right true pushed ++ (CallRoutine routines.Divide ∷ Plain Rattle.isa8080.specs.declared.instr.Instr.TheVariants.Xchg ∷ [])) last to
+      divided : StepsStand context (PartDoes context) facts from (division_steps (knowing context.site facts) (record { left = left; right = right }) pushed ++ (Plain Xchg ∷ [])) last to
+          → StepsStand context (PartDoes context) facts from (pair_steps (knowing context.site facts) left right true pushed ++ (CallRoutine routines.Divide ∷ Plain Xchg ∷ [])) last to
       divided stand =
           subst (λ steps. StepsStand context (PartDoes context) facts from steps last to)
           (append_assoc (pair_steps (knowing context.site facts) left right true pushed) (CallRoutine routines.Divide ∷ [])
-          (Plain Rattle.isa8080.specs.declared.instr.Instr.TheVariants.Xchg ∷ [])) stand
+          (Plain Xchg ∷ [])) stand
 
       by : (found : Option ℕ) → number_of_two (knowing context.site facts) right ≡ found
           → StepsStand context (PartDoes context) facts from (elim found [
-            | Some n ↦ Rattle.exprgen8080.specs.WordOperators.logic_with_number_steps (knowing context.site facts) Rattle.isa8080.specs.declared.instr.Operation.TheVariants.And left ((n + 65535) % 65536) pushed
-            | None ↦ division_steps (knowing context.site facts) (record { left = left; right = right }) pushed ++ (Plain Rattle.isa8080.specs.declared.instr.Instr.TheVariants.Xchg ∷ [])
+            | Some n ↦ logic_with_number_steps (knowing context.site facts) operations.And left ((n + 65535) % 65536) pushed
+            | None ↦ division_steps (knowing context.site facts) (record { left = left; right = right }) pushed ++ (Plain Xchg ∷ [])
           ]) last to
-          → IsCarriedOut context facts number (Rattle.typed_trees.specs.TypedTrees.BinaryNode Address operators.Modulo first second) Address pushed from last to
-      by (Some n) is given = asked.others facts last number _ bound pushed from to _ (OtherRemainder is) form types same kept stand
+          → IsCarriedOut context facts number (BinaryNode Address operators.Modulo first second) Address pushed from last to
+      by (Some n) is given = λ top need base s r memory less room height going.
+          let found = two_means (knowing context.site facts) right n is in
+          let small = number_below n (type_of second) words.two_is (number_small facts n sound words.two.is words.two.types found.1) in
+          subst (λ outcome. Does context.activation.around.program.script s.budget 0 (at_place from r memory s.events) outcome
+          (Arrives context.activation top base to (WordIsGiven context last number Address r memory)))
+          (sym (second_known first facts (Number n) (λ x y u. computed (result_of Address operators.Modulo x y) u) s sound words.two
+          (number_known context facts right n found.1)
+          ∙ same_rest (value context.later context.activation.around first s)
+          (λ x t. computed (result_of Address operators.Modulo x n) t) (λ x t. Gave (bit_and x ((n + 65535) % 65536)) t)
+          (λ x t. remainder_is x n found.0 t found.2 small)))
+          (and_number_does number sound kept words.one ((n + 65535) % 65536) from s r memory highs words.one_is (omega arith)
+          less room (one_high (height_of first) (height_of second) need height) given going)
       by None is given = λ top need base s r memory less room height going.
           remainder_does number from s r memory sound words.one words.two kept less room
           (one_high (height_of first) (height_of second) need height) (two_high (height_of first) (height_of second) need height)
@@ -269,12 +326,12 @@ module _ (context : Context) (sound : IsSound context) (asked : OthersDo context
       → IsOperand context of first
       → IsOperand context count second
       → IsForm (nodes_in context) context.storage bound (forms.Shift function of count)
-      (Rattle.typed_trees.specs.TypedTrees.ShiftNode Address function first second)
-      → TypesHold context.typed context.within (Rattle.typed_trees.specs.TypedTrees.ShiftNode Address function first second)
+      (ShiftNode Address function first second)
+      → TypesHold context.typed context.within (ShiftNode Address function first second)
       → keeps context.site number ≡ keeps_of_form (nodes_in context) Address (forms.Shift function of count)
       → StepsStand context (PartDoes context) facts from
       (word_form_steps (knowing context.site facts) (forms.Shift function of count) pushed) last to
-      → IsCarriedOut context facts number (Rattle.typed_trees.specs.TypedTrees.ShiftNode Address function first second) Address pushed from last to
+      → IsCarriedOut context facts number (ShiftNode Address function first second) Address pushed from last to
   unfolding word_form_steps word_of_two_steps word_shift_steps word_by_number_steps
   shift_carried {facts = facts} {last = last} {number = number} {of = of} {count = count} {first = first} {second = second} {bound = bound} {pushed = pushed} {from = from} {to = to} function one two form types kept stand =
       by (number_of (knowing context.site facts) count) refl stand
@@ -289,13 +346,20 @@ module _ (context : Context) (sound : IsSound context) (asked : OthersDo context
       by_number : (of_function : ShiftFunction) (n : ℕ) → number_of (knowing context.site facts) count ≡ Some n
           → StepsStand context (PartDoes context) facts from (word_by_number_steps (knowing context.site facts) of_function of n pushed) last to
           → IsForm (nodes_in context) context.storage bound (forms.Shift of_function of count)
-          (Rattle.typed_trees.specs.TypedTrees.ShiftNode Address of_function first second)
-          → TypesHold context.typed context.within (Rattle.typed_trees.specs.TypedTrees.ShiftNode Address of_function first second)
+          (ShiftNode Address of_function first second)
+          → TypesHold context.typed context.within (ShiftNode Address of_function first second)
           → keeps context.site number ≡ keeps_of_form (nodes_in context) Address (forms.Shift of_function of count)
           → StepsStand context (PartDoes context) facts from
           (word_form_steps (knowing context.site facts) (forms.Shift of_function of count) pushed) last to
-          → IsCarriedOut context facts number (Rattle.typed_trees.specs.TypedTrees.ShiftNode Address of_function first second) Address pushed from last to
-      by_number ShiftRight n is given form types kept stand = asked.others facts last number _ bound pushed from to _ (OtherShift is) form types refl kept stand
+          → IsCarriedOut context facts number (ShiftNode Address of_function first second) Address pushed from last to
+      by_number ShiftRight n is given form types kept stand = λ top need base s r memory less room height going.
+          subst (λ outcome. Does context.activation.around.program.script s.budget 0 (at_place from r memory s.events) outcome
+          (Arrives context.activation top base to (WordIsGiven context last number Address r memory)))
+          (sym (second_known first facts (Number n) (λ x y u. Gave (shifted Address ShiftRight x y) u) s sound two
+          (number_known context facts count n is)))
+          (right_does n number from s r memory sound one (types.1).1 kept
+          less room (one_high (height_of first) (height_of second) need (higher_shift (height_of first) (height_of second) need height))
+          going highs given)
       by_number ShiftLeft n is given form types kept stand = λ top need base s r memory less room height going.
           subst (λ outcome. Does context.activation.around.program.script s.budget 0 (at_place from r memory s.events) outcome
           (Arrives context.activation top base to (WordIsGiven context last number Address r memory)))
@@ -313,7 +377,7 @@ module _ (context : Context) (sound : IsSound context) (asked : OthersDo context
             | Some n ↦ word_by_number_steps (knowing context.site facts) function of n pushed
             | None ↦ computed_count_steps (knowing context.site facts) (record { function = function; value = of; count = count }) pushed
           ]) last to
-          → IsCarriedOut context facts number (Rattle.typed_trees.specs.TypedTrees.ShiftNode Address function first second) Address pushed from last to
+          → IsCarriedOut context facts number (ShiftNode Address function first second) Address pushed from last to
       by (Some n) is given = by_number function n is given form types kept stand
       by None is given = λ top need base s r memory less room height going.
           computed_shift_does (record { function = function; value = of; count = count }) number from s r memory sound types.0 one two
@@ -365,7 +429,7 @@ module _ (context : Context) (sound : IsSound context) (asked : OthersDo context
       → TypesHold context.typed context.within tree
       → IsKeptBy (keeps context.site number) (keeps context.site inner)
       → StepsStand context (PartDoes context) facts from (part_of (tasks.Word inner) pushed ∷ []) last to
-      → IsCarriedOut context facts number (Rattle.typed_trees.specs.TypedTrees.ConversionNode Address tree) Address pushed from last to
+      → IsCarriedOut context facts number (ConversionNode Address tree) Address pushed from last to
   conversion_carried {tree = tree} {from = from} number is types kept (PartThere part rest) = λ top need base s r memory less room height going.
       word_then from s r memory part is types less room height going
       (λ n t now ended same fewer going_on given.
@@ -381,7 +445,7 @@ module _ (context : Context) (sound : IsSound context) (asked : OthersDo context
       → TypesHold context.typed context.within tree
       → IsKeptBy (keeps context.site number) (keeps context.site inner)
       → StepsStand context (PartDoes context) facts from (part_of (tasks.Word inner) pushed ∷ []) last to
-      → IsCarriedOut context facts number (Rattle.typed_trees.specs.TypedTrees.FunctionNode Double tree) Address pushed from last to
+      → IsCarriedOut context facts number (FunctionNode Double tree) Address pushed from last to
   double_carried {tree = tree} {from = from} number is types kept (PartThere part rest) = λ top need base s r memory less room height going.
       word_then from s r memory part is types less room (higher_two (height_of tree) need height) going
       (λ n t now ended same fewer going_on given.
@@ -408,18 +472,18 @@ module _ (context : Context) (sound : IsSound context) (asked : OthersDo context
   unfolding word_form_steps word_function_steps
   form_carried IsNumber types address unknown kept stand = never_known unknown
   form_carried IsConstantList types address unknown kept stand = never_known unknown
-  form_carried {facts = facts} {last = last} {number = number} {bound = bound} {pushed = pushed} {from = from} {to = to} (IsValue reference) types address unknown kept stand =
-      asked.others facts last number _ bound pushed from to _ OtherValue (IsValue reference) types address kept stand
-  form_carried {facts = facts} {last = last} {number = number} {bound = bound} {pushed = pushed} {from = from} {to = to} (IsLocation reference) types address unknown kept stand =
-      asked.others facts last number _ bound pushed from to _ OtherLocation (IsLocation reference) types address kept stand
+  form_carried (IsValue {scalar = Address} reference) types address unknown kept stand = value_carried sound reference types kept stand
+  form_carried (IsValue {scalar = Byte} reference) types address unknown kept stand = bytes_differ address
+  form_carried (IsLocation reference) types address unknown kept stand = location_carried sound reference types kept stand
   form_carried {number = number} (IsConversion {inner = inner} {scalar = Address} {tree = tree} is) types address unknown kept stand =
       λ top need base s r memory less room height going.
       conversion_carried number is types (inside_keeps number inner (forms.Conversion inner) is kept (conversion_form inner tree is)) stand top need base s r memory less room height going
   form_carried (IsConversion {scalar = Byte} is) types address unknown kept stand = bytes_differ address
-  form_carried {facts = facts} {last = last} {number = number} {bound = bound} {pushed = pushed} {from = from} {to = to} (IsEmbedded target inner) types address unknown kept stand =
-      asked.others facts last number _ bound pushed from to _ OtherEmbedded (IsEmbedded target inner) types address kept stand
-  form_carried {facts = facts} {last = last} {number = number} {bound = bound} {pushed = pushed} {from = from} {to = to} (IsCallOf given) types address unknown kept stand =
-      asked.others facts last number _ bound pushed from to _ OtherCall (IsCallOf given) types address kept stand
+  form_carried (IsEmbedded target inner) types address unknown kept stand =
+      embedded_carried sound target inner types address kept stand
+  form_carried (IsCallOf {procedure = procedure} {scalar = Address} {range = range} given) types address unknown kept stand =
+      call_carried procedure range sound given types kept stand
+  form_carried (IsCallOf {scalar = Byte} given) types address unknown kept stand = bytes_differ address
   form_carried {number = number} {from = from} (IsUnary {scalar = Address} {operator = operator} {tree = operand} is) types address unknown kept stand = λ top need base s r memory less room height going.
       unary_does operator number from s r memory sound (operand_of is types.0) kept less room
       (higher_one (height_of operand) need height) stand going
@@ -525,8 +589,10 @@ module _ (context : Context) (sound : IsSound context) (asked : OthersDo context
           (value context.later context.activation.around tree s)
           (Arrives context.activation top base to (WordIsGiven context last number Byte r memory))
       by_memory (Some reference) here none byte given =
-          asked.bytes facts last number reference bound pushed from to tree is types byte here given top (2 * height_of tree) base s r memory
-          less room (omega arith) (record { ready = ready; known = known_before })
+          let node : NodeOf context number tree = node_of sound is in
+          extended_carried node.found.form sound is node.form types byte here
+          (sym (memory_same context sound facts node) ∙ here) (node_keeps Byte node byte (node_unknown facts node none)) given
+          top (2 * height_of tree) base s r memory less room (omega arith) (record { ready = ready; known = known_before })
       by_memory None here none byte given =
           without_rest context (value context.later context.activation.around tree s)
           (extended_does number from s r memory sound (operand_of is types) byte (nothing_kept facts is byte none here)

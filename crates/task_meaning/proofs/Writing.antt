@@ -14,6 +14,7 @@ use Rattle.code_meaning.specs.Landing.{Does}
 use Rattle.code_meaning.specs.Activations.{Activation, FrameLies, IsReady, LiesWell, Owns}
 use Rattle.code_meaning.proofs.Stores.{keeps_put, ready_with_variable}
 use Rattle.code_facts.specs.Asking.{IsSteadyByte}
+use Rattle.code_facts.proofs.Steady.{declared_is_steady}
 use Rattle.task_meaning.specs.Contexts.{Context, IsSound}
 use Rattle.task_meaning.specs.Tasks.{address_on_machine}
 use Rattle.task_meaning.proofs.Reading.{FitsIn, frame_is, of_frame}
@@ -213,7 +214,7 @@ byte_written {budget = budget} {more = more} {from = from} {Good = Good} {contex
         then (if constant then Stopped (Outside Constant) s else Gave (tt {0}) (record s { memory = slice_set s.memory address byte }))
         else Stopped (Outside UndeclaredByte) s) go) Good
     by_test true false declared constant =
-        does (record s { memory = slice_set s.memory address byte }) refl refl (inl declared, fits)
+        does (record s { memory = slice_set s.memory address byte }) refl refl (declared_is_steady context.activation address sound.lies declared, fits)
         (ready_with_variable context.activation top base s.memory s.frame r memory address byte sound.lies (declared, constant) fits small ready)
     by_test true true declared constant = record { told = tt }
     by_test false constant declared is = record { told = tt }

@@ -67,7 +67,7 @@ shown_zero context last Value r now memory memory_now found shows known =
     differ : Value ≡ Branch → ⊥
     differ same = subst IsValue same tt
 
-low_mask : (v n : ℕ) → n < 256 → bit_and (v % 256) (n % 256) ≡ bit_and v n
+pub low_mask : (v n : ℕ) → n < 256 → bit_and (v % 256) (n % 256) ≡ bit_and v n
 low_mask v n small =
     let less = and_le_r v n in
     sym (and_mod v n 8) ∙ all (bit_and v n) (omega (arith, less, small))

@@ -98,7 +98,8 @@ pub record NothingIsGiven
     (r : Registers) (memory : List ℕ) (found : A) (now : Registers) (memory_now : List ℕ) : Type 0 where
   pub known : Know context after now memory_now
 
--- the effects of an expression are carried out; A and DE are left alone where the tree says so
+-- the effects of an expression are carried out; A and DE are left alone where the tree says so, and where it is free all
+-- but A is
 pub record EffectsAreGiven
     (context : Context) (after : Facts) (number : ExpressionNumber)
     (r : Registers) (memory : List ℕ) (found : ℕ) (now : Registers) (memory_now : List ℕ) : Type 0 where
@@ -106,6 +107,7 @@ pub record EffectsAreGiven
   pub a : Left (keeps context.site number).a r.a now.a
   pub d : Left (keeps context.site number).de r.d now.d
   pub e : Left (keeps context.site number).de r.e now.e
+  pub free : is_free context.site number ≡ true → ChangesAOnly r memory now memory_now
 
 -- the address of a place on the machine
 abbrev pub address_on_machine : Activation → Place → ℕ

@@ -20,7 +20,8 @@ abbrev pub AddsEntry : Body → (before after : Generator) → Type 0
 AddsEntry body before after =
     AddsCode
     (λ called list.
-    (first : ℕ) × AreCarriedOut body called (here_of before) None (entry_steps body first) list (here_of after))
+    (first : ℕ)
+    × AreCarriedOut body called (here_of before) None (entry_steps body first) list (here_of after))
     before after
 
 -- and of its end, where that is reached

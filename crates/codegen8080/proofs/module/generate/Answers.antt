@@ -1,0 +1,32 @@
+use Rattle.std.proofs.Common.{ap, subst, ◌∙◌}
+use Rattle.steps8080.specs.Externals.{Extends}
+use Rattle.codegen8080.specs.internal.Listing.{AreListed}
+use Rattle.codegen8080.proofs.ObjectParts.{generated, made_of_same}
+use Rattle.codegen8080.proofs.module.generate.Goals as goal
+
+pub returns : goal.returns
+returns c =
+    generated c.args.tree.now c.in_ok-writer.field-0.start.index c.in_ok-writer.field-0.writer
+    c.in_ok-variables_of.field-0
+    c.in_ok-code.code.bytes c.in_ok-variables.variables.bytes c.in_ok-code.code.labels.items
+    c.in_ok-variables.variables.labels.items c.in_ok-listed.ensures.listed c.in_ok-listed.listed.names
+    c.in_ok-listed.listed.numbers.items c.start_of-start.result c.in_ok-object.object
+    c.in_ok-writer.ensures
+    c.in_ok-code.ensures.finishes
+    c.in_ok-variables_of.ensures.items
+    (subst (λ table. Extends table c.in_ok-variables_of.field-0.externals) c.in_ok-code.ensures.externals
+    c.in_ok-variables_of.ensures.externals)
+    c.in_ok-variables.ensures.finishes
+    (subst
+    (λ table. AreListed c.args.tree.now.externals.items table c.in_ok-listed.listed.numbers.items
+    c.in_ok-listed.ensures.listed)
+    c.in_ok-variables.ensures.externals c.in_ok-listed.ensures.externals)
+    c.in_ok-listed.ensures.same
+    c.in_ok-listed.ensures.publics
+    c.start_of-start.ensures
+    (made_of_same c.args.tree.now.name c.into_bytes.result c.in_ok-code.code.bytes c.into_bytes-2.result
+    c.in_ok-variables.variables.bytes _ c.in_ok-listed.listed.names c.as_slice.result.now
+    c.in_ok-listed.listed.numbers.items c.start_of-start.result c.in_ok-object.object
+    c.into_bytes.ensures c.into_bytes-2.ensures c.into_parts-names.ensures.names
+    (c.as_slice.ensures.value ∙ ap (λ table. table.items) c.into_parts-names.ensures.numbers)
+    c.in_ok-object.ensures)

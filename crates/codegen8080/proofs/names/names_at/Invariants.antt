@@ -1,0 +1,10 @@
+use Rattle.std.proofs.Common.{length}
+use Rattle.codegen8080.proofs.NameLoops.{IsListingNames}
+use Rattle.codegen8080.proofs.names.names_at.Given as goal
+
+abbrev pub invariant-loop-left : goal.invariant-loop-left
+invariant-loop-left l =
+    IsListingNames l.fn.externals l.fn.numbers l.places l.place l.rest l.left l.names
+
+abbrev pub decreases-loop-left : goal.decreases-loop-left
+decreases-loop-left l = length l.left
