@@ -24,6 +24,9 @@ use Rattle.runtime8080.specs.declared.routine.Routine.TheVariants as routines
 use Rattle.treecode.specs.declared.procedure.ProcedureKind.{ProcedureKind}
 use Rattle.treecode.specs.declared.procedure.ProcedureKind.TheVariants as kinds
 use Rattle.treecode.specs.declared.procedure.TreeProcedure.{TreeProcedure}
+use Rattle.frames.specs.Frames.{HasFrame}
+use Rattle.statements8080.specs.declared.body.Body.{Body}
+use Rattle.codegen8080.specs.declared.meeting.Here.{Here}
 use Rattle.program_images.specs.internal.AtPlans.{code_lengths_of, plan_of}
 use Rattle.program_memory.specs.internal.InMemory.{IsInMemory, placement_of}
 use Rattle.code_meaning.specs.Activations.{Activation, IsThere}
@@ -32,9 +35,9 @@ use Rattle.steps8080.specs.Externals.{entry}
 use Rattle.steps8080.specs.Writer.{Written, stack_end_item}
 use Rattle.runtime8080.specs.Routines.{size_of_routine}
 use Rattle.exprgen8080.specs.Emission.{has_routine, index_of_routine, module_label_of_routine}
-use Rattle.codegen8080.specs.Modules.{AreCodeOf, AreRoutines, IsCodeOf, IsCodeOfMain, IsCodeOfRoutine, IsCodeWritten, IsMainCode, IsOwnCode, IsProcedureCode, IsRoutineCode, all_routines, contents_items, has_main}
+use Rattle.codegen8080.specs.Modules.{AreCodeOf, AreRoutines, IsCodeOf, IsCodeOfMain, IsCodeOfRoutine, IsCodeWritten, IsEndCode, IsMainCode, IsOwnCode, IsProcedureCode, IsRoutineCode, all_routines, contents_items, has_main}
 use Rattle.task_meaning.specs.Contexts.{RoutineIsAt}
-use Rattle.procedure_meaning.specs.Modules.{MainStands, ModuleCode, ProcedureStands, bare}
+use Rattle.procedure_meaning.specs.Modules.{EndIs, MainStands, ModuleCode, ProcedureStands, bare}
 use Rattle.program_meaning.specs.Linked.{ModuleIs, module_layout, written_layout}
 use Rattle.program_meaning.proofs.CodeLies.{all_stand, lays_out, lies_within}
 use Rattle.program_meaning.proofs.Renumbered.{LaysOut, stands_so}
@@ -54,21 +57,29 @@ from_zero number = omega arith
 abbrev pub IsOwn : ProcedureKind → Type 0
 IsOwn kind = (name : ℕ) → kind ≢ kinds.External name
 
+-- its end, where that is reached
+end_is :
+    (body : Body) (called : List Bool) (here : Here) (reached : Bool) (list : List Item)
+    → IsEndCode body called here reached list → EndIs body called reached here list
+end_is body called here true list is = is
+end_is body called here false list is = is
+
 module _ (code : ModuleCode) where
   -- a procedure stands at its label
   procedure_stands :
       (number : ℕ) (procedure : TreeProcedure) (list : List Item) (from to : ℕ)
+      → HasFrame procedure
       → IsProcedureCode code.tree.now code.called number procedure list
       → IsThere (bare code) list from to
       → ProcedureStands code procedure (code.layout.place_of number)
-  procedure_stands number procedure list from to is there =
+  procedure_stands number procedure list from to framed is there =
       let parts = after_label number (is.beginning ++ (is.statements ++ is.ending)) from to
       (subst (λ one. IsThere (bare code) one from to) is.list_is there) in
       record {
         body = is.body;
         tree = is.tree_is;
         is_procedure = is.procedure_is;
-        frame = is.frame;
+        frame = λ reentrant. is.frame.planned reentrant framed;
         first = is.first;
         begins = is.beginning;
         begun = is.entered;
@@ -77,20 +88,21 @@ module _ (code : ModuleCode) where
         last = is.last;
         list_written = is.written;
         ends = is.ending;
-        end_written = is.ends;
+        end_written = end_is is.body code.called is.last procedure.reaches_its_end is.ending is.ends;
         to = to;
         there = subst (λ at. IsThere (bare code) (is.beginning ++ (is.statements ++ is.ending)) at to) (sym parts.0) parts.1;
       }
 
   by_kind :
       (number : ℕ) (procedure : TreeProcedure) (kind : ProcedureKind) (list : List Item) (from to : ℕ)
+      → HasFrame procedure
       → IsOwn kind
       → IsCodeOf code.tree.now code.called number procedure kind list
       → IsThere (bare code) list from to
       → ProcedureStands code procedure (code.layout.place_of number)
-  by_kind number procedure (kinds.External name) list from to own is there = absurd (own name refl)
-  by_kind number procedure kinds.Static list from to own is there = procedure_stands number procedure list from to is there
-  by_kind number procedure kinds.Reentrant list from to own is there = procedure_stands number procedure list from to is there
+  by_kind number procedure (kinds.External name) list from to framed own is there = absurd (own name refl)
+  by_kind number procedure kinds.Static list from to framed own is there = procedure_stands number procedure list from to framed is there
+  by_kind number procedure kinds.Reentrant list from to framed own is there = procedure_stands number procedure list from to framed is there
 
   -- each of the procedures that are numbered from one on does
   procedures_stand :
@@ -98,22 +110,24 @@ module _ (code : ModuleCode) where
       → AreCodeOf code.tree.now code.called first all list
       → IsThere (bare code) list from to
       → slice_get all index ≡ Some procedure
+      → HasFrame procedure
       → IsOwn procedure.kind
       → ProcedureStands code procedure (code.layout.place_of (first + index))
-  procedures_stand first index [] procedure list from to are there found own = absurd (none-some procedure found)
-  procedures_stand first zero (one ∷ others) procedure list from to are there found own =
+  procedures_stand first index [] procedure list from to are there found framed own = absurd (none-some procedure found)
+  procedures_stand first zero (one ∷ others) procedure list from to are there found framed own =
       let parts = both_there are.0 are.1 (subst (λ one. IsThere (bare code) one from to) are.4 there) in
       let same : one ≡ procedure = same_Some one procedure found in
       let here : first + 0 ≡ first = omega arith in
       subst (λ number. ProcedureStands code procedure (code.layout.place_of number)) (sym here)
       (subst (λ (given : TreeProcedure). ProcedureStands code given (code.layout.place_of first)) same
       (by_kind first one one.kind are.0 from parts.middle
+      (subst HasFrame (sym same) framed)
       (subst (λ (given : TreeProcedure). IsOwn given.kind) (sym same) own) are.2 parts.first))
-  procedures_stand first (suc index) (one ∷ others) procedure list from to are there found own =
+  procedures_stand first (suc index) (one ∷ others) procedure list from to are there found framed own =
       let parts = both_there are.0 are.1 (subst (λ one. IsThere (bare code) one from to) are.4 there) in
       let more : first + suc index ≡ suc first + index = omega arith in
       subst (λ number. ProcedureStands code procedure (code.layout.place_of number)) (sym more)
-      (procedures_stand (suc first) index others procedure are.1 parts.middle to are.3 parts.second found own)
+      (procedures_stand (suc first) index others procedure are.1 parts.middle to are.3 parts.second found framed own)
 
   -- the main program stands at its label
   main_stands :
@@ -214,6 +228,7 @@ pub record PartsStand (code : ModuleCode) (start : ℕ) : Type 0 where
   pub procedures :
       (number : ℕ) (procedure : TreeProcedure)
       → slice_get code.tree.now.procedures.items number ≡ Some procedure
+      → HasFrame procedure
       → IsOwn procedure.kind
       → ProcedureStands code procedure (code.layout.place_of number)
   pub routines :
@@ -283,10 +298,10 @@ module _
               main_stands code_of module_is.generated.start_label own.main contents.middle parts.middle
               (subst (λ (there : Bool). IsCodeOfMain module_is.tree of.called module_is.generated.start_label there own.main) has own.main_is)
               parts.first;
-          procedures = λ procedure_number procedure found is_own.
+          procedures = λ procedure_number procedure found framed is_own.
               subst (λ at. ProcedureStands code_of procedure (code_of.layout.place_of at)) (from_zero procedure_number)
               (procedures_stand code_of 0 procedure_number module_is.tree.procedures.items procedure own.procedures
-              parts.middle halves.middle own.procedures_are parts.second found is_own);
+              parts.middle halves.middle own.procedures_are parts.second found framed is_own);
           routines = λ routine called.
               routines_stand code_of written of_code lays all_routines (index_of_routine routine) routine of.listed
               halves.middle (base + size) of.listed_are halves.second (among_routines routine) called;
