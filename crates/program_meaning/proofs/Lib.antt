@@ -7,3 +7,4 @@ pub mod ModuleStands
 pub mod Shared
 pub mod Marks
 pub mod Entering
+pub mod ModuleLies
