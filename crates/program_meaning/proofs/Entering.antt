@@ -1,9 +1,9 @@
 -- Calls of EXTERNAL procedures go where the code of the procedures begins that they stand for.
-use Rattle.std.proofs.Common.{◌≡◌, ◌≢◌, ℕ, zero, suc, ◌+◌, ◌%◌, ◌<◌, Bool, true, false, ◌&&◌, List, [], ◌∷◌, ◌++◌, length, Option, Some, None, cond, refl, ap, sym, ◌∙◌, subst, arith}
+use Rattle.std.proofs.Common.{◌≡◌, ◌≢◌, ℕ, zero, suc, ◌+◌, ◌%◌, ◌<◌, Bool, true, false, ◌&&◌, ◌||◌, List, [], ◌∷◌, ◌++◌, length, Option, Some, None, cond, refl, ap, sym, ◌∙◌, subst, arith}
 use Rattle.std.specs.Prelude.{slice_get, unwrap_or, position, bytes_eq, nat_lt, if◌then◌else◌}
 use Rattle.std.specs.List.{AllByRecursion}
 use Rattle.std.specs.Option.{option_map_or, option_and_then}
-use Rattle.std.proofs.lemmas.Bool.{lt-ltb}
+use Rattle.std.proofs.lemmas.Bool.{eq-eqb, lt-ltb}
 use Rattle.std.proofs.lemmas.Iterator.Adapters.{position_from-zero}
 use Rattle.std.proofs.lemmas.List.Elements.{recursion_from_All}
 use Rattle.std.proofs.lemmas.Option.{none-some, same_Some, slice_get_within}
@@ -26,8 +26,9 @@ use Rattle.meaning.specs.Access.{Surroundings}
 use Rattle.meaning.specs.Meaning.{callee_in}
 use Rattle.isa8080.specs.State.{wrap}
 use Rattle.asm8080.specs.declared.item.Item.{Item}
+use Rattle.asm8080.specs.declared.item.Item.TheVariants.{Mark}
 use Rattle.asm8080.specs.Assembled.{Assembled, place_of}
-use Rattle.asm8080.specs.Items.{KnowsLabels, Layout, is_bound, offset_of}
+use Rattle.asm8080.specs.Items.{KnowsLabels, Layout, is_bound, marks, offset_of}
 use Rattle.asm8080.proofs.Parts.{bound_in_parts}
 use Rattle.treecode.specs.declared.module.PublicName.{PublicName}
 use Rattle.treecode.specs.declared.module.PublicPlace.TheVariants.{Procedure}
@@ -43,7 +44,7 @@ use Rattle.program_memory.proofs.Lists.{some_within}
 use Rattle.program_memory.proofs.Meanings.{both_hold, first_position, found_place, public_lies}
 use Rattle.steps8080.specs.Externals.{entry}
 use Rattle.steps8080.specs.Writer.{Written, known_label, place_of_known, place_of_label}
-use Rattle.codegen8080.specs.Modules.{ArePublicsOf, IsPublicOf, contents_items}
+use Rattle.codegen8080.specs.Modules.{ArePublicsOf, IsCodeOfMain, IsMainCode, IsPublicOf, contents_items, has_main}
 use Rattle.procedure_meaning.specs.Modules.{ModuleCode, surroundings_in}
 use Rattle.program_meaning.specs.Linked.{ModuleIs, written_layout}
 use Rattle.program_meaning.specs.Entering.{ModulesAre, entries_of, layout_of}
@@ -147,6 +148,52 @@ module _
     lies_alike : (base place : ℕ) → (base + place) % MEMORY_SIZE ≡ wrap (base + place)
     lies_alike base place = omega arith
 
+    -- what the module's own code binds lies where the code has it
+    pub bound_lies :
+        (number : ℕ) (module_is : ModuleIs plan modules objects merged before after number) (label : ℕ)
+        → is_bound label module_is.generated.code_is.own ≡ true
+        → (piece_base (plan_of plan) module_is.at.linked.start segments.Code
+        + place_of_label module_is.generated.code module_is.generated.code_bytes label) % MEMORY_SIZE
+        ≡ wrap ((layout_of module_is).place_of label)
+    bound_lies number module_is label in_own =
+        let generated = module_is.generated in
+        let written : Written = generated.code in
+        let of = generated.code_is in
+        let known = label_known written label of.own of.made of.same in_own in
+        let in_code : is_bound known.number written.code.items ≡ true =
+        subst (λ list. is_bound known.number list ≡ true) (sym of.items_are)
+        (bound_in_parts known.number of.made of.listed
+        ∙ or_left (is_bound known.number of.made) (is_bound known.number of.listed) known.bound) in
+        let small = bound_label_small written.code.labels known.number written.code.items
+        (recursion_from_All (KnowsLabels written.code.labels) written.code.items generated.code_segment.is_assembly.known) in_code in
+        let place = place_of generated.code_bytes known.number in
+        let base = piece_base (plan_of plan) module_is.at.linked.start segments.Code in
+        let by_label : place_of_label written generated.code_bytes label ≡ place =
+        ap (λ one. place_of_known generated.code_bytes (known_label written.code.labels one)) known.entry_is
+        ∙ ap (λ (test : Bool). place_of_known generated.code_bytes (if test then Some known.number else None)) (lt-ltb known.number written.code.labels small) in
+        let of_code : Layout = written_layout plan merged module_is.at.linked generated.to written in
+        let by_layout : (layout_of module_is).place_of label ≡ base + place =
+        ap (λ one. option_map_or of_code.place_of one 0) known.entry_is
+        ∙ ap (λ start. start + unwrap_or (offset_of known.number written.code.items) 0)
+        (ap (address_of_target (plan_of plan) merged module_is.at.linked) (generated.targets.starts segments.Code refl))
+        ∙ ap (λ offset. base + unwrap_or offset 0) (generated.code_segment.assembles.places known.number small) in
+        ap (λ offset. (base + offset) % MEMORY_SIZE) by_label
+        ∙ lies_alike base place
+        ∙ ap wrap (sym by_layout)
+
+    -- in two parts after the constants
+    in_own_code :
+        (number : ℕ) (module_is : ModuleIs plan modules objects merged before after number) (label : ℕ)
+        → (is_bound label module_is.generated.code_is.own_is.main
+        || is_bound label module_is.generated.code_is.own_is.procedures) ≡ true
+        → is_bound label module_is.generated.code_is.own ≡ true
+    in_own_code number module_is label bound =
+        let of = module_is.generated.code_is in
+        subst (λ list. is_bound label list ≡ true) (sym of.own_is.list_is)
+        (bound_in_parts label (contents_items module_is.tree.constants.items) (of.own_is.main ++ of.own_is.procedures)
+        ∙ or_right (is_bound label (contents_items module_is.tree.constants.items)) (is_bound label (of.own_is.main ++ of.own_is.procedures))
+        (bound_in_parts label of.own_is.main of.own_is.procedures ∙ bound))
+
     pub label_lies :
         (number : ℕ) (module_is : ModuleIs plan modules objects merged before after number)
         (index : ℕ) (procedure : TreeProcedure)
@@ -156,40 +203,33 @@ module _
         + place_of_label module_is.generated.code module_is.generated.code_bytes index) % MEMORY_SIZE
         ≡ wrap ((layout_of module_is).place_of index)
     label_lies number module_is index procedure there own =
-        let generated = module_is.generated in
-        let written : Written = generated.code in
-        let of = generated.code_is in
-        let procedures = procedures_bound module_is.tree of.called 0 index module_is.tree.procedures.items procedure
-        of.own_is.procedures of.own_is.procedures_are there own in
+        let of = module_is.generated.code_is in
         let from_zero : 0 + index ≡ index = omega arith in
-        let in_own : is_bound index of.own ≡ true =
-        subst (λ list. is_bound index list ≡ true) (sym of.own_is.list_is)
-        (bound_in_parts index (contents_items module_is.tree.constants.items) (of.own_is.main ++ of.own_is.procedures)
-        ∙ or_right (is_bound index (contents_items module_is.tree.constants.items)) (is_bound index (of.own_is.main ++ of.own_is.procedures))
-        (bound_in_parts index of.own_is.main of.own_is.procedures
-        ∙ or_right (is_bound index of.own_is.main) (is_bound index of.own_is.procedures)
-        (ap (λ n. is_bound n of.own_is.procedures) (sym from_zero) ∙ procedures))) in
-        let known = label_known written index of.own of.made of.same in_own in
-        let in_code : is_bound known.number written.code.items ≡ true =
-        subst (λ list. is_bound known.number list ≡ true) (sym of.items_are)
-        (bound_in_parts known.number of.made of.listed
-        ∙ or_left (is_bound known.number of.made) (is_bound known.number of.listed) known.bound) in
-        let small = bound_label_small written.code.labels known.number written.code.items
-        (recursion_from_All (KnowsLabels written.code.labels) written.code.items generated.code_segment.is_assembly.known) in_code in
-        let place = place_of generated.code_bytes known.number in
-        let base = piece_base (plan_of plan) module_is.at.linked.start segments.Code in
-        let by_label : place_of_label written generated.code_bytes index ≡ place =
-        ap (λ one. place_of_known generated.code_bytes (known_label written.code.labels one)) known.entry_is
-        ∙ ap (λ (test : Bool). place_of_known generated.code_bytes (if test then Some known.number else None)) (lt-ltb known.number written.code.labels small) in
-        let of_code : Layout = written_layout plan merged module_is.at.linked generated.to written in
-        let by_layout : (layout_of module_is).place_of index ≡ base + place =
-        ap (λ one. option_map_or of_code.place_of one 0) known.entry_is
-        ∙ ap (λ start. start + unwrap_or (offset_of known.number written.code.items) 0)
-        (ap (address_of_target (plan_of plan) merged module_is.at.linked) (generated.targets.starts segments.Code refl))
-        ∙ ap (λ offset. base + unwrap_or offset 0) (generated.code_segment.assembles.places known.number small) in
-        ap (λ offset. (base + offset) % MEMORY_SIZE) by_label
-        ∙ lies_alike base place
-        ∙ ap wrap (sym by_layout)
+        bound_lies number module_is index
+        (in_own_code number module_is index
+        (or_right (is_bound index of.own_is.main) (is_bound index of.own_is.procedures)
+        (ap (λ n. is_bound n of.own_is.procedures) (sym from_zero)
+        ∙ procedures_bound module_is.tree of.called 0 index module_is.tree.procedures.items procedure
+        of.own_is.procedures of.own_is.procedures_are there own)))
+
+    -- the main program begins at its label
+    pub start_lies :
+        (number : ℕ) (module_is : ModuleIs plan modules objects merged before after number)
+        → has_main module_is.tree ≡ true
+        → (piece_base (plan_of plan) module_is.at.linked.start segments.Code
+        + place_of_label module_is.generated.code module_is.generated.code_bytes module_is.generated.start_label)
+        % MEMORY_SIZE
+        ≡ wrap ((layout_of module_is).place_of module_is.generated.start_label)
+    start_lies number module_is has =
+        let of = module_is.generated.code_is in
+        let start : ℕ = module_is.generated.start_label in
+        let main : IsMainCode module_is.tree of.called start of.own_is.main =
+        subst (λ (there : Bool). IsCodeOfMain module_is.tree of.called start there of.own_is.main) has of.own_is.main_is in
+        bound_lies number module_is start
+        (in_own_code number module_is start
+        (or_left (is_bound start of.own_is.main) (is_bound start of.own_is.procedures)
+        (subst (λ list. is_bound start list ≡ true) (sym main.list_is)
+        (or_left (marks start (Mark start)) _ (eq-eqb start start refl)))))
 
     module _ (modules_are : ModulesAre plan modules objects merged before after) where
       -- a procedure of a module begins at its label
