@@ -11,3 +11,4 @@ pub mod KnownCalls
 pub mod Main
 pub mod Puts
 pub mod Planned
+pub mod StaticStages
