@@ -12,3 +12,4 @@ pub mod Main
 pub mod Puts
 pub mod Planned
 pub mod StaticStages
+pub mod StaticLoops

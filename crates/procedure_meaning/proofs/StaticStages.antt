@@ -427,11 +427,6 @@ module _ (at : BodyContext) (sound : IsSound at.context)
           ∙ joined (byte_at memory top) (byte_at memory ((top + 1) % MEMORY_SIZE)) word low_byte_is
           (ap (byte_at memory) (is_next top limit) ∙ high_byte_is)
 
-      exchanged : (sp next : ℕ) → State
-      exchanged sp next =
-          at_place (from + 1) (record r { h = high_byte (word_at memory sp); l = low_byte (word_at memory sp) })
-          (slice_set (slice_set memory sp (low_byte (256 * r.h + r.l))) next (high_byte (256 * r.h + r.l))) events
-
       acts : act at.context.activation.around.program.script Xthl (at_place (from + 1) r memory events)
           ≡ at_place (from + 1) (record r { h = high_byte word; l = low_byte word })
           (pushed (top + 2) (256 * r.h + r.l) memory) events
