@@ -13,3 +13,4 @@ pub mod Puts
 pub mod Planned
 pub mod StaticStages
 pub mod StaticLoops
+pub mod StaticArguments
