@@ -184,3 +184,284 @@ module _ (at : BodyContext) (sound : IsSound at.context)
       first_parts =
           plain_parted (Pop StackDe) first.more
           (subst (λ (list : List Item). IsThere at.context.activation list from to) first.is there)
+
+  -- a single ADDRESS changes places with the return address
+  exchanged_does :
+      {A : Type 0} {outcome : Outcome A} {Good : A → SourceState → State → Type 0} {budget : ℕ} {events : List Event}
+      (only : Parameter) (rest : List Planned) (facts : Facts) (here last : Here) (list : List Item) (from to : ℕ)
+      (source memory : List ℕ) (r : Registers)
+      → others ≡ only ∷ []
+      → is_address only.scalar ≡ true
+      → AreCarriedOut at.body at.context.called here None (exchanged_steps only ++ rest) list last
+      → IsThere at.context.activation list from to
+      → Underway at (top + 2 + 2 * length others) entered entered here.facts top source r memory
+      → Held slots values facts r
+      → ((below : IsBelow facts source memory r last rest to facts)
+      → Does at.context.activation.around.program.script budget 0
+      (at_place below.from below.now below.ended events) outcome Good)
+      → Does at.context.activation.around.program.script budget 0 (at_place from r memory events) outcome Good
+  unfolding exchanged_steps known_from known_at limit
+  exchanged_does only rest facts here last list from to source memory r alone address written there on held go =
+      pop_goes at sound no_frame (top + 2 + 2 * length others) entered frame none StackHl (wrap back) r (back_small back)
+      (on.stack top start (omega (arith, high)) ∙ return_lies.low)
+      (on.stack (top + 1) (omega (arith, start)) (omega (arith, high)) ∙ return_lies.high) (omega (arith, limit))
+      first_parts.one on
+      (λ popped.
+      exchange_goes at sound no_frame (top + 2 + 2 * length others) entered frame none
+      (byte_at memory (top + 2) + 256 * byte_at memory (top + 2 + 1))
+      (record r { h = high_byte (wrap back); l = low_byte (wrap back); sp = wrap (top + 2) })
+      (omega (arith, low_small, high_small))
+      (sym (low_of (byte_at memory (top + 2)) (byte_at memory (top + 2 + 1)) low_small))
+      (sym (high_of (byte_at memory (top + 2)) (byte_at memory (top + 2 + 1)) low_small)) (omega (arith, start))
+      (omega (arith, one_long)) high second_parts.one
+      (subst (λ (known : Facts).
+      Underway at (top + 2 + 2 * length others) entered entered known (top + 2) source
+      (record r { h = high_byte (wrap back); l = low_byte (wrap back); sp = wrap (top + 2) }) memory)
+      (sym first.facts) popped)
+      (λ exchanged.
+      store_goes at sound no_frame (top + 2 + 2 * length others) entered frame none one.slot one.value now one.lies
+      one.variables one.small lies_now third_parts.one exchanged
+      (λ stored.
+      go (record {
+        here = third.here;
+        list = third.more;
+        from = from + 1 + 1 + 3;
+        now = now;
+        stacked = pushed (top + 2 + 2) (256 * high_byte (wrap back) + low_byte (wrap back)) memory;
+        ended =
+            put one.slot.scalar one.slot.at one.value
+            (pushed (top + 2 + 2) (256 * high_byte (wrap back) + low_byte (wrap back)) memory);
+        written = third.written;
+        there = third_parts.rest;
+        on = ended stored;
+        returns =
+            subst (λ (count : ℕ).
+            ReturnLies (top + 2 * count) back
+            (pushed (top + 2 + 2) (256 * high_byte (wrap back) + low_byte (wrap back)) memory)) (sym one_long)
+            (pushed_return (top + 2 * 1) back (256 * high_byte (wrap back) + low_byte (wrap back)) memory
+            (joined (wrap back)) (omega (arith, limit, one_long)) on.shares.is_memory.size);
+        held =
+            subst (λ (list : List Parameter). Held slots values (known_from facts list (length list)) now) (sym alone)
+            (subst (λ (parameter : Parameter). Held slots values (known_from facts (parameter ∷ []) 1) now)
+            (sym only_is) held_now);
+      }))))
+    where
+      one_long : length others ≡ 1
+      one_long = ap (λ (list : List Parameter). length list) alone
+
+      one : IsTaken at others slots values entered (top + 2 + 2 * (length others - 1 - 0)) 0
+      one = taken 0 (omega (arith, one_long))
+
+      only_is : only ≡ record { scalar = one.slot.scalar; location = Static one.slot.place }
+      only_is =
+          let same : Some only ≡ Some (record { scalar = one.slot.scalar; location = Static one.slot.place }) =
+          ap (λ (list : List Parameter). slice_get list 0) (sym alone) ∙ one.parameter in
+          Rattle.std.proofs.lemmas.Option.same_Some only
+          (record { scalar = one.slot.scalar; location = Static one.slot.place }) same
+
+      address_of : (scalar : ScalarType) → is_address scalar ≡ true → scalar ≡ Address
+      address_of Byte same = let bad : ⊥ = cc in absurd bad
+      address_of Address same = refl
+
+      scalar_is : one.slot.scalar ≡ Address
+      scalar_is =
+          ap (λ (parameter : Parameter). parameter.scalar) (sym only_is) ∙ address_of only.scalar address
+
+      first : IsBehind at (items.Plain (Pop StackHl) ∷ []) (after here.facts (Pop StackHl))
+          (plain Xthl ∷ argument_step only ∷ rest) list last
+      first = plain_behind at (Pop StackHl) (plain Xthl ∷ argument_step only ∷ rest) written
+
+      second : IsBehind at (items.Plain Xthl ∷ []) (after first.here.facts Xthl) (argument_step only ∷ rest) first.more last
+      second = plain_behind at Xthl (argument_step only ∷ rest) first.written
+
+      third : IsBehind at (word_item (store_form one.slot.scalar) one.slot.place ∷ [])
+          (after_word second.here.facts (store_form one.slot.scalar) one.slot.place) rest second.more last
+      third =
+          word_behind at (store_form one.slot.scalar) one.slot.place rest
+          (subst (λ (step : Planned).
+          AreCarriedOut at.body at.context.called second.here None (step ∷ rest) second.more last)
+          (ap (λ (parameter : Parameter). argument_step parameter) only_is ∙ store_is one.slot.scalar one.slot.place)
+          second.written)
+
+      first_parts : PartedThere at.context.activation (items.Plain (Pop StackHl) ∷ []) first.more from (from + 1) to
+      first_parts =
+          plain_parted (Pop StackHl) first.more
+          (subst (λ (list : List Item). IsThere at.context.activation list from to) first.is there)
+
+      second_parts : PartedThere at.context.activation (items.Plain Xthl ∷ []) second.more (from + 1) (from + 1 + 1) to
+      second_parts =
+          plain_parted Xthl second.more
+          (subst (λ (list : List Item). IsThere at.context.activation list (from + 1) to) second.is first_parts.rest)
+
+      third_parts : PartedThere at.context.activation (word_item (store_form one.slot.scalar) one.slot.place ∷ [])
+          third.more (from + 1 + 1) (from + 1 + 1 + 3) to
+      third_parts =
+          word_parted (store_form one.slot.scalar) one.slot.place third.more
+          (subst (λ (list : List Item). IsThere at.context.activation list (from + 1 + 1) to) third.is second_parts.rest)
+
+      low_small : byte_at memory (top + 2) < 256
+      low_small = byte_small memory (top + 2) on.shares.is_memory
+
+      high_small : byte_at memory (top + 2 + 1) < 256
+      high_small = byte_small memory (top + 2 + 1) on.shares.is_memory
+
+      now : Registers
+      now =
+          record r {
+            h = high_byte (byte_at memory (top + 2) + 256 * byte_at memory (top + 2 + 1));
+            l = low_byte (byte_at memory (top + 2) + 256 * byte_at memory (top + 2 + 1));
+            sp = wrap (top + 2);
+          }
+
+      place_is : top + 2 + 2 * (length others - 1 - 0) ≡ top + 2
+      place_is = omega (arith, one_long)
+
+      word_there : InWord Address one.value entered (top + 2)
+      word_there =
+          subst (λ (scalar : ScalarType). InWord scalar one.value entered (top + 2)) scalar_is
+          (subst (λ (address : ℕ). InWord one.slot.scalar one.value entered address) place_is one.word)
+
+      word_now : InRegister Address one.value now
+      word_now = (
+        high_of (byte_at memory (top + 2)) (byte_at memory (top + 2 + 1)) low_small
+            ∙ on.stack (top + 2 + 1) (omega (arith, start)) (omega (arith, high, one_long)) ∙ word_there.1,
+        low_of (byte_at memory (top + 2)) (byte_at memory (top + 2 + 1)) low_small
+            ∙ on.stack (top + 2) (omega (arith, start)) (omega (arith, high, one_long)) ∙ word_there.0,
+      )
+
+      lies_now : InRegister one.slot.scalar one.value now
+      lies_now = subst (λ (scalar : ScalarType). InRegister scalar one.value now) (sym scalar_is) word_now
+
+      bytes_now : HoldBytes now
+      bytes_now =
+          let bytes = on.registers in
+          record {
+            a = bytes.a;
+            b = bytes.b;
+            c = bytes.c;
+            d = bytes.d;
+            e = bytes.e;
+            h = omega (arith, low_small, high_small);
+            l = omega arith;
+          }
+
+      held_now : Held slots values (argument_facts one.slot.scalar (Static one.slot.place) facts) now
+      held_now =
+          held_then one.slot.scalar slots values facts r now one.value (Static one.slot.place)
+          (record {
+            index = 0;
+            slot = one.slot;
+            there = one.there;
+            value_is = one.value_is;
+            scalar_is = refl;
+            location_is = refl;
+          })
+          lies_now bytes_now (λ same. absurd (no_byte (sym same ∙ scalar_is))) (λ same. refl) held
+        where
+          no_byte : Byte ≡ Address → ⊥
+          no_byte same = cc
+
+      ended :
+          Underway at (top + 2 + 2 * length others) entered
+          (pushed (top + 2 + 2) (256 * high_byte (wrap back) + low_byte (wrap back)) memory)
+          (after_word (after first.here.facts Xthl) (store_form one.slot.scalar) one.slot.place) (top + 2 + 2 - 2)
+          (put one.slot.scalar one.slot.at one.value source) now
+          (put one.slot.scalar one.slot.at one.value
+          (pushed (top + 2 + 2) (256 * high_byte (wrap back) + low_byte (wrap back)) memory))
+          → Underway at (top + 2 + 2 * length others) entered
+          (pushed (top + 2 + 2) (256 * high_byte (wrap back) + low_byte (wrap back)) memory) third.here.facts
+          (top + 2 * length others) (put_down (length others) slots values source) now
+          (put one.slot.scalar one.slot.at one.value
+          (pushed (top + 2 + 2) (256 * high_byte (wrap back) + low_byte (wrap back)) memory))
+      ended stored =
+          subst (λ (count : ℕ).
+          Underway at (top + 2 + 2 * length others) entered
+          (pushed (top + 2 + 2) (256 * high_byte (wrap back) + low_byte (wrap back)) memory) third.here.facts
+          (top + 2 * length others) (put_down count slots values source) now
+          (put one.slot.scalar one.slot.at one.value
+          (pushed (top + 2 + 2) (256 * high_byte (wrap back) + low_byte (wrap back)) memory))) (sym one_long)
+          (subst (λ (source : List ℕ).
+          Underway at (top + 2 + 2 * length others) entered
+          (pushed (top + 2 + 2) (256 * high_byte (wrap back) + low_byte (wrap back)) memory) third.here.facts
+          (top + 2 * length others) source now
+          (put one.slot.scalar one.slot.at one.value
+          (pushed (top + 2 + 2) (256 * high_byte (wrap back) + low_byte (wrap back)) memory)))
+          (sym (nth_is 0 slots values source one.slot one.value one.there one.value_is))
+          (subst (λ (level : ℕ).
+          Underway at (top + 2 + 2 * length others) entered
+          (pushed (top + 2 + 2) (256 * high_byte (wrap back) + low_byte (wrap back)) memory) third.here.facts
+          level (put one.slot.scalar one.slot.at one.value source) now
+          (put one.slot.scalar one.slot.at one.value
+          (pushed (top + 2 + 2) (256 * high_byte (wrap back) + low_byte (wrap back)) memory)))
+          (omega (arith, one_long))
+          (subst (λ (known : Facts).
+          Underway at (top + 2 + 2 * length others) entered
+          (pushed (top + 2 + 2) (256 * high_byte (wrap back) + low_byte (wrap back)) memory) known
+          (top + 2 + 2 - 2) (put one.slot.scalar one.slot.at one.value source) now
+          (put one.slot.scalar one.slot.at one.value
+          (pushed (top + 2 + 2) (256 * high_byte (wrap back) + low_byte (wrap back)) memory)))
+          (ap (λ (known : Facts). after_word known (store_form one.slot.scalar) one.slot.place) (sym second.facts)
+          ∙ sym third.facts) stored)))
+
+  -- the arguments that are on the stack go to their parameters
+  pub below_does :
+      {A : Type 0} {outcome : Outcome A} {Good : A → SourceState → State → Type 0} {budget : ℕ} {events : List Event}
+      (rest : List Planned) (facts : Facts) (here last : Here) (list : List Item) (from to : ℕ)
+      (source memory : List ℕ) (r : Registers)
+      → AreCarriedOut at.body at.context.called here None (below_return_steps others ++ rest) list last
+      → IsThere at.context.activation list from to
+      → Underway at (top + 2 + 2 * length others) entered entered here.facts top source r memory
+      → Held slots values facts r
+      → ((below : IsBelow facts source memory r last rest to facts)
+      → Does at.context.activation.around.program.script budget 0
+      (at_place below.from below.now below.ended events) outcome Good)
+      → Does at.context.activation.around.program.script budget 0 (at_place from r memory events) outcome Good
+  unfolding below_return_steps known_from
+  below_does {A = A} {outcome = outcome} {Good = Good} {budget = budget} {events = events} rest facts here last list from to source memory r written there on held go =
+      by_others others refl written
+    where
+      pushed_then : (list_of : List Parameter) → others ≡ list_of
+          → AreCarriedOut at.body at.context.called here None (pushed_arguments_steps list_of ++ rest) list last
+          → Does at.context.activation.around.program.script budget 0 (at_place from r memory events) outcome Good
+      pushed_then list_of same written =
+          pushed_does rest facts here last list from to source memory r
+          (subst (λ (list_of : List Parameter).
+          AreCarriedOut at.body at.context.called here None (pushed_arguments_steps list_of ++ rest) list last) (sym same)
+          written) there on held go
+
+      by_test : (only : Parameter) (test : Bool) → others ≡ only ∷ [] → is_address only.scalar ≡ test
+          → AreCarriedOut at.body at.context.called here None
+          ((if test then exchanged_steps only else pushed_arguments_steps (only ∷ [])) ++ rest) list last
+          → Does at.context.activation.around.program.script budget 0 (at_place from r memory events) outcome Good
+      by_test only true same is written =
+          exchanged_does only rest facts here last list from to source memory r same is written there on held go
+      by_test only false same is written = pushed_then (only ∷ []) same written
+
+      by_others : (list_of : List Parameter) → others ≡ list_of
+          → AreCarriedOut at.body at.context.called here None (below_return_steps list_of ++ rest) list last
+          → Does at.context.activation.around.program.script budget 0 (at_place from r memory events) outcome Good
+      by_others [] same written =
+          let no_others : length others ≡ 0 = ap (λ (list : List Parameter). length list) same in
+          go (record {
+            here = here;
+            list = list;
+            from = from;
+            now = r;
+            stacked = entered;
+            ended = memory;
+            written = written;
+            there = there;
+            on =
+                subst (λ (count : ℕ).
+                Underway at (top + 2 + 2 * length others) entered entered here.facts (top + 2 * length others)
+                (put_down count slots values source) r memory) (sym no_others)
+                (subst (λ (level : ℕ).
+                Underway at (top + 2 + 2 * length others) entered entered here.facts level source r memory)
+                (omega (arith, no_others)) on);
+            returns =
+                subst (λ (level : ℕ). ReturnLies level back entered) (omega (arith, no_others)) return_lies;
+            held =
+                subst (λ (count : ℕ). Held slots values (known_from facts others count) r) (sym no_others) held;
+          })
+      by_others (only ∷ []) same written = by_test only (is_address only.scalar) same refl written
+      by_others (one ∷ next ∷ more) same written = pushed_then (one ∷ next ∷ more) same written
