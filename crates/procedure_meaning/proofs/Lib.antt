@@ -14,3 +14,4 @@ pub mod Planned
 pub mod StaticStages
 pub mod StaticLoops
 pub mod StaticArguments
+pub mod StaticBegins
