@@ -15,3 +15,5 @@ pub mod StaticStages
 pub mod StaticLoops
 pub mod StaticArguments
 pub mod StaticBegins
+pub mod StaticEntries
+pub mod StaticSlots

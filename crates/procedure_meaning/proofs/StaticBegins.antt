@@ -53,30 +53,30 @@ at_index (first ∷ others) (suc index) below =
     let rest = at_index others index (omega (arith, below)) in
     record { one = rest.one; is = rest.is }
 
-taken_first : {A : Type 0} (count : ℕ) (list : List A) (index : ℕ) → index < count
+pub taken_first : {A : Type 0} (count : ℕ) (list : List A) (index : ℕ) → index < count
     → slice_get (take count list) index ≡ slice_get list index
 taken_first zero list index below = absurd (omega (arith, below))
 taken_first (suc count) [] index below = refl
 taken_first (suc count) (first ∷ others) zero below = refl
 taken_first (suc count) (first ∷ others) (suc index) below = taken_first count others index (omega (arith, below))
 
-taken_length : {A : Type 0} (count : ℕ) (list : List A) → count ≤ length list → length (take count list) ≡ count
+pub taken_length : {A : Type 0} (count : ℕ) (list : List A) → count ≤ length list → length (take count list) ≡ count
 taken_length zero list few = refl
 taken_length (suc count) [] few = absurd (omega (arith, few))
 taken_length (suc count) (first ∷ others) few = ap suc (taken_length count others (omega (arith, few)))
 
-mapped : (slots : List Slot) (index : ℕ) (slot : Slot) → slice_get slots index ≡ Some slot
+pub mapped : (slots : List Slot) (index : ℕ) (slot : Slot) → slice_get slots index ≡ Some slot
     → slice_get (map parameter_of slots) index ≡ Some (parameter_of slot)
 mapped [] index slot is = let bad : ⊥ = cc in absurd bad
 mapped (first ∷ slots) zero slot is =
     let same : first ≡ slot = cc in ap (λ (one : Slot). Some (parameter_of one)) same
 mapped (first ∷ slots) (suc index) slot is = mapped slots index slot is
 
-mapped_length : (slots : List Slot) → length (map parameter_of slots) ≡ length slots
+pub mapped_length : (slots : List Slot) → length (map parameter_of slots) ≡ length slots
 mapped_length [] = refl
 mapped_length (first ∷ slots) = ap suc (mapped_length slots)
 
-variables_at : (program : Rattle.meaning.specs.Outcomes.Program) (slots : List Slot) (index : ℕ) (slot : Slot)
+pub variables_at : (program : Rattle.meaning.specs.Outcomes.Program) (slots : List Slot) (index : ℕ) (slot : Slot)
     → AreVariables program slots → slice_get slots index ≡ Some slot
     → (address : ℕ) → IsPart slot.scalar slot.at address → IsVariable program address
 variables_at program [] index slot are is = let bad : ⊥ = cc in absurd bad
@@ -86,7 +86,7 @@ variables_at program (first ∷ slots) zero slot are is =
 variables_at program (first ∷ slots) (suc index) slot are is = variables_at program slots index slot are.1 is
 
 -- the last argument is in its register, and the others are on the stack
-last_lies : (slots : List Slot) (values : List ℕ) (top index value : ℕ) (slot : Slot) (r : Registers) (memory : List ℕ)
+pub last_lies : (slots : List Slot) (values : List ℕ) (top index value : ℕ) (slot : Slot) (r : Registers) (memory : List ℕ)
     → ArgumentsLie (map (λ (slot : Slot). slot.scalar) slots) values top r memory
     → suc index ≡ length slots
     → slice_get slots index ≡ Some slot
@@ -111,7 +111,7 @@ scalars_length : (slots : List Slot) → length (map (λ (slot : Slot). slot.sca
 scalars_length [] = refl
 scalars_length (first ∷ slots) = ap suc (scalars_length slots)
 
-other_lies : (slots : List Slot) (values : List ℕ) (top index value : ℕ) (slot : Slot) (r : Registers) (memory : List ℕ)
+pub other_lies : (slots : List Slot) (values : List ℕ) (top index value : ℕ) (slot : Slot) (r : Registers) (memory : List ℕ)
     → ArgumentsLie (map (λ (slot : Slot). slot.scalar) slots) values top r memory
     → suc index < length slots
     → slice_get slots index ≡ Some slot
