@@ -12,3 +12,9 @@ pub mod KnownCalls
 pub mod Main
 pub mod Puts
 pub mod Planned
+pub mod StaticStages
+pub mod StaticLoops
+pub mod StaticArguments
+pub mod StaticBegins
+pub mod StaticEntries
+pub mod StaticSlots
