@@ -13,3 +13,7 @@ pub mod Firsts
 pub mod Assignments
 pub mod Assigned
 pub mod Together
+pub mod SameValues
+pub mod SameParts
+pub mod QuietParts
+pub mod Counts
