@@ -1,0 +1,3 @@
+pub mod PlannedParts
+pub mod CountedVariables
+pub mod LoopTurns
