@@ -1,3 +1,6 @@
 pub mod PlannedParts
 pub mod CountedVariables
 pub mod LoopTurns
+pub mod LoopCode
+pub mod LoopMeaning
+pub mod CountedBytes
