@@ -144,3 +144,74 @@ counts_to_top {at = at} loop last limit turn turn_facts t r memory counts great 
     not_false : (b : Bool) → not b ≡ false → b ≡ true
     not_false true same = refl
     not_false false same = sym same
+
+-- to less than 255
+pub counts_to :
+    {at : BodyContext} (loop : Loop at) (last limit : ℕ) (turn : LabelNumber) (turn_facts : Facts) {facts found : Facts}
+    {from to : ℕ} (t : SourceState) (r : Registers) (memory : List ℕ)
+    → CountsBytes loop last limit turn turn_facts
+    → last < 255
+    → Steps at.context facts from (address_step (loop.head).variable ∷ count_to last turn) found to
+    → t.budget ≤ limit
+    → StageAt at loop.need loop.base t facts r memory
+    → Goes loop limit found to
+    → Does (script_of at.context) t.budget 0 (at_place from r memory t.events) (after_list loop Onward t) (Out loop)
+counts_to {at = at} loop last limit turn turn_facts t r memory counts little stand fewer stage goes =
+    let sound = counts.sound.sound in
+    let counted = counts.counted in
+    let variable : ℕ = (loop.head).variable in
+    let address : ℕ = variable_address at.context variable in
+    does_same _ (stepped_with_is loop Byte t counts.scalar ∙ ap (λ (one : Outcome ℕ). then_do one (Rattle.statement_meaning.proofs.LoopMeaning.stepped_with loop Byte)) (counts.step_is t))
+    (address_then counted counts.enough stand stage
+    (λ known middle now there rest holds here.
+    let number : ℕ = byte_at there address in
+    let byte : ℕ = (number + 1) % 256 % 256 in
+    let limit_is = here.ready.shares.is_memory.size in
+    let small : number < 256 = Rattle.mem80.proofs.MemoryLemmas.byte_small there address here.ready.shares.is_memory in
+    stepped_by loop Byte 1 t counts.sound counted here.ready
+    (λ steady.
+    load_then address sound holds.hl steady rest here
+    (λ known_loaded place steps_left loaded.
+    at_instructions (AccumulateImmediate Compare (low last) ∷ []) (steps.Plain (Inr M) ∷ steps.Jump (JumpWhere Carry) turn ∷ []) sound (tt, tt) steps_left loaded
+    (λ place_compared known_compared steps_compared compared.
+    let one : Registers = record now { a = number; flags = (subtract_of number (low last) false).flags } in
+    let flags = (increment_of (byte_at there (word now.h now.l)) one.flags).flags in
+    let after : Registers = record one { flags = flags } in
+    let held = compared.ready.registers in
+    let is_less : flags.cy ≡ nat_lt number last =
+    borrow_shows number (low last) (omega arith) ∙ ap (nat_lt number) (low_is last little) in
+    byte_then (variable_place at.context variable) byte after
+    (λ _ v. Rattle.meaning.specs.Meaning.next_turn at.context.later at.context.activation.around loop.head loop.list (number + 1) v)
+    sound (omega arith) holds.hl counted.fits steps_compared compared refl
+    (record { a = held.a; b = held.b; c = held.c; d = held.d; e = held.e; h = held.h; l = held.l })
+    (λ steady_there. tt)
+    (λ events. ap (λ (n : ℕ). at_place (place_compared + 1) after (slice_set there (word now.h now.l) n) events)
+    (ap (λ (n : ℕ). (byte_at there n + 1) % 256) holds.hl ∙ one_more_now number))
+    (λ u budget_is steady_there last_steps ready_now.
+    let left : List ℕ = slice_set there (word now.h now.l) byte in
+    let is_put : byte_at left address ≡ (number + 1) % 256 =
+    ap (byte_at left) (sym holds.hl)
+    ∙ byte_put there (word now.h now.l) byte (let below = steady_there.1 in omega (arith, below, limit_is))
+    ∙ sym (one_more_now number) in
+    jump_then sound last_steps ready_now
+    (λ taken step.
+    let is = ltb-true number last (sym is_less ∙ taken) in
+    turns_again loop Byte last (number + 1) u counts.sound counts.scalar (counts.last_is u) counted ready_now.ready
+    (strict u.budget t.budget limit loop.budget budget_is fewer counts.less) is_put
+    (omega (arith, is, little)) (omega (arith, is))
+    (to_turn loop limit (at.context.activation.layout.place_of turn.index) turn_facts u (place_compared + 1) after left counts.turns
+    (stays u.budget t.budget limit budget_is fewer)
+    (record { below = ready_now.below; room = ready_now.room; ready = ready_now.ready; known = counts.enters after left holds.hl })
+    step))
+    (λ passed rest.
+    let is = ltb-false number last (sym is_less ∙ passed) in
+    let over = Rattle.statement_meaning.proofs.LoopCode.steps_over rest in
+    turns_end loop Byte last (number + 1) u counts.sound counts.scalar (counts.last_is u) counted ready_now.ready
+    (strict u.budget t.budget limit loop.budget budget_is fewer counts.less) is_put
+    (λ of_type. omega (arith, is))
+    (subst (λ (place : ℕ). Does (script_of at.context) u.budget 0 (at_place place after left u.events) (Gave Onward u) (Out loop)) (sym over.1)
+    (goes u after left (stays u.budget t.budget limit budget_is fewer)
+    (subst (λ (facts : Facts). StageAt at loop.need loop.base u facts after left) over.0 ready_now))))))))))
+  where
+    low_is : (n : ℕ) → n < 255 → n % 256 ≡ n
+    low_is n less = omega (arith, less)

@@ -4,23 +4,31 @@ use Rattle.std.specs.Prelude.{IsSomeAnd, slice_get}
 use Rattle.trees.specs.declared.declaration.ScalarType.{ScalarType}
 use Rattle.typed_trees.specs.ObjectParts.{IsScalar, IsScalarOf}
 use Rattle.typed_trees.specs.Sizes.{size_of_scalar}
-use Rattle.typed_trees.specs.TypedTrees.{Home as TypedHome, InData, InConstants, Placed, BasedOn, Elsewhere, Nowhere, InFrame, ObjectType, ScalarObject, PartOf, NoSubscript, TypedIteration, TypedObject, TypedReference}
+use Rattle.typed_trees.specs.TypedTrees.{Home as TypedHome, InData, InConstants, Placed, BasedOn, Elsewhere, Nowhere, InFrame, ObjectType, ScalarObject, PartOf, NoSubscript, TypedIteration, TypedModule, TypedObject, TypedReference}
 use Rattle.typed_trees.specs.WellTyped.{Counts, IsSeen, LiesFor, RefersToScalar, TypesHoldInReference, Within, WithinProcedure, WithinMain}
 use Rattle.meaning.specs.Access.{Place as SourcePlace, InMemory, InTheFrame, Surroundings, home_of, place_in, place_of}
 use Rattle.meaning.specs.Meaning.{based_place}
 use Rattle.meaning.specs.Outcomes.{State as SourceState, Outcome, Gave}
 use Rattle.isa8080.specs.State.{wrap}
 use Rattle.mem80.specs.declared.memory.TheConstants.{MEMORY_SIZE}
+use Rattle.layout.specs.Storage.{Storage}
+use Rattle.treecode.specs.declared.place.Home.{Home}
+use Rattle.treecode.specs.declared.place.Home.TheVariants as homes
 use Rattle.treecode.specs.declared.place.Location.{Location}
+use Rattle.treecode.specs.declared.traits.Keeps.{Keeps}
+use Rattle.treecode.specs.Nodes.{home_at}
+use Rattle.treecode.specs.Traits.{keeps_both, keeps_of_part}
+use Rattle.steps8080.specs.Facts.{no_facts}
+use Rattle.task_meaning.proofs.Homes.{Begins, BeginsAtBase, BeginsInFrame, BeginsInMemory}
 use Rattle.treecode.specs.Lowered.{IsReference, IsPart, IsAbsent}
 use Rattle.code_facts.specs.Holding.{location_at}
 use Rattle.steps8080.specs.declared.facts.Facts.{Facts}
-use Rattle.sites8080.specs.Queries.{location_of}
+use Rattle.sites8080.specs.Queries.{base_after, base_of, keeps_of_address, located, location_at as base_location, location_of, split}
 use Rattle.exprgen8080.specs.Emission.{knowing}
 use Rattle.statements8080.specs.Bodies.{whole}
 use Rattle.task_meaning.specs.Contexts.{Context, IsSound, distances_in, nodes_in}
 use Rattle.task_meaning.specs.Tasks.{IsReferred, address_on_machine}
-use Rattle.task_meaning.proofs.Bases.{has_some, home_there}
+use Rattle.task_meaning.proofs.Bases.{begins_there, has_some, home_there}
 use Rattle.task_meaning.proofs.Fitting.{located_fits, refers_is_referred}
 use Rattle.task_meaning.proofs.Loads.{lies_there}
 use Rattle.task_meaning.proofs.Located.{located_in}
@@ -44,6 +52,11 @@ pub record IsCounted (context : Context) (variable : ℕ) (scalar : ScalarType) 
   pub referred : IsReferred context (whole_tree variable)
   pub means : (s : SourceState) → located_in context (whole_tree variable) s ≡ Gave (variable_place context variable) s
   pub fits : FitsIn context.activation (size_of_scalar scalar) (variable_place context variable)
+  pub location : Location
+  pub located : (facts : Facts) → location_of (knowing context.site facts) (whole variable) ≡ Some location
+  pub is_there : variable_address context variable ≡ location_at context.activation (distances_in context) location
+  pub keeps_a : (keeps_of_address context.site (whole variable)).a ≡ true
+  pub keeps_de : (keeps_of_address context.site (whole variable)).de ≡ true
 
 -- tree code refers to a whole object
 pub whole_is : (context : Context) (bound object : ℕ)
@@ -79,6 +92,50 @@ not_based within (InFrame procedure) around object bytes is_inside s lies = refl
 nothing_yet : SourceState
 nothing_yet = record { memory = Rattle.std.proofs.Common.[]; frame = Rattle.std.proofs.Common.[]; events = Rattle.std.proofs.Common.[]; budget = 0 }
 
+same_place : {one other : SourcePlace} {t u : SourceState} → Gave one t ≡ Gave other u → one ≡ other
+same_place same = cc
+
+-- where tree code knows the location of an object, it has the address of its place
+address_is :
+    {context : Context} {variable : ℕ} (facts : Facts) (location : Location)
+    → IsSound context
+    → IsReferred context (whole_tree variable)
+    → ((s : SourceState) → located_in context (whole_tree variable) s ≡ Gave (variable_place context variable) s)
+    → location_of (knowing context.site facts) (whole variable) ≡ Some location
+    → variable_address context variable ≡ location_at context.activation (distances_in context) location
+address_is {context = context} {variable = variable} facts location sound referred means same =
+    let lies = lies_there facts location sound (whole_is context 0 variable) referred (whole_types context variable) same in
+    ap (address_on_machine context.activation)
+    (same_place (sym (means nothing_yet) ∙ lies.means nothing_yet))
+    ∙ lies.is_at
+
+-- a home that has a location, whose address leaves A and DE alone
+pub record HasLocation (start : Home) : Type 0 where
+  pub location : Location
+  pub is : base_location (base_after (base_after (base_after (base_of start) 0) 0) 0) ≡ Some location
+  pub keeps : keeps_of_part start None None ≡ keeps_both
+
+has_location :
+    {typed : TypedModule} {storage : Storage} {number : ℕ} (within : Within) (kind : TypedHome) (start : Home)
+    → LiesFor within kind
+    → Begins typed storage number kind start
+    → HasLocation start
+has_location within _ _ lies BeginsAtBase = absurd lies
+has_location within _ (homes.Frame variable) lies BeginsInFrame = record { location = _; is = refl; keeps = refl }
+has_location within _ (homes.Static place) lies BeginsInMemory = record { location = _; is = refl; keeps = refl }
+
+location_by :
+    (context : Context) (variable : ℕ) (facts : Facts) (its : HasLocation (home_at context.site.tree.now.homes.items variable))
+    → location_of (knowing context.site facts) (whole variable) ≡ Some its.location
+unfolding location_of located split
+location_by context variable facts its = its.is
+
+keeps_by :
+    (context : Context) (variable : ℕ) → HasLocation (home_at context.site.tree.now.homes.items variable)
+    → keeps_of_address context.site (whole variable) ≡ keeps_both
+unfolding keeps_of_address
+keeps_by context variable its = its.keeps
+
 -- the variable of the head of a loop is counted
 pub is_counted :
     (context : Context) (head : TypedIteration)
@@ -101,13 +158,21 @@ is_counted context head sound counts =
     ap (λ (kind : TypedHome). based_place kind around head.variable 0 true s) home_is
     ∙ not_based context.within (its.found).home around head.variable 0 true s lies
     ∙ ap (λ (kind : TypedHome). Gave (place_in kind around head.variable 0 true) s) (sym home_is) in
+    let there = has_location context.within (its.found).home (home_at context.site.tree.now.homes.items head.variable) lies
+    (begins_there context head.variable its.found sound its.is) in
+    let referred = refers_is_referred context head.scalar (whole_tree head.variable) refers in
     record {
       refers = refers;
-      referred = refers_is_referred context head.scalar (whole_tree head.variable) refers;
+      referred = referred;
       means = means;
       fits =
           located_fits context head.scalar (whole_tree head.variable) (variable_place context head.variable) nothing_yet
           nothing_yet sound refers (means nothing_yet);
+      location = there.location;
+      located = λ facts. location_by context head.variable facts there;
+      is_there = address_is no_facts there.location sound referred means (location_by context head.variable no_facts there);
+      keeps_a = ap (λ (keeps : Keeps). keeps.a) (keeps_by context head.variable there);
+      keeps_de = ap (λ (keeps : Keeps). keeps.de) (keeps_by context head.variable there);
     }
   where
     own_scalar : (kind : ObjectType) → kind ≡ ScalarObject head.scalar
@@ -122,9 +187,6 @@ is_counted context head sound counts =
     is_scalar : (object : TypedObject) → IsScalar head.scalar object → IsScalarOf object head.scalar (whole_tree head.variable)
     is_scalar object is = ((tt, (refl, refl)), is.0, own_scalar object.object_type is.1)
 
-same_place : {one other : SourcePlace} {t u : SourceState} → Gave one t ≡ Gave other u → one ≡ other
-same_place same = cc
-
 -- where tree code knows the location of the variable, it has the address of its place
 pub location_is :
     {context : Context} {variable : ℕ} {scalar : ScalarType} (facts : Facts) (location : Location)
@@ -132,8 +194,4 @@ pub location_is :
     → IsCounted context variable scalar
     → location_of (knowing context.site facts) (whole variable) ≡ Some location
     → variable_address context variable ≡ location_at context.activation (distances_in context) location
-location_is {context = context} {variable = variable} facts location sound counted same =
-    let lies = lies_there facts location sound (whole_is context 0 variable) counted.referred (whole_types context variable) same in
-    ap (address_on_machine context.activation)
-    (same_place (sym (counted.means nothing_yet) ∙ lies.means nothing_yet))
-    ∙ lies.is_at
+location_is facts location sound counted same = address_is facts location sound counted.referred counted.means same
