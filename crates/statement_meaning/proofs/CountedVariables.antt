@@ -97,13 +97,13 @@ same_place same = cc
 
 -- where tree code knows the location of an object, it has the address of its place
 address_is :
-    {context : Context} {variable : ℕ} (facts : Facts) (location : Location)
+    (context : Context) (variable : ℕ) (facts : Facts) (location : Location)
     → IsSound context
     → IsReferred context (whole_tree variable)
     → ((s : SourceState) → located_in context (whole_tree variable) s ≡ Gave (variable_place context variable) s)
     → location_of (knowing context.site facts) (whole variable) ≡ Some location
     → variable_address context variable ≡ location_at context.activation (distances_in context) location
-address_is {context = context} {variable = variable} facts location sound referred means same =
+address_is context variable facts location sound referred means same =
     let lies = lies_there facts location sound (whole_is context 0 variable) referred (whole_types context variable) same in
     ap (address_on_machine context.activation)
     (same_place (sym (means nothing_yet) ∙ lies.means nothing_yet))
@@ -170,7 +170,7 @@ is_counted context head sound counts =
           nothing_yet sound refers (means nothing_yet);
       location = there.location;
       located = λ facts. location_by context head.variable facts there;
-      is_there = address_is no_facts there.location sound referred means (location_by context head.variable no_facts there);
+      is_there = address_is context head.variable no_facts there.location sound referred means (location_by context head.variable no_facts there);
       keeps_a = ap (λ (keeps : Keeps). keeps.a) (keeps_by context head.variable there);
       keeps_de = ap (λ (keeps : Keeps). keeps.de) (keeps_by context head.variable there);
     }
@@ -194,4 +194,4 @@ pub location_is :
     → IsCounted context variable scalar
     → location_of (knowing context.site facts) (whole variable) ≡ Some location
     → variable_address context variable ≡ location_at context.activation (distances_in context) location
-location_is facts location sound counted same = address_is facts location sound counted.referred counted.means same
+location_is {context = context} {variable = variable} facts location sound counted same = address_is context variable facts location sound counted.referred counted.means same

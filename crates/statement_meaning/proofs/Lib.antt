@@ -4,3 +4,5 @@ pub mod LoopTurns
 pub mod LoopCode
 pub mod LoopMeaning
 pub mod CountedBytes
+pub mod MetFacts
+pub mod LoadedVariables
