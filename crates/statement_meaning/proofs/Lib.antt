@@ -6,3 +6,4 @@ pub mod LoopMeaning
 pub mod CountedBytes
 pub mod MetFacts
 pub mod LoadedVariables
+pub mod WordCode
