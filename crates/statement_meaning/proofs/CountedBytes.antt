@@ -66,10 +66,10 @@ count_to last turn =
     steps.Plain (load registers.A) ∷ steps.Plain (AccumulateImmediate Compare (low last)) ∷ steps.Plain (Inr M)
     ∷ steps.Jump (JumpWhere Carry) turn ∷ []
 
-stays : (n budget limit : ℕ) → n ≡ budget → budget ≤ limit → n ≤ limit
+pub stays : (n budget limit : ℕ) → n ≡ budget → budget ≤ limit → n ≤ limit
 stays n budget limit same less = omega (arith, same, less)
 
-strict : (n budget limit most : ℕ) → n ≡ budget → budget ≤ limit → limit < most → n < most
+pub strict : (n budget limit most : ℕ) → n ≡ budget → budget ≤ limit → limit < most → n < most
 strict n budget limit most same less more = omega (arith, same, less, more)
 
 -- to 255, or more

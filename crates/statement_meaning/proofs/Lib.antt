@@ -7,3 +7,6 @@ pub mod CountedBytes
 pub mod MetFacts
 pub mod LoadedVariables
 pub mod WordCode
+pub mod CountedWords
+pub mod LoopEnds
+pub mod KnownLoops
