@@ -3,9 +3,9 @@ use Rattle.std.proofs.Common.{◌≡◌, ◌≢◌, ℕ, ◌+◌, ◌-◌, ◌*�
 use Rattle.std.proofs.lemmas.Bool.{leb-true, leb-false, ltb-true, ltb-false}
 use Rattle.trees.specs.declared.declaration.ScalarType.{ScalarType}
 use Rattle.trees.specs.declared.declaration.ScalarType.TheVariants.{Byte, Address}
-use Rattle.meaning.specs.Meaning.{step_value, value}
+use Rattle.meaning.specs.Meaning.{next_turn, step_value, value}
 use Rattle.meaning.specs.Outcomes.{State as SourceState, Outcome, Gave, then_do, Flow, Onward}
-use Rattle.meaning.specs.Values.{values_of}
+use Rattle.meaning.specs.Values.{as_type, values_of}
 use Rattle.isa8080.specs.State.{Registers, State, wrap}
 use Rattle.treecode.specs.declared.lists.Range.{Range}
 use Rattle.treecode.specs.declared.place.Location.{Location}
@@ -34,7 +34,9 @@ use Rattle.task_meaning.proofs.Stages.{script_of}
 use Rattle.task_meaning.proofs.LocationWords.{word_known}
 use Rattle.statement_meaning.specs.Bodies.{BodyContext, IsSoundBody}
 use Rattle.statement_meaning.proofs.CountedBytes.{CountsBytes, Goes, count_to, count_to_top, counts_to, counts_to_top}
-use Rattle.statement_meaning.proofs.CountedVariables.{IsCounted, variable_address}
+use Rattle.statement_meaning.proofs.CountedVariables.{IsCounted, variable_address, variable_place}
+use Rattle.statement_meaning.proofs.SteadyReads.{steady_read}
+use Rattle.meaning.specs.Access.{write_scalar}
 use Rattle.statement_meaning.proofs.CountedWords.{CountsWords, compared_and_counted, counts_word, stored_and_on}
 use Rattle.statement_meaning.proofs.LoadedVariables.{word_loaded}
 use Rattle.statement_meaning.proofs.LoopCode.{Steps, address_known, address_step}
@@ -171,3 +173,135 @@ byte_turns {at = at} loop head list last is_tested end turn facts from iterates 
           label = ends.label;
           after = ends.after;
         }
+
+-- steps that are planned at the site of a body are planned at that of its context
+pub at_site :
+    {at : BodyContext} {from to : ℕ} {facts found last : Facts}
+    (steps_at : Site → List Rattle.steps8080.specs.declared.step.Step.Step)
+    → IsSoundBody at
+    → Steps at.context facts from (steps_at (knowing (site_of at.body) found)) last to
+    → Steps at.context facts from (steps_at (knowing at.context.site found)) last to
+at_site {at = at} {from = from} {to = to} {facts = facts} {found = found} {last = last} steps_at sound stand =
+    subst (λ (site : Site). Steps at.context facts from (steps_at (knowing site found)) last to) (sym sound.site) stand
+
+-- an ADDRESS in memory
+pub word_turns :
+    {at : BodyContext} (loop : Loop at) (head : Iteration) (list : Range) (last : ℕ) (is_tested : Bool) (end turn : LabelNumber)
+    (facts : Facts) (from : ℕ) (place : Place)
+    → Iterates at loop head list
+    → ToKnown loop Address last
+    → location_of (knowing at.context.site facts) (whole (loop.head).variable) ≡ Some (locations.Static place)
+    → Stand at (record { facts = facts; goes_on = true }) None from
+    (planned.Again turn (word_fact (counter_for at (loop.head).variable Address (Some (locations.Static place)))) true
+    ∷ planned.List list
+    ∷ ((planned.LoadWord (whole (loop.head).variable)
+    ∷ (Rattle.statements8080.specs.Plans.all (compared_and_counted last)
+    ++ (Rattle.statements8080.specs.Plans.word Rattle.asm8080.specs.declared.item.WordForm.TheVariants.StoreHl place
+    ∷ Rattle.statements8080.specs.Plans.jump (Rattle.asm8080.specs.declared.item.WordForm.TheVariants.JumpWhere Rattle.isa8080.specs.declared.instr.Condition.TheVariants.Carry) turn
+    ∷ [])))
+    ++ (asked_mark is_tested end ++ (planned.Reaches true ∷ [])))) loop.after loop.to
+    → TurnsStand loop is_tested end turn
+    (common facts (word_fact (counter_for at (loop.head).variable Address (Some (locations.Static place))))) from
+word_turns {at = at} loop head list last is_tested end turn facts from place iterates to_known is stand =
+    let loaded = word_parted listed.rest in
+    let parts = code_parted (plain (compared_and_counted last) ++ stored_and_on place turn)
+    (asked_mark is_tested end ++ (planned.Reaches true ∷ [])) (with_known listed.after loaded.known) loaded.middle loaded.rest in
+    let ends = ends_known loop is_tested end (with_known listed.after parts.known) parts.middle parts.rest in
+    record {
+      is_at = again.is_at;
+      turns =
+          turns_do loop from turn_facts
+          (λ limit less claim t r memory below stage.
+          list_then loop iterates.bound list turn_facts listed.after from listed.middle t r memory listed.does iterates.list_is
+          iterates.list_types iterates.list_stands iterates.list_fits (omega (arith, below, less)) stage
+          (λ u now memory_now spent there.
+          next limit (counts limit less claim) u now memory_now (omega (arith, spent, below)) there
+          (at_site (λ site. load_word_steps site (whole (loop.head).variable)) iterates.sound loaded.stand)
+          parts.stand (ends.goes limit)));
+      label = ends.label;
+      after = ends.after;
+    }
+  where
+    counter : Counter
+    counter = counter_for at (loop.head).variable Address (Some (locations.Static place))
+
+    address : ℕ
+    address = variable_address at.context (loop.head).variable
+
+    turn_facts : Facts
+    turn_facts = common facts (word_fact counter)
+
+    rest_of_code : List Planned
+    rest_of_code =
+        Rattle.statements8080.specs.Plans.all (compared_and_counted last)
+        ++ (Rattle.statements8080.specs.Plans.word Rattle.asm8080.specs.declared.item.WordForm.TheVariants.StoreHl place
+        ∷ Rattle.statements8080.specs.Plans.jump (Rattle.asm8080.specs.declared.item.WordForm.TheVariants.JumpWhere Rattle.isa8080.specs.declared.instr.Condition.TheVariants.Carry) turn
+        ∷ [])
+
+    again : Rattle.statement_meaning.proofs.PlannedParts.AgainParted at (record { facts = facts; goes_on = true }) None from turn
+        (word_fact counter) true
+        (planned.List list ∷ ((planned.LoadWord (whole (loop.head).variable) ∷ rest_of_code) ++ (asked_mark is_tested end ++ (planned.Reaches true ∷ []))))
+        loop.after loop.to
+    again = again_parted stand
+
+    listed : Rattle.statement_meaning.proofs.PlannedParts.ListParted at (record { facts = turn_facts; goes_on = true }) None from list
+        ((planned.LoadWord (whole (loop.head).variable) ∷ rest_of_code) ++ (asked_mark is_tested end ++ (planned.Reaches true ∷ []))) loop.after loop.to
+    listed = list_parted again.rest
+
+    counted : IsCounted at.context (loop.head).variable Address
+    counted = counted_as loop head list Address iterates to_known.scalar_is
+
+    lies : counted.location ≡ locations.Static place
+    lies = Rattle.task_meaning.proofs.Loads.same_location_found (sym (counted.located facts) ∙ is)
+
+    at_place_is : address ≡ Rattle.code_facts.specs.Holding.location_at at.context.activation
+        (Rattle.task_meaning.specs.Contexts.distances_in at.context) (locations.Static place)
+    at_place_is = counted.is_there ∙ ap (Rattle.code_facts.specs.Holding.location_at at.context.activation
+        (Rattle.task_meaning.specs.Contexts.distances_in at.context)) lies
+
+    counts : (limit : ℕ) → limit < loop.budget → Runs loop limit from turn_facts (from_list loop)
+        → CountsWords loop last limit turn turn_facts
+    counts limit less claim = record {
+      sound = iterates.sound;
+      scalar = to_known.scalar_is;
+      counted = counted;
+      enough = (let enough = iterates.enough in omega (arith, enough));
+      last_is = to_known.last_is;
+      last_small = to_known.last_small;
+      step_is = to_known.step_is;
+      turns = subst (λ (place : ℕ). Runs loop limit place turn_facts (from_list loop)) (sym again.is_at) claim;
+      less = less;
+      enters = λ r memory low high steady steady_too.
+          second_meets at.context r memory facts (word_fact counter)
+          (word_known at.context r memory (locations.Static place)
+          (subst (λ (n : ℕ). Rattle.code_facts.specs.Holding.IsSteady at.context.activation n) at_place_is steady)
+          (subst (λ (n : ℕ). Rattle.code_facts.specs.Holding.IsSteady at.context.activation (wrap (n + 1))) at_place_is steady_too)
+          (low ∙ ap (Rattle.mem80.specs.Memory.byte_at memory) at_place_is)
+          (high ∙ ap (λ (n : ℕ). Rattle.mem80.specs.Memory.byte_at memory (wrap (n + 1))) at_place_is));
+    }
+
+    next : {known ended : Facts} {middle over : ℕ} (limit : ℕ) (counting : CountsWords loop last limit turn turn_facts)
+        (u : SourceState) (now : Registers) (memory_now : List ℕ)
+        → u.budget ≤ limit
+        → StageAt at loop.need loop.base u (listed.after).facts now memory_now
+        → Steps at.context (listed.after).facts listed.middle
+        (load_word_steps (knowing at.context.site (listed.after).facts) (whole (loop.head).variable)) known middle
+        → Steps at.context known middle (plain (compared_and_counted last) ++ stored_and_on place turn) ended over
+        → Goes loop limit ended over
+        → Does (script_of at.context) u.budget 0 (at_place listed.middle now memory_now u.events) (after_list loop Onward u) (Out loop)
+    next limit counting u now memory_now less there loads stands goes =
+        Rattle.task_meaning.proofs.Stages.does_same _
+        (stepped_with_is loop Address u to_known.scalar_is
+        ∙ ap (λ (one : Outcome ℕ). then_do one (stepped_with loop Address)) (to_known.step_is u))
+        (steady_read (variable_place at.context (loop.head).variable) u
+        (λ number v. then_do
+        (write_scalar at.context.activation.around.program Address (variable_place at.context (loop.head).variable)
+        (as_type Address (number + 1)) v)
+        (λ _ w. next_turn at.context.later at.context.activation.around loop.head loop.list (number + 1) w))
+        iterates.sound.sound counted.fits
+        (λ steady.
+        word_loaded iterates.sound.sound counted (let enough = iterates.enough in omega (arith, enough)) loads there steady.0 steady.1
+        (λ in_hl memory_then holds on.
+        counts_word loop last limit turn turn_facts place u in_hl memory_then counting
+        (Rattle.task_meaning.proofs.Loads.same_location_found (sym ((counting.counted).located facts) ∙ is))
+        stands less on holds.low holds.high steady.0 steady.1 goes)))

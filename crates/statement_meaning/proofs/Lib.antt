@@ -9,4 +9,7 @@ pub mod LoadedVariables
 pub mod WordCode
 pub mod CountedWords
 pub mod LoopEnds
+pub mod SteadyReads
 pub mod KnownLoops
+pub mod FirstValues
+pub mod EnteredLoops

@@ -69,8 +69,10 @@ pub tested :
     → IsCounted at.context (loop.head).variable scalar
     → IsReady at.context.activation top base t.memory t.frame r memory
     → (nat_lt last (scalar_at scalar memory (variable_address at.context (loop.head).variable)) ≡ true
+    → IsSteadyScalar at.context.activation scalar (variable_address at.context (loop.head).variable)
     → Does (script_of at.context) budget 0 from (Gave Onward t) (Out loop))
     → (nat_lt last (scalar_at scalar memory (variable_address at.context (loop.head).variable)) ≡ false
+    → IsSteadyScalar at.context.activation scalar (variable_address at.context (loop.head).variable)
     → Does (script_of at.context) budget 0 from (taking_one t (from_list loop)) (Out loop))
     → Does (script_of at.context) budget 0 from (from_test loop t) (Out loop)
 tested {at = at} {budget = budget} {from = from} {memory = memory} loop scalar last t sound same is counted ready ends goes =
@@ -83,16 +85,17 @@ tested {at = at} {budget = budget} {from = from} {memory = memory} loop scalar l
     (λ number v. if nat_lt last number then Gave Onward v else taking_one v (from_list loop))) (Out loop)) (sym same)
     (counted_read scalar t (λ number v. if nat_lt last number then Gave Onward v else taking_one v (from_list loop))
     sound.sound counted ready
-    (λ steady. by (nat_lt last number) refl)))
+    (λ steady. by (nat_lt last number) refl steady)))
   where
     number : ℕ
     number = scalar_at scalar memory (variable_address at.context (loop.head).variable)
 
     by : (above : Bool) → nat_lt last number ≡ above
+        → IsSteadyScalar at.context.activation scalar (variable_address at.context (loop.head).variable)
         → Does (script_of at.context) budget 0 from
         (if above then Gave Onward t else taking_one t (from_list loop)) (Out loop)
-    by true is = ends is
-    by false is = goes is
+    by true is steady = ends is steady
+    by false is steady = goes is steady
 
 -- what follows where the step is there: the variable is read, and changed
 abbrev pub stepped_with : {at : BodyContext} → Loop at → ScalarType → (step : ℕ) → SourceState → Outcome Flow
@@ -176,9 +179,9 @@ turns_again {at = at} {memory = memory} loop scalar last sum t sound same is cou
     next_tests loop scalar sum t sound same less
     (λ of_type.
     tested loop scalar last t sound same is counted ready
-    (λ above. absurd (over scalar (scalar_at scalar memory (variable_address at.context (loop.head).variable))
+    (λ above steady. absurd (over scalar (scalar_at scalar memory (variable_address at.context (loop.head).variable))
     (ltb-true last (scalar_at scalar memory (variable_address at.context (loop.head).variable)) above) there small))
-    (λ fine. does))
+    (λ fine steady. does))
     (λ past. absurd (omega (arith, past, small)))
   where
     over : (scalar : ScalarType) (number : ℕ) → last < number → number ≡ as_type scalar sum → sum < values_of scalar → ⊥
@@ -204,8 +207,8 @@ turns_end {at = at} {memory = memory} loop scalar last sum t sound same is count
     next_tests loop scalar sum t sound same less
     (λ of_type.
     tested loop scalar last t sound same is counted ready
-    (λ above. does)
-    (λ fine. absurd (over scalar (scalar_at scalar memory (variable_address at.context (loop.head).variable))
+    (λ above steady. does)
+    (λ fine steady. absurd (over scalar (scalar_at scalar memory (variable_address at.context (loop.head).variable))
     (ltb-false last (scalar_at scalar memory (variable_address at.context (loop.head).variable)) fine) there of_type (past of_type))))
     (λ beyond. does)
   where
