@@ -17,3 +17,5 @@ pub mod MovedBlocks
 pub mod MoveCalls
 pub mod Moves
 pub mod CaseTables
+pub mod CaseChoices
+pub mod Cases
