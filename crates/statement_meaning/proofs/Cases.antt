@@ -236,7 +236,7 @@ choice_parted {at = at} list table own end before code from sound stand =
     }
 
 -- the number is in DE, and below the number of statements
-chosen :
+pub chosen :
     {at : BodyContext} {base : List ℕ} {to need bound from budget : ℕ} {after : Here} {trees : TypedStatements} {before facts : Facts}
     {code : List Step} {place : ℕ} {memory : List ℕ}
     (list : Range) (table own end : LabelNumber) (number : ℕ) (u : SourceState) (r : Registers)
@@ -270,7 +270,7 @@ is_less true same = refl
 is_less false same = sym same
 
 -- a number that is compared
-bounded_goes :
+pub bounded_goes :
     {at : BodyContext} {base : List ℕ} {to need bound from budget : ℕ} {after : Here} {trees : TypedStatements} {before facts : Facts}
     {code : List Step} {place : ℕ} {memory : List ℕ}
     (list : Range) (table own end : LabelNumber) (compare bring : List Instr) (number : ℕ) (u : SourceState) (r : Registers)

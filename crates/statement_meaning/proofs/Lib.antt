@@ -19,3 +19,5 @@ pub mod Moves
 pub mod CaseTables
 pub mod CaseChoices
 pub mod Cases
+pub mod CaseForms
+pub mod CasesDo
