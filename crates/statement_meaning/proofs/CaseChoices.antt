@@ -1,14 +1,13 @@
 -- The statement that DO CASE chooses, and the jump into it.
-use Rattle.std.proofs.Common.{◌≡◌, ◌≢◌, ℕ, zero, suc, ◌+◌, ◌-◌, ◌*◌, ◌/◌, ◌%◌, ◌<◌, ◌≤◌, max, Bool, true, false, nat_lt, nat_eq, if◌then◌else◌, List, [], ◌∷◌, ◌++◌, slice_get, Option, Some, None, refl, sym, ap, subst, ◌∙◌, arith}
+use Rattle.std.proofs.Common.{◌≡◌, ℕ, zero, suc, ◌+◌, ◌*◌, ◌<◌, ◌≤◌, max, Bool, true, nat_eq, if◌then◌else◌, List, slice_get, Option, Some, None, refl, sym, ap, subst, ◌∙◌, arith}
 use Rattle.std.specs.Option.{option_and_then}
-use Rattle.std.proofs.lemmas.Bool.{ltb-true, ltb-false, lt-ltb, eq-eqb}
-use Rattle.std.proofs.lemmas.Option.{same_Some}
+use Rattle.std.proofs.lemmas.Bool.{lt-ltb, eq-eqb}
 use Rattle.typed_trees.specs.Charge.{height_of_statement, height_of_statements}
 use Rattle.typed_trees.specs.Jumps.{ListsStand, ListsStandInCases}
 use Rattle.typed_trees.specs.TypedTrees.{TypedStatement, TypedStatements, NoStatements, MoreStatements}
 use Rattle.typed_trees.specs.WellTyped.{TypesHoldIn, TypesHoldInStatements}
 use Rattle.meaning.specs.Meaning.{done, done_case}
-use Rattle.meaning.specs.Outcomes.{State as SourceState, Outcome, Gave, taking_one, then_do, Flow, Onward, Returned, Jumped}
+use Rattle.meaning.specs.Outcomes.{State as SourceState, Outcome, Gave, Flow, Onward, Returned, Jumped}
 use Rattle.isa8080.specs.State.{Registers, State}
 use Rattle.isa8080.specs.Step.{step_of}
 use Rattle.treecode.specs.declared.lists.Range.{Range}
@@ -19,10 +18,9 @@ use Rattle.treecode.specs.Lowered.{AreStatements, AreNoStatements, AreMoreStatem
 use Rattle.treecode.specs.Nodes.{Nodes, nodes_of}
 use Rattle.treecode.specs.Queries.{item, statement}
 use Rattle.code_meaning.specs.Landing.{Does, at_place}
-use Rattle.code_meaning.proofs.Landing.{after_step, gives, then_does}
+use Rattle.code_meaning.proofs.Landing.{after_step, gives}
 use Rattle.steps8080.specs.declared.facts.Facts.{Facts}
 use Rattle.steps8080.specs.declared.step.LabelNumber.{LabelNumber}
-use Rattle.steps8080.specs.Facts.{no_facts}
 use Rattle.sites8080.specs.declared.site.Site.{Site}
 use Rattle.statements8080.specs.Bodies.{body_label}
 use Rattle.statements8080.specs.Cases.{entry_of, entry_of_statement}
@@ -32,7 +30,6 @@ use Rattle.task_meaning.specs.Contexts.{nodes_in}
 use Rattle.task_meaning.proofs.Stages.{Stage, does_same, script_of}
 use Rattle.statement_meaning.specs.Bodies.{BodyContext, IsSoundBody, Leaves}
 use Rattle.statement_meaning.proofs.CaseTables.{EntriesStand, EntryStands, reaches_end}
-use Rattle.statement_meaning.proofs.LoopCode.{knowing_nothing}
 use Rattle.statement_meaning.proofs.LoopTurns.{step_pays}
 
 -- a statement of a list, by its number

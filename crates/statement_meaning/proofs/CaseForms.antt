@@ -1,16 +1,14 @@
 -- DO CASE: the number comes into DE by its type, or is known, or there are no statements.
-use Rattle.std.proofs.Common.{◌≡◌, ◌≢◌, ℕ, ◌+◌, ◌-◌, ◌*◌, ◌/◌, ◌%◌, ◌<◌, ◌≤◌, max, not, Bool, true, false, nat_lt, nat_eq, if◌then◌else◌, List, [], ◌∷◌, ◌++◌, map, slice_get, Option, Some, None, refl, sym, ap, subst, ◌∙◌, arith}
-use Rattle.std.specs.Option.{option_and_then}
-use Rattle.std.proofs.lemmas.Bool.{ltb-true, ltb-false, lt-ltb, le-ltb, eqb-true, eqb-false}
-use Rattle.std.proofs.lemmas.Option.{same_Some}
+use Rattle.std.proofs.Common.{◌≡◌, ℕ, ◌+◌, ◌*◌, ◌/◌, ◌%◌, ◌<◌, ◌≤◌, nat_lt, List, [], ◌∷◌, ◌++◌, sym, ap, subst, ◌∙◌, arith}
+use Rattle.std.proofs.lemmas.Bool.{ltb-true, ltb-false, lt-ltb, le-ltb}
 use Rattle.trees.specs.declared.declaration.ScalarType.{ScalarType}
 use Rattle.trees.specs.declared.declaration.ScalarType.TheVariants.{Byte, Address}
-use Rattle.typed_trees.specs.Charge.{height_of, height_of_statement, height_of_statements}
+use Rattle.typed_trees.specs.Charge.{height_of, height_of_statements}
 use Rattle.typed_trees.specs.ExpressionTypes.{type_of}
 use Rattle.typed_trees.specs.TypedTrees.{TypedExpression, TypedStatements}
 use Rattle.typed_trees.specs.WellTyped.{TypesHold}
 use Rattle.meaning.specs.Meaning.{done_case}
-use Rattle.meaning.specs.Outcomes.{State as SourceState, Outcome, Gave, then_do, Flow, Onward}
+use Rattle.meaning.specs.Outcomes.{State as SourceState, Outcome, then_do, Flow}
 use Rattle.meaning.specs.Values.{values_of}
 use Rattle.isa8080.specs.declared.instr.Instr.{Instr}
 use Rattle.isa8080.specs.declared.instr.Instr.TheVariants.{AccumulateImmediate, Xchg}
@@ -30,14 +28,12 @@ use Rattle.steps8080.specs.declared.step.Task.TheVariants as tasks
 use Rattle.steps8080.specs.Instructions.{copy, high, low, set}
 use Rattle.steps8080.specs.Step.{plain}
 use Rattle.codegen8080.specs.declared.meeting.Here.{Here}
-use Rattle.task_meaning.specs.Contexts.{Context, nodes_in}
+use Rattle.task_meaning.specs.Contexts.{nodes_in}
 use Rattle.task_meaning.specs.Steps.{PartThere}
-use Rattle.task_meaning.specs.Tasks.{ByteIsGiven, WordIsGiven}
 use Rattle.task_meaning.proofs.RegisterCode.{effect}
 use Rattle.task_meaning.proofs.SiteNodes.{value_in}
 use Rattle.task_meaning.proofs.Stages.{Stage, at_instructions, has_less_room, script_of, then_does_where}
 use Rattle.statement_meaning.specs.Bodies.{BodyContext, Leaves}
-use Rattle.statement_meaning.proofs.CaseTables.{EntriesStand}
 use Rattle.statement_meaning.proofs.Cases.{CaseParts, ChoiceStands, bounded, bounded_goes, chosen}
 use Rattle.statement_meaning.proofs.LoopCode.{Steps}
 use Rattle.statement_meaning.proofs.WordCode.{word_is_less}

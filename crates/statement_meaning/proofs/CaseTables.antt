@@ -1,9 +1,9 @@
 -- The table of DO CASE and the statements behind it.
-use Rattle.std.proofs.Common.{◌≡◌, ◌≢◌, ℕ, zero, suc, ◌+◌, ◌-◌, ◌*◌, ◌%◌, ◌<◌, ◌≤◌, Bool, true, false, nat_lt, nat_eq, if◌then◌else◌, List, [], ◌∷◌, ◌++◌, Option, Some, None, refl, sym, ap, subst, ◌∙◌, arith}
-use Rattle.std.proofs.lemmas.Bool.{ltb-true, ltb-false}
-use Rattle.std.proofs.lemmas.Option.{same_Some, none-some}
-use Rattle.meaning.specs.Outcomes.{State as SourceState, Outcome, Gave, Flow, Onward}
-use Rattle.isa8080.specs.State.{Registers, State}
+use Rattle.std.proofs.Common.{◌≡◌, ℕ, zero, suc, ◌+◌, ◌-◌, ◌*◌, ◌<◌, Bool, true, false, nat_lt, nat_eq, if◌then◌else◌, List, [], ◌∷◌, ◌++◌, Option, Some, None, refl, sym, ap, subst, ◌∙◌, arith}
+use Rattle.std.proofs.lemmas.Bool.{ltb-false}
+use Rattle.std.proofs.lemmas.Option.{same_Some}
+use Rattle.meaning.specs.Outcomes.{State as SourceState, Gave, Onward}
+use Rattle.isa8080.specs.State.{Registers}
 use Rattle.asm8080.specs.declared.item.Reference.TheVariants.{AtLabel}
 use Rattle.asm8080.specs.declared.item.WordForm.{WordForm}
 use Rattle.asm8080.specs.declared.item.WordForm.TheVariants.{Jump}
@@ -25,7 +25,7 @@ use Rattle.statements8080.specs.Cases.{cases_end_steps, entry_of, statement_at}
 use Rattle.statements8080.specs.Plans.{jump, label_at, mark, steps_from}
 use Rattle.codegen8080.specs.declared.meeting.Here.{Here}
 use Rattle.codegen8080.specs.Generated.{carried_steps, here_after, jump_on_steps, waiting_after}
-use Rattle.task_meaning.specs.Steps.{StepsStand, NoneThere, JumpThere, MarkThere}
+use Rattle.task_meaning.specs.Steps.{NoneThere, JumpThere, MarkThere}
 use Rattle.task_meaning.specs.Tasks.{Know}
 use Rattle.task_meaning.proofs.Stages.{Stage, script_of}
 use Rattle.statement_meaning.specs.Bodies.{BodyContext, IsSoundBody, Leaves}

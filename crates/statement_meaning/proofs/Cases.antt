@@ -1,30 +1,19 @@
 -- Code of DO CASE does what it says.
-use Rattle.std.proofs.Common.{◌≡◌, ◌≢◌, ℕ, ◌+◌, ◌-◌, ◌*◌, ◌/◌, ◌%◌, ◌<◌, ◌≤◌, max, not, Bool, true, false, nat_lt, nat_eq, if◌then◌else◌, List, [], ◌∷◌, ◌++◌, map, slice_get, Option, Some, None, refl, sym, ap, subst, ◌∙◌, arith}
-use Rattle.std.proofs.lemmas.Bool.{ltb-true, ltb-false, eqb-true, eqb-false}
-use Rattle.std.proofs.lemmas.Option.{same_Some}
-use Rattle.mem80.specs.declared.memory.TheConstants.{MEMORY_SIZE}
-use Rattle.trees.specs.declared.declaration.ScalarType.{ScalarType}
-use Rattle.trees.specs.declared.declaration.ScalarType.TheVariants.{Byte, Address}
-use Rattle.typed_trees.specs.Charge.{height_of, height_of_statement, height_of_statements}
-use Rattle.typed_trees.specs.ExpressionTypes.{type_of}
-use Rattle.typed_trees.specs.Jumps.{ListsStand, ListsStandInCases}
-use Rattle.typed_trees.specs.TypedTrees.{TypedExpression, TypedStatement, TypedStatements, CaseStatement}
-use Rattle.typed_trees.specs.WellTyped.{TypesHold, TypesHoldIn, TypesHoldInStatements}
-use Rattle.meaning.specs.Meaning.{done, done_case}
-use Rattle.meaning.specs.Outcomes.{State as SourceState, Outcome, Gave, then_do, Flow, Onward}
-use Rattle.meaning.specs.Values.{values_of}
+use Rattle.std.proofs.Common.{◌≡◌, ℕ, ◌+◌, ◌*◌, ◌<◌, ◌≤◌, not, Bool, true, false, nat_lt, List, [], ◌∷◌, ◌++◌, map, Option, None, refl, sym, ap, subst, ◌∙◌, arith}
+use Rattle.std.proofs.lemmas.Bool.{ltb-true, ltb-false}
+use Rattle.typed_trees.specs.Charge.{height_of_statements}
+use Rattle.typed_trees.specs.Jumps.{ListsStandInCases}
+use Rattle.typed_trees.specs.TypedTrees.{TypedStatements}
+use Rattle.typed_trees.specs.WellTyped.{TypesHoldInStatements}
+use Rattle.meaning.specs.Meaning.{done_case}
+use Rattle.meaning.specs.Outcomes.{State as SourceState, Outcome, Gave, Flow, Onward}
 use Rattle.isa8080.specs.declared.instr.Condition.TheVariants.{NoCarry}
-use Rattle.isa8080.specs.declared.instr.Instr.TheVariants.{AccumulateImmediate, Dad, Pchl, Xchg}
-use Rattle.isa8080.specs.declared.instr.Operation.TheVariants.{Compare}
+use Rattle.isa8080.specs.declared.instr.Instr.TheVariants.{Dad, Pchl}
 use Rattle.isa8080.specs.declared.instr.Pair.TheVariants.{De, Hl}
-use Rattle.isa8080.specs.declared.instr.Register.TheVariants.{A, D, E}
-use Rattle.isa8080.specs.Act.{act}
-use Rattle.isa8080.specs.State.{HoldBytes, Registers, State, high_byte, low_byte, word, wrap}
+use Rattle.isa8080.specs.State.{Registers, State, high_byte, low_byte, word, wrap}
 use Rattle.isa8080.specs.Step.{running}
-use Rattle.asm8080.specs.declared.item.Item.TheVariants as items
 use Rattle.asm8080.specs.declared.item.Reference.TheVariants.{AtLabel}
 use Rattle.asm8080.specs.declared.item.WordForm.TheVariants.{Jump, JumpWhere, LoadPair}
-use Rattle.treecode.specs.declared.expression.ExpressionNumber.{ExpressionNumber}
 use Rattle.treecode.specs.declared.lists.Range.{Range}
 use Rattle.treecode.specs.Lowered.{AreStatements}
 use Rattle.code_meaning.specs.Landing.{Does, at_place}
@@ -52,8 +41,8 @@ use Rattle.statement_meaning.proofs.CaseChoices.{IsNth, enters, from_none, nth_i
 use Rattle.code_meaning.specs.Activations.{IsThere}
 use Rattle.steps8080.specs.Writer.{jump_item}
 use Rattle.statement_meaning.proofs.CaseTables.{EntriesStand, TableStands, behind_parted, behind_table, reaches_end, table_parted}
-use Rattle.statement_meaning.proofs.PlannedParts.{Stand, code_parted, with_known}
-use Rattle.statement_meaning.proofs.LoopCode.{Steps, jump_then, knowing_nothing, mark_then, steps_over}
+use Rattle.statement_meaning.proofs.PlannedParts.{Stand, code_parted}
+use Rattle.statement_meaning.proofs.LoopCode.{Steps, jump_then, knowing_nothing, steps_over}
 
 -- three times a number after an address
 three_times : (table n : ℕ) → wrap (wrap (wrap (wrap table + n) + n) + n) ≡ wrap (table + 3 * n)

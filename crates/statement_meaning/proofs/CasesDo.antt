@@ -1,7 +1,7 @@
 -- Code of DO CASE does what it says.
-use Rattle.std.proofs.Common.{◌≡◌, ◌≢◌, ℕ, ◌+◌, ◌-◌, ◌*◌, ◌/◌, ◌%◌, ◌<◌, ◌≤◌, max, not, Bool, true, false, nat_lt, nat_eq, if◌then◌else◌, List, [], ◌∷◌, ◌++◌, map, slice_get, Option, Some, None, refl, sym, ap, subst, ◌∙◌, arith}
+use Rattle.std.proofs.Common.{◌≡◌, ℕ, ◌+◌, ◌*◌, ◌%◌, ◌≤◌, max, Bool, true, false, nat_lt, nat_eq, if◌then◌else◌, List, [], ◌∷◌, ◌++◌, slice_get, Option, Some, None, refl, sym, ap, subst, ◌∙◌, arith}
 use Rattle.std.specs.Option.{option_and_then}
-use Rattle.std.proofs.lemmas.Bool.{ltb-true, ltb-false, lt-ltb, eqb-true, eqb-false}
+use Rattle.std.proofs.lemmas.Bool.{ltb-true, ltb-false, eqb-true}
 use Rattle.std.proofs.lemmas.Option.{same_Some}
 use Rattle.trees.specs.declared.declaration.ScalarType.{ScalarType}
 use Rattle.trees.specs.declared.declaration.ScalarType.TheVariants.{Byte, Address}
@@ -11,12 +11,12 @@ use Rattle.typed_trees.specs.Jumps.{ListsStand}
 use Rattle.typed_trees.specs.TypedTrees.{TypedExpression, TypedStatement, TypedStatements}
 use Rattle.typed_trees.specs.WellTyped.{TypesHoldIn}
 use Rattle.meaning.specs.Meaning.{done, done_case}
-use Rattle.meaning.specs.Outcomes.{State as SourceState, Outcome, Gave, then_do, Flow, Onward}
+use Rattle.meaning.specs.Outcomes.{State as SourceState, Outcome, Gave, then_do, Onward}
 use Rattle.isa8080.specs.declared.instr.Condition.TheVariants.{NoCarry}
 use Rattle.isa8080.specs.declared.instr.Instr.TheVariants.{AccumulateImmediate, Xchg}
 use Rattle.isa8080.specs.declared.instr.Operation.TheVariants.{Compare, Subtract, SubtractWithBorrow}
 use Rattle.isa8080.specs.declared.instr.Register.TheVariants.{A, D, E, H, L}
-use Rattle.isa8080.specs.State.{Registers, State}
+use Rattle.isa8080.specs.State.{Registers}
 use Rattle.asm8080.specs.declared.item.WordForm.TheVariants.{JumpWhere}
 use Rattle.treecode.specs.declared.expression.ExpressionNumber.{ExpressionNumber}
 use Rattle.treecode.specs.declared.lists.Range.{Range}
@@ -44,19 +44,18 @@ use Rattle.statements8080.specs.declared.plan.Planned.TheVariants as planned
 use Rattle.statements8080.specs.Cases.{case_steps, cases_end_steps, choice_at_steps, choice_steps, computed_case_steps, into_table_steps, known_case_steps, number_in_de_steps, statements_steps, table_steps}
 use Rattle.statements8080.specs.Plans.{all, jump, nth_label, part, plain as plan}
 use Rattle.codegen8080.specs.declared.meeting.Here.{Here}
-use Rattle.codegen8080.specs.Generated.{site_of}
 use Rattle.codegen8080.specs.Statements.{statement_steps}
 use Rattle.task_meaning.specs.Contexts.{Context, IsSound, nodes_in}
 use Rattle.task_meaning.proofs.Nodes.{node_of}
 use Rattle.task_meaning.proofs.SiteNodes.{number_means, value_in}
 use Rattle.task_meaning.proofs.Stages.{Stage, at_effects, does_same, script_of}
-use Rattle.task_meaning.specs.Steps.{PartThere, NoneThere}
+use Rattle.task_meaning.specs.Steps.{PartThere}
 use Rattle.task_meaning.specs.Tasks.{Know}
 use Rattle.statement_meaning.specs.Bodies.{BodyContext, IsSoundBody, Leaves}
 use Rattle.statement_meaning.specs.Statements.{StatementDoes, StatementStands}
 use Rattle.statement_meaning.proofs.CaseChoices.{IsNth, leaves_whole, nth_is, past_all}
 use Rattle.statement_meaning.proofs.CaseForms.{Choice, byte_bounded, byte_bring, byte_compare, byte_part, byte_unbounded, case_of, high_bounded, high_compare, word_bounded, word_compare, word_part, word_unbounded}
-use Rattle.statement_meaning.proofs.Cases.{CaseParts, ChoiceStands, bounded, choice_parted}
+use Rattle.statement_meaning.proofs.Cases.{bounded, choice_parted}
 use Rattle.statement_meaning.proofs.LoopCode.{steps_over}
 use Rattle.statement_meaning.proofs.PlannedParts.{Stand, code_parted, over, statement_parted}
 

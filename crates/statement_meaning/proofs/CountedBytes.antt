@@ -1,18 +1,17 @@
 -- A BYTE that is counted by 1 up to a last value that is known, with the test at the end.
-use Rattle.std.proofs.Common.{◌≡◌, ◌≢◌, ℕ, suc, ◌+◌, ◌-◌, ◌*◌, ◌/◌, ◌%◌, ◌<◌, ◌≤◌, ◌==◌, Bool, true, false, not, nat_lt, nat_le, if◌then◌else◌, List, [], ◌∷◌, length, slice_set, refl, sym, ap, subst, ◌∙◌, arith}
-use Rattle.std.proofs.lemmas.Bool.{ltb-true, ltb-false, leb-true, leb-false, eqb-true, eqb-false}
-use Rattle.mem80.specs.declared.memory.TheConstants.{MEMORY_SIZE}
+use Rattle.std.proofs.Common.{◌≡◌, ℕ, ◌+◌, ◌%◌, ◌<◌, ◌≤◌, ◌==◌, Bool, true, false, not, nat_lt, List, [], ◌∷◌, slice_set, refl, sym, ap, subst, ◌∙◌, arith}
+use Rattle.std.proofs.lemmas.Bool.{ltb-true, ltb-false, eqb-true, eqb-false}
 use Rattle.mem80.specs.Memory.{byte_at}
-use Rattle.trees.specs.declared.declaration.ScalarType.TheVariants.{Byte, Address}
+use Rattle.trees.specs.declared.declaration.ScalarType.TheVariants.{Byte}
 use Rattle.meaning.specs.Meaning.{step_value, value}
-use Rattle.meaning.specs.Outcomes.{State as SourceState, Outcome, Gave, then_do, Flow, Onward}
+use Rattle.meaning.specs.Outcomes.{State as SourceState, Outcome, Gave, then_do, Onward}
 use Rattle.isa8080.specs.declared.instr.Condition.TheVariants.{Carry, NotZero}
 use Rattle.isa8080.specs.declared.instr.Instr.TheVariants.{AccumulateImmediate, Inr}
 use Rattle.isa8080.specs.declared.instr.Operand.TheVariants.{M}
 use Rattle.isa8080.specs.declared.instr.Operation.TheVariants.{Compare}
 use Rattle.isa8080.specs.declared.instr.Register.TheVariants as registers
 use Rattle.isa8080.specs.Arithmetic.{increment_of, subtract_of}
-use Rattle.isa8080.specs.State.{Registers, State, word, wrap}
+use Rattle.isa8080.specs.State.{Registers, word}
 use Rattle.asm8080.specs.declared.item.WordForm.TheVariants.{JumpWhere}
 use Rattle.machine_runs.proofs.Kept.{byte_put}
 use Rattle.code_meaning.specs.Landing.{Does, at_place}
@@ -23,7 +22,7 @@ use Rattle.steps8080.specs.declared.step.Step.{Step}
 use Rattle.steps8080.specs.declared.step.Step.TheVariants as steps
 use Rattle.steps8080.specs.Instructions.{load, low}
 use Rattle.task_meaning.specs.Tasks.{Know}
-use Rattle.task_meaning.proofs.Stages.{Stage, at_instructions, does_same, script_of}
+use Rattle.task_meaning.proofs.Stages.{at_instructions, does_same, script_of}
 use Rattle.statement_meaning.specs.Bodies.{BodyContext, IsSoundBody}
 use Rattle.statement_meaning.proofs.CountedVariables.{IsCounted, variable_address, variable_place}
 use Rattle.statement_meaning.proofs.LoopCode.{Steps, address_step, address_then, byte_then, jump_then, load_then}

@@ -5,12 +5,10 @@ use Rattle.trees.specs.declared.declaration.ScalarType.{ScalarType}
 use Rattle.typed_trees.specs.ObjectParts.{IsScalar, IsScalarOf}
 use Rattle.typed_trees.specs.Sizes.{size_of_scalar}
 use Rattle.typed_trees.specs.TypedTrees.{Home as TypedHome, InData, InConstants, Placed, BasedOn, Elsewhere, Nowhere, InFrame, ObjectType, ScalarObject, PartOf, NoSubscript, TypedIteration, TypedModule, TypedObject, TypedReference}
-use Rattle.typed_trees.specs.WellTyped.{Counts, IsSeen, LiesFor, RefersToScalar, TypesHoldInReference, Within, WithinProcedure, WithinMain}
-use Rattle.meaning.specs.Access.{Place as SourcePlace, InMemory, InTheFrame, Surroundings, home_of, place_in, place_of}
+use Rattle.typed_trees.specs.WellTyped.{Counts, IsSeen, LiesFor, RefersToScalar, TypesHoldInReference, Within}
+use Rattle.meaning.specs.Access.{Place as SourcePlace, Surroundings, place_in, place_of}
 use Rattle.meaning.specs.Meaning.{based_place}
-use Rattle.meaning.specs.Outcomes.{State as SourceState, Outcome, Gave}
-use Rattle.isa8080.specs.State.{wrap}
-use Rattle.mem80.specs.declared.memory.TheConstants.{MEMORY_SIZE}
+use Rattle.meaning.specs.Outcomes.{State as SourceState, Gave}
 use Rattle.layout.specs.Storage.{Storage}
 use Rattle.treecode.specs.declared.place.Home.{Home}
 use Rattle.treecode.specs.declared.place.Home.TheVariants as homes

@@ -1,41 +1,38 @@
 -- An ADDRESS in memory that is counted by 1 up to a last value that is known, with the test at the end.
-use Rattle.std.proofs.Common.{◌≡◌, ◌≢◌, ℕ, suc, ◌+◌, ◌-◌, ◌*◌, ◌/◌, ◌%◌, ◌<◌, ◌≤◌, ◌==◌, Bool, true, false, not, nat_lt, nat_le, if◌then◌else◌, List, [], ◌∷◌, ◌++◌, Some, length, slice_set, refl, sym, ap, subst, ◌∙◌, arith}
+use Rattle.std.proofs.Common.{◌≡◌, ℕ, ◌+◌, ◌*◌, ◌/◌, ◌%◌, ◌<◌, ◌≤◌, nat_lt, List, [], ◌∷◌, ◌++◌, sym, ap, subst, ◌∙◌, arith}
 use Rattle.std.proofs.lemmas.Bool.{ltb-true, ltb-false}
-use Rattle.mem80.specs.declared.memory.TheConstants.{MEMORY_SIZE}
 use Rattle.mem80.specs.Memory.{byte_at}
 use Rattle.mem80.proofs.MemoryLemmas.{byte_small}
-use Rattle.trees.specs.declared.declaration.ScalarType.TheVariants.{Byte, Address}
+use Rattle.trees.specs.declared.declaration.ScalarType.TheVariants.{Address}
 use Rattle.meaning.specs.Meaning.{next_turn, step_value, value}
-use Rattle.meaning.specs.Outcomes.{State as SourceState, Outcome, Gave, then_do, Flow, Onward}
+use Rattle.meaning.specs.Outcomes.{State as SourceState, Gave, Onward}
 use Rattle.isa8080.specs.declared.instr.Condition.TheVariants.{Carry}
 use Rattle.isa8080.specs.declared.instr.Instr.{Instr}
 use Rattle.isa8080.specs.declared.instr.Instr.TheVariants.{AccumulateImmediate, Inx}
 use Rattle.isa8080.specs.declared.instr.Operation.TheVariants.{Subtract, SubtractWithBorrow}
 use Rattle.isa8080.specs.declared.instr.Pair.TheVariants.{Hl}
 use Rattle.isa8080.specs.declared.instr.Register.TheVariants.{A, H, L}
-use Rattle.isa8080.specs.Arithmetic.{subtract_of}
-use Rattle.isa8080.specs.State.{Registers, State, high_byte, low_byte, word, wrap}
+use Rattle.isa8080.specs.State.{Registers, high_byte, low_byte, word, wrap}
 use Rattle.asm8080.specs.declared.item.WordForm.TheVariants.{JumpWhere, StoreHl}
 use Rattle.treecode.specs.declared.place.Place.{Place}
 use Rattle.treecode.specs.declared.place.Location.TheVariants as locations
 use Rattle.code_meaning.specs.Landing.{Does, at_place}
-use Rattle.code_facts.specs.Holding.{IsSteady, location_at, place_at}
+use Rattle.code_facts.specs.Holding.{IsSteady, location_at}
 use Rattle.steps8080.specs.declared.facts.Facts.{Facts}
 use Rattle.steps8080.specs.declared.step.LabelNumber.{LabelNumber}
 use Rattle.steps8080.specs.declared.step.Step.{Step}
 use Rattle.steps8080.specs.declared.step.Step.TheVariants as steps
 use Rattle.steps8080.specs.Instructions.{copy, high, low}
-use Rattle.task_meaning.specs.Contexts.{Context, distances_in}
+use Rattle.task_meaning.specs.Contexts.{distances_in}
 use Rattle.task_meaning.specs.Tasks.{Know}
 use Rattle.task_meaning.proofs.RegisterCode.{effect}
-use Rattle.task_meaning.proofs.Stages.{Stage, at_instructions, does_same, script_of}
+use Rattle.task_meaning.proofs.Stages.{at_instructions, script_of}
 use Rattle.statement_meaning.specs.Bodies.{BodyContext, IsSoundBody}
 use Rattle.statement_meaning.proofs.CountedBytes.{Goes, stays, strict}
 use Rattle.statement_meaning.proofs.CountedVariables.{IsCounted, variable_address, variable_place}
-use Rattle.statement_meaning.proofs.LoadedVariables.{HoldsWord}
 use Rattle.statement_meaning.proofs.LoopCode.{Steps, jump_then, steps_over}
-use Rattle.statement_meaning.proofs.LoopMeaning.{scalar_at, stepped_by, stepped_with, stepped_with_is, turns_again, turns_end}
-use Rattle.statement_meaning.proofs.LoopTurns.{Loop, Out, Runs, StageAt, after_list, from_list, to_turn}
+use Rattle.statement_meaning.proofs.LoopMeaning.{scalar_at, stepped_by, stepped_with, turns_again, turns_end}
+use Rattle.statement_meaning.proofs.LoopTurns.{Loop, Out, Runs, StageAt, from_list, to_turn}
 use Rattle.statement_meaning.proofs.WordCode.{shld_then, word_is_less, word_put, with_word}
 
 -- what is true of a loop whose variable is an ADDRESS in memory, to a last value, by 1

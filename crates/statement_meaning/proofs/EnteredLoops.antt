@@ -1,26 +1,23 @@
 -- An iterative DO enters its turns: where it is known that there is one, or that there is none, and by a test before it.
-use Rattle.std.proofs.Common.{◌≡◌, ◌≢◌, ℕ, ◌+◌, ◌-◌, ◌*◌, ◌/◌, ◌%◌, ◌<◌, ◌≤◌, Bool, true, false, not, nat_lt, nat_le, nat_eq, if◌then◌else◌, List, [], ◌∷◌, ◌++◌, Option, Some, None, refl, sym, ap, subst, ◌∙◌, arith}
-use Rattle.std.proofs.lemmas.Bool.{leb-true, leb-false, ltb-true, ltb-false}
+use Rattle.std.proofs.Common.{◌≡◌, ℕ, ◌-◌, ◌<◌, ◌≤◌, List, sym, ap, subst, ◌∙◌, arith}
+use Rattle.std.proofs.lemmas.Bool.{ltb-true, ltb-false}
 use Rattle.trees.specs.declared.declaration.ScalarType.{ScalarType}
 use Rattle.trees.specs.declared.declaration.ScalarType.TheVariants.{Byte, Address}
 use Rattle.meaning.specs.Meaning.{value, write_variable}
 use Rattle.meaning.specs.Access.{write_scalar}
-use Rattle.meaning.specs.Outcomes.{State as SourceState, Outcome, Gave, then_do, taking_one, Flow, Onward}
+use Rattle.meaning.specs.Outcomes.{State as SourceState, Outcome, Gave, then_do, Flow, Onward}
 use Rattle.meaning.specs.Values.{as_type, values_of}
-use Rattle.isa8080.specs.State.{Registers, State, wrap}
+use Rattle.isa8080.specs.State.{Registers, State}
 use Rattle.steps8080.specs.declared.facts.Facts.{Facts}
 use Rattle.code_meaning.specs.Activations.{Arrives, IsReady}
 use Rattle.code_meaning.specs.Landing.{Does, at_place}
-use Rattle.code_meaning.proofs.Landing.{then_does}
-use Rattle.task_meaning.specs.Contexts.{Context}
 use Rattle.task_meaning.specs.Tasks.{Know}
-use Rattle.task_meaning.proofs.Fitting.{gave_first}
 use Rattle.task_meaning.proofs.Stages.{Stage, script_of, then_does_where}
 use Rattle.task_meaning.proofs.StoredValues.{without_more}
 use Rattle.statement_meaning.specs.Bodies.{BodyContext, IsSoundBody}
 use Rattle.statement_meaning.proofs.CountedVariables.{IsCounted, variable_address, variable_place}
 use Rattle.statement_meaning.proofs.FirstValues.{written_is}
-use Rattle.statement_meaning.proofs.LoopMeaning.{IsSteadyScalar, scalar_at, scalar_small, tested}
+use Rattle.statement_meaning.proofs.LoopMeaning.{IsSteadyScalar, scalar_at, tested}
 use Rattle.statement_meaning.proofs.LoopTurns.{Loop, Out, Runs, StageAt, at_turn, from_list, from_test, then_spends}
 use Rattle.statement_meaning.proofs.KnownLoops.{ToKnown}
 

@@ -1,5 +1,5 @@
 -- The first value of the variable of an iterative DO is there after its store.
-use Rattle.std.proofs.Common.{◌≡◌, ◌≢◌, ℕ, ◌+◌, ◌*◌, ◌/◌, ◌%◌, ◌<◌, ◌≤◌, inl, inr, Bool, true, false, List, [], slice_set, refl, sym, ap, subst, ◌∙◌, arith}
+use Rattle.std.proofs.Common.{◌≡◌, ℕ, ◌+◌, ◌*◌, ◌%◌, ◌<◌, inl, inr, false, List, [], slice_set, sym, ap, subst, ◌∙◌, arith}
 use Rattle.mem80.specs.declared.memory.TheConstants.{MEMORY_SIZE}
 use Rattle.mem80.specs.Memory.{byte_at}
 use Rattle.trees.specs.declared.declaration.ScalarType.{ScalarType}

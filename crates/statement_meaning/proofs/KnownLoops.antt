@@ -1,12 +1,12 @@
 -- Turns of an iterative DO that counts by 1 to a known last value, with the test at the end.
-use Rattle.std.proofs.Common.{◌≡◌, ◌≢◌, ℕ, ◌+◌, ◌-◌, ◌*◌, ◌%◌, ◌<◌, ◌≤◌, Bool, true, false, not, ◌&&◌, nat_le, nat_lt, if◌then◌else◌, List, [], ◌∷◌, ◌++◌, Option, Some, None, refl, sym, ap, subst, ◌∙◌, arith}
-use Rattle.std.proofs.lemmas.Bool.{leb-true, leb-false, ltb-true, ltb-false}
+use Rattle.std.proofs.Common.{◌≡◌, ℕ, ◌+◌, ◌<◌, ◌≤◌, Bool, true, false, nat_le, if◌then◌else◌, List, [], ◌∷◌, ◌++◌, Option, Some, None, refl, sym, ap, subst, ◌∙◌, arith}
+use Rattle.std.proofs.lemmas.Bool.{leb-true, leb-false}
 use Rattle.trees.specs.declared.declaration.ScalarType.{ScalarType}
 use Rattle.trees.specs.declared.declaration.ScalarType.TheVariants.{Byte, Address}
 use Rattle.meaning.specs.Meaning.{next_turn, step_value, value}
-use Rattle.meaning.specs.Outcomes.{State as SourceState, Outcome, Gave, then_do, Flow, Onward}
-use Rattle.meaning.specs.Values.{as_type, values_of}
-use Rattle.isa8080.specs.State.{Registers, State, wrap}
+use Rattle.meaning.specs.Outcomes.{State as SourceState, Outcome, Gave, then_do, Onward}
+use Rattle.meaning.specs.Values.{as_type}
+use Rattle.isa8080.specs.State.{Registers, wrap}
 use Rattle.treecode.specs.declared.lists.Range.{Range}
 use Rattle.treecode.specs.declared.place.Location.{Location}
 use Rattle.treecode.specs.declared.place.Location.TheVariants as locations
@@ -14,22 +14,19 @@ use Rattle.treecode.specs.declared.place.Place.{Place}
 use Rattle.treecode.specs.declared.statement.Iteration.{Iteration}
 use Rattle.steps8080.specs.declared.facts.Facts.{Facts}
 use Rattle.steps8080.specs.declared.step.LabelNumber.{LabelNumber}
-use Rattle.steps8080.specs.declared.step.Step.TheVariants as steps
 use Rattle.steps8080.specs.Facts.{no_facts}
 use Rattle.steps8080.specs.Step.{plain}
-use Rattle.sites8080.specs.Queries.{location_of, place_in_memory}
+use Rattle.sites8080.specs.Queries.{location_of}
 use Rattle.exprgen8080.specs.Emission.{knowing}
 use Rattle.statements8080.specs.declared.iteration.Counter.{Counter}
 use Rattle.statements8080.specs.declared.plan.Planned.{Planned}
 use Rattle.statements8080.specs.declared.plan.Planned.TheVariants as planned
 use Rattle.statements8080.specs.Bodies.{whole}
 use Rattle.statements8080.specs.Counters.{address_fact, word_fact}
-use Rattle.statements8080.specs.Iterations.{asked_mark, facts_of_turn, next_byte_steps, next_turn_steps}
-use Rattle.codegen8080.specs.declared.meeting.Here.{Here}
+use Rattle.statements8080.specs.Iterations.{asked_mark, next_byte_steps}
 use Rattle.codegen8080.specs.Generated.{common, load_word_steps, site_of}
 use Rattle.sites8080.specs.declared.site.Site.{Site}
 use Rattle.code_meaning.specs.Landing.{Does, at_place}
-use Rattle.task_meaning.specs.Tasks.{Know}
 use Rattle.task_meaning.proofs.Stages.{script_of}
 use Rattle.task_meaning.proofs.LocationWords.{word_known}
 use Rattle.statement_meaning.specs.Bodies.{BodyContext, IsSoundBody}
@@ -40,8 +37,8 @@ use Rattle.meaning.specs.Access.{write_scalar}
 use Rattle.statement_meaning.proofs.CountedWords.{CountsWords, compared_and_counted, counts_word, stored_and_on}
 use Rattle.statement_meaning.proofs.LoadedVariables.{word_loaded}
 use Rattle.statement_meaning.proofs.LoopCode.{Steps, address_known, address_step}
-use Rattle.statement_meaning.proofs.LoopEnds.{EndsKnown, Iterates, ends_known}
-use Rattle.statement_meaning.proofs.LoopMeaning.{counted_read, stepped_with, stepped_with_is}
+use Rattle.statement_meaning.proofs.LoopEnds.{Iterates, ends_known}
+use Rattle.statement_meaning.proofs.LoopMeaning.{stepped_with, stepped_with_is}
 use Rattle.statement_meaning.proofs.LoopTurns.{Loop, Out, Runs, StageAt, after_list, from_list, list_then, turns_do}
 use Rattle.statement_meaning.proofs.MetFacts.{second_meets}
 use Rattle.statement_meaning.proofs.PlannedParts.{Stand, again_parted, code_parted, list_parted, with_known, word_parted}

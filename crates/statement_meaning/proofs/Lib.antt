@@ -13,6 +13,7 @@ pub mod SteadyReads
 pub mod KnownLoops
 pub mod FirstValues
 pub mod EnteredLoops
+pub mod TestedLoops
 pub mod MovedBlocks
 pub mod MoveCalls
 pub mod Moves

@@ -1,37 +1,30 @@
 -- The variable of an iterative DO comes into A or HL, where it is not there.
 use Rattle.std.proofs.Common.{◌≡◌, ℕ, ◌+◌, ◌*◌, ◌/◌, ◌%◌, ◌<◌, ◌≤◌, Bool, true, false, if◌then◌else◌, List, [], ◌∷◌, ◌++◌, Option, Some, None, refl, sym, ap, subst, ◌∙◌, arith}
 use Rattle.mem80.specs.Memory.{byte_at, word_at}
-use Rattle.trees.specs.declared.declaration.ScalarType.{ScalarType}
 use Rattle.trees.specs.declared.declaration.ScalarType.TheVariants.{Byte, Address}
 use Rattle.meaning.specs.Outcomes.{State as SourceState, Outcome}
-use Rattle.isa8080.specs.declared.instr.Register.TheVariants as registers
-use Rattle.isa8080.specs.State.{Registers, State, high_byte, low_byte, word, wrap}
+use Rattle.isa8080.specs.State.{Registers, State, high_byte, low_byte, wrap}
 use Rattle.asm8080.specs.declared.item.WordForm.TheVariants.{LoadA, LoadHl}
-use Rattle.treecode.specs.declared.place.Place.{Place}
 use Rattle.treecode.specs.declared.place.Location.{Location}
 use Rattle.treecode.specs.declared.place.Location.TheVariants as locations
 use Rattle.code_meaning.specs.Landing.{Does, at_place}
 use Rattle.code_facts.specs.Holding.{IsSteady, location_at, place_at}
 use Rattle.code_facts.proofs.Uses.{byte_in_a_is, word_in_hl_is}
 use Rattle.steps8080.specs.declared.facts.Facts.{Facts}
-use Rattle.steps8080.specs.declared.step.Step.{Step}
 use Rattle.steps8080.specs.declared.step.Step.TheVariants as steps
-use Rattle.steps8080.specs.Facts.{is_at, no_facts, with_facts}
-use Rattle.steps8080.specs.Instructions.{load}
+use Rattle.steps8080.specs.Facts.{is_at}
 use Rattle.codegen8080.specs.Generated.{byte_at_address_steps, byte_at_steps, byte_in_a, load_byte_steps, load_word_steps, word_at_steps, word_in_hl}
 use Rattle.operands8080.specs.Addresses.{word_at_hl_steps}
 use Rattle.task_meaning.proofs.LocationWords.{word_at_hl_goes, word_known}
 use Rattle.mem80.proofs.MemoryLemmas.{byte_small}
 use Rattle.exprgen8080.specs.Emission.{knowing}
 use Rattle.statements8080.specs.Bodies.{whole}
-use Rattle.sites8080.specs.Queries.{location_of}
 use Rattle.task_meaning.specs.Contexts.{Context, IsSound, distances_in}
 use Rattle.task_meaning.specs.Steps.{NoneThere, HoldsThere, WordThere}
-use Rattle.task_meaning.specs.Tasks.{Know}
-use Rattle.task_meaning.proofs.Rules.{GoesOn, ready_with_registers, split, word_goes}
+use Rattle.task_meaning.proofs.Rules.{ready_with_registers, split, word_goes}
 use Rattle.task_meaning.proofs.Stages.{Stage, at_end, at_load_a, script_of}
 use Rattle.statement_meaning.proofs.CountedVariables.{IsCounted, variable_address}
-use Rattle.statement_meaning.proofs.LoopCode.{Steps, address_then, load_then, steps_over}
+use Rattle.statement_meaning.proofs.LoopCode.{Steps, address_then, load_then}
 
 -- that A is the byte of the variable is known from now on
 held_byte :

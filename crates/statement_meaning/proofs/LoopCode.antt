@@ -1,5 +1,5 @@
 -- What code of loops does that comes to the address of the variable, to a byte that it changes, and to a jump.
-use Rattle.std.proofs.Common.{◌≡◌, ◌≢◌, ℕ, suc, ◌+◌, ◌-◌, ◌*◌, ◌%◌, ◌<◌, ◌≤◌, Bool, true, false, Option, Some, None, nat_lt, if◌then◌else◌, List, [], ◌∷◌, slice_set, refl, sym, ap, subst, ◌∙◌, arith}
+use Rattle.std.proofs.Common.{◌≡◌, ℕ, ◌+◌, ◌*◌, ◌<◌, ◌≤◌, Bool, true, false, Option, Some, None, if◌then◌else◌, List, [], ◌∷◌, slice_set, refl, sym, ap, subst, ◌∙◌, arith}
 use Rattle.mem80.specs.Memory.{byte_at}
 use Rattle.mem80.proofs.MemoryLemmas.{byte_small}
 use Rattle.isa8080.specs.declared.instr.Register.TheVariants as registers
@@ -11,7 +11,7 @@ use Rattle.exprgen8080.specs.Emission.{knowing}
 use Rattle.ports.specs.declared.event.Event.{Event}
 use Rattle.typed_trees.specs.Charge.{height_of_reference}
 use Rattle.meaning.specs.Access.{Place as SourcePlace, write_byte}
-use Rattle.meaning.specs.Outcomes.{State as SourceState, Outcome, Gave, Stopped, then_do}
+use Rattle.meaning.specs.Outcomes.{State as SourceState, Outcome, Gave, then_do}
 use Rattle.trees.specs.declared.declaration.ScalarType.{ScalarType}
 use Rattle.isa8080.specs.declared.instr.Condition.{Condition}
 use Rattle.isa8080.specs.declared.instr.Instr.{Instr}
@@ -28,22 +28,20 @@ use Rattle.code_facts.specs.Asking.{Asks, IsSteadyByte}
 use Rattle.code_facts.proofs.Changes.{no_facts_hold}
 use Rattle.steps8080.specs.declared.facts.Facts.{Facts}
 use Rattle.steps8080.specs.declared.step.LabelNumber.{LabelNumber}
-use Rattle.steps8080.specs.declared.step.Part.{Part}
 use Rattle.steps8080.specs.declared.step.Step.{Step}
 use Rattle.steps8080.specs.declared.step.Step.TheVariants as steps
 use Rattle.steps8080.specs.declared.step.Task.TheVariants as tasks
 use Rattle.steps8080.specs.Facts.{after, no_facts}
 use Rattle.sites8080.specs.Queries.{keeps_of_address, location_of}
 use Rattle.statements8080.specs.Bodies.{whole}
-use Rattle.task_meaning.specs.Contexts.{Context, IsSound, distances_in, nodes_in}
+use Rattle.task_meaning.specs.Contexts.{Context, IsSound, distances_in}
 use Rattle.task_meaning.specs.Steps.{StepsStand, NoneThere, PlainThere, JumpThere, MarkThere, PartThere}
 use Rattle.task_meaning.specs.Tasks.{AddressIsGiven, Know, Left, PartDoes, address_on_machine}
-use Rattle.task_meaning.proofs.Located.{located_in}
 use Rattle.task_meaning.proofs.Reading.{FitsIn}
-use Rattle.task_meaning.proofs.Rules.{GoesOn, plain_goes, ready_with_registers}
+use Rattle.task_meaning.proofs.Rules.{plain_goes, ready_with_registers}
 use Rattle.task_meaning.proofs.Stages.{Stage, at_carried, at_registers, script_of}
 use Rattle.task_meaning.proofs.Writing.{byte_written}
-use Rattle.statement_meaning.proofs.CountedVariables.{IsCounted, location_is, variable_address, variable_place, whole_is, whole_tree, whole_types}
+use Rattle.statement_meaning.proofs.CountedVariables.{IsCounted, location_is, variable_address, whole_is, whole_tree, whole_types}
 
 -- steps that stand in a context, whose parts do what they mean
 abbrev pub Steps : Context → Facts → (from : ℕ) → List Step → Facts → (to : ℕ) → Type 0

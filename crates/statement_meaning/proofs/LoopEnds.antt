@@ -1,20 +1,17 @@
 -- The ends of loops, and entering them.
-use Rattle.std.proofs.Common.{◌≡◌, ◌≢◌, ℕ, ◌+◌, ◌-◌, ◌*◌, ◌%◌, ◌<◌, ◌≤◌, Bool, true, false, nat_lt, if◌then◌else◌, List, [], ◌∷◌, ◌++◌, Option, Some, None, refl, sym, ap, subst, ◌∙◌, arith}
+use Rattle.std.proofs.Common.{◌≡◌, ℕ, ◌+◌, ◌*◌, ◌≤◌, Bool, true, false, [], ◌∷◌, ◌++◌, Option, sym, ap, subst, ◌∙◌}
 use Rattle.typed_trees.specs.Charge.{height_of, height_of_list, height_of_optional}
 use Rattle.typed_trees.specs.Jumps.{ListStands}
 use Rattle.typed_trees.specs.WellTyped.{TypesHold, TypesHoldInList}
-use Rattle.meaning.specs.Outcomes.{State as SourceState, Outcome, Gave, Flow, Onward}
-use Rattle.isa8080.specs.State.{Registers, State}
+use Rattle.meaning.specs.Outcomes.{Gave, Onward}
 use Rattle.treecode.specs.declared.lists.Range.{Range}
 use Rattle.treecode.specs.declared.statement.Iteration.{Iteration}
-use Rattle.treecode.specs.Lowered.{IsExpressionIn, IsIteration, IsList}
+use Rattle.treecode.specs.Lowered.{IsIteration, IsList}
 use Rattle.steps8080.specs.declared.facts.Facts.{Facts}
 use Rattle.steps8080.specs.declared.step.LabelNumber.{LabelNumber}
 use Rattle.steps8080.specs.declared.step.Step.TheVariants as steps
 use Rattle.steps8080.specs.Facts.{no_facts}
-use Rattle.statements8080.specs.declared.plan.Planned.{Planned}
 use Rattle.statements8080.specs.declared.plan.Planned.TheVariants as planned
-use Rattle.statements8080.specs.Plans.{mark}
 use Rattle.statements8080.specs.Iterations.{asked_mark}
 use Rattle.codegen8080.specs.declared.meeting.Here.{Here}
 use Rattle.code_meaning.specs.Landing.{Does, at_place}
@@ -25,7 +22,7 @@ use Rattle.statement_meaning.proofs.CountedBytes.{Goes}
 use Rattle.statement_meaning.proofs.CountedVariables.{IsCounted}
 use Rattle.statement_meaning.proofs.LoopCode.{knowing_nothing, mark_then, steps_over}
 use Rattle.statement_meaning.proofs.LoopTurns.{Loop, Out, StageAt, loop_ends}
-use Rattle.statement_meaning.proofs.PlannedParts.{Stand, code_parted, over, reaches_parted, with_known}
+use Rattle.statement_meaning.proofs.PlannedParts.{Stand, code_parted, over, reaches_parted}
 
 -- what is true of an iterative DO of a body: its variable, its values and its list
 pub record Iterates (at : BodyContext) (loop : Loop at) (head : Iteration) (list : Range) : Type 0 where

@@ -1,13 +1,12 @@
 -- Turns of an iterative DO: each takes one of the budget, for which a step pays that leads to its code.
-use Rattle.std.proofs.Common.{◌≡◌, ◌≢◌, ℕ, zero, suc, ◌+◌, ◌-◌, ◌*◌, ◌<◌, ◌≤◌, ◌==◌, Bool, true, false, nat_lt, if◌then◌else◌, List, refl, sym, ap, subst, ◌∙◌, arith}
+use Rattle.std.proofs.Common.{◌≡◌, ◌≢◌, ℕ, zero, suc, ◌+◌, ◌-◌, ◌*◌, ◌<◌, ◌≤◌, ◌==◌, Bool, true, false, nat_lt, if◌then◌else◌, List, refl, sym, ap, subst, arith}
 use Rattle.std.proofs.lemmas.Bool.{eqb-true, eqb-false}
 use Rattle.machine_runs.proofs.Spending.{same_after}
-use Rattle.ports.specs.declared.event.Event.{Event}
 use Rattle.typed_trees.specs.Charge.{height_of_list}
 use Rattle.typed_trees.specs.TypedTrees.{TypedIteration, TypedList}
 use Rattle.typed_trees.specs.Jumps.{ListStands}
 use Rattle.typed_trees.specs.WellTyped.{TypesHoldInList}
-use Rattle.meaning.specs.Meaning.{IterateTurn, Later, done_list, iterated, later_by, next_turn, stepped, turn_of}
+use Rattle.meaning.specs.Meaning.{IterateTurn, Later, done_list, iterated, next_turn, stepped, turn_of}
 use Rattle.meaning.specs.Outcomes.{State as SourceState, Ended, More, Outside, Outcome, Gave, Stopped, then_do, taking_one, Flow, Onward, Returned, Jumped}
 use Rattle.meaning.specs.Values.{values_of}
 use Rattle.meaning.proofs.AgreementStatements.{again_is}
@@ -18,11 +17,11 @@ use Rattle.treecode.specs.declared.lists.Range.{Range}
 use Rattle.treecode.specs.Lowered.{IsList}
 use Rattle.steps8080.specs.declared.facts.Facts.{Facts}
 use Rattle.codegen8080.specs.declared.meeting.Here.{Here}
-use Rattle.code_meaning.specs.Landing.{Does, IsLeft, Lands, Told, at_place}
-use Rattle.code_meaning.proofs.Landing.{after_paid_step, gives, landed, then_does, told_on}
-use Rattle.task_meaning.specs.Contexts.{Context, nodes_in}
+use Rattle.code_meaning.specs.Landing.{Does, Lands, at_place}
+use Rattle.code_meaning.proofs.Landing.{after_paid_step, gives, then_does, told_on}
+use Rattle.task_meaning.specs.Contexts.{nodes_in}
 use Rattle.task_meaning.proofs.Stages.{Stage, script_of}
-use Rattle.statement_meaning.specs.Bodies.{BodyContext, ComesToLabel, ComesToReturn, GoesOn, IsSoundBody, Leaves}
+use Rattle.statement_meaning.specs.Bodies.{BodyContext, IsSoundBody, Leaves}
 use Rattle.statement_meaning.specs.Statements.{ListDoes}
 
 -- a machine at nothing pushed, of which this is known

@@ -1,13 +1,12 @@
 -- Facts where ways meet: those hold that are known on each of them.
-use Rattle.std.proofs.Common.{◌≡◌, ℕ, Bool, true, false, ◌&&◌, if◌then◌else◌, List, Option, Some, None, refl, sym, ap, subst, ◌∙◌}
-use Rattle.mem80.specs.Memory.{byte_at}
-use Rattle.isa8080.specs.State.{Registers, word, wrap}
+use Rattle.std.proofs.Common.{◌≡◌, ℕ, Bool, true, false, ◌&&◌, if◌then◌else◌, List, Option, Some, None, refl, sym, subst, ◌∙◌}
+use Rattle.isa8080.specs.State.{Registers}
 use Rattle.treecode.specs.declared.place.Location.{Location}
 use Rattle.steps8080.specs.declared.facts.Facts.{Facts}
 use Rattle.steps8080.specs.Facts.{same_location}
 use Rattle.codegen8080.specs.Generated.{common, common_location}
 use Rattle.code_meaning.specs.Activations.{Activation}
-use Rattle.code_facts.specs.Holding.{AddressHolds, AllHold, ByteHolds, Distances, IsByteAt, IsWordAt, WordHolds, ZeroHolds, location_at}
+use Rattle.code_facts.specs.Holding.{AddressHolds, ByteHolds, Distances, IsByteAt, IsWordAt, WordHolds, ZeroHolds, location_at}
 use Rattle.code_facts.proofs.Places.{same_locations}
 use Rattle.task_meaning.specs.Contexts.{Context, distances_in}
 use Rattle.task_meaning.specs.Tasks.{Know}

@@ -1,5 +1,5 @@
 -- The call of the routine of MOVE.
-use Rattle.std.proofs.Common.{◌≡◌, ℕ, ◌+◌, ◌-◌, ◌*◌, ◌/◌, ◌%◌, ◌<◌, ◌≤◌, inl, inr, true, List, [], ◌∷◌, refl, sym, ap, subst, ◌∙◌, arith}
+use Rattle.std.proofs.Common.{◌≡◌, ℕ, ◌+◌, ◌-◌, ◌<◌, ◌≤◌, true, List, [], ◌∷◌, refl, sym, ap, subst, ◌∙◌, arith}
 use Rattle.mem80.specs.declared.memory.TheConstants.{MEMORY_SIZE}
 use Rattle.mem80.specs.declared.range.Range.{Range}
 use Rattle.mem80.specs.Range.{IsIn}
@@ -13,7 +13,7 @@ use Rattle.asm8080.specs.Standing.{InstructionStands, Keeps, below}
 use Rattle.runtime8080.specs.declared.routine.Routine.TheVariants.{Move}
 use Rattle.runtime8080.specs.Routines.{BlockMisses, HasReturned, IsInBlock, Returns, copied}
 use Rattle.meaning.specs.Meaning.{moved}
-use Rattle.code_meaning.specs.Activations.{Activation, IsReady, IsVariable}
+use Rattle.code_meaning.specs.Activations.{IsReady, IsVariable}
 use Rattle.code_meaning.specs.Landing.{Does, Lands, Told, at_place}
 use Rattle.code_meaning.proofs.Landing.{told_on}
 use Rattle.code_meaning.proofs.Standing.{bytes_alike, stands_now}
@@ -30,7 +30,7 @@ use Rattle.task_meaning.proofs.RoutineCalls.{in_memory, machine_is, ready_after_
 use Rattle.task_meaning.proofs.Rules.{bytes_at_place}
 use Rattle.task_meaning.proofs.Stages.{Stage, does_same, script_of}
 use Rattle.statement_meaning.proofs.LoopCode.{Steps}
-use Rattle.statement_meaning.proofs.MovedBlocks.{AreDeclared, AreVariables, Moved, MovesAll, MovesOutside, copied_ready, declared_in_block, moved_is, variable_in_block}
+use Rattle.statement_meaning.proofs.MovedBlocks.{Moved, MovesAll, MovesOutside, copied_ready, declared_in_block, moved_is, variable_in_block}
 
 -- what is told of what goes outside
 outside_told :

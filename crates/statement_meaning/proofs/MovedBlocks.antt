@@ -1,12 +1,11 @@
 -- The bytes that MOVE copies: the source goes outside, or all of them are declared, and those that it writes variables.
-use Rattle.std.proofs.Common.{◌≡◌, ◌≢◌, ℕ, zero, suc, ◌+◌, ◌*◌, ◌%◌, ◌<◌, ◌≤◌, ◌⊎◌, inl, inr, Bool, true, false, if◌then◌else◌, List, slice_set, refl, sym, ap, subst, ◌∙◌, arith}
-use Rattle.std.proofs.lemmas.Bool.{cases_lt}
+use Rattle.std.proofs.Common.{◌≡◌, ℕ, zero, suc, ◌+◌, ◌<◌, Bool, true, false, if◌then◌else◌, List, slice_set, refl, ap, subst, ◌∙◌, arith}
 use Rattle.mem80.specs.declared.memory.TheConstants.{MEMORY_SIZE}
 use Rattle.mem80.specs.Memory.{byte_at}
 use Rattle.mem80.proofs.MemoryLemmas.{byte_small}
 use Rattle.meaning.specs.declared.reason.Reason.{Reason}
 use Rattle.meaning.specs.declared.reason.Reason.TheVariants.{Byte as UndeclaredByte, Constant}
-use Rattle.meaning.specs.Access.{InMemory, is_constant, is_declared, read_byte, write_byte}
+use Rattle.meaning.specs.Access.{is_constant, is_declared}
 use Rattle.meaning.specs.Meaning.{moved}
 use Rattle.meaning.specs.Outcomes.{Program, State as SourceState, Outside, Outcome, Gave, Stopped, then_do}
 use Rattle.isa8080.specs.State.{Registers, wrap}

@@ -2,20 +2,18 @@
 use Rattle.std.proofs.Common.{◌≡◌, ℕ, ◌+◌, ◌-◌, ◌*◌, ◌/◌, ◌%◌, ◌<◌, ◌≤◌, min, max, Bool, true, false, if◌then◌else◌, List, [], ◌∷◌, ◌++◌, map, slice_get, Option, Some, None, refl, sym, ap, subst, ◌∙◌, arith}
 use Rattle.std.proofs.lemmas.Option.{same_Some}
 use Rattle.trees.specs.declared.declaration.ScalarType.{ScalarType}
-use Rattle.trees.specs.declared.declaration.ScalarType.TheVariants.{Byte, Address}
+use Rattle.trees.specs.declared.declaration.ScalarType.TheVariants.{Address}
 use Rattle.typed_trees.specs.Charge.{height_of, height_of_statement}
 use Rattle.typed_trees.specs.ExpressionTypes.{type_of}
-use Rattle.typed_trees.specs.Jumps.{ListsStand}
 use Rattle.typed_trees.specs.TypedTrees.{TypedExpression, TypedStatement, MoveStatement}
-use Rattle.typed_trees.specs.WellTyped.{HasType, TypesHold, TypesHoldIn}
+use Rattle.typed_trees.specs.WellTyped.{HasType, TypesHoldIn}
 use Rattle.meaning.specs.Meaning.{done, moved}
 use Rattle.meaning.specs.Outcomes.{State as SourceState, Outcome, Gave, then_do, Flow, Onward}
 use Rattle.meaning.specs.Values.{values_of}
-use Rattle.mem80.specs.declared.memory.TheConstants.{MEMORY_SIZE}
 use Rattle.isa8080.specs.declared.instr.Instr.TheVariants.{Pop, Push, Xchg}
 use Rattle.isa8080.specs.declared.instr.Pair.TheVariants.{Bc, De}
 use Rattle.isa8080.specs.declared.instr.StackPair.TheVariants.{StackBc, StackDe, StackHl}
-use Rattle.isa8080.specs.State.{HoldBytes, Registers, State, high_byte, low_byte, with_popped, word, wrap}
+use Rattle.isa8080.specs.State.{Registers, State, high_byte, low_byte, with_popped, word, wrap}
 use Rattle.asm8080.specs.declared.item.WordForm.TheVariants.{LoadPair}
 use Rattle.runtime8080.specs.declared.routine.Routine.TheVariants.{Move}
 use Rattle.treecode.specs.declared.expression.ExpressionNumber.{ExpressionNumber}
@@ -32,7 +30,6 @@ use Rattle.steps8080.specs.declared.facts.Facts.{Facts}
 use Rattle.steps8080.specs.declared.step.Step.{Step}
 use Rattle.steps8080.specs.declared.step.Step.TheVariants as steps
 use Rattle.steps8080.specs.declared.step.Task.TheVariants as tasks
-use Rattle.steps8080.specs.Step.{plain}
 use Rattle.sites8080.specs.declared.site.Site.{Site}
 use Rattle.sites8080.specs.Queries.{keeps, known}
 use Rattle.sites8080.specs.Site.{expression}
@@ -41,7 +38,6 @@ use Rattle.statements8080.specs.declared.plan.Planned.{Planned}
 use Rattle.statements8080.specs.declared.plan.Planned.TheVariants as planned
 use Rattle.statements8080.specs.Moves.{ends_steps, move_steps}
 use Rattle.codegen8080.specs.declared.meeting.Here.{Here}
-use Rattle.codegen8080.specs.Generated.{site_of}
 use Rattle.codegen8080.specs.Statements.{statement_steps}
 use Rattle.task_meaning.specs.Contexts.{Context, IsSound, nodes_in}
 use Rattle.task_meaning.specs.Steps.{PartThere, PlainThere, WordThere, NoneThere}
@@ -50,12 +46,11 @@ use Rattle.task_meaning.proofs.KnownOperands.{known_small}
 use Rattle.task_meaning.proofs.Rules.{ready_with_registers, word_goes}
 use Rattle.task_meaning.proofs.SiteNodes.{known_means, value_in}
 use Rattle.task_meaning.proofs.Stages.{Stage, at_instructions, at_pop, at_push, at_word, does_same, script_of}
-use Rattle.task_meaning.proofs.RegisterCode.{effect}
 use Rattle.statement_meaning.specs.Bodies.{BodyContext, IsSoundBody, Leaves}
 use Rattle.statement_meaning.specs.Statements.{StatementDoes, StatementStands}
 use Rattle.statement_meaning.proofs.LoopCode.{Steps}
 use Rattle.statement_meaning.proofs.MoveCalls.{move_then}
-use Rattle.statement_meaning.proofs.PlannedParts.{Stand, code_parted, over, with_known}
+use Rattle.statement_meaning.proofs.PlannedParts.{Stand, code_parted, over}
 
 -- the word of a part comes into HL
 abbrev pub word_part : ExpressionNumber → (pushed : ℕ) → Step

@@ -1,5 +1,5 @@
 -- Planned steps that stand, taken apart from the front.
-use Rattle.std.proofs.Common.{◌≡◌, ℕ, Bool, true, false, List, [], ◌∷◌, ◌++◌, map, Option, Some, None, refl, sym, ap, ◌∙◌, if◌then◌else◌}
+use Rattle.std.proofs.Common.{◌≡◌, ℕ, Bool, List, [], ◌∷◌, ◌++◌, map, Option, Some, None, refl, if◌then◌else◌}
 use Rattle.treecode.specs.declared.lists.Range.{Range}
 use Rattle.treecode.specs.declared.reference.Reference.{Reference}
 use Rattle.treecode.specs.declared.statement.StatementNumber.{StatementNumber}
@@ -7,7 +7,6 @@ use Rattle.steps8080.specs.declared.facts.Facts.{Facts}
 use Rattle.steps8080.specs.declared.step.LabelNumber.{LabelNumber}
 use Rattle.steps8080.specs.declared.step.Part.{Part}
 use Rattle.steps8080.specs.declared.step.Step.{Step}
-use Rattle.steps8080.specs.declared.step.Step.TheVariants as steps
 use Rattle.steps8080.specs.Facts.{no_facts}
 use Rattle.exprgen8080.specs.Emission.{knowing}
 use Rattle.statements8080.specs.declared.plan.Planned.{Planned}

@@ -1,10 +1,10 @@
 -- The bytes of a place that the source reads are steady, or it goes outside.
-use Rattle.std.proofs.Common.{◌≡◌, ℕ, ◌+◌, ◌*◌, ◌<◌, ◌≤◌, inl, inr, Bool, true, false, if◌then◌else◌, List, slice_index, refl, sym, ap, subst, ◌∙◌, arith}
+use Rattle.std.proofs.Common.{◌≡◌, ℕ, ◌+◌, ◌*◌, ◌<◌, ◌≤◌, inl, Bool, true, false, if◌then◌else◌, refl, sym, subst, arith}
 use Rattle.mem80.specs.Memory.{byte_at}
 use Rattle.trees.specs.declared.declaration.ScalarType.TheVariants.{Byte, Address}
 use Rattle.meaning.specs.declared.reason.Reason.TheVariants.{Byte as UndeclaredByte}
 use Rattle.meaning.specs.Outcomes.{State as SourceState, Outside, Outcome, Gave, Stopped, then_do}
-use Rattle.meaning.specs.Access.{Place, InMemory, InTheFrame, frame_bytes, is_declared, read_scalar}
+use Rattle.meaning.specs.Access.{Place, InMemory, InTheFrame, is_declared, read_scalar}
 use Rattle.isa8080.specs.State.{State, wrap}
 use Rattle.code_meaning.specs.Landing.{Does}
 use Rattle.code_facts.specs.Holding.{IsSteady}

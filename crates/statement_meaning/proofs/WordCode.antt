@@ -1,12 +1,12 @@
 -- What code of loops does that comes to a store of the ADDRESS in HL, and to a comparison of it with a number.
-use Rattle.std.proofs.Common.{◌≡◌, ◌≢◌, ℕ, suc, ◌+◌, ◌-◌, ◌*◌, ◌/◌, ◌%◌, ◌<◌, ◌≤◌, ◌==◌, Bool, true, false, not, nat_lt, nat_le, nat_eq, if◌then◌else◌, List, [], ◌∷◌, length, slice_set, refl, sym, ap, subst, ◌∙◌, arith}
+use Rattle.std.proofs.Common.{◌≡◌, ◌≢◌, ℕ, ◌+◌, ◌*◌, ◌/◌, ◌%◌, ◌<◌, Bool, false, nat_lt, List, ◌∷◌, length, slice_set, sym, ap, subst, ◌∙◌, arith}
 use Rattle.std.proofs.lemmas.List.{length-set}
 use Rattle.mem80.specs.declared.memory.TheConstants.{MEMORY_SIZE}
 use Rattle.mem80.specs.Memory.{byte_at}
 use Rattle.ports.specs.declared.event.Event.{Event}
-use Rattle.trees.specs.declared.declaration.ScalarType.TheVariants.{Byte, Address}
+use Rattle.trees.specs.declared.declaration.ScalarType.TheVariants.{Address}
 use Rattle.meaning.specs.Access.{Place as SourcePlace, write_scalar}
-use Rattle.meaning.specs.Outcomes.{State as SourceState, Outcome, Gave, then_do}
+use Rattle.meaning.specs.Outcomes.{State as SourceState, Outcome, then_do}
 use Rattle.isa8080.specs.Arithmetic.{subtract_of}
 use Rattle.isa8080.specs.Flags.{bit}
 use Rattle.isa8080.specs.State.{Registers, State, high_byte, low_byte, word, wrap}
@@ -14,7 +14,6 @@ use Rattle.asm8080.specs.declared.item.WordForm.TheVariants.{StoreHl}
 use Rattle.machine_runs.proofs.Kept.{byte_kept, byte_put}
 use Rattle.treecode.specs.declared.place.Place.{Place}
 use Rattle.code_meaning.specs.Landing.{Does, at_place}
-use Rattle.code_meaning.specs.Activations.{IsReady}
 use Rattle.code_meaning.proofs.ByteResults.{borrow_shows, borrow_shows_more, word_borrow}
 use Rattle.code_facts.specs.Asking.{IsSteadyByte}
 use Rattle.code_facts.specs.Holding.{place_at}
