@@ -116,7 +116,7 @@ low_number : (n : ℕ) → n < 256 → n % 256 ≡ n
 low_number n small = omega (arith, small)
 
 -- a number whose low byte is 0 is compared by its high byte
-high_is_less : (h l n : ℕ) → l < 256 → n < 65536 → n % 256 ≡ 0 → nat_lt h (n / 256) ≡ nat_lt (256 * h + l) n
+pub high_is_less : (h l n : ℕ) → l < 256 → n < 65536 → n % 256 ≡ 0 → nat_lt h (n / 256) ≡ nat_lt (256 * h + l) n
 high_is_less h l n low small none =
     same_test (nat_lt h (n / 256)) (nat_lt (256 * h + l) n)
     (λ less. let is = ltb-true h (n / 256) less in lt-ltb (256 * h + l) n (omega (arith, is, low, none)))

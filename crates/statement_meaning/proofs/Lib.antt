@@ -13,7 +13,6 @@ pub mod SteadyReads
 pub mod KnownLoops
 pub mod FirstValues
 pub mod EnteredLoops
-pub mod TestedLoops
 pub mod MovedBlocks
 pub mod MoveCalls
 pub mod Moves
@@ -22,3 +21,4 @@ pub mod CaseChoices
 pub mod Cases
 pub mod CaseForms
 pub mod CasesDo
+pub mod TestedLoops
