@@ -23,6 +23,7 @@ use Rattle.treecode.specs.declared.place.Location.{Location}
 use Rattle.treecode.specs.declared.reference.Reference.{Reference}
 use Rattle.treecode.specs.Lowered.{IsExpression, IsForm, IsReference, IsNumber, IsValue, IsLocation, IsConstantList, IsConversion, IsEmbedded, IsUnary, IsBinary, IsCallOf, IsFunction, IsShift, IsInput}
 use Rattle.code_meaning.specs.Activations.{IsReady}
+use Rattle.code_facts.proofs.Steady.{declared_is_steady}
 use Rattle.code_facts.specs.Holding.{IsSteady, location_at}
 use Rattle.code_facts.proofs.Places.{same_locations}
 use Rattle.steps8080.specs.declared.facts.Facts.{Facts}
@@ -85,7 +86,7 @@ module _
           → ByteIs (InMemory address) found t
       by true is same =
           let parts = given_same (byte_at s.memory address) found s t same in
-          record { same = sym parts.1; is = sym parts.0 ∙ sym (ready.shares.declared address is); steady = inl is }
+          record { same = sym parts.1; is = sym parts.0 ∙ sym (ready.shares.declared address is); steady = declared_is_steady context.activation address sound.lies is }
       by false is same = let never : ⊥ = cc in absurd never
   byte_is (InTheFrame object offset true) found t fits same =
       let within : offset + 1 ≤ context.activation.size object = fits refl in

@@ -7,6 +7,7 @@ use Rattle.meaning.specs.Outcomes.{State as SourceState, Outside, Outcome, Gave,
 use Rattle.meaning.specs.Access.{Place, InMemory, InTheFrame, is_declared, read_scalar}
 use Rattle.isa8080.specs.State.{State, wrap}
 use Rattle.code_meaning.specs.Landing.{Does}
+use Rattle.code_facts.proofs.Steady.{declared_is_steady}
 use Rattle.code_facts.specs.Holding.{IsSteady}
 use Rattle.task_meaning.specs.Contexts.{Context, IsSound}
 use Rattle.task_meaning.specs.Tasks.{address_on_machine}
@@ -42,7 +43,8 @@ steady_read {A = A} {budget = budget} {more = more} {from = from} {Good = Good} 
         → is_declared context.activation.around.program (wrap (address + 1)) ≡ second
         → Does context.activation.around.program.script budget more from
         (then_do (read_scalar context.activation.around.program Address (InMemory address) s) go) Good
-    by_test true true one two = does (inl one, inl two)
+    by_test true true one two = does (declared_is_steady context.activation address sound.lies one,
+        declared_is_steady context.activation (wrap (address + 1)) sound.lies two)
     by_test true false one two =
         subst (λ (first : Bool). Does context.activation.around.program.script budget more from
         (outcome first (is_declared context.activation.around.program (wrap (address + 1)))) Good) (sym one)
@@ -79,7 +81,7 @@ steady_byte_read {budget = budget} {more = more} {from = from} {Good = Good} {co
         → is_declared context.activation.around.program address ≡ first
         → Does context.activation.around.program.script budget more from
         (then_do (read_scalar context.activation.around.program Byte (InMemory address) s) go) Good
-    by_test true one = does (inl one)
+    by_test true one = does (declared_is_steady context.activation address sound.lies one)
     by_test false one =
         subst (λ (first : Bool). Does context.activation.around.program.script budget more from
         (then_do (if first then Gave (byte_at s.memory address) s else Stopped (Outside UndeclaredByte) s) go) Good) (sym one)
