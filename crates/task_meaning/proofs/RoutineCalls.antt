@@ -103,7 +103,7 @@ leaves_there routines.RotateRight place r now leaves =
 leaves_there routines.Move place r now leaves = tt
 
 -- a state that runs at a place
-machine_is : (after : State) (place : ℕ) (events : List Event)
+pub machine_is : (after : State) (place : ℕ) (events : List Event)
     → after.status ≡ Running
     → after.registers.pc ≡ wrap place
     → after.events ≡ events
@@ -113,20 +113,20 @@ machine_is after place events runs here same =
     ∙ ap (λ (pc : ℕ). record { registers = record after.registers { pc = pc }; memory = after.memory; events = after.events; status = Running }) here
     ∙ ap (λ (list : List Event). at_place place after.registers after.memory list) same
 
-twice_wrapped : (place : ℕ) → wrap (wrap place + 3) ≡ wrap (place + 3)
+pub twice_wrapped : (place : ℕ) → wrap (wrap place + 3) ≡ wrap (place + 3)
 twice_wrapped place = omega arith
 
-wrapped_once : (place : ℕ) → wrap place ≡ wrap (wrap place)
+pub wrapped_once : (place : ℕ) → wrap place ≡ wrap (wrap place)
 wrapped_once place = omega arith
 
-small : (place : ℕ) → wrap place < MEMORY_SIZE
+pub small : (place : ℕ) → wrap place < MEMORY_SIZE
 small place = omega arith
 
-in_memory : (entry to limit : ℕ) → entry < to → to ≤ limit → limit ≤ MEMORY_SIZE → wrap entry ≡ entry
+pub in_memory : (entry to limit : ℕ) → entry < to → to ≤ limit → limit ≤ MEMORY_SIZE → wrap entry ≡ entry
 in_memory entry to limit less high fits = omega (arith, less, high, fits)
 
 -- bytes below the stack pointer may have been written
-ready_after_routine :
+pub ready_after_routine :
     (activation : Activation) (top pushed need : ℕ) (base source memory ended : List ℕ) (frame : List (List ℕ))
     (r now : Registers)
     → LiesWell activation
