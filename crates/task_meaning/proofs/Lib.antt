@@ -39,6 +39,8 @@ pub mod NearStores
 pub mod StoreLaws
 pub mod NextBytes
 pub mod Ranges
+pub mod RangesOfTrees
+pub mod RangesOfStatements
 pub mod Pairs
 pub mod WordArithmetic
 pub mod PairedWords

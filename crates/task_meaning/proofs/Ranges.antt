@@ -55,7 +55,7 @@ pub data Gives {A : Type 0} (Holds : A → State → Type 0) : Outcome A → Typ
   IsGiven : {found : A} {t : State} → Holds found t → Gives Holds (Gave found t)
   IsStopped : {why : Stop} {t : State} → Gives Holds (Stopped why t)
 
-gives_then :
+pub gives_then :
     {A B : Type 0} {First : A → State → Type 0} {Holds : B → State → Type 0} (outcome : Outcome A)
     (go : A → State → Outcome B)
     → Gives First outcome
@@ -64,7 +64,7 @@ gives_then :
 gives_then outcome go (IsGiven {found = found} {t = t} first) rest = rest found t first
 gives_then outcome go IsStopped rest = IsStopped
 
-picked :
+pub picked :
     {A : Type 0} {Holds : A → State → Type 0} (test : Bool) (inside : Outcome A) (reason : Reason) (s : State)
     → (test ≡ true → Gives Holds inside)
     → Gives Holds (if test then inside else Stopped (Outside reason) s)
@@ -88,18 +88,18 @@ bytes_at frame object all = by (cases_lt object (length frame))
     by (inr past) = rw (get_or_past frame object [] past) (All-nil (λ (byte : ℕ). byte < 256))
 
 -- an address that a program can ask for
-abbrev PlaceFits : Place → Type 0
+abbrev pub PlaceFits : Place → Type 0
 PlaceFits (InMemory address) = address < 65536
 PlaceFits (InTheFrame object offset is_inside) = Unit {0}
 
-gives_from :
+pub gives_from :
     {A : Type 0} {Holds : A → State → Type 0} (outcome : Outcome A)
     → ((found : A) (t : State) → outcome ≡ Gave found t → Holds found t)
     → Gives Holds outcome
 gives_from (Gave found t) rest = IsGiven (rest found t refl)
 gives_from (Stopped why t) rest = IsStopped
 
-given_by :
+pub given_by :
     {A : Type 0} {Holds : A → State → Type 0} (outcome : Outcome A) (found : A) (t : State)
     → outcome ≡ Gave found t
     → Gives Holds outcome
@@ -109,7 +109,7 @@ given_by {A = A} {Holds = Holds} outcome found t same gives = by (subst (λ (giv
     by : Gives Holds (Gave found t) → Holds found t
     by (IsGiven holds) = holds
 
-computed_fits :
+pub computed_fits :
     (around : Surroundings) (scalar : ScalarType) (found : Option ℕ) (s : State)
     → KnownFits (option_map Number found) scalar
     → SourceFits around s
@@ -121,7 +121,7 @@ address_small : (start bytes : ℕ) → (start + bytes) % MEMORY_SIZE < 65536
 address_small start bytes = omega arith
 
 module _ (around : Surroundings) where
-  read_fits : (place : Place) (s : State) → SourceFits around s
+  pub read_fits : (place : Place) (s : State) → SourceFits around s
       → Gives (λ n t. (n < 256) × SourceFits around t) (read_byte around.program place s)
   read_fits (InMemory address) s source =
       picked (is_declared around.program address) (Gave (byte_at s.memory address) s) _ s
@@ -133,7 +133,7 @@ module _ (around : Surroundings) where
   two_small : (low high : ℕ) → low < 256 → high < 256 → low + 256 * high < 65536
   two_small low high one two = omega (arith, one, two)
 
-  scalar_fits : (scalar : ScalarType) (place : Place) (s : State) → SourceFits around s
+  pub scalar_fits : (scalar : ScalarType) (place : Place) (s : State) → SourceFits around s
       → Gives (λ n t. (n < values_of scalar) × SourceFits around t) (read_scalar around.program scalar place s)
   scalar_fits Byte place s source = read_fits place s source
   scalar_fits Address place s source =
@@ -161,7 +161,7 @@ module _ (around : Surroundings) where
       by (inl here) = rw here (same (cases_lt address (length memory)))
       by (inr apart) = rw (byte_kept memory address other byte apart) before
 
-  byte_fits : (place : Place) (byte : ℕ) (s : State) → byte < 256 → SourceFits around s
+  pub byte_fits : (place : Place) (byte : ℕ) (s : State) → byte < 256 → SourceFits around s
       → Gives (λ found t. SourceFits around t) (write_byte around.program place byte s)
   byte_fits (InMemory address) byte s small source =
       picked (is_declared around.program address) _ _ s
@@ -189,7 +189,7 @@ module _ (around : Surroundings) where
             source.frame;
       }))
 
-  write_fits : (scalar : ScalarType) (place : Place) (number : ℕ) (s : State) → number < values_of scalar
+  pub write_fits : (scalar : ScalarType) (place : Place) (number : ℕ) (s : State) → number < values_of scalar
       → SourceFits around s
       → Gives (λ found t. SourceFits around t) (write_scalar around.program scalar place number s)
   write_fits Byte place number s small source = byte_fits place (number % 256) s (omega arith) source
@@ -199,7 +199,7 @@ module _ (around : Surroundings) where
       (byte_fits place (number % 256) s (omega arith) source)
       (λ found t one. byte_fits (next_place place) (number / 256) t (high_fits number Address small) one)
 
-  place_fits : (home : Home) (object bytes : ℕ) (is_inside : Bool) (s : State) → SourceFits around s
+  pub place_fits : (home : Home) (object bytes : ℕ) (is_inside : Bool) (s : State) → SourceFits around s
       → Gives (λ place t. PlaceFits place × SourceFits around t) (based_place home around object bytes is_inside s)
   place_fits (BasedOn base) object bytes is_inside s source =
       gives_then (read_scalar around.program Address (place_of around base) s)
@@ -213,21 +213,21 @@ module _ (around : Surroundings) where
   place_fits Nowhere object bytes is_inside s source = IsGiven (omega arith, source)
   place_fits (InFrame procedure) object bytes is_inside s source = IsGiven (tt, source)
 
-  as_type_fits : (scalar : ScalarType) (number : ℕ) → as_type scalar number < values_of scalar
+  pub as_type_fits : (scalar : ScalarType) (number : ℕ) → as_type scalar number < values_of scalar
   as_type_fits Byte number = omega arith
   as_type_fits Address number = omega arith
 
-address_fits : (place : Place) → PlaceFits place → address_in_memory place < 65536
+pub address_fits : (place : Place) → PlaceFits place → address_in_memory place < 65536
 address_fits (InMemory address) fits = fits
 address_fits (InTheFrame object offset is_inside) fits = omega arith
 
-function_fits : (function : UnaryFunction) (of : ScalarType) (n : ℕ) → n < values_of of
+pub function_fits : (function : UnaryFunction) (of : ScalarType) (n : ℕ) → n < values_of of
     → function_of function n < values_of (type_of_function function)
 function_fits Low of n small = omega arith
 function_fits High of n small = high_fits n of small
 function_fits Double of n small = word_fits n of small
 
-list_fits : (around : Surroundings) (list : ℕ) → address_of_list around list < 65536
+pub list_fits : (around : Surroundings) (list : ℕ) → address_of_list around list < 65536
 list_fits around list = by (slice_get around.program.placement.modules around.number_of_module)
   where
     by : (found : Option ModulePlacement)
@@ -235,7 +235,7 @@ list_fits around list = by (slice_get around.program.placement.modules around.nu
     by (Some placed) = omega arith
     by None = omega arith
 
-input_fits : (script : List (List ℕ)) (events : List Event) (port : ℕ) → IsScript script → input_value script events port < 256
+pub input_fits : (script : List (List ℕ)) (events : List Event) (port : ℕ) → IsScript script → input_value script events port < 256
 input_fits script events port is = by (cases_lt (reads_of events port) (length (queue_of script port)))
   where
     by : (reads_of events port < length (queue_of script port)) ⊎ (length (queue_of script port) ≤ reads_of events port)
@@ -244,11 +244,11 @@ input_fits script events port is = by (cases_lt (reads_of events port) (length (
     by (inr past) = rw (get_or_past (queue_of script port) (reads_of events port) 255 past) (omega arith)
 
 -- a value of a type
-of_type : (one other : ScalarType) (n : ℕ) → one ≡ other → n < values_of one → n < values_of other
+pub of_type : (one other : ScalarType) (n : ℕ) → one ≡ other → n < values_of one → n < values_of other
 of_type one other n same small = subst (λ (scalar : ScalarType). n < values_of scalar) same small
 
 -- a value that is stored has the type that stands there
-target_type : (typed : TypedModule) (within : Within) (to : TypedTarget) (scalar : ScalarType)
+pub target_type : (typed : TypedModule) (within : Within) (to : TypedTarget) (scalar : ScalarType)
     → TypesHoldInTarget typed within scalar to → type_of_target to ≡ scalar
 target_type typed within (StoredIn from to part) scalar types = types.0
 target_type typed within (SentTo from port) scalar types = types
