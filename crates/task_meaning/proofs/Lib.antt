@@ -41,6 +41,8 @@ pub mod NextBytes
 pub mod Ranges
 pub mod RangesOfTrees
 pub mod RangesOfStatements
+pub mod RangesOfCalls
+pub mod NumbersOfTrees
 pub mod Pairs
 pub mod WordArithmetic
 pub mod PairedWords
