@@ -1,7 +1,15 @@
 -- The numbers of a module that is tree code have the width of a word, since those of tree code have.
 use Rattle.std.proofs.Common.{◌≡◌, ◌⊎◌, inl, inr, ℕ, suc, ◌<◌, ◌≤◌, List, [], ◌∷◌, length, get_or, Option, Some, None, slice_get, refl, sym, subst, arith}
 use Rattle.std.proofs.lemmas.Option.{slice_get_cases, slice_get_within}
-use Rattle.typed_trees.specs.TypedTrees.{Subscript, TypedArguments, TypedElse, TypedExpression, TypedIteration, TypedList, TypedModule, TypedProcedure, TypedReference, TypedStatement, TypedStatements, TypedTarget}
+use Rattle.std.specs.Prelude.{All}
+use Rattle.std.specs.List.{AllByRecursion}
+use Rattle.std.proofs.lemmas.List.Elements.{All-from_recursion}
+use Rattle.ports.specs.Input.{IsScript}
+use Rattle.typed_trees.specs.Globals.{ListsGlobals}
+use Rattle.typed_trees.specs.WellTyped.{IsWellTyped}
+use Rattle.layout.specs.Joined.{IsJoined}
+use Rattle.meaning.specs.Outcomes.{Program}
+use Rattle.typed_trees.specs.TypedTrees.{Subscript, TypedArguments, TypedElse, TypedExpression, TypedIteration, TypedList, TypedModule, TypedReference, TypedStatement, TypedStatements, TypedTarget}
 use Rattle.layout.specs.Storage.{Storage}
 use Rattle.treecode.specs.declared.expression.ExpressionForm.{ExpressionForm}
 use Rattle.treecode.specs.declared.expression.ExpressionForm.TheVariants as forms
@@ -18,7 +26,7 @@ use Rattle.treecode.specs.declared.statement.StatementNumber.{StatementNumber}
 use Rattle.treecode.specs.Lowered.{AreArguments, AreMore, AreMoreStatements, AreNoStatements, AreNone, AreStatements, AreTargets, IsAbsent, IsAssignment, IsBinary, IsCall, IsCallOf, IsCase, IsConstantList, IsConversion, IsDo, IsElse, IsEmbedded, IsExpression, IsForm, IsFunction, IsGoto, IsHalt, IsIf, IsIndex, IsInput, IsIterate, IsIteration, IsLabel, IsList, IsListOf, IsLocation, IsLowered, IsMove, IsNoElse, IsNoValue, IsNode, IsNull, IsNumber, IsOptional, IsPart, IsReference, IsReturn, IsSent, IsShift, IsSomeElse, IsSomeValue, IsStatement, IsStatementForm, IsStatementNode, IsStored, IsSubscript, IsTarget, IsUnary, IsValue, IsWhile, MoreTargets, NoTargets}
 use Rattle.treecode.specs.Nodes.{Nodes, nodes_of}
 use Rattle.task_meaning.specs.Contexts.{NumbersAreWords}
-use Rattle.task_meaning.specs.TreeNumbers.{NumbersFit, NumbersFitIfSome, NumbersFitIn, NumbersFitInArguments, NumbersFitInElse, NumbersFitInHead, NumbersFitInList, NumbersFitInModule, NumbersFitInReference, NumbersFitInStatements, NumbersFitInSubscript, NumbersFitInTarget, NumbersFitInTargets}
+use Rattle.task_meaning.specs.TreeNumbers.{HasTypes, NumbersFit, NumbersFitIfSome, NumbersFitIn, NumbersFitInArguments, NumbersFitInElse, NumbersFitInHead, NumbersFitInList, NumbersFitInModule, NumbersFitInReference, NumbersFitInStatements, NumbersFitInSubscript, NumbersFitInTarget, NumbersFitInTargets}
 
 module _ (nodes : Nodes) (storage : Storage) (words : NumbersAreWords nodes) where
   mutual
@@ -129,3 +137,42 @@ numbers_of_lowered typed storage tree lowered words number heading is =
     by (inl found) less =
         in_list (nodes_of tree) storage words (lowered.procedures number found.0 heading found.2 is).has_body.body
     by (inr past) less = let most = past.0 in absurd (omega (arith, less, most))
+
+-- what holds of what stands at each number holds of each
+each_of :
+    {X : Type 0} (P : X → Type 0) (items : List X)
+    → ((at : ℕ) (item : X) → slice_get items at ≡ Some item → P item)
+    → AllByRecursion P items
+each_of P [] each = tt
+each_of P (first ∷ others) each = (each 0 first refl, each_of P others (λ at item is. each (suc at) item is))
+
+-- a module as it is typed is well typed, and it is tree code whose numbers are words
+pub record IsTypedCode (typed : TypedModule) : Type 0 where
+  pub types : IsWellTyped typed
+  pub storage : Storage
+  pub tree : TreeModule
+  pub lowered : IsLowered typed storage tree
+  pub numbers : NumbersAreWords (nodes_of tree)
+
+-- a program whose modules are so has types
+pub has_types :
+    (program : Program)
+    → IsJoined program.modules
+    → All ListsGlobals program.modules
+    → IsScript program.script
+    → ((number : ℕ) (typed : TypedModule) → slice_get program.modules number ≡ Some typed → IsTypedCode typed)
+    → HasTypes program
+has_types program joined globals script each = record {
+  joined = joined;
+  globals = globals;
+  types =
+      All-from_recursion IsWellTyped program.modules
+      (each_of IsWellTyped program.modules (λ number typed is. (each number typed is).types));
+  numbers =
+      All-from_recursion NumbersFitInModule program.modules
+      (each_of NumbersFitInModule program.modules
+      (λ number typed is.
+      let code = each number typed is in
+      numbers_of_lowered typed code.storage code.tree code.lowered code.numbers));
+  script = script;
+}

@@ -1,6 +1,6 @@
 -- Values of typed trees are of their types: calls with arguments of the types of parameters give values of the types of
 -- results, and leave bytes, in any program whose modules are well typed.
-use Rattle.std.proofs.Common.{◌≡◌, ℕ, zero, suc, ◌+◌, ◌-◌, ◌<◌, ◌==◌, Bool, true, false, nat_lt, List, [], ◌∷◌, length, map, replicate, get_or, IsSomeAnd, Option, Some, None, option_map, slice_get, if◌then◌else◌, refl, sym, ap, ap₂, ◌∙◌, subst, arith}
+use Rattle.std.proofs.Common.{◌≡◌, ℕ, zero, suc, ◌+◌, ◌-◌, ◌<◌, Bool, true, false, nat_lt, List, [], ◌∷◌, replicate, get_or, IsSomeAnd, Option, Some, None, option_map, slice_get, if◌then◌else◌, refl, sym, ap, ◌∙◌, subst, arith}
 use Rattle.std.specs.Prelude.{All}
 use Rattle.std.specs.List.{AllByRecursion, enumerate_from}
 use Rattle.std.specs.Option.{option_and_then, option_map_or}
@@ -12,14 +12,14 @@ use Rattle.typed_trees.specs.declared.parts.Visibility.{Visibility}
 use Rattle.typed_trees.specs.declared.parts.Visibility.TheVariants as visibilities
 use Rattle.typed_trees.specs.Charge.{charge_of}
 use Rattle.typed_trees.specs.Sizes.{size_of_object}
-use Rattle.typed_trees.specs.TypedTrees.{TypedList, TypedModule, TypedObject, TypedProcedure}
-use Rattle.typed_trees.specs.WellTyped.{IsWellTyped, TypesHoldInList, TypesHoldInProcedure, Within, WithinProcedure}
+use Rattle.typed_trees.specs.TypedTrees.{TypedModule, TypedObject, TypedProcedure}
+use Rattle.typed_trees.specs.WellTyped.{IsWellTyped, TypesHoldInList, TypesHoldInProcedure, WithinProcedure}
 use Rattle.layout.specs.Joined.{DeclaredProcedure, InProgram, agree, is_public_procedure, procedure_meant}
 use Rattle.layout.proofs.Meant.{MeansProcedure, external_procedure_meant, procedures_agree}
 use Rattle.meaning.specs.declared.reason.Reason.TheVariants.{Stack}
 use Rattle.meaning.specs.Access.{Surroundings, place_of, write_scalar}
-use Rattle.meaning.specs.Meaning.{Later, called, called_for, callee_in, charged, done_list, entered, frame_of, is_frame_of, later_by, nothing_later, parameters_set, procedure_at, value_of_flow}
-use Rattle.meaning.specs.Outcomes.{Flow, Gave, Jumped, Onward, Outcome, Outside, Returned, State, Stopped, taking_one, then_do}
+use Rattle.meaning.specs.Meaning.{Later, called, called_for, callee_in, charged, done_list, entered, frame_of, is_frame_of, later_by, parameters_set, procedure_at, value_of_flow}
+use Rattle.meaning.specs.Outcomes.{Flow, Gave, Jumped, Onward, Outcome, Outside, Returned, State, Stopped, then_do}
 use Rattle.task_meaning.specs.Contexts.{AreOfTypes, CallsFit, Context, IsOfResult, SourceFits}
 use Rattle.task_meaning.specs.TreeNumbers.{HasTypes, NumbersFitInList, NumbersFitInModule}
 use Rattle.task_meaning.proofs.Ranges.{Gives, IsGiven, IsStopped, given_by, gives_then, write_fits}

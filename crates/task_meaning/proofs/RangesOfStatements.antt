@@ -1,17 +1,16 @@
 -- Values of typed trees are of their types: along statements, as long as what calls, further turns and jumps give is.
-use Rattle.std.proofs.Common.{◌≡◌, ℕ, zero, suc, ◌+◌, ◌-◌, ◌%◌, ◌<◌, ◌==◌, Bool, true, false, nat_le, nat_lt, List, [], ◌∷◌, Option, Some, None, option_map, slice_get, if◌then◌else◌, refl, sym, ap, ◌∙◌, subst}
+use Rattle.std.proofs.Common.{◌≡◌, ℕ, zero, suc, ◌+◌, ◌-◌, ◌%◌, ◌<◌, ◌==◌, Bool, true, false, nat_le, nat_lt, Option, Some, None, option_map, slice_get, if◌then◌else◌, refl, subst}
 use Rattle.std.specs.Prelude.{IfSome}
 use Rattle.mem80.specs.declared.memory.TheConstants.{MEMORY_SIZE}
-use Rattle.trees.specs.declared.declaration.ScalarType.{ScalarType}
 use Rattle.typed_trees.specs.ExpressionTypes.{type_of}
-use Rattle.typed_trees.specs.TypedTrees.{TypedArguments, TypedExpression, TypedIteration, TypedStatement, LabelStatement, NullStatement, AssignmentStatement, CallStatement, MoveStatement, ReturnStatement, HaltStatement, GotoStatement, IfStatement, DoStatement, WhileStatement, IterateStatement, CaseStatement, TypedElse, NoElse, ElseStatement, TypedStatements, NoStatements, MoreStatements, TypedList, ListOf, TypedModule}
-use Rattle.typed_trees.specs.WellTyped.{IsReturned, TypesHold, TypesHoldIn, TypesHoldInElse, TypesHoldInHead, TypesHoldInList, TypesHoldInStatements, Within, WithinMain, WithinProcedure}
+use Rattle.typed_trees.specs.TypedTrees.{TypedExpression, TypedIteration, TypedStatement, LabelStatement, NullStatement, AssignmentStatement, CallStatement, MoveStatement, ReturnStatement, HaltStatement, GotoStatement, IfStatement, DoStatement, WhileStatement, IterateStatement, CaseStatement, TypedElse, NoElse, ElseStatement, TypedStatements, NoStatements, MoreStatements, TypedList, ListOf, TypedModule}
+use Rattle.typed_trees.specs.WellTyped.{IsReturned, TypesHold, TypesHoldIn, TypesHoldInElse, TypesHoldInList, TypesHoldInStatements, Within, WithinMain, WithinProcedure}
 use Rattle.meaning.specs.Access.{InMemory, Surroundings, place_of, read_byte, write_byte}
 use Rattle.meaning.specs.Meaning.{IterateTurn, Later, Turn, WhileTurn, after_turn, called_for, callee_in, caught_in, done, done_all, done_case, done_else, done_list, dropped, going_on, iterated, landed, moved, next_turn, read_variable, rest_from, rest_of, returned, step_value, stepped, stored_in_each, turn_of, value, values, write_variable}
-use Rattle.meaning.specs.Outcomes.{Ended, Flow, Gave, Jumped, More, Onward, Outcome, Returned, State, Stopped, taking_one, then_do}
+use Rattle.meaning.specs.Outcomes.{Flow, Gave, Jumped, More, Onward, Outcome, Returned, State, Stopped, taking_one, then_do}
 use Rattle.meaning.specs.Values.{as_type, is_true, values_of}
-use Rattle.task_meaning.specs.Contexts.{AreOfTypes, IsOfResult, SourceFits}
-use Rattle.task_meaning.specs.TreeNumbers.{HasTypes, NumbersFit, NumbersFitIfSome, NumbersFitIn, NumbersFitInElse, NumbersFitInHead, NumbersFitInList, NumbersFitInStatements}
+use Rattle.task_meaning.specs.Contexts.{SourceFits}
+use Rattle.task_meaning.specs.TreeNumbers.{HasTypes, NumbersFit, NumbersFitIfSome, NumbersFitIn, NumbersFitInElse, NumbersFitInList, NumbersFitInStatements}
 use Rattle.task_meaning.proofs.Ranges.{Gives, IsGiven, IsStopped, as_type_fits, byte_fits, gives_then, of_type, read_fits, scalar_fits, write_fits}
 use Rattle.task_meaning.proofs.RangesOfTrees.{CalleesAreHeaded, FlowFits, LaterFits, ReturnFits, TurnFits, takes_fits, targets_fit, tree_fits, trees_fit}
 

@@ -1,10 +1,10 @@
 -- Values of typed expressions are of their types, as long as what calls stand for gives such values: along the trees,
 -- for any module of a program.
-use Rattle.std.proofs.Common.{◌≡◌, ℕ, ◌+◌, ◌-◌, ◌*◌, ◌%◌, ◌<◌, Bool, ◌&&◌, List, [], ◌∷◌, IsSomeAnd, Option, Some, None, slice_get, refl, sym, ap, ◌∙◌, subst, arith}
+use Rattle.std.proofs.Common.{◌≡◌, ℕ, ◌+◌, ◌<◌, ◌&&◌, List, [], ◌∷◌, IsSomeAnd, Option, Some, None, slice_get, refl, sym, subst, arith}
 use Rattle.trees.specs.declared.declaration.ScalarType.{ScalarType}
 use Rattle.trees.specs.declared.declaration.ScalarType.TheVariants.{Byte, Address}
 use Rattle.typed_trees.specs.ExpressionTypes.{type_of, type_of_result, type_of_target}
-use Rattle.typed_trees.specs.TypedTrees.{TypedExpression, NumberNode, ValueNode, LocationNode, ListNode, ConversionNode, AssignmentNode, UnaryNode, BinaryNode, CallNode, FunctionNode, ShiftNode, InputNode, TypedReference, PartOf, Subscript, NoSubscript, At, TypedTarget, StoredIn, SentTo, TypedArguments, NoArguments, MoreArguments, TypedIteration, TypedModule, TypedProcedure, TypedList, TypedStatements}
+use Rattle.typed_trees.specs.TypedTrees.{TypedExpression, NumberNode, ValueNode, LocationNode, ListNode, ConversionNode, AssignmentNode, UnaryNode, BinaryNode, CallNode, FunctionNode, ShiftNode, InputNode, TypedReference, PartOf, Subscript, NoSubscript, At, TypedTarget, StoredIn, SentTo, TypedArguments, NoArguments, MoreArguments, TypedModule, TypedProcedure, TypedList, TypedStatements}
 use Rattle.typed_trees.specs.WellTyped.{TypesHold, TypesHoldInArguments, TypesHoldInHead, TypesHoldInList, TypesHoldInReference, TypesHoldInStatements, TypesHoldInSubscript, TypesHoldInTarget, TypesHoldInTargets, Takes, Within, WithinMain, WithinProcedure, types_of}
 use Rattle.layout.specs.Joined.{InProgram}
 use Rattle.meaning.specs.Access.{Surroundings, home_of, read_scalar, write_scalar}
@@ -14,7 +14,7 @@ use Rattle.meaning.specs.Values.{as_type, function_of, result_of, result_of_one,
 use Rattle.task_meaning.specs.Contexts.{AreOfTypes, IsOfResult, SourceFits}
 use Rattle.task_meaning.specs.TreeNumbers.{HasTypes, NumbersFit, NumbersFitInArguments, NumbersFitInHead, NumbersFitInList, NumbersFitInReference, NumbersFitInStatements, NumbersFitInSubscript, NumbersFitInTarget, NumbersFitInTargets}
 use Rattle.task_meaning.proofs.KnownOperands.{number_fits, one_fits, result_fits, shift_fits}
-use Rattle.task_meaning.proofs.Ranges.{Gives, IsGiven, IsStopped, PlaceFits, address_fits, as_type_fits, computed_fits, function_fits, gives_then, input_fits, list_fits, of_type, place_fits, scalar_fits, target_type, write_fits}
+use Rattle.task_meaning.proofs.Ranges.{Gives, IsGiven, PlaceFits, address_fits, as_type_fits, computed_fits, function_fits, gives_then, input_fits, list_fits, of_type, place_fits, scalar_fits, target_type, write_fits}
 
 -- a value that a body returns is one of its result
 abbrev pub ReturnFits : Within → (found : ℕ) → Type 0

@@ -1,5 +1,5 @@
 -- The numbers that are written in typed trees have the width of a word.
-use Rattle.std.specs.Prelude.{◌≡◌, ℕ, ◌<◌, List, [], ◌∷◌, All, Option, Some, None, IfSome, slice_get}
+use Rattle.std.specs.Prelude.{◌≡◌, ℕ, ◌<◌, List, [], ◌∷◌, All, Option, Some, None, slice_get}
 use Rattle.typed_trees.specs.Globals.{ListsGlobals}
 use Rattle.typed_trees.specs.TypedTrees.{TypedExpression, NumberNode, ValueNode, LocationNode, ListNode, ConversionNode, AssignmentNode, UnaryNode, BinaryNode, CallNode, FunctionNode, ShiftNode, InputNode, TypedReference, PartOf, Subscript, NoSubscript, At, TypedTarget, StoredIn, SentTo, TypedArguments, NoArguments, MoreArguments, TypedIteration, TypedStatement, LabelStatement, NullStatement, AssignmentStatement, CallStatement, MoveStatement, ReturnStatement, HaltStatement, GotoStatement, IfStatement, DoStatement, WhileStatement, IterateStatement, CaseStatement, TypedElse, NoElse, ElseStatement, TypedStatements, NoStatements, MoreStatements, TypedList, ListOf, TypedProcedure, TypedModule}
 use Rattle.typed_trees.specs.WellTyped.{IsWellTyped}
@@ -87,8 +87,8 @@ NumbersFitInModule typed =
     (number : ℕ) (heading : TypedProcedure) → slice_get typed.procedures number ≡ Some heading
     → NumbersFitInList heading.body
 
--- What is asked of a program so that its values are of their types: its modules make a program, all of them are
--- well typed, their numbers have the width of a word, and the script of the ports is one of bytes.
+-- What is asked of a program so that its values are of their types: its modules make a program, all are well
+-- typed, their numbers have the width of a word, and the script of the ports is one of bytes.
 pub record HasTypes (program : Program) : Type 0 where
   pub joined : IsJoined program.modules
   pub globals : All ListsGlobals program.modules
