@@ -1,4 +1,5 @@
--- The numbers of a module that is tree code have the width of a word, since those of tree code have.
+-- The numbers of a module that is tree code have the width of a word, since those of tree code have; and so a program of
+-- such modules has types.
 use Rattle.std.proofs.Common.{◌≡◌, ◌⊎◌, inl, inr, ℕ, suc, ◌<◌, ◌≤◌, List, [], ◌∷◌, length, get_or, Option, Some, None, slice_get, refl, sym, subst, arith}
 use Rattle.std.proofs.lemmas.Option.{slice_get_cases, slice_get_within}
 use Rattle.std.specs.Prelude.{All}
@@ -30,7 +31,8 @@ use Rattle.task_meaning.specs.TreeNumbers.{HasTypes, NumbersFit, NumbersFitIfSom
 
 module _ (nodes : Nodes) (storage : Storage) (words : NumbersAreWords nodes) where
   mutual
-    in_node : {bound index : ℕ} {tree : TypedExpression} → IsExpression nodes storage bound index tree → NumbersFit tree
+    in_node : {bound index : ℕ} {tree : TypedExpression}
+        → IsExpression nodes storage bound index tree → NumbersFit tree
     in_node (IsNode {number = index} {expression = found} below there scalar form) =
         in_form (λ n is. words index n found there is) form
 

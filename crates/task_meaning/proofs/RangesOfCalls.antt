@@ -57,9 +57,6 @@ of_numbered {X} P items at item all found =
 -- A call finds the procedure that it stands for.
 module _ (around : Surroundings) (program : HasTypes around.program) (typed : TypedModule)
     (here : slice_get around.program.modules around.number_of_module ≡ Some typed) where
-  itself : (procedure : ℕ) → InProgram
-  itself procedure = record { number_of_module = around.number_of_module; number = procedure }
-
   callee_is : (procedure : ℕ) (heading : TypedProcedure) → slice_get typed.procedures procedure ≡ Some heading
       → callee_in around procedure
       ≡ procedure_meant around.program.modules (record { number_of_module = around.number_of_module; number = procedure })
@@ -93,7 +90,8 @@ module _ (around : Surroundings) (program : HasTypes around.program) (typed : Ty
       option_map (λ (procedure : TypedProcedure). (its, procedure)) entry) there
 
   same_pair : (one other : TypedModule) (first second : TypedProcedure)
-      → ◌≡◌ {A = Option (TypedModule × TypedProcedure)} (Some (one, first)) (Some (other, second)) → first ≡ second
+      → ◌≡◌ {A = Option (TypedModule × TypedProcedure)} (Some (one, first)) (Some (other, second))
+      → first ≡ second
   same_pair one other first second same =
       ap (λ (found : Option (TypedModule × TypedProcedure)).
       option_map_or (λ (pair : TypedModule × TypedProcedure). pair.1) found first) same
@@ -165,11 +163,13 @@ module _ (around : Surroundings) (program : HasTypes around.program) (typed : Ty
       by visibilities.Public is_public same =
           own (sym (ap (λ (visibility : Visibility).
           procedure_meant around.program.modules
-          (record { number_of_module = around.number_of_module; number = procedure }) heading visibility) is_public) ∙ same)
+          (record { number_of_module = around.number_of_module; number = procedure }) heading visibility) is_public)
+          ∙ same)
       by visibilities.Private is_private same =
           own (sym (ap (λ (visibility : Visibility).
           procedure_meant around.program.modules
-          (record { number_of_module = around.number_of_module; number = procedure }) heading visibility) is_private) ∙ same)
+          (record { number_of_module = around.number_of_module; number = procedure }) heading visibility) is_private)
+          ∙ same)
 
 -- a frame of zeros
 zeros_fit : (procedure : ℕ) (typed : TypedModule)
@@ -307,14 +307,16 @@ module _ (later : Later) (fits : LaterFits later) where
           → slice_get around.program.modules at.number_of_module ≡ Some typed
           → slice_get typed.procedures at.number ≡ entry
           → ((its : TypedModule) (procedure : TypedProcedure)
-          → option_map {U = TypedModule × TypedProcedure} (λ (procedure : TypedProcedure). (typed, procedure)) entry ≡ Some (its, procedure)
+          → option_map {U = TypedModule × TypedProcedure} (λ (procedure : TypedProcedure). (typed, procedure)) entry
+          ≡ Some (its, procedure)
           → (procedure.result ≡ result) × (procedure.parameter_types ≡ scalars))
           → Gives (λ found t. IsOfResult result found × SourceFits around t)
           (option_map_or
           (λ (found : TypedModule × TypedProcedure).
           charged (charge_of found.1) (record around { number_of_module = at.number_of_module }) s
           (λ within u. entered later found.0 at.number found.1 arguments within u))
-          (option_map {U = TypedModule × TypedProcedure} (λ (procedure : TypedProcedure). (typed, procedure)) entry) (Gave 0 s))
+          (option_map {U = TypedModule × TypedProcedure} (λ (procedure : TypedProcedure). (typed, procedure)) entry)
+          (Gave 0 s))
       by_procedure typed None here is are = IsGiven (nothing_fits result, source)
       by_procedure typed (Some procedure) here is are = run typed procedure here is (are typed procedure refl)
 
@@ -327,7 +329,8 @@ module _ (later : Later) (fits : LaterFits later) where
           (λ within u. entered later found.0 at.number found.1 arguments within u))
           (option_and_then
           (λ (typed : TypedModule).
-          option_map {U = TypedModule × TypedProcedure} (λ (procedure : TypedProcedure). (typed, procedure)) (slice_get typed.procedures at.number))
+          option_map {U = TypedModule × TypedProcedure} (λ (procedure : TypedProcedure). (typed, procedure))
+          (slice_get typed.procedures at.number))
           entry) (Gave 0 s))
       by_module None here = IsGiven (nothing_fits result, source)
       by_module (Some typed) here =
@@ -337,7 +340,8 @@ module _ (later : Later) (fits : LaterFits later) where
           (ap (λ (entry : Option TypedModule).
           option_and_then
           (λ (one : TypedModule).
-          option_map {U = TypedModule × TypedProcedure} (λ (found : TypedProcedure). (one, found)) (slice_get one.procedures at.number)) entry) here ∙ is))
+          option_map {U = TypedModule × TypedProcedure} (λ (found : TypedProcedure). (one, found))
+          (slice_get one.procedures at.number)) entry) here ∙ is))
 
   call_fits :
       (at : InProgram) (result : Option ScalarType) (scalars : List ScalarType) (arguments : List ℕ)

@@ -115,7 +115,9 @@ module _ (later : Later) (fits : LaterFits later) (typed : TypedModule) (within 
       by (slice_get typed.procedures procedure) refl takes
     where
       by : (found : Option TypedProcedure) → slice_get typed.procedures procedure ≡ found
-          → IsSomeAnd found (λ (heading : TypedProcedure). (heading.result ≡ result) × (heading.parameter_types ≡ types_of trees))
+          → IsSomeAnd found
+          (λ (heading : TypedProcedure).
+          (heading.result ≡ result) × (heading.parameter_types ≡ types_of trees))
           → Gives (λ found t. IsOfResult result found × SourceFits around t)
           (called_for later (callee_in around procedure) arguments around s)
       by None there is = absurd is
