@@ -39,6 +39,7 @@ pub mod NearStores
 pub mod StoreLaws
 pub mod NextBytes
 pub mod Ranges
+pub mod RangesOfBytes
 pub mod RangesOfTrees
 pub mod RangesOfStatements
 pub mod RangesOfCalls

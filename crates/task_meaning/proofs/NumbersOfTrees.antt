@@ -31,7 +31,7 @@ use Rattle.task_meaning.specs.TreeNumbers.{HasTypes, NumbersFit, NumbersFitIfSom
 
 module _ (nodes : Nodes) (storage : Storage) (words : NumbersAreWords nodes) where
   mutual
-    in_node : {bound index : ℕ} {tree : TypedExpression}
+    pub in_node : {bound index : ℕ} {tree : TypedExpression}
         → IsExpression nodes storage bound index tree → NumbersFit tree
     in_node (IsNode {number = index} {expression = found} below there scalar form) =
         in_form (λ n is. words index n found there is) form

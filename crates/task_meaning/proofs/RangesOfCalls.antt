@@ -22,8 +22,8 @@ use Rattle.meaning.specs.Meaning.{Later, called, called_for, callee_in, charged,
 use Rattle.meaning.specs.Outcomes.{Flow, Gave, Jumped, Onward, Outcome, Outside, Returned, State, Stopped, then_do}
 use Rattle.task_meaning.specs.Contexts.{AreOfTypes, CallsFit, Context, IsOfResult, SourceFits}
 use Rattle.task_meaning.specs.TreeNumbers.{HasTypes, NumbersFitInList, NumbersFitInModule}
-use Rattle.task_meaning.proofs.Ranges.{Gives, IsGiven, IsStopped, given_by, gives_then, write_fits}
-use Rattle.task_meaning.proofs.RangesOfTrees.{CalleesAreHeaded, FlowFits, IsHeaded, LaterFits, called_fits, nothing_fits}
+use Rattle.task_meaning.proofs.RangesOfBytes.{Gives, IsGiven, IsStopped, given_by, gives_then, write_fits}
+use Rattle.task_meaning.proofs.RangesOfTrees.{CalleesAreHeaded, FlowFits, IsHeaded, LaterFits, calls_give, nothing_fits}
 use Rattle.task_meaning.proofs.RangesOfStatements.{after_taking, either, list_fits, rest_fits, turn_fits}
 
 -- what holds of each element holds of one
@@ -394,8 +394,8 @@ pub calls_of_program_fit :
     → IsOfResult heading.result found × SourceFits around t
 calls_of_program_fit bound procedure found typed heading values around s t program here is types source same =
     given_by (called_for (later_by bound) (callee_in around procedure) values around s) found t same
-    (called_fits (later_by bound) (later_fits bound) typed (WithinProcedure procedure heading.result) around program
-    (callees_headed around program typed here) procedure heading values s is types source)
+    (calls_give (later_by bound) typed around (later_fits bound) program (callees_headed around program typed here)
+    procedure heading values s is types source)
 
 -- The same of a context: nothing is asked but what is true of its program.
 pub calls_fit :

@@ -11,8 +11,8 @@ use Rattle.meaning.specs.Outcomes.{Flow, Gave, Jumped, More, Onward, Outcome, Re
 use Rattle.meaning.specs.Values.{as_type, is_true, values_of}
 use Rattle.task_meaning.specs.Contexts.{SourceFits}
 use Rattle.task_meaning.specs.TreeNumbers.{HasTypes, NumbersFit, NumbersFitIfSome, NumbersFitIn, NumbersFitInElse, NumbersFitInList, NumbersFitInStatements}
-use Rattle.task_meaning.proofs.Ranges.{Gives, IsGiven, IsStopped, as_type_fits, byte_fits, gives_then, of_type, read_fits, scalar_fits, write_fits}
-use Rattle.task_meaning.proofs.RangesOfTrees.{CalleesAreHeaded, FlowFits, LaterFits, ReturnFits, TurnFits, takes_fits, targets_fit, tree_fits, trees_fit}
+use Rattle.task_meaning.proofs.RangesOfBytes.{Gives, IsGiven, IsStopped, as_type_fits, byte_fits, gives_then, of_type, read_fits, scalar_fits, write_fits}
+use Rattle.task_meaning.proofs.RangesOfTrees.{CalleesAreHeaded, CallsGive, FlowFits, LaterFits, ReturnFits, TurnFits, calls_give, takes_fits, targets_fit, tree_fits, trees_fit}
 
 -- where a test decides
 pub either :
@@ -101,10 +101,13 @@ module _ (later : Later) (fits : LaterFits later) (typed : TypedModule) (within 
   abbrev FlowIs : Outcome Flow → Type 0
   FlowIs outcome = Gives (λ flow t. FlowFits within flow × SourceFits around t) outcome
 
+  calls : CallsGive later typed around
+  calls = calls_give later typed around fits program headed
+
   value_is : (tree : TypedExpression) (s : State)
       → TypesHold typed within tree → NumbersFit tree → SourceFits around s
       → Gives (λ n t. (n < values_of (type_of tree)) × SourceFits around t) (value later around tree s)
-  value_is tree s types small source = tree_fits later fits typed within around program headed tree s types small source
+  value_is tree s types small source = tree_fits later typed within around program.script calls tree s types small source
 
   -- what follows what a part leaves
   after_fits : (turn : Turn) (flow : Flow) (s : State)
@@ -244,15 +247,15 @@ module _ (later : Later) (fits : LaterFits later) (typed : TypedModule) (within 
         (value_is tree s types.0 small.0 source)
         (λ n t one.
         gives_then (stored_in_each later around targets n t) (λ _ u. Gave Onward u)
-        (targets_fit later fits typed within around program headed (type_of tree) targets t n types.1 small.1 one.1)
+        (targets_fit later typed within around program.script calls (type_of tree) targets t n types.1 small.1 one.1)
         (λ _ u two. IsGiven (tt, two)))
     statement_fits (CallStatement procedure trees) s types small source =
         gives_then (values later around trees s)
         (λ given t. then_do (called_for later (callee_in around procedure) given around t) (λ _ u. Gave Onward u))
-        (trees_fit later fits typed within around program headed trees s types.1 small source)
+        (trees_fit later typed within around program.script calls trees s types.1 small source)
         (λ given t one.
         gives_then (called_for later (callee_in around procedure) given around t) (λ _ u. Gave Onward u)
-        (takes_fits later fits typed within around program headed procedure None trees given t types.0 one.0 one.1)
+        (takes_fits later typed within around program.script calls procedure None trees given t types.0 one.0 one.1)
         (λ found u two. IsGiven (tt, two.1)))
     statement_fits (MoveStatement count source_tree destination) s types small source =
         gives_then (value later around count s)

@@ -7,6 +7,7 @@ use Rattle.typed_trees.specs.ExpressionTypes.{type_of, type_of_result, type_of_t
 use Rattle.typed_trees.specs.TypedTrees.{TypedExpression, NumberNode, ValueNode, LocationNode, ListNode, ConversionNode, AssignmentNode, UnaryNode, BinaryNode, CallNode, FunctionNode, ShiftNode, InputNode, TypedReference, PartOf, Subscript, NoSubscript, At, TypedTarget, StoredIn, SentTo, TypedArguments, NoArguments, MoreArguments, TypedModule, TypedProcedure, TypedList, TypedStatements}
 use Rattle.typed_trees.specs.WellTyped.{TypesHold, TypesHoldInArguments, TypesHoldInHead, TypesHoldInList, TypesHoldInReference, TypesHoldInStatements, TypesHoldInSubscript, TypesHoldInTarget, TypesHoldInTargets, Takes, Within, WithinMain, WithinProcedure, types_of}
 use Rattle.layout.specs.Joined.{InProgram}
+use Rattle.ports.specs.Input.{IsScript}
 use Rattle.meaning.specs.Access.{Surroundings, home_of, read_scalar, write_scalar}
 use Rattle.meaning.specs.Meaning.{IterateTurn, Later, Turn, WhileTurn, address_in_memory, based_place, called_for, callee_in, computed, displaced, displacement, located, procedure_at, stored, stored_in_each, value, values}
 use Rattle.meaning.specs.Outcomes.{Flow, Gave, Jumped, Onward, Returned, State, then_do}
@@ -14,7 +15,7 @@ use Rattle.meaning.specs.Values.{as_type, function_of, result_of, result_of_one,
 use Rattle.task_meaning.specs.Contexts.{AreOfTypes, IsOfResult, SourceFits}
 use Rattle.task_meaning.specs.TreeNumbers.{HasTypes, NumbersFit, NumbersFitInArguments, NumbersFitInHead, NumbersFitInList, NumbersFitInReference, NumbersFitInStatements, NumbersFitInSubscript, NumbersFitInTarget, NumbersFitInTargets}
 use Rattle.task_meaning.proofs.KnownOperands.{number_fits, one_fits, result_fits, shift_fits}
-use Rattle.task_meaning.proofs.Ranges.{Gives, IsGiven, PlaceFits, address_fits, as_type_fits, computed_fits, function_fits, gives_then, input_fits, list_fits, of_type, place_fits, scalar_fits, target_type, write_fits}
+use Rattle.task_meaning.proofs.RangesOfBytes.{Gives, IsGiven, PlaceFits, address_fits, as_type_fits, computed_fits, function_fits, gives_then, input_fits, list_fits, of_type, place_fits, scalar_fits, target_type, write_fits}
 
 -- a value that a body returns is one of its result
 abbrev pub ReturnFits : Within → (found : ℕ) → Type 0
@@ -83,26 +84,35 @@ CalleesAreHeaded typed around =
     → callee_in around procedure ≡ Some at
     → IsHeaded around.program.modules at heading.result heading.parameter_types
 
-module _ (later : Later) (fits : LaterFits later) (typed : TypedModule) (within : Within) (around : Surroundings)
-    (program : HasTypes around.program) (headed : CalleesAreHeaded typed around) where
-  -- a call by its heading
-  pub called_fits :
-      (procedure : ℕ) (heading : TypedProcedure) (arguments : List ℕ) (s : State)
-      → slice_get typed.procedures procedure ≡ Some heading
-      → AreOfTypes heading.parameter_types arguments
-      → SourceFits around s
-      → Gives (λ found t. IsOfResult heading.result found × SourceFits around t)
-      (called_for later (callee_in around procedure) arguments around s)
-  called_fits procedure heading arguments s there of_types source = by (callee_in around procedure) refl
-    where
-      by : (found : Option InProgram) → callee_in around procedure ≡ found
-          → Gives (λ found t. IsOfResult heading.result found × SourceFits around t)
-          (called_for later found arguments around s)
-      by (Some at) is =
-          fits.call at heading.result heading.parameter_types arguments around s program
-          (headed procedure heading at there is) of_types source
-      by None is = IsGiven (nothing_fits heading.result, source)
+-- what calls in a module give
+abbrev pub CallsGive : Later → TypedModule → Surroundings → Type 0
+CallsGive later typed around =
+    (procedure : ℕ) (heading : TypedProcedure) (arguments : List ℕ) (s : State)
+    → slice_get typed.procedures procedure ≡ Some heading
+    → AreOfTypes heading.parameter_types arguments
+    → SourceFits around s
+    → Gives (λ found t. IsOfResult heading.result found × SourceFits around t)
+    (called_for later (callee_in around procedure) arguments around s)
 
+pub calls_give :
+    (later : Later) (typed : TypedModule) (around : Surroundings)
+    → LaterFits later
+    → HasTypes around.program
+    → CalleesAreHeaded typed around
+    → CallsGive later typed around
+calls_give later typed around fits program headed procedure heading arguments s there of_types source =
+    by (callee_in around procedure) refl
+  where
+    by : (found : Option InProgram) → callee_in around procedure ≡ found
+        → Gives (λ found t. IsOfResult heading.result found × SourceFits around t)
+        (called_for later found arguments around s)
+    by (Some at) is =
+        fits.call at heading.result heading.parameter_types arguments around s program
+        (headed procedure heading at there is) of_types source
+    by None is = IsGiven (nothing_fits heading.result, source)
+
+module _ (later : Later) (typed : TypedModule) (within : Within) (around : Surroundings)
+    (script : IsScript around.program.script) (calls : CallsGive later typed around) where
   -- a call by what it takes
   pub takes_fits :
       (procedure : ℕ) (result : Option ScalarType) (trees : TypedArguments) (arguments : List ℕ) (s : State)
@@ -124,7 +134,7 @@ module _ (later : Later) (fits : LaterFits later) (typed : TypedModule) (within 
       by (Some heading) there is =
           subst (λ (its : Option ScalarType). Gives (λ found t. IsOfResult its found × SourceFits around t)
           (called_for later (callee_in around procedure) arguments around s)) is.0
-          (called_fits procedure heading arguments s there
+          (calls procedure heading arguments s there
           (subst (λ (scalars : List ScalarType). AreOfTypes scalars arguments) (sym is.1) of_types) source)
 
   mutual
@@ -190,7 +200,7 @@ module _ (later : Later) (fits : LaterFits later) (typed : TypedModule) (within 
         IsGiven (shift_fits scalar function n k types.0 (of_type (type_of moved) scalar n (types.1).1 one.0), two.1)))
     tree_fits (InputNode port) s types small source =
         IsGiven (
-          input_fits around.program.script s.events port program.script,
+          input_fits around.program.script s.events port script,
           record { memory = source.memory; frame = source.frame },
         )
 
