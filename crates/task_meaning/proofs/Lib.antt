@@ -39,6 +39,11 @@ pub mod NearStores
 pub mod StoreLaws
 pub mod NextBytes
 pub mod Ranges
+pub mod RangesOfBytes
+pub mod RangesOfTrees
+pub mod RangesOfStatements
+pub mod RangesOfCalls
+pub mod NumbersOfTrees
 pub mod Pairs
 pub mod WordArithmetic
 pub mod PairedWords
