@@ -18,3 +18,4 @@ pub mod StaticArguments
 pub mod StaticBegins
 pub mod StaticEntries
 pub mod StaticSlots
+pub mod CallsFitting
