@@ -17,3 +17,4 @@ pub mod StaticArguments
 pub mod StaticBegins
 pub mod StaticEntries
 pub mod StaticSlots
+pub mod StaticProcedures

@@ -54,7 +54,7 @@ holds_at P (first ∷ others) (suc index) one all there =
     holds_at P others index one (λ i d below. all (suc i) d (omega (arith, below))) there
 
 -- as many values as types
-as_many_values : (types : List ScalarType) (values : List ℕ) (top : ℕ) (r : Registers) (memory : List ℕ)
+pub as_many_values : (types : List ScalarType) (values : List ℕ) (top : ℕ) (r : Registers) (memory : List ℕ)
     → ArgumentsLie types values top r memory → length values ≡ length types
 as_many_values [] [] top r memory lie = refl
 as_many_values [] (value ∷ values) top r memory lie = absurd lie

@@ -56,11 +56,11 @@ module _ (at : BodyContext) (sound : IsSound at.context)
     (memory_is : t.memory ≡ set_all slots values source)
     (frame_is : t.frame ≡ frame)
     (return_lies : ReturnLies top back entered) where
-  abbrev Good : Unit {0} → SourceState → State → Type 0
+  abbrev pub Good : Unit {0} → SourceState → State → Type 0
   Good given t end = HasBegun at to (top + 2 + 2 * (length slots - 1)) back begun.facts entered t end
 
   -- behind the last instruction
-  finish :
+  pub finish :
       (held : Facts) (here : Here) (list : List Item) (from level : ℕ) (stacked : List ℕ) (r : Registers)
       (memory : List ℕ)
       → AreCarriedOut at.body at.context.called here None (holds held ∷ []) list begun
@@ -106,7 +106,7 @@ module _ (at : BodyContext) (sound : IsSound at.context)
       from_is = nothing_there.stands
 
   -- with one argument, or more
-  some_does :
+  pub some_does :
       (others : ℕ) (list : List Item) (from : ℕ) (r : Registers)
       → length slots ≡ suc others
       → ArgumentsLie (map (λ (slot : Slot). slot.scalar) slots) values (top + 2) r entered
