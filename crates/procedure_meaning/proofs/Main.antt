@@ -1,26 +1,25 @@
 -- The main program, from its start on.
-use Rattle.std.proofs.Common.{◌≡◌, ◌≢◌, ℕ, zero, suc, ◌+◌, ◌-◌, ◌*◌, ◌<◌, ◌≤◌, Bool, true, false, List, [], ◌∷◌, ◌++◌, length, slice_get, Option, Some, None, refl, sym, ap, subst, ◌∙◌, arith}
+use Rattle.std.proofs.Common.{◌≡◌, ℕ, suc, ◌+◌, ◌-◌, ◌*◌, ◌≤◌, Bool, true, false, List, [], ◌∷◌, ◌++◌, length, slice_get, Some, refl, sym, ap, subst, arith}
 use Rattle.object_modules.specs.declared.segment.Segment.TheVariants.{Stack}
 use Rattle.object_modules.specs.declared.segment.Target.TheVariants.{InSegment}
 use Rattle.typed_trees.specs.Charge.{charge_of, height_of_list}
 use Rattle.typed_trees.specs.TypedTrees.{TypedModule, TypedProcedure}
 use Rattle.typed_trees.specs.WellTyped.{WithinMain}
-use Rattle.meaning.specs.Meaning.{charged, done_list, later_by}
-use Rattle.meaning.specs.Outcomes.{Ended, Flow, Gave, Jumped, More, Onward, Outcome, Outside, Returned, State as SourceState, Stop, Stopped, then_do}
+use Rattle.meaning.specs.Meaning.{done_list, later_by}
+use Rattle.meaning.specs.Outcomes.{Ended, Flow, Gave, Jumped, More, Onward, Outcome, Outside, Returned, State as SourceState, Stopped, then_do}
 use Rattle.meaning.specs.Run.{main_done, run_of}
 use Rattle.isa8080.specs.declared.instr.Instr.TheVariants.{Hlt}
 use Rattle.isa8080.specs.declared.instr.Pair.TheVariants.{Sp}
 use Rattle.isa8080.specs.declared.registers.Status.TheVariants.{Halted, Running}
 use Rattle.isa8080.specs.State.{HoldBytes, Registers, State, wrap}
-use Rattle.asm8080.specs.declared.item.Item.{Item}
 use Rattle.asm8080.specs.declared.item.Item.TheVariants as items
 use Rattle.asm8080.specs.declared.item.Reference.TheVariants.{AtTarget}
 use Rattle.asm8080.specs.declared.item.WordForm.TheVariants.{LoadPair}
 use Rattle.asm8080.specs.Items.{word_of}
 use Rattle.treecode.specs.Lowered.{HasBody}
 use Rattle.treecode.specs.Nodes.{nodes_of}
-use Rattle.code_meaning.specs.Activations.{Activation, Arrives, IsReady, IsThere, LiesWell, Owns, Shares}
-use Rattle.code_meaning.specs.Landing.{Does, IsLeft, Lands, Told, at_place}
+use Rattle.code_meaning.specs.Activations.{IsReady, IsThere, LiesWell, Owns, Shares}
+use Rattle.code_meaning.specs.Landing.{Does, IsLeft, Lands, at_place}
 use Rattle.code_meaning.proofs.FirstItems.{plain_first, word_first}
 use Rattle.code_meaning.proofs.Landing.{gives}
 use Rattle.code_meaning.proofs.Owning.{keeps_all}
@@ -30,10 +29,10 @@ use Rattle.code_facts.specs.Holding.{place_at}
 use Rattle.code_facts.proofs.Changes.{no_facts_hold}
 use Rattle.steps8080.specs.Facts.{no_facts}
 use Rattle.task_meaning.proofs.Stages.{then_does_where}
-use Rattle.statement_meaning.specs.Bodies.{BodyContext, GoesOn, IsSoundBody, Leaves}
+use Rattle.statement_meaning.specs.Bodies.{BodyContext, IsSoundBody, Leaves}
 use Rattle.procedure_meaning.specs.Calls.{CallsAreKnown, Entries}
-use Rattle.procedure_meaning.specs.Contexts.{Shape, activation_in, body_in, context_in, main_shape}
-use Rattle.procedure_meaning.specs.Main.{ComesTo, EndsAs}
+use Rattle.procedure_meaning.specs.Contexts.{activation_in, body_in, main_shape}
+use Rattle.procedure_meaning.specs.Main.{EndsAs}
 use Rattle.procedure_meaning.specs.Modules.{MainStands, ModuleCode, ModuleLies, surroundings_in}
 use Rattle.procedure_meaning.specs.Premises.{CallsOfModuleFit, ListsAreDone}
 use Rattle.procedure_meaning.proofs.CallInstructions.{charged_does}

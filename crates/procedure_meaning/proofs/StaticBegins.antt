@@ -1,42 +1,22 @@
 -- A procedure that is not REENTRANT takes its arguments, of which each has a place in memory.
-use Rattle.std.proofs.Common.{◌≡◌, ◌≢◌, ℕ, zero, suc, ◌+◌, ◌-◌, ◌*◌, ◌/◌, ◌%◌, ◌<◌, ◌≤◌, inl, inr, Bool, true, false, List, [], ◌∷◌, ◌++◌, length, map, slice_get, Option, Some, None, option_map, refl, sym, ap, subst, ◌∙◌, arith}
+use Rattle.std.proofs.Common.{◌≡◌, ℕ, zero, suc, ◌+◌, ◌-◌, ◌*◌, ◌<◌, ◌≤◌, inl, inr, Bool, true, List, [], ◌∷◌, length, map, slice_get, Option, Some, None, refl, sym, ap, subst, ◌∙◌, arith}
 use Rattle.std.specs.Prelude.{take}
 use Rattle.mem80.specs.declared.memory.TheConstants.{MEMORY_SIZE}
-use Rattle.mem80.specs.Memory.{byte_at}
-use Rattle.ports.specs.declared.event.Event.{Event}
 use Rattle.trees.specs.declared.declaration.ScalarType.{ScalarType}
-use Rattle.trees.specs.declared.declaration.ScalarType.TheVariants.{Byte, Address}
 use Rattle.meaning.specs.Access.{frame_bytes}
 use Rattle.meaning.specs.Outcomes.{Gave, Outcome, State as SourceState}
-use Rattle.isa8080.specs.State.{HoldBytes, Registers, State, wrap}
-use Rattle.asm8080.specs.declared.item.Item.{Item}
+use Rattle.isa8080.specs.State.{Registers, wrap}
 use Rattle.treecode.specs.declared.place.Location.{Location}
 use Rattle.treecode.specs.declared.place.Location.TheVariants.{Static}
 use Rattle.treecode.specs.declared.procedure.Parameter.{Parameter}
-use Rattle.code_meaning.specs.Activations.{IsReady, IsThere, IsVariable, Shares}
-use Rattle.code_meaning.specs.Landing.{Does, at_place}
-use Rattle.code_meaning.proofs.Landing.{gives}
+use Rattle.code_meaning.specs.Activations.{IsVariable, Shares}
 use Rattle.code_facts.specs.Holding.{ByteHolds, WordHolds, place_at}
-use Rattle.code_facts.proofs.Changes.{no_facts_hold, with_facts_hold}
 use Rattle.steps8080.specs.declared.facts.Facts.{Facts}
-use Rattle.steps8080.specs.Facts.{after_word, no_facts, with_facts}
-use Rattle.steps8080.specs.Writer.{word_item}
-use Rattle.statements8080.specs.declared.plan.Planned.{Planned}
-use Rattle.statements8080.specs.Plans.{holds, word}
-use Rattle.codegen8080.specs.declared.meeting.Here.{Here}
-use Rattle.codegen8080.specs.Generated.{AreCarriedOut}
-use Rattle.codegen8080.specs.Procedures.{argument_facts, argument_step, below_return_steps, known_from, static_entry_steps, stores_steps, with_argument}
 use Rattle.task_meaning.specs.Contexts.{ArgumentsLie, InRegister, InWord, IsSound, distances_in}
 use Rattle.task_meaning.specs.Tasks.{Know}
 use Rattle.statement_meaning.specs.Bodies.{BodyContext}
-use Rattle.procedure_meaning.specs.Calls.{IsOfCall, ReturnLies}
-use Rattle.procedure_meaning.specs.Modules.{at_start}
-use Rattle.procedure_meaning.specs.Procedures.{HasBegun}
-use Rattle.procedure_meaning.proofs.Planned.{EndsKnowing, IsBehind, holds_last, word_behind}
-use Rattle.procedure_meaning.proofs.Puts.{AreVariables, EachApart, IsPart, Lies, Slot, lies_there, put, put_down, put_nth, set_all, set_down}
-use Rattle.procedure_meaning.proofs.StaticArguments.{IsBelow, below_does}
-use Rattle.procedure_meaning.proofs.StaticLoops.{Held, HeldAs, HeldByte, HeldWord, IsTaken, PartedThere, held_then, nth_is, store_is, word_parted}
-use Rattle.procedure_meaning.proofs.StaticStages.{Underway, ready_of, store_form, store_goes}
+use Rattle.procedure_meaning.proofs.Puts.{AreVariables, EachApart, IsPart, Lies, Slot, lies_there, put_down}
+use Rattle.procedure_meaning.proofs.StaticLoops.{Held, HeldAs, HeldByte, HeldWord}
 
 -- the parameter of tree code that lies in a place
 abbrev pub parameter_of : Slot → Parameter

@@ -1,7 +1,6 @@
 -- The procedures of a module that are not REENTRANT begin as they are meant to.
-use Rattle.std.proofs.Common.{◌≡◌, ◌≢◌, ℕ, zero, suc, ◌+◌, ◌-◌, ◌*◌, ◌<◌, ◌≤◌, ◌==◌, Bool, true, false, if◌then◌else◌, List, [], ◌∷◌, length, map, replicate, slice_get, slice_index_or, Option, Some, None, refl, sym, ap, subst, ◌∙◌, arith, eqb-true}
+use Rattle.std.proofs.Common.{◌≡◌, ◌≢◌, ℕ, zero, suc, ◌+◌, ◌-◌, ◌*◌, ◌≤◌, Bool, true, false, if◌then◌else◌, List, [], ◌∷◌, length, map, replicate, slice_get, slice_index_or, Some, None, refl, sym, ap, subst, ◌∙◌, arith, eqb-true}
 use Rattle.std.specs.Prelude.{zip}
-use Rattle.mem80.specs.declared.memory.TheConstants.{MEMORY_SIZE}
 use Rattle.trees.specs.declared.declaration.ScalarType.{ScalarType}
 use Rattle.typed_trees.specs.declared.parts.Visibility.{Visibility}
 use Rattle.typed_trees.specs.declared.parts.Visibility.TheVariants as visibilities
@@ -9,20 +8,18 @@ use Rattle.typed_trees.specs.Charge.{charge_of}
 use Rattle.typed_trees.specs.Frames.{AreParameters, HasParameters, home_of_parameters}
 use Rattle.typed_trees.specs.Sizes.{size_of_object}
 use Rattle.typed_trees.specs.TypedTrees.{BasedOn, Elsewhere, Home, InConstants, InData, InFrame, Nowhere, Placed, TypedModule, TypedObject, TypedProcedure}
-use Rattle.meaning.specs.Access.{Surroundings, frame_bytes}
+use Rattle.meaning.specs.Access.{frame_bytes}
 use Rattle.meaning.specs.Meaning.{frame_of, is_frame_of, parameters_set}
-use Rattle.meaning.specs.Outcomes.{Gave, Outcome, State as SourceState}
-use Rattle.isa8080.specs.State.{Registers, State}
-use Rattle.asm8080.specs.declared.item.Item.{Item}
+use Rattle.meaning.specs.Outcomes.{Gave, State as SourceState}
+use Rattle.isa8080.specs.State.{State}
 use Rattle.treecode.specs.declared.procedure.Parameter.{Parameter}
 use Rattle.treecode.specs.declared.procedure.ProcedureKind.{ProcedureKind}
 use Rattle.treecode.specs.declared.procedure.ProcedureKind.TheVariants as kinds
 use Rattle.treecode.specs.declared.procedure.TreeProcedure.{TreeProcedure}
-use Rattle.treecode.specs.Homes.{kind_of, parameter_at}
+use Rattle.treecode.specs.Homes.{kind_of}
 use Rattle.treecode.specs.Lowered.{IsProcedure}
 use Rattle.treecode.specs.Nodes.{nodes_of}
 use Rattle.procedure_frames.proofs.Parameters.{has_parameters}
-use Rattle.code_meaning.specs.Activations.{IsThere}
 use Rattle.code_meaning.specs.Landing.{Does, at_place}
 use Rattle.code_meaning.proofs.Owning.{keeps_all}
 use Rattle.code_facts.proofs.Changes.{no_facts_hold}
@@ -30,16 +27,15 @@ use Rattle.steps8080.specs.Facts.{no_facts}
 use Rattle.statements8080.specs.declared.body.Body.{Body}
 use Rattle.statements8080.specs.declared.plan.Planned.{Planned}
 use Rattle.statements8080.specs.Plans.{holds}
-use Rattle.codegen8080.specs.declared.meeting.Here.{Here}
 use Rattle.codegen8080.specs.Generated.{AreCarriedOut}
 use Rattle.codegen8080.specs.Procedures.{entry_steps, entry_steps_by, static_entry_steps}
 use Rattle.task_meaning.specs.Contexts.{ArgumentsLie, bytes_pushed}
-use Rattle.statement_meaning.specs.Bodies.{BodyContext, IsSoundBody}
-use Rattle.procedure_meaning.specs.Calls.{Entries, IsEntered, IsOfCall}
+use Rattle.statement_meaning.specs.Bodies.{BodyContext}
+use Rattle.procedure_meaning.specs.Calls.{Entries, IsOfCall}
 use Rattle.procedure_meaning.specs.Modules.{ModuleCode, ModuleLies, at_start, surroundings_in}
-use Rattle.procedure_meaning.specs.Premises.{IsBodyOf, StaticBegins, static_body, static_level}
+use Rattle.procedure_meaning.specs.Premises.{StaticBegins, static_body}
 use Rattle.procedure_meaning.specs.Procedures.{HasBegun}
-use Rattle.procedure_meaning.proofs.ProcedureCalls.{as_many_parameters, as_many_values, charge_is}
+use Rattle.procedure_meaning.proofs.ProcedureCalls.{as_many_values, charge_is}
 use Rattle.procedure_meaning.proofs.Puts.{AreVariables, EachApart, Slot, put_down, set_all, set_does}
 use Rattle.procedure_meaning.proofs.StaticBegins.{parameter_of}
 use Rattle.procedure_meaning.proofs.StaticEntries.{finish, some_does}
