@@ -1,5 +1,6 @@
 -- The main program, from its start on.
 use Rattle.std.proofs.Common.{◌≡◌, ℕ, suc, ◌+◌, ◌-◌, ◌*◌, ◌≤◌, Bool, true, false, List, [], ◌∷◌, ◌++◌, length, slice_get, Some, refl, sym, ap, subst, arith}
+use Rattle.meaning.specs.Access.{frame_bytes}
 use Rattle.object_modules.specs.declared.segment.Segment.TheVariants.{Stack}
 use Rattle.object_modules.specs.declared.segment.Target.TheVariants.{InSegment}
 use Rattle.typed_trees.specs.Charge.{charge_of, height_of_list}
@@ -16,7 +17,7 @@ use Rattle.asm8080.specs.declared.item.Item.TheVariants as items
 use Rattle.asm8080.specs.declared.item.Reference.TheVariants.{AtTarget}
 use Rattle.asm8080.specs.declared.item.WordForm.TheVariants.{LoadPair}
 use Rattle.asm8080.specs.Items.{word_of}
-use Rattle.treecode.specs.Lowered.{HasBody}
+use Rattle.treecode.specs.Lowered.{HasBody, reaches_end_of_list}
 use Rattle.treecode.specs.Nodes.{nodes_of}
 use Rattle.code_meaning.specs.Activations.{IsReady, IsThere, LiesWell, Owns, Shares}
 use Rattle.code_meaning.specs.Landing.{Does, IsLeft, Lands, at_place}
@@ -167,7 +168,7 @@ main_does code entries start budget room s r memory lies known lists fit stands 
           shares = shares;
           frame_lies = record {
             sizes = λ object.
-                ap (λ (frame : List (List ℕ)). length (Rattle.meaning.specs.Access.frame_bytes frame object)) no_frame;
+                ap (λ (frame : List (List ℕ)). length (frame_bytes frame object)) no_frame;
             bytes = λ object offset within. absurd (omega (arith, within));
           };
           kept = keeps_all (Owns (activation_in code (room - charge_of code.typed.main)
@@ -194,7 +195,7 @@ main_does code entries start budget room s r memory lies known lists fit stands 
 
         reaches_end : Bool
         reaches_end =
-            Rattle.treecode.specs.Lowered.reaches_end_of_list (nodes_of code.tree.now).homes code.storage true
+            reaches_end_of_list (nodes_of code.tree.now).homes code.storage true
             code.typed.main.body
 
         left : IsLeftBy (record { reaches = reaches_end; returns = false; labels = [] })

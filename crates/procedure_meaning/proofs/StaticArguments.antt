@@ -1,5 +1,6 @@
 -- The arguments that a procedure which is not REENTRANT finds on the stack, under the return address.
 use Rattle.std.proofs.Common.{◌≡◌, ℕ, ◌+◌, ◌-◌, ◌*◌, ◌<◌, ◌≤◌, Bool, true, false, if◌then◌else◌, List, [], ◌∷◌, ◌++◌, length, slice_get, Some, None, refl, sym, ap, subst, ◌∙◌, arith, append_assoc}
+use Rattle.std.proofs.lemmas.Option.{same_Some}
 use Rattle.mem80.specs.declared.memory.TheConstants.{MEMORY_SIZE}
 use Rattle.mem80.specs.Memory.{byte_at}
 use Rattle.mem80.proofs.MemoryLemmas.{byte_small}
@@ -255,7 +256,7 @@ module _ (at : BodyContext) (sound : IsSound at.context)
       only_is =
           let same : Some only ≡ Some (record { scalar = one.slot.scalar; location = Static one.slot.place }) =
           ap (λ (list : List Parameter). slice_get list 0) (sym alone) ∙ one.parameter in
-          Rattle.std.proofs.lemmas.Option.same_Some only
+          same_Some only
           (record { scalar = one.slot.scalar; location = Static one.slot.place }) same
 
       address_of : (scalar : ScalarType) → is_address scalar ≡ true → scalar ≡ Address

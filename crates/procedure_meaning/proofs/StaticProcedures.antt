@@ -1,6 +1,6 @@
 -- The procedures of a module that are not REENTRANT begin as they are meant to.
 use Rattle.std.proofs.Common.{◌≡◌, ◌≢◌, ℕ, zero, suc, ◌+◌, ◌-◌, ◌*◌, ◌≤◌, Bool, true, false, if◌then◌else◌, List, [], ◌∷◌, length, map, replicate, slice_get, slice_index_or, Some, None, refl, sym, ap, subst, ◌∙◌, arith, eqb-true}
-use Rattle.std.specs.Prelude.{zip}
+use Rattle.std.specs.Prelude.{AllPairs}
 use Rattle.trees.specs.declared.declaration.ScalarType.{ScalarType}
 use Rattle.typed_trees.specs.declared.parts.Visibility.{Visibility}
 use Rattle.typed_trees.specs.declared.parts.Visibility.TheVariants as visibilities
@@ -196,7 +196,7 @@ static_begins code entries bound lies index number room from to top first proced
     apart : EachApart has.slots
     apart =
         slots_apart code entries has.slots lies has.fit
-        (subst (λ (parameters : List ℕ). Rattle.std.specs.Prelude.AllPairs (λ (one other : ℕ). one ≢ other) parameters)
+        (subst (λ (parameters : List ℕ). AllPairs (λ (one other : ℕ). one ≢ other) parameters)
         (sym has.objects_are) parameters.differ)
 
     its_parameters : body.procedure.now.parameters.items ≡ map parameter_of has.slots

@@ -8,7 +8,7 @@ use Rattle.trees.specs.declared.declaration.ScalarType.TheVariants.{Byte, Addres
 use Rattle.typed_trees.specs.Frames.{AreParameters}
 use Rattle.typed_trees.specs.ObjectParts.{IsScalar}
 use Rattle.typed_trees.specs.Sizes.{size_of_scalar}
-use Rattle.typed_trees.specs.TypedTrees.{Home, InData, TypedModule, TypedObject}
+use Rattle.typed_trees.specs.TypedTrees.{Home, InData, TypedModule, TypedObject, Nowhere}
 use Rattle.meaning.specs.Access.{InMemory, Place as SourcePlace, home_in, home_of, place_in, place_of}
 use Rattle.meaning.specs.Meaning.{based_place}
 use Rattle.meaning.specs.Outcomes.{Gave, State as SourceState}
@@ -137,9 +137,9 @@ slot_meant code entries room slot lies fits =
     home_is =
         ap (λ (entry : Option TypedModule).
         option_map_or (λ (typed : TypedModule). home_in typed slot.object) entry
-        Rattle.typed_trees.specs.TypedTrees.Nowhere) lies.is_module
+        Nowhere) lies.is_module
         ∙ ap (λ (entry : Option TypedObject).
-        option_map_or (λ (found : TypedObject). found.home) entry Rattle.typed_trees.specs.TypedTrees.Nowhere) fits.there
+        option_map_or (λ (found : TypedObject). found.home) entry Nowhere) fits.there
         ∙ fits.home
 
 pub slots_meant : (code : ModuleCode) (entries : Entries) (room : ℕ) (slots : List Slot)
