@@ -19,3 +19,4 @@ pub mod StaticBegins
 pub mod StaticEntries
 pub mod StaticSlots
 pub mod CallsFitting
+pub mod StaticProcedures

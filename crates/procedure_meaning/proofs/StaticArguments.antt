@@ -1,5 +1,6 @@
 -- The arguments that a procedure which is not REENTRANT finds on the stack, under the return address.
-use Rattle.std.proofs.Common.{◌≡◌, ◌≢◌, ℕ, zero, suc, ◌+◌, ◌-◌, ◌*◌, ◌/◌, ◌%◌, ◌<◌, ◌≤◌, Bool, true, false, if◌then◌else◌, List, [], ◌∷◌, ◌++◌, length, slice_get, Option, Some, None, refl, sym, ap, subst, ◌∙◌, arith, append_assoc}
+use Rattle.std.proofs.Common.{◌≡◌, ℕ, ◌+◌, ◌-◌, ◌*◌, ◌<◌, ◌≤◌, Bool, true, false, if◌then◌else◌, List, [], ◌∷◌, ◌++◌, length, slice_get, Some, None, refl, sym, ap, subst, ◌∙◌, arith, append_assoc}
+use Rattle.std.proofs.lemmas.Option.{same_Some}
 use Rattle.mem80.specs.declared.memory.TheConstants.{MEMORY_SIZE}
 use Rattle.mem80.specs.Memory.{byte_at}
 use Rattle.mem80.proofs.MemoryLemmas.{byte_small}
@@ -27,12 +28,11 @@ use Rattle.codegen8080.specs.declared.meeting.Here.{Here}
 use Rattle.codegen8080.specs.Generated.{AreCarriedOut}
 use Rattle.codegen8080.specs.Procedures.{argument_facts, argument_step, below_return_steps, exchanged_steps, is_address, known_at, known_from, popped_from, pushed_arguments_steps}
 use Rattle.task_meaning.specs.Contexts.{InRegister, InWord, IsSound}
-use Rattle.task_meaning.proofs.Rules.{popped_bytes}
 use Rattle.statement_meaning.specs.Bodies.{BodyContext}
 use Rattle.procedure_meaning.specs.Calls.{ReturnLies}
 use Rattle.procedure_meaning.proofs.Planned.{IsBehind, plain_behind, word_behind}
-use Rattle.procedure_meaning.proofs.Puts.{Slot, put, put_down, put_nth}
-use Rattle.procedure_meaning.proofs.StaticLoops.{Held, HeldAs, IsTaken, PartedThere, held_then, high_of, low_of, loop_does, nth_is, plain_parted, store_is, word_parted}
+use Rattle.procedure_meaning.proofs.Puts.{Slot, put, put_down}
+use Rattle.procedure_meaning.proofs.StaticLoops.{Held, IsTaken, PartedThere, held_then, high_of, low_of, loop_does, nth_is, plain_parted, store_is, word_parted}
 use Rattle.procedure_meaning.proofs.StaticStages.{Underway, exchange_goes, pop_goes, push_goes, store_form, store_goes}
 
 back_small : (back : ℕ) → wrap back < MEMORY_SIZE
@@ -256,7 +256,7 @@ module _ (at : BodyContext) (sound : IsSound at.context)
       only_is =
           let same : Some only ≡ Some (record { scalar = one.slot.scalar; location = Static one.slot.place }) =
           ap (λ (list : List Parameter). slice_get list 0) (sym alone) ∙ one.parameter in
-          Rattle.std.proofs.lemmas.Option.same_Some only
+          same_Some only
           (record { scalar = one.slot.scalar; location = Static one.slot.place }) same
 
       address_of : (scalar : ScalarType) → is_address scalar ≡ true → scalar ≡ Address

@@ -1,42 +1,22 @@
 -- A procedure that is not REENTRANT takes its arguments, of which each has a place in memory.
-use Rattle.std.proofs.Common.{◌≡◌, ◌≢◌, ℕ, zero, suc, ◌+◌, ◌-◌, ◌*◌, ◌/◌, ◌%◌, ◌<◌, ◌≤◌, inl, inr, Bool, true, false, List, [], ◌∷◌, ◌++◌, length, map, slice_get, Option, Some, None, option_map, refl, sym, ap, subst, ◌∙◌, arith}
+use Rattle.std.proofs.Common.{◌≡◌, ℕ, zero, suc, ◌+◌, ◌-◌, ◌*◌, ◌<◌, ◌≤◌, inl, inr, Bool, true, List, [], ◌∷◌, length, map, slice_get, Option, Some, None, refl, sym, ap, subst, ◌∙◌, arith}
 use Rattle.std.specs.Prelude.{take}
 use Rattle.mem80.specs.declared.memory.TheConstants.{MEMORY_SIZE}
-use Rattle.mem80.specs.Memory.{byte_at}
-use Rattle.ports.specs.declared.event.Event.{Event}
 use Rattle.trees.specs.declared.declaration.ScalarType.{ScalarType}
-use Rattle.trees.specs.declared.declaration.ScalarType.TheVariants.{Byte, Address}
-use Rattle.meaning.specs.Access.{frame_bytes}
-use Rattle.meaning.specs.Outcomes.{Gave, Outcome, State as SourceState}
-use Rattle.isa8080.specs.State.{HoldBytes, Registers, State, wrap}
-use Rattle.asm8080.specs.declared.item.Item.{Item}
+use Rattle.meaning.specs.Access.{frame_bytes, is_declared}
+use Rattle.meaning.specs.Outcomes.{Program}
+use Rattle.isa8080.specs.State.{Registers, wrap}
 use Rattle.treecode.specs.declared.place.Location.{Location}
 use Rattle.treecode.specs.declared.place.Location.TheVariants.{Static}
 use Rattle.treecode.specs.declared.procedure.Parameter.{Parameter}
-use Rattle.code_meaning.specs.Activations.{IsReady, IsThere, IsVariable, Shares}
-use Rattle.code_meaning.specs.Landing.{Does, at_place}
-use Rattle.code_meaning.proofs.Landing.{gives}
-use Rattle.code_facts.specs.Holding.{ByteHolds, WordHolds, place_at}
-use Rattle.code_facts.proofs.Changes.{no_facts_hold, with_facts_hold}
+use Rattle.code_meaning.specs.Activations.{IsVariable, Shares}
+use Rattle.code_facts.specs.Holding.{ByteHolds, WordHolds, place_at, AddressHolds, IsByteAt, IsWordAt, ZeroHolds, location_at}
 use Rattle.steps8080.specs.declared.facts.Facts.{Facts}
-use Rattle.steps8080.specs.Facts.{after_word, no_facts, with_facts}
-use Rattle.steps8080.specs.Writer.{word_item}
-use Rattle.statements8080.specs.declared.plan.Planned.{Planned}
-use Rattle.statements8080.specs.Plans.{holds, word}
-use Rattle.codegen8080.specs.declared.meeting.Here.{Here}
-use Rattle.codegen8080.specs.Generated.{AreCarriedOut}
-use Rattle.codegen8080.specs.Procedures.{argument_facts, argument_step, below_return_steps, known_from, static_entry_steps, stores_steps, with_argument}
 use Rattle.task_meaning.specs.Contexts.{ArgumentsLie, InRegister, InWord, IsSound, distances_in}
 use Rattle.task_meaning.specs.Tasks.{Know}
 use Rattle.statement_meaning.specs.Bodies.{BodyContext}
-use Rattle.procedure_meaning.specs.Calls.{IsOfCall, ReturnLies}
-use Rattle.procedure_meaning.specs.Modules.{at_start}
-use Rattle.procedure_meaning.specs.Procedures.{HasBegun}
-use Rattle.procedure_meaning.proofs.Planned.{EndsKnowing, IsBehind, holds_last, word_behind}
-use Rattle.procedure_meaning.proofs.Puts.{AreVariables, EachApart, IsPart, Lies, Slot, lies_there, put, put_down, put_nth, set_all, set_down}
-use Rattle.procedure_meaning.proofs.StaticArguments.{IsBelow, below_does}
-use Rattle.procedure_meaning.proofs.StaticLoops.{Held, HeldAs, HeldByte, HeldWord, IsTaken, PartedThere, held_then, nth_is, store_is, word_parted}
-use Rattle.procedure_meaning.proofs.StaticStages.{Underway, ready_of, store_form, store_goes}
+use Rattle.procedure_meaning.proofs.Puts.{AreVariables, EachApart, IsPart, Lies, Slot, lies_there, put_down}
+use Rattle.procedure_meaning.proofs.StaticLoops.{Held, HeldAs, HeldByte, HeldWord}
 
 -- the parameter of tree code that lies in a place
 abbrev pub parameter_of : Slot → Parameter
@@ -76,7 +56,7 @@ pub mapped_length : (slots : List Slot) → length (map parameter_of slots) ≡ 
 mapped_length [] = refl
 mapped_length (first ∷ slots) = ap suc (mapped_length slots)
 
-pub variables_at : (program : Rattle.meaning.specs.Outcomes.Program) (slots : List Slot) (index : ℕ) (slot : Slot)
+pub variables_at : (program : Program) (slots : List Slot) (index : ℕ) (slot : Slot)
     → AreVariables program slots → slice_get slots index ≡ Some slot
     → (address : ℕ) → IsPart slot.scalar slot.at address → IsVariable program address
 variables_at program [] index slot are is = let bad : ⊥ = cc in absurd bad
@@ -159,7 +139,7 @@ module _ (at : BodyContext) (sound : IsSound at.context)
   part_declared : {scalar : ScalarType} {location : Location} {value : ℕ}
       (held : HeldAs slots values scalar location value) (address : ℕ)
       → IsPart scalar held.slot.at address
-      → Rattle.meaning.specs.Access.is_declared at.context.activation.around.program address ≡ true
+      → is_declared at.context.activation.around.program address ≡ true
   part_declared {scalar = scalar} held address part =
       (variables_at at.context.activation.around.program slots held.index held.slot variables held.there address
       (subst (λ (scalar : ScalarType). IsPart scalar held.slot.at address) (sym held.scalar_is) part)).0
@@ -167,11 +147,11 @@ module _ (at : BodyContext) (sound : IsSound at.context)
   place_is : {scalar : ScalarType} {location : Location} {value : ℕ}
       (held : HeldAs slots values scalar location value)
       → held.slot.at
-      ≡ Rattle.code_facts.specs.Holding.location_at at.context.activation (distances_in at.context) location
+      ≡ location_at at.context.activation (distances_in at.context) location
   place_is held =
       sym (lie held.index held.slot held.there).0
       ∙ ap (λ (location : Location).
-      Rattle.code_facts.specs.Holding.location_at at.context.activation (distances_in at.context) location)
+      location_at at.context.activation (distances_in at.context) location)
       (sym held.location_is)
 
   byte_holds : (location : Option Location) (a : ℕ) (memory : List ℕ)
@@ -182,7 +162,7 @@ module _ (at : BodyContext) (sound : IsSound at.context)
   byte_holds None a memory shares held = tt
   byte_holds (Some location) a memory shares held =
       let declared = part_declared held.2 (held.2).slot.at refl in
-      subst (λ (address : ℕ). Rattle.code_facts.specs.Holding.IsByteAt at.context.activation memory address a)
+      subst (λ (address : ℕ). IsByteAt at.context.activation memory address a)
       (place_is held.2)
       (held.1 ∙ sym (lies_at held.0 held.2) ∙ sym (shares.declared (held.2).slot.at declared), inl declared)
 
@@ -196,7 +176,7 @@ module _ (at : BodyContext) (sound : IsSound at.context)
       let low = part_declared held.2 (held.2).slot.at (inl refl) in
       let high = part_declared held.2 (wrap ((held.2).slot.at + 1)) (inr refl) in
       let lies = lies_at held.0 held.2 in
-      subst (λ (address : ℕ). Rattle.code_facts.specs.Holding.IsWordAt at.context.activation memory address h l)
+      subst (λ (address : ℕ). IsWordAt at.context.activation memory address h l)
       (place_is held.2)
       (record {
         low_is = (held.1.1 ∙ sym lies.0 ∙ sym (shares.declared (held.2).slot.at low), inl low);
@@ -213,8 +193,8 @@ module _ (at : BodyContext) (sound : IsSound at.context)
     word_holds = word_holds facts.word_in_hl r.h r.l memory shares held.word;
     address_holds =
         subst (λ (location : Option Location).
-        Rattle.code_facts.specs.Holding.AddressHolds at.context.activation (distances_in at.context) location r.h r.l)
+        AddressHolds at.context.activation (distances_in at.context) location r.h r.l)
         (sym held.address) tt;
     zero_holds =
-        subst (λ (shows : Bool). Rattle.code_facts.specs.Holding.ZeroHolds shows r.flags.z r.a) (sym held.zero) tt;
+        subst (λ (shows : Bool). ZeroHolds shows r.flags.z r.a) (sym held.zero) tt;
   }

@@ -1,29 +1,25 @@
 -- The entry of a procedure that is not REENTRANT, from its first instruction to the begin of its body.
-use Rattle.std.proofs.Common.{◌≡◌, ◌≢◌, ℕ, zero, suc, ◌+◌, ◌-◌, ◌*◌, ◌/◌, ◌%◌, ◌<◌, ◌≤◌, inl, inr, Bool, true, false, List, [], ◌∷◌, ◌++◌, length, map, slice_get, Option, Some, None, refl, sym, ap, subst, ◌∙◌, arith}
+use Rattle.std.proofs.Common.{◌≡◌, ℕ, suc, ◌+◌, ◌-◌, ◌*◌, ◌<◌, ◌≤◌, List, [], ◌∷◌, ◌++◌, length, map, slice_get, Option, Some, None, refl, sym, ap, subst, ◌∙◌, arith}
 use Rattle.std.specs.Prelude.{take}
 use Rattle.mem80.specs.declared.memory.TheConstants.{MEMORY_SIZE}
-use Rattle.mem80.specs.Memory.{byte_at}
-use Rattle.ports.specs.declared.event.Event.{Event}
-use Rattle.trees.specs.declared.declaration.ScalarType.{ScalarType}
-use Rattle.trees.specs.declared.declaration.ScalarType.TheVariants.{Byte, Address}
 use Rattle.meaning.specs.Access.{frame_bytes}
-use Rattle.meaning.specs.Outcomes.{Gave, Outcome, State as SourceState}
-use Rattle.isa8080.specs.State.{HoldBytes, Registers, State, wrap}
+use Rattle.meaning.specs.Outcomes.{Gave, State as SourceState}
+use Rattle.isa8080.specs.State.{Registers, State}
 use Rattle.asm8080.specs.declared.item.Item.{Item}
 use Rattle.treecode.specs.declared.place.Location.TheVariants.{Static}
 use Rattle.treecode.specs.declared.procedure.Parameter.{Parameter}
-use Rattle.code_meaning.specs.Activations.{IsReady, IsThere, IsVariable, Shares}
+use Rattle.code_meaning.specs.Activations.{IsReady, IsThere}
 use Rattle.code_meaning.specs.Landing.{Does, at_place}
 use Rattle.code_meaning.proofs.Landing.{gives}
-use Rattle.code_facts.proofs.Changes.{no_facts_hold, with_facts_hold}
+use Rattle.code_facts.proofs.Changes.{with_facts_hold}
 use Rattle.steps8080.specs.declared.facts.Facts.{Facts}
-use Rattle.steps8080.specs.Facts.{after_word, no_facts, with_facts}
+use Rattle.steps8080.specs.Facts.{after_word, no_facts}
 use Rattle.steps8080.specs.Writer.{word_item}
 use Rattle.statements8080.specs.declared.plan.Planned.{Planned}
 use Rattle.statements8080.specs.Plans.{holds, word}
 use Rattle.codegen8080.specs.declared.meeting.Here.{Here}
 use Rattle.codegen8080.specs.Generated.{AreCarriedOut}
-use Rattle.codegen8080.specs.Procedures.{argument_facts, argument_step, below_return_steps, known_from, static_entry_steps, stores_steps, with_argument}
+use Rattle.codegen8080.specs.Procedures.{below_return_steps, known_from, static_entry_steps, stores_steps, with_argument}
 use Rattle.task_meaning.specs.Contexts.{ArgumentsLie, InRegister, InWord, IsSound}
 use Rattle.task_meaning.specs.Tasks.{Know}
 use Rattle.statement_meaning.specs.Bodies.{BodyContext}
@@ -31,10 +27,10 @@ use Rattle.procedure_meaning.specs.Calls.{ReturnLies}
 use Rattle.procedure_meaning.specs.Modules.{at_start}
 use Rattle.procedure_meaning.specs.Procedures.{HasBegun}
 use Rattle.procedure_meaning.proofs.Planned.{EndsKnowing, IsBehind, holds_last, word_behind}
-use Rattle.procedure_meaning.proofs.Puts.{AreVariables, EachApart, Slot, put, put_down, put_nth, set_all, set_down}
+use Rattle.procedure_meaning.proofs.Puts.{AreVariables, EachApart, Slot, put, put_down, set_all, set_down}
 use Rattle.procedure_meaning.proofs.StaticArguments.{IsBelow, below_does}
 use Rattle.procedure_meaning.proofs.StaticBegins.{IsThereAt, SlotsLie, at_index, held_known, last_lies, mapped, mapped_length, other_lies, parameter_of, taken_first, taken_length, variables_at}
-use Rattle.procedure_meaning.proofs.StaticLoops.{Held, HeldAs, IsTaken, PartedThere, held_then, nth_is, store_is, word_parted}
+use Rattle.procedure_meaning.proofs.StaticLoops.{Held, IsTaken, PartedThere, held_then, nth_is, store_is, word_parted}
 use Rattle.procedure_meaning.proofs.StaticStages.{Underway, ready_of, store_form, store_goes}
 
 one_less_of : (count others : ℕ) → count ≡ suc others → count - 1 ≡ others
@@ -56,11 +52,11 @@ module _ (at : BodyContext) (sound : IsSound at.context)
     (memory_is : t.memory ≡ set_all slots values source)
     (frame_is : t.frame ≡ frame)
     (return_lies : ReturnLies top back entered) where
-  abbrev Good : Unit {0} → SourceState → State → Type 0
+  abbrev pub Good : Unit {0} → SourceState → State → Type 0
   Good given t end = HasBegun at to (top + 2 + 2 * (length slots - 1)) back begun.facts entered t end
 
   -- behind the last instruction
-  finish :
+  pub finish :
       (held : Facts) (here : Here) (list : List Item) (from level : ℕ) (stacked : List ℕ) (r : Registers)
       (memory : List ℕ)
       → AreCarriedOut at.body at.context.called here None (holds held ∷ []) list begun
@@ -106,7 +102,7 @@ module _ (at : BodyContext) (sound : IsSound at.context)
       from_is = nothing_there.stands
 
   -- with one argument, or more
-  some_does :
+  pub some_does :
       (others : ℕ) (list : List Item) (from : ℕ) (r : Registers)
       → length slots ≡ suc others
       → ArgumentsLie (map (λ (slot : Slot). slot.scalar) slots) values (top + 2) r entered

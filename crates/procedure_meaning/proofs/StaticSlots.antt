@@ -1,23 +1,22 @@
 -- Where the parameters of a procedure lie that is not REENTRANT.
-use Rattle.std.proofs.Common.{◌≡◌, ◌≢◌, ℕ, zero, suc, ◌+◌, ◌-◌, ◌*◌, ◌%◌, ◌<◌, ◌≤◌, ◌⊎◌, inl, inr, Bool, true, false, List, [], ◌∷◌, length, map, slice_get, slice_index_or, Option, Some, None, AllPairs, refl, sym, ap, subst, ◌∙◌, arith}
+use Rattle.std.proofs.Common.{◌≡◌, ◌≢◌, ℕ, zero, suc, ◌+◌, ◌%◌, ◌<◌, inl, inr, true, List, [], ◌∷◌, length, map, slice_get, slice_index_or, Option, Some, None, AllPairs, refl, sym, ap, subst, ◌∙◌, arith}
 use Rattle.std.specs.Prelude.{IsSomeAnd, zip}
 use Rattle.std.specs.Option.{option_map_or}
 use Rattle.mem80.specs.declared.memory.TheConstants.{MEMORY_SIZE}
 use Rattle.trees.specs.declared.declaration.ScalarType.{ScalarType}
 use Rattle.trees.specs.declared.declaration.ScalarType.TheVariants.{Byte, Address}
-use Rattle.typed_trees.specs.Frames.{AreParameters, IsParameter}
+use Rattle.typed_trees.specs.Frames.{AreParameters}
 use Rattle.typed_trees.specs.ObjectParts.{IsScalar}
-use Rattle.typed_trees.specs.Sizes.{size_of_object, size_of_scalar}
-use Rattle.typed_trees.specs.TypedTrees.{Home, InData, TypedModule, TypedObject}
-use Rattle.meaning.specs.Access.{InMemory, Place as SourcePlace, Surroundings, home_in, home_of, place_in, place_of}
+use Rattle.typed_trees.specs.Sizes.{size_of_scalar}
+use Rattle.typed_trees.specs.TypedTrees.{Home, InData, TypedModule, TypedObject, Nowhere}
+use Rattle.meaning.specs.Access.{InMemory, Place as SourcePlace, home_in, home_of, place_in, place_of}
 use Rattle.meaning.specs.Meaning.{based_place}
-use Rattle.meaning.specs.Outcomes.{Gave, Outcome, State as SourceState}
+use Rattle.meaning.specs.Outcomes.{Gave, State as SourceState}
 use Rattle.isa8080.specs.State.{wrap}
 use Rattle.treecode.specs.declared.place.Home.{Home as TreeHome}
 use Rattle.treecode.specs.declared.place.Home.TheVariants.{Static}
-use Rattle.treecode.specs.declared.place.Place.{Place}
 use Rattle.treecode.specs.declared.procedure.Parameter.{Parameter}
-use Rattle.treecode.specs.Homes.{homes_of, location_of, parameter_at, place_of_slot}
+use Rattle.treecode.specs.Homes.{location_of, parameter_at, place_of_slot}
 use Rattle.treecode.specs.Nodes.{home_at}
 use Rattle.procedure_frames.proofs.Bytes.{scalar_size}
 use Rattle.procedure_frames.proofs.Homes.{home_in_data}
@@ -138,9 +137,9 @@ slot_meant code entries room slot lies fits =
     home_is =
         ap (λ (entry : Option TypedModule).
         option_map_or (λ (typed : TypedModule). home_in typed slot.object) entry
-        Rattle.typed_trees.specs.TypedTrees.Nowhere) lies.is_module
+        Nowhere) lies.is_module
         ∙ ap (λ (entry : Option TypedObject).
-        option_map_or (λ (found : TypedObject). found.home) entry Rattle.typed_trees.specs.TypedTrees.Nowhere) fits.there
+        option_map_or (λ (found : TypedObject). found.home) entry Nowhere) fits.there
         ∙ fits.home
 
 pub slots_meant : (code : ModuleCode) (entries : Entries) (room : ℕ) (slots : List Slot)

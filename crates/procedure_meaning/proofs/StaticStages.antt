@@ -1,6 +1,6 @@
 -- A machine within the code by which a procedure that is not REENTRANT takes its arguments, and what it does that comes
 -- to an instruction of it.
-use Rattle.std.proofs.Common.{◌≡◌, ◌≢◌, ℕ, ◌+◌, ◌-◌, ◌*◌, ◌/◌, ◌%◌, ◌<◌, ◌≤◌, ◌⊎◌, inl, inr, Bool, true, false, List, [], ◌∷◌, length, slice_set, Option, Some, None, refl, sym, ap, subst, ◌∙◌, arith}
+use Rattle.std.proofs.Common.{◌≡◌, ◌≢◌, ℕ, ◌+◌, ◌-◌, ◌*◌, ◌/◌, ◌%◌, ◌<◌, ◌≤◌, inl, inr, List, [], ◌∷◌, length, slice_set, refl, sym, ap, subst, ◌∙◌, arith}
 use Rattle.std.proofs.lemmas.List.{length-set, set_comm}
 use Rattle.mem80.specs.declared.memory.TheConstants.{MEMORY_SIZE}
 use Rattle.mem80.specs.Memory.{byte_at, word_at}
@@ -13,14 +13,14 @@ use Rattle.isa8080.specs.declared.instr.Instr.TheVariants.{Pop, Push, Xthl}
 use Rattle.isa8080.specs.declared.instr.StackPair.{StackPair}
 use Rattle.isa8080.specs.declared.instr.StackPair.TheVariants.{Psw, StackBc, StackDe, StackHl}
 use Rattle.isa8080.specs.Act.{act}
-use Rattle.isa8080.specs.State.{HoldBytes, Registers, State, high_byte, low_byte, one_less, pushed_of, two_less, with_popped, wrap}
+use Rattle.isa8080.specs.State.{HoldBytes, Registers, State, high_byte, low_byte, with_popped, wrap}
 use Rattle.asm8080.specs.declared.item.Item.TheVariants as items
 use Rattle.asm8080.specs.declared.item.WordForm.{WordForm}
 use Rattle.asm8080.specs.declared.item.WordForm.TheVariants.{StoreA, StoreHl}
 use Rattle.asm8080.specs.Items.{instruction_with}
 use Rattle.asm8080.specs.Standing.{Keeps, size_of_instruction}
-use Rattle.machine_runs.proofs.Calls.{IsPushed, one_below, pushed, pushed_is_memory, pushed_keeps, two_below}
-use Rattle.code_meaning.specs.Activations.{Activation, FrameLies, IsReady, IsThere, IsVariable, LiesWell, Owns, Shares}
+use Rattle.machine_runs.proofs.Calls.{one_below, pushed, pushed_is_memory, pushed_keeps, two_below}
+use Rattle.code_meaning.specs.Activations.{FrameLies, IsReady, IsThere, IsVariable, Owns, Shares}
 use Rattle.code_meaning.specs.Landing.{Does, at_place}
 use Rattle.code_meaning.proofs.Owning.{keeps_all}
 use Rattle.code_meaning.proofs.Pops.{pop_does}
@@ -31,8 +31,7 @@ use Rattle.code_facts.specs.Holding.{place_at}
 use Rattle.steps8080.specs.declared.facts.Facts.{Facts}
 use Rattle.steps8080.specs.Facts.{after, after_word}
 use Rattle.steps8080.specs.Writer.{word_item}
-use Rattle.codegen8080.specs.Procedures.{pair_of}
-use Rattle.task_meaning.specs.Contexts.{InRegister, InWord, IsSound, distances_in}
+use Rattle.task_meaning.specs.Contexts.{InRegister, IsSound, distances_in}
 use Rattle.task_meaning.specs.Tasks.{Know}
 use Rattle.task_meaning.proofs.Rules.{GoesOn, plain_goes, popped_bytes, word_goes}
 use Rattle.statement_meaning.specs.Bodies.{BodyContext}

@@ -46,6 +46,7 @@ lies_with code entries place lies = record {
   parameters = lies.parameters;
   reentrant = lies.reentrant;
   sized = lies.sized;
+  apart = lies.apart;
   bases = lies.bases;
   lists = lies.lists;
   lowered = lies.lowered;
