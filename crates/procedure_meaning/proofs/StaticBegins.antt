@@ -11,6 +11,7 @@ use Rattle.treecode.specs.declared.place.Location.TheVariants.{Static}
 use Rattle.treecode.specs.declared.procedure.Parameter.{Parameter}
 use Rattle.code_meaning.specs.Activations.{IsVariable, Shares}
 use Rattle.code_facts.specs.Holding.{ByteHolds, WordHolds, place_at, AddressHolds, IsByteAt, IsWordAt, ZeroHolds, location_at}
+use Rattle.code_facts.proofs.Steady.{declared_is_steady}
 use Rattle.steps8080.specs.declared.facts.Facts.{Facts}
 use Rattle.task_meaning.specs.Contexts.{ArgumentsLie, InRegister, InWord, IsSound, distances_in}
 use Rattle.task_meaning.specs.Tasks.{Know}
@@ -164,7 +165,10 @@ module _ (at : BodyContext) (sound : IsSound at.context)
       let declared = part_declared held.2 (held.2).slot.at refl in
       subst (λ (address : ℕ). IsByteAt at.context.activation memory address a)
       (place_is held.2)
-      (held.1 ∙ sym (lies_at held.0 held.2) ∙ sym (shares.declared (held.2).slot.at declared), inl declared)
+      (
+        held.1 ∙ sym (lies_at held.0 held.2) ∙ sym (shares.declared (held.2).slot.at declared),
+        declared_is_steady at.context.activation (held.2).slot.at sound.lies declared,
+      )
 
   word_holds : (location : Option Location) (h l : ℕ) (memory : List ℕ)
       → Shares at.context.activation.around.program at.context.activation.image
@@ -179,8 +183,14 @@ module _ (at : BodyContext) (sound : IsSound at.context)
       subst (λ (address : ℕ). IsWordAt at.context.activation memory address h l)
       (place_is held.2)
       (record {
-        low_is = (held.1.1 ∙ sym lies.0 ∙ sym (shares.declared (held.2).slot.at low), inl low);
-        high_is = (held.1.0 ∙ sym lies.1 ∙ sym (shares.declared (wrap ((held.2).slot.at + 1)) high), inl high);
+        low_is = (
+          held.1.1 ∙ sym lies.0 ∙ sym (shares.declared (held.2).slot.at low),
+          declared_is_steady at.context.activation (held.2).slot.at sound.lies low,
+        );
+        high_is = (
+          held.1.0 ∙ sym lies.1 ∙ sym (shares.declared (wrap ((held.2).slot.at + 1)) high),
+          declared_is_steady at.context.activation (wrap ((held.2).slot.at + 1)) sound.lies high,
+        );
       })
 
   pub held_known : (facts : Facts) (r : Registers) (memory : List ℕ)

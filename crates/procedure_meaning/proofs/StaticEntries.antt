@@ -31,7 +31,7 @@ use Rattle.procedure_meaning.proofs.Puts.{AreVariables, EachApart, Slot, put, pu
 use Rattle.procedure_meaning.proofs.StaticArguments.{IsBelow, below_does}
 use Rattle.procedure_meaning.proofs.StaticBegins.{IsThereAt, SlotsLie, at_index, held_known, last_lies, mapped, mapped_length, other_lies, parameter_of, taken_first, taken_length, variables_at}
 use Rattle.procedure_meaning.proofs.StaticLoops.{Held, IsTaken, PartedThere, held_then, nth_is, store_is, word_parted}
-use Rattle.procedure_meaning.proofs.StaticStages.{Underway, ready_of, store_form, store_goes}
+use Rattle.procedure_meaning.proofs.StaticStages.{Underway, known_within, ready_of, store_form, store_goes}
 
 one_less_of : (count others : ℕ) → count ≡ suc others → count - 1 ≡ others
 one_less_of count others same = omega (arith, same)
@@ -82,7 +82,7 @@ module _ (at : BodyContext) (sound : IsSound at.context)
             (ready_of at sound no_frame (top + 2 + 2 * (length slots - 1)) entered frame none on)));
         known =
             subst (λ (facts : Facts). Know at.context facts r memory) (sym ends.facts)
-            (with_facts_hold here.facts held on.known known);
+            (with_facts_hold here.facts held (known_within at.context here.facts r memory sound.lies on.known) known);
         return_lies =
             subst (λ (address : ℕ). ReturnLies address back memory) (omega (arith, same, level_is, back_is))
             (record {

@@ -1,6 +1,6 @@
 -- A machine within the code by which a procedure that is not REENTRANT takes its arguments, and what it does that comes
 -- to an instruction of it.
-use Rattle.std.proofs.Common.{◌≡◌, ◌≢◌, ℕ, ◌+◌, ◌-◌, ◌*◌, ◌/◌, ◌%◌, ◌<◌, ◌≤◌, inl, inr, List, [], ◌∷◌, length, slice_set, refl, sym, ap, subst, ◌∙◌, arith}
+use Rattle.std.proofs.Common.{◌≡◌, ◌≢◌, ℕ, ◌+◌, ◌-◌, ◌*◌, ◌/◌, ◌%◌, ◌<◌, ◌≤◌, inl, inr, List, [], ◌∷◌, Option, Some, None, length, slice_set, refl, sym, ap, subst, ◌∙◌, arith}
 use Rattle.std.proofs.lemmas.List.{length-set, set_comm}
 use Rattle.mem80.specs.declared.memory.TheConstants.{MEMORY_SIZE}
 use Rattle.mem80.specs.Memory.{byte_at, word_at}
@@ -9,6 +9,7 @@ use Rattle.trees.specs.declared.declaration.ScalarType.{ScalarType}
 use Rattle.trees.specs.declared.declaration.ScalarType.TheVariants.{Byte, Address}
 use Rattle.meaning.specs.Access.{frame_bytes}
 use Rattle.meaning.specs.Outcomes.{Outcome, State as SourceState}
+use Rattle.isa8080.specs.declared.instr.Instr.{Instr}
 use Rattle.isa8080.specs.declared.instr.Instr.TheVariants.{Pop, Push, Xthl}
 use Rattle.isa8080.specs.declared.instr.StackPair.{StackPair}
 use Rattle.isa8080.specs.declared.instr.StackPair.TheVariants.{Psw, StackBc, StackDe, StackHl}
@@ -19,21 +20,27 @@ use Rattle.asm8080.specs.declared.item.WordForm.{WordForm}
 use Rattle.asm8080.specs.declared.item.WordForm.TheVariants.{StoreA, StoreHl}
 use Rattle.asm8080.specs.Items.{instruction_with}
 use Rattle.asm8080.specs.Standing.{Keeps, size_of_instruction}
-use Rattle.machine_runs.proofs.Calls.{one_below, pushed, pushed_is_memory, pushed_keeps, two_below}
-use Rattle.code_meaning.specs.Activations.{FrameLies, IsReady, IsThere, IsVariable, Owns, Shares}
+use Rattle.machine_runs.proofs.Calls.{pushed, pushed_is_memory, pushed_keeps}
+use Rattle.treecode.specs.declared.place.Location.{Location}
+use Rattle.treecode.specs.declared.place.Location.TheVariants.{Frame, Static}
+use Rattle.treecode.specs.declared.place.Place.{Place}
+use Rattle.code_meaning.specs.Activations.{Activation, FrameLies, IsReady, IsThere, IsVariable, LiesWell, Owns, Shares}
 use Rattle.code_meaning.specs.Landing.{Does, at_place}
+use Rattle.code_meaning.proofs.FirstItems.{plain_first}
 use Rattle.code_meaning.proofs.Owning.{keeps_all}
 use Rattle.code_meaning.proofs.Pops.{pop_does}
 use Rattle.code_meaning.proofs.Pushes.{push_does}
 use Rattle.code_meaning.proofs.Stores.{keeps_put, ready_with_variable}
-use Rattle.code_facts.specs.Asking.{Asks, PushAsks, WordAsks}
-use Rattle.code_facts.specs.Holding.{place_at}
+use Rattle.code_facts.specs.Asking.{Asks, WordAsks}
+use Rattle.code_facts.specs.Holding.{AddressHolds, ByteHolds, Distances, FactsHold, IsByteAt, IsSteady, IsWordAt, WordHolds, location_at, place_at}
+use Rattle.code_facts.proofs.After.{facts_after, facts_after_word}
+use Rattle.code_facts.proofs.Steady.{declared_is_steady, push_asks}
 use Rattle.steps8080.specs.declared.facts.Facts.{Facts}
 use Rattle.steps8080.specs.Facts.{after, after_word}
 use Rattle.steps8080.specs.Writer.{word_item}
-use Rattle.task_meaning.specs.Contexts.{InRegister, IsSound, distances_in}
+use Rattle.task_meaning.specs.Contexts.{Context, InRegister, IsSound, distances_in}
 use Rattle.task_meaning.specs.Tasks.{Know}
-use Rattle.task_meaning.proofs.Rules.{GoesOn, plain_goes, popped_bytes, word_goes}
+use Rattle.task_meaning.proofs.Rules.{bytes_at_place, popped_bytes, word_acts}
 use Rattle.statement_meaning.specs.Bodies.{BodyContext}
 use Rattle.procedure_meaning.specs.Calls.{IsOfCall}
 use Rattle.procedure_meaning.proofs.Puts.{IsPart, Slot, put, put_kept}
@@ -43,6 +50,83 @@ abbrev pub store_form : ScalarType → WordForm
 store_form Byte = StoreA
 store_form Address = StoreHl
 
+-- Along the entry the return address is pushed where the stack pointer of the body is to be, so no byte of the stack is
+-- steady. What is known is said as in an activation without a frame at the end of the stack,
+abbrev pub at_end : Activation → Activation
+at_end activation = record activation {
+  level = activation.around.program.placement.stack.start + activation.around.program.placement.stack.len;
+  whole = 0;
+}
+
+-- with variables of a frame where they are,
+abbrev pub distances_at_end : Context → Distances
+distances_at_end context variable =
+    distances_in context variable + context.activation.level
+    + (MEMORY_SIZE - (at_end context.activation).level)
+
+abbrev pub KnownOutside : Context → Facts → Registers → (memory : List ℕ) → Type 0
+KnownOutside context facts r memory =
+    FactsHold (at_end context.activation) (distances_at_end context) facts r memory
+
+-- so that it is known in the activation too
+steady_within : (activation : Activation) (address : ℕ) → LiesWell activation
+    → IsSteady (at_end activation) address → IsSteady activation address
+steady_within activation address lies steady =
+    let above = lies.above in
+    record { apart = λ low below. steady.apart low (omega (arith, below, above)) }
+
+same_location : (context : Context) (location : Location) → LiesWell context.activation
+    → location_at (at_end context.activation) (distances_at_end context) location
+    ≡ location_at context.activation (distances_in context) location
+same_location context (Static place) lies = refl
+same_location context (Frame variable offset) lies =
+    let stack = lies.placed.stack_in_memory in
+    moved (at_end context.activation).level (distances_in context variable) context.activation.level offset stack
+  where
+    moved : (end distance level offset : ℕ) → end ≤ MEMORY_SIZE
+        → wrap (end + (distance + level + (MEMORY_SIZE - end)) + offset) ≡ wrap (level + distance + offset)
+    moved end distance level offset small = omega (arith, small)
+
+byte_within : (context : Context) (memory : List ℕ) (address byte : ℕ) → LiesWell context.activation
+    → IsByteAt (at_end context.activation) memory address byte → IsByteAt context.activation memory address byte
+byte_within context memory address byte lies is = (is.0, steady_within context.activation address lies is.1)
+
+byte_known : (context : Context) (held : Option Location) (a : ℕ) (memory : List ℕ) → LiesWell context.activation
+    → ByteHolds (at_end context.activation) (distances_at_end context) held a memory
+    → ByteHolds context.activation (distances_in context) held a memory
+byte_known context None a memory lies holds = tt
+byte_known context (Some location) a memory lies holds =
+    subst (λ (address : ℕ). IsByteAt context.activation memory address a) (same_location context location lies)
+    (byte_within context memory (location_at (at_end context.activation) (distances_at_end context) location) a lies
+    holds)
+
+word_known : (context : Context) (held : Option Location) (h l : ℕ) (memory : List ℕ) → LiesWell context.activation
+    → WordHolds (at_end context.activation) (distances_at_end context) held h l memory
+    → WordHolds context.activation (distances_in context) held h l memory
+word_known context None h l memory lies holds = tt
+word_known context (Some location) h l memory lies holds =
+    let address = location_at (at_end context.activation) (distances_at_end context) location in
+    subst (λ (address : ℕ). IsWordAt context.activation memory address h l) (same_location context location lies)
+    (record {
+      low_is = byte_within context memory address l lies holds.low_is;
+      high_is = byte_within context memory (wrap (address + 1)) h lies holds.high_is;
+    })
+
+address_known : (context : Context) (held : Option Location) (h l : ℕ) → LiesWell context.activation
+    → AddressHolds (at_end context.activation) (distances_at_end context) held h l
+    → AddressHolds context.activation (distances_in context) held h l
+address_known context None h l lies holds = tt
+address_known context (Some location) h l lies holds = holds ∙ same_location context location lies
+
+pub known_within : (context : Context) (facts : Facts) (r : Registers) (memory : List ℕ) → LiesWell context.activation
+    → KnownOutside context facts r memory → Know context facts r memory
+known_within context facts r memory lies known = record {
+  byte_holds = byte_known context facts.byte_in_a r.a memory lies known.byte_holds;
+  word_holds = word_known context facts.word_in_hl r.h r.l memory lies known.word_holds;
+  address_holds = address_known context facts.address_in_hl r.h r.l lies known.address_holds;
+  zero_holds = known.zero_holds;
+}
+
 -- a machine on its way: this is known, and the bytes of the stack are these
 pub record Underway
     (at : BodyContext) (above : ℕ) (entered stacked : List ℕ) (facts : Facts) (top : ℕ) (source : List ℕ)
@@ -50,7 +134,7 @@ pub record Underway
   pub pointer : r.sp ≡ wrap top
   pub registers : HoldBytes r
   pub shares : Shares at.context.activation.around.program at.context.activation.image source memory
-  pub known : Know at.context facts r memory
+  pub known : KnownOutside at.context facts r memory
   pub kept : Keeps (IsOfCall at.context.activation.around.program above) entered memory
   pub stack : (address : ℕ) → at.context.activation.around.program.placement.stack.start ≤ address
       → address < at.context.activation.around.program.placement.stack.start
@@ -90,10 +174,64 @@ module _ (at : BodyContext) (sound : IsSound at.context)
     kept = keeps_all (Owns at.context.activation top) memory;
   }
 
-  goes_of : {stacked : List ℕ} {facts : Facts} {top : ℕ} {source : List ℕ} {r : Registers} {memory : List ℕ}
+  end_lies : LiesWell (at_end at.context.activation)
+  end_lies = record {
+    placed = sound.lies.placed;
+    low = omega arith;
+    above = omega arith;
+    inside = λ object offset within. let empty = no_frame object in absurd (omega (arith, within, empty));
+    not_back = λ object offset within. let empty = no_frame object in absurd (omega (arith, within, empty));
+    differ = λ object offset other place within rest same.
+        let empty = no_frame object in absurd (omega (arith, within, empty));
+  }
+
+  -- an instruction: what it does is left, and what is known after it holds then
+  plain_on :
+      {A : Type 0} {outcome : Outcome A} {Good : A → SourceState → State → Type 0} {budget : ℕ}
+      {stacked : List ℕ} {facts : Facts} {top : ℕ} {source : List ℕ} {memory : List ℕ} {events : List Event}
+      {i : Instr} {from : ℕ} (r now : Registers) (ended : List ℕ)
+      → IsThere at.context.activation (items.Plain i ∷ []) from (from + size_of_instruction i)
       → Underway at above entered stacked facts top source r memory
-      → GoesOn at.context facts top memory source frame r memory
-  goes_of on = record { ready = ready_of on; known = on.known }
+      → Asks (at_end at.context.activation) (distances_at_end at.context) facts i
+      (record r { pc = wrap (from + size_of_instruction i) })
+      → act at.context.activation.around.program.script i (at_place (from + size_of_instruction i) r memory events)
+      ≡ at_place (from + size_of_instruction i) now ended events
+      → (KnownOutside at.context (after facts i) now ended
+      → Does at.context.activation.around.program.script budget 0
+      (at_place (from + size_of_instruction i) now ended events) outcome Good)
+      → Does at.context.activation.around.program.script budget 0 (at_place from r memory events) outcome Good
+  plain_on {outcome = outcome} {Good = Good} {budget = budget} {facts = facts} {memory = memory} {events = events} {i = i} {from = from} r now ended there on asks does rest =
+      let script = at.context.activation.around.program.script in
+      let place = from + size_of_instruction i in
+      let known : KnownOutside at.context (after facts i) now ended
+      = subst (λ (s : State). KnownOutside at.context (after facts i) s.registers s.memory) does
+      (facts_after script (at_end at.context.activation) (distances_at_end at.context) facts i
+      (at_place place r memory events) on.shares.is_memory (bytes_at_place (wrap place) r on.registers) asks on.known) in
+      plain_first r sound.lies on.shares.code there
+      (subst (λ (s : State). Does script budget 0 s outcome Good) (sym does) (rest known))
+
+  word_on :
+      {A : Type 0} {outcome : Outcome A} {Good : A → SourceState → State → Type 0} {budget : ℕ}
+      {stacked : List ℕ} {facts : Facts} {top : ℕ} {source : List ℕ} {memory : List ℕ} {events : List Event}
+      {from : ℕ} (form : WordForm) (place : Place) (r now : Registers) (ended : List ℕ)
+      → IsThere at.context.activation (word_item form place ∷ []) from (from + 3)
+      → Underway at above entered stacked facts top source r memory
+      → WordAsks (at_end at.context.activation) form (place_at at.context.activation.layout place)
+      → act at.context.activation.around.program.script
+      (instruction_with form (place_at at.context.activation.layout place)) (at_place (from + 3) r memory events)
+      ≡ at_place (from + 3) now ended events
+      → (KnownOutside at.context (after_word facts form place) now ended
+      → Does at.context.activation.around.program.script budget 0 (at_place (from + 3) now ended events) outcome Good)
+      → Does at.context.activation.around.program.script budget 0 (at_place from r memory events) outcome Good
+  word_on {outcome = outcome} {Good = Good} {budget = budget} {facts = facts} {memory = memory} {events = events} {from = from} form place r now ended there on asks does rest =
+      let script = at.context.activation.around.program.script in
+      let known : KnownOutside at.context (after_word facts form place) now ended
+      = subst (λ (s : State). KnownOutside at.context (after_word facts form place) s.registers s.memory) does
+      (facts_after_word script (at_end at.context.activation) (distances_at_end at.context) facts form place
+      (at_place (from + 3) r memory events) on.shares.is_memory (bytes_at_place (wrap (from + 3)) r on.registers) asks
+      on.known) in
+      word_acts form place r sound on.shares.code there
+      (subst (λ (s : State). Does script budget 0 s outcome Good) (sym does) (rest known))
 
   -- the bytes of a variable are no bytes of the stack
   stack_kept : (scalar : ScalarType) (start value : ℕ) (memory : List ℕ)
@@ -140,10 +278,17 @@ module _ (at : BodyContext) (sound : IsSound at.context)
   store_asks : (scalar : ScalarType) (start : ℕ)
       → ((address : ℕ) → IsPart scalar start address → IsVariable at.context.activation.around.program address)
       → start < MEMORY_SIZE
-      → WordAsks at.context.activation (store_form scalar) start
-  store_asks Byte start variables small = (inl (variables start refl).0, small)
-  store_asks Address start variables small =
-      ((inl (variables start (inl refl)).0, small), (inl (variables (wrap (start + 1)) (inr refl)).0, omega arith))
+      → WordAsks (at_end at.context.activation) (store_form scalar) start
+  store_asks Byte start variables small =
+      (declared_is_steady (at_end at.context.activation) start end_lies (variables start refl).0, small)
+  store_asks Address start variables small = (
+    (declared_is_steady (at_end at.context.activation) start end_lies (variables start (inl refl)).0, small),
+    (
+      declared_is_steady (at_end at.context.activation) (wrap (start + 1)) end_lies
+          (variables (wrap (start + 1)) (inr refl)).0,
+      omega arith,
+    ),
+  )
 
   store_acts : (scalar : ScalarType) (start value place : ℕ) (r : Registers) (memory : List ℕ) (events : List Event)
       → InRegister scalar value r
@@ -185,8 +330,8 @@ module _ (at : BodyContext) (sound : IsSound at.context)
       (at_place (from + 3) r (put slot.scalar slot.at value memory) events) outcome Good)
       → Does at.context.activation.around.program.script budget 0 (at_place from r memory events) outcome Good
   store_goes {memory = memory} {events = events} {from = from} slot value r is variables small lies there on rest =
-      word_goes (store_form slot.scalar) slot.place r r (put slot.scalar slot.at value memory) sound there (goes_of on)
-      (subst (λ (address : ℕ). WordAsks at.context.activation (store_form slot.scalar) address) (sym is)
+      word_on (store_form slot.scalar) slot.place r r (put slot.scalar slot.at value memory) there on
+      (subst (λ (address : ℕ). WordAsks (at_end at.context.activation) (store_form slot.scalar) address) (sym is)
       (store_asks slot.scalar slot.at variables small))
       (ap (λ (address : ℕ).
       act at.context.activation.around.program.script (instruction_with (store_form slot.scalar) address)
@@ -204,7 +349,7 @@ module _ (at : BodyContext) (sound : IsSound at.context)
       }))
 
   pop_asks : (facts : Facts) (pair : StackPair) (r : Registers)
-      → Asks at.context.activation (distances_in at.context) facts (Pop pair) r
+      → Asks (at_end at.context.activation) (distances_at_end at.context) facts (Pop pair) r
   pop_asks facts StackBc r = tt
   pop_asks facts StackDe r = tt
   pop_asks facts StackHl r = tt
@@ -235,7 +380,7 @@ module _ (at : BodyContext) (sound : IsSound at.context)
       (record (with_popped pair word r) { sp = wrap (top + 2) }) memory events) outcome Good)
       → Does at.context.activation.around.program.script budget 0 (at_place from r memory events) outcome Good
   pop_goes {facts = facts} {top = top} {memory = memory} {events = events} {from = from} pair word r small low high limit there on rest =
-      plain_goes r (record (with_popped pair word r) { sp = wrap (top + 2) }) memory events sound there (goes_of on)
+      plain_on r (record (with_popped pair word r) { sp = wrap (top + 2) }) memory there on
       (pop_asks facts pair (record r { pc = wrap (from + size_of_instruction (Pop pair)) }))
       (pop_does at.context.activation.around.program.script pair
       (from + size_of_instruction (Pop pair)) (top + 2) word r memory events
@@ -274,7 +419,7 @@ module _ (at : BodyContext) (sound : IsSound at.context)
       → Underway at above entered stacked facts top source r memory
       → now.sp ≡ wrap (level - 2)
       → HoldBytes now
-      → Know at.context now_known now (pushed level word memory)
+      → KnownOutside at.context now_known now (pushed level word memory)
       → Underway at above entered (pushed level word memory) now_known (level - 2) source now (pushed level word memory)
   stack_written {memory = memory} level word now low high end small on pointer bytes known =
       let free = sound.lies.placed.stack_free in
@@ -312,29 +457,6 @@ module _ (at : BodyContext) (sound : IsSound at.context)
         stack = λ address below over. refl;
       }
 
-  push_asks : (level : ℕ) (sp : ℕ)
-      → sp ≡ wrap level
-      → at.context.activation.around.program.placement.stack.start + 2 ≤ level
-      → level ≤ at.context.activation.around.program.placement.stack.start
-      + at.context.activation.around.program.placement.stack.len
-      → PushAsks at.context.activation sp
-  push_asks level sp pointer low high address (inl declared) =
-      let stack = sound.lies.placed.stack_in_memory in
-      let limit : level ≤ MEMORY_SIZE = omega (arith, high, stack) in
-      let one = one_below sp level pointer limit (omega (arith, low)) in
-      let two = two_below sp level pointer limit (omega (arith, low)) in (
-        λ same.
-            sound.lies.placed.stack_free address declared (omega (arith, same, one, low))
-            (omega (arith, same, one, low, high)),
-        λ same.
-            sound.lies.placed.stack_free address declared (omega (arith, same, two, low))
-            (omega (arith, same, two, low, high)),
-      )
-  push_asks level sp pointer low high address (inr framed) =
-      let within = framed.within in
-      let empty = no_frame framed.object in
-      absurd (omega (arith, within, empty))
-
   -- the return address, which is in DE, goes onto the stack
   pub push_goes :
       {A : Type 0} {outcome : Outcome A} {Good : A → SourceState → State → Type 0} {budget : ℕ}
@@ -357,8 +479,8 @@ module _ (at : BodyContext) (sound : IsSound at.context)
       let bytes = on.registers in
       let d = bytes.d in
       let e = bytes.e in
-      plain_goes r (record r { sp = wrap (top - 2) }) (pushed top (256 * r.d + r.e) memory) events sound there (goes_of on)
-      (push_asks top r.sp on.pointer low (omega (arith, high, end)))
+      plain_on r (record r { sp = wrap (top - 2) }) (pushed top (256 * r.d + r.e) memory) there on
+      (push_asks (at_end at.context.activation) r.sp top end_lies on.pointer low (omega (arith, high, end)))
       (push_does at.context.activation.around.program.script StackDe (from + 1) top r memory events on.pointer limit
       (omega (arith, low)))
       (λ known.
@@ -389,8 +511,8 @@ module _ (at : BodyContext) (sound : IsSound at.context)
       let bytes = on.registers in
       let h = bytes.h in
       let l = bytes.l in
-      plain_goes r (record r { h = high_byte word; l = low_byte word }) (pushed (top + 2) (256 * r.h + r.l) memory) events
-      sound there (goes_of on) tt acts
+      plain_on r (record r { h = high_byte word; l = low_byte word }) (pushed (top + 2) (256 * r.h + r.l) memory) there on
+      tt acts
       (λ known.
       rest (stack_written (top + 2) (256 * r.h + r.l) (record r { h = high_byte word; l = low_byte word })
       (omega (arith, low)) high end (omega (arith, h, l)) on (on.pointer ∙ back top)
