@@ -7,4 +7,5 @@ pub mod ModuleStands
 pub mod Shared
 pub mod Marks
 pub mod Entering
+pub mod VariablesApart
 pub mod ModuleLies

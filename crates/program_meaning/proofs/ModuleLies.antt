@@ -36,6 +36,7 @@ use Rattle.program_meaning.specs.Typed.{HasWords, IsSoundlyTyped}
 use Rattle.program_meaning.proofs.Entering.{external_goes, has_heading, own_entry}
 use Rattle.program_meaning.proofs.ModuleStands.{code_of, parts_stand, program_of}
 use Rattle.program_meaning.proofs.Resolving.{resolves}
+use Rattle.program_meaning.proofs.VariablesApart.{variables_apart}
 
 module _
     (plan : PlacingPlan) (modules : List TypedModule) (objects : List ObjectModule) (merged : ObjectModule)
@@ -106,6 +107,9 @@ module _
           numbers = words.numbers;
           script = bytes;
           placed = placement_lies (program_of plan modules objects merged image before after is number module_is script) is.lawful;
+          apart =
+              variables_apart (code_of plan modules objects merged image before after is number module_is script) module_is.laid
+              module_is.lowered.homes;
           resolves = λ room. resolves plan modules objects merged image before after is number module_is script room;
           words = λ object place static. place_small place object static;
           stack_end = stack_lies;
