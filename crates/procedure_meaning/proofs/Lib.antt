@@ -9,3 +9,4 @@ pub mod ProcedureCalls
 pub mod StaticReturns
 pub mod KnownCalls
 pub mod Main
+pub mod FramesSteps
