@@ -10,3 +10,4 @@ pub mod StaticReturns
 pub mod KnownCalls
 pub mod Main
 pub mod FramesSteps
+pub mod Zeros
