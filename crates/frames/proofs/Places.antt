@@ -11,7 +11,7 @@ use Rattle.frames.specs.Frames.{bytes_by_parameter, variable_bytes, return_dista
 use Rattle.frames.proofs.Words.{words_apart, word_after, word_within, word_off_return, return_after, return_within, in_word}
 
 -- the variables before one, and that one, are among all
-ends_within :
+pub ends_within :
     (frame : List FrameVariable) (number : ℕ) (variable : FrameVariable)
     → slice_get frame number ≡ Some variable
     → variable_bytes (take number frame) + bytes_by_parameter variable.size variable.parameter

@@ -11,3 +11,4 @@ pub mod KnownCalls
 pub mod Main
 pub mod FramesSteps
 pub mod Zeros
+pub mod FramesPlanned
