@@ -12,3 +12,4 @@ pub mod Main
 pub mod FramesSteps
 pub mod Zeros
 pub mod FramesPlanned
+pub mod FramesSet
