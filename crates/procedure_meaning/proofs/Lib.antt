@@ -13,3 +13,4 @@ pub mod FramesSteps
 pub mod Zeros
 pub mod FramesPlanned
 pub mod FramesSet
+pub mod FramesNew
