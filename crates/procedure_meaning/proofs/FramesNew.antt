@@ -108,7 +108,7 @@ stands_among (first ∷ others) zero item stands = let same : item ≡ first = c
 stands_among (first ∷ others) (suc index) item stands = inr (stands_among others index item stands)
 
 -- the parameters of a REENTRANT procedure live in its frames
-home_reentrant :
+pub home_reentrant :
     (typed : TypedModule) (index : ℕ) (found : TypedProcedure)
     → kind_of typed index found ≡ kinds.Reentrant
     → home_of_parameters index found.is_reentrant found.visibility ≡ InFrame index

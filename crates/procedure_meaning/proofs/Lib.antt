@@ -14,3 +14,5 @@ pub mod Zeros
 pub mod FramesPlanned
 pub mod FramesSet
 pub mod FramesNew
+pub mod FramesLast
+pub mod FramesBegin
