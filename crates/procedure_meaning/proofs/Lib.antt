@@ -16,3 +16,6 @@ pub mod FramesSet
 pub mod FramesNew
 pub mod FramesLast
 pub mod FramesBegin
+pub mod ReturnsDrop
+pub mod ReturnsOver
+pub mod ReturnsReentrant
