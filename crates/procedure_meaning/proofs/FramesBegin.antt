@@ -1,5 +1,5 @@
 -- A REENTRANT procedure begins: its last argument is pushed, and zeros for its variables.
-use Rattle.std.proofs.Common.{◌≡◌, ◌≢◌, ℕ, zero, suc, ◌+◌, ◌-◌, ◌*◌, ◌/◌, ◌%◌, ◌<◌, ◌≤◌, ◌⊎◌, inl, inr, Bool, true, false, List, [], ◌∷◌, ◌++◌, length, map, zip, slice_get, Option, Some, None, refl, sym, ap, subst, ◌∙◌, arith}
+use Rattle.std.proofs.Common.{◌≡◌, ℕ, zero, suc, ◌+◌, ◌-◌, ◌*◌, ◌<◌, ◌≤◌, ◌⊎◌, inl, inr, true, List, [], ◌∷◌, ◌++◌, length, zip, slice_get, Option, Some, None, refl, sym, ap, subst, ◌∙◌, arith}
 use Rattle.std.specs.Prelude.{option_map}
 use Rattle.std.proofs.lemmas.Option.{slice_get-map}
 use Rattle.mem80.specs.declared.memory.TheConstants.{MEMORY_SIZE}
@@ -9,35 +9,31 @@ use Rattle.trees.specs.declared.declaration.ScalarType.TheVariants.{Byte, Addres
 use Rattle.typed_trees.specs.Charge.{charge_of}
 use Rattle.typed_trees.specs.Frames.{AreParameters, HasParameters, home_of_parameters}
 use Rattle.typed_trees.specs.Sizes.{size_of_scalar}
-use Rattle.typed_trees.specs.TypedTrees.{Home, InFrame, TypedModule, TypedProcedure}
+use Rattle.typed_trees.specs.TypedTrees.{Home, InFrame, TypedProcedure}
 use Rattle.meaning.specs.Meaning.{frame_of, parameters_set}
 use Rattle.meaning.specs.Outcomes.{Gave, State as SourceState}
 use Rattle.isa8080.specs.declared.instr.Instr.TheVariants.{Push}
-use Rattle.isa8080.specs.State.{HoldBytes, Registers, State, word, wrap}
-use Rattle.asm8080.specs.declared.item.Item.{Item}
-use Rattle.asm8080.specs.Standing.{AgreesIn, Keeps, size_of_instruction}
+use Rattle.isa8080.specs.State.{HoldBytes, Registers, State, wrap}
+use Rattle.asm8080.specs.Standing.{AgreesIn, size_of_instruction}
 use Rattle.machine_runs.proofs.Calls.{pushed, pushed_is_memory, pushed_keeps}
 use Rattle.treecode.specs.declared.place.Home.{Home as TreeHome}
 use Rattle.treecode.specs.declared.place.Home.TheVariants as homes
-use Rattle.treecode.specs.declared.place.Location.{Location}
 use Rattle.treecode.specs.declared.place.Location.TheVariants as locations
 use Rattle.treecode.specs.declared.procedure.Parameter.{Parameter}
 use Rattle.treecode.specs.declared.procedure.ProcedureKind.{ProcedureKind}
 use Rattle.treecode.specs.declared.procedure.ProcedureKind.TheVariants as kinds
 use Rattle.treecode.specs.declared.procedure.TreeProcedure.{TreeProcedure}
-use Rattle.treecode.specs.Homes.{frame_number, homes_of, location_of, parameter_at, parameters_of}
+use Rattle.treecode.specs.Homes.{frame_number, location_of, parameter_at, parameters_of}
 use Rattle.treecode.specs.Lowered.{IsProcedure}
 use Rattle.treecode.specs.Nodes.{home_at, nodes_of}
-use Rattle.frames.specs.declared.frame_plan.FramePlan.{FramePlan}
-use Rattle.frames.specs.Frames.{distance_of, parameter_distance, return_distance, return_of, word_distance}
+use Rattle.frames.specs.Frames.{distance_of, parameter_distance, return_distance, return_of}
 use Rattle.procedure_frames.proofs.Frames.{parameter_count}
 use Rattle.procedure_frames.proofs.Homes.{home_in_frame}
 use Rattle.procedure_frames.proofs.Parameters.{frame_fits, has_parameters}
-use Rattle.code_meaning.specs.Activations.{Activation, IsThere, LiesWell, Owns}
+use Rattle.code_meaning.specs.Activations.{LiesWell, Owns}
 use Rattle.code_meaning.specs.Landing.{Does, at_place}
 use Rattle.code_meaning.proofs.Landing.{gives}
 use Rattle.code_meaning.proofs.Owning.{keeps_all}
-use Rattle.code_facts.specs.Holding.{AllHold, IsOfFrame, location_at}
 use Rattle.code_facts.proofs.Changes.{no_facts_hold}
 use Rattle.steps8080.specs.declared.facts.Facts.{Facts}
 use Rattle.steps8080.specs.Facts.{no_facts, with_facts}
@@ -45,21 +41,19 @@ use Rattle.statements8080.specs.declared.body.Body.{Body}
 use Rattle.statements8080.specs.declared.plan.Planned.{Planned}
 use Rattle.statements8080.specs.Plans.{holds, plain}
 use Rattle.codegen8080.specs.declared.meeting.Here.{Here}
-use Rattle.codegen8080.specs.Generated.{AreCarriedOut}
-use Rattle.codegen8080.specs.Procedures.{argument_facts, entry_steps, entry_steps_by, frame_entry_steps, last_argument_facts, last_argument_steps, pair_of, with_argument, zeros_steps}
-use Rattle.task_meaning.specs.Contexts.{ArgumentsLie, InRegister, InWord, bytes_pushed, distances_in}
+use Rattle.codegen8080.specs.Procedures.{argument_facts, entry_steps, entry_steps_by, frame_entry_steps, last_argument_facts, last_argument_steps, pair_of, zeros_steps}
+use Rattle.task_meaning.specs.Contexts.{InRegister, InWord, bytes_pushed}
 use Rattle.task_meaning.specs.Tasks.{Know}
 use Rattle.task_meaning.proofs.Stages.{does_same}
-use Rattle.statement_meaning.specs.Bodies.{BodyContext, IsSoundBody}
-use Rattle.procedure_meaning.specs.Calls.{Entries, IsEntered, IsOfCall, ReturnLies}
-use Rattle.procedure_meaning.specs.Contexts.{activation_in, frame_shape}
+use Rattle.statement_meaning.specs.Bodies.{BodyContext}
+use Rattle.procedure_meaning.specs.Calls.{Entries, IsEntered, IsOfCall}
 use Rattle.procedure_meaning.specs.Modules.{ModuleCode, ModuleLies, at_start, surroundings_in}
 use Rattle.procedure_meaning.specs.Premises.{IsBodyOf, ReentrantBegins, frame_level, reentrant_body}
-use Rattle.procedure_meaning.specs.Procedures.{BeginDoes, HasBegun}
+use Rattle.procedure_meaning.specs.Procedures.{HasBegun}
 use Rattle.procedure_meaning.proofs.FramesLast.{LastIs, NoneAre, facts_of_last, facts_of_none, in_word_stays, last_in_word, last_is, last_pushed, pushed_word, pushed_word_small, steps_of_last, steps_of_none}
 use Rattle.procedure_meaning.proofs.FramesNew.{IsObjectOf, home_reentrant, new_lies, object_of, parameters_in_words, size_in_frame_is}
 use Rattle.procedure_meaning.proofs.FramesPlanned.{parameter_lies}
-use Rattle.procedure_meaning.proofs.FramesSet.{AreSet, LieInWords, all_set}
+use Rattle.procedure_meaning.proofs.FramesSet.{LieInWords, all_set}
 use Rattle.procedure_meaning.proofs.FramesSteps.{StepsLie, end_goes, holds_goes, plain_goes}
 use Rattle.procedure_meaning.proofs.ProcedureCalls.{as_many_parameters, charge_is}
 use Rattle.procedure_meaning.proofs.Zeros.{IsFilled, same_steps, zeros_go}

@@ -1,5 +1,5 @@
 -- The last argument of a procedure: it is in its register, and goes to the word below the return address.
-use Rattle.std.proofs.Common.{◌≡◌, ◌≢◌, ℕ, zero, suc, ◌+◌, ◌-◌, ◌*◌, ◌/◌, ◌%◌, ◌<◌, ◌≤◌, ◌⊎◌, inl, inr, Bool, true, false, List, [], ◌∷◌, length, zip, slice_get, Option, Some, None, refl, sym, ap, subst, ◌∙◌, arith}
+use Rattle.std.proofs.Common.{◌≡◌, ℕ, suc, ◌+◌, ◌-◌, ◌*◌, ◌/◌, ◌%◌, ◌<◌, ◌≤◌, ◌⊎◌, inl, inr, List, [], ◌∷◌, length, zip, slice_get, Some, None, refl, ap, subst, ◌∙◌, arith}
 use Rattle.mem80.specs.declared.memory.TheConstants.{MEMORY_SIZE}
 use Rattle.mem80.specs.Memory.{byte_at}
 use Rattle.ports.specs.declared.event.Event.{Event}
@@ -15,12 +15,9 @@ use Rattle.isa8080.specs.State.{HoldBytes, Registers, word, wrap}
 use Rattle.isa8080.proofs.FlagBytes.{flag_byte_small}
 use Rattle.machine_runs.proofs.Calls.{pushed, pushed_is_pushed}
 use Rattle.treecode.specs.declared.procedure.Parameter.{Parameter}
-use Rattle.frames.specs.Frames.{word_distance}
 use Rattle.code_meaning.specs.Landing.{at_place}
 use Rattle.code_meaning.proofs.Pushes.{push_does}
-use Rattle.steps8080.specs.declared.facts.Facts.{Facts}
 use Rattle.steps8080.specs.Facts.{no_facts}
-use Rattle.statements8080.specs.declared.plan.Planned.{Planned}
 use Rattle.statements8080.specs.Plans.{plain}
 use Rattle.codegen8080.specs.Procedures.{last_argument_facts, last_argument_steps, pair_of, with_argument}
 use Rattle.task_meaning.specs.Contexts.{ArgumentsLie, InRegister, InWord}

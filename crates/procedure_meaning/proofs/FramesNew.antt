@@ -1,5 +1,5 @@
 -- A new frame: zeros for its variables lie where the plan has them, and its parameters lie in their words.
-use Rattle.std.proofs.Common.{◌≡◌, ◌≢◌, ℕ, zero, suc, ◌+◌, ◌-◌, ◌*◌, ◌<◌, ◌≤◌, ◌==◌, ◌⊎◌, inl, inr, Bool, true, false, if◌then◌else◌, List, [], ◌∷◌, length, map, replicate, slice_get, slice_index_or, Option, Some, None, IsSomeAnd, refl, sym, ap, subst, ◌∙◌, arith}
+use Rattle.std.proofs.Common.{◌≡◌, ℕ, zero, suc, ◌+◌, ◌-◌, ◌<◌, ◌≤◌, inl, inr, Bool, true, false, if◌then◌else◌, List, [], ◌∷◌, length, map, replicate, slice_get, slice_index_or, Option, Some, None, IsSomeAnd, refl, sym, ap, subst, ◌∙◌, arith}
 use Rattle.std.specs.Option.{option_map_or}
 use Rattle.std.proofs.lemmas.List.{get_or-replicate, length-replicate}
 use Rattle.std.proofs.lemmas.Bool.{eqb-true}
@@ -12,9 +12,8 @@ use Rattle.typed_trees.specs.Frames.{AreParameters, HasParameters, IsParameter, 
 use Rattle.typed_trees.specs.ObjectParts.{IsScalar}
 use Rattle.typed_trees.specs.Sizes.{size_of_object, size_of_scalar}
 use Rattle.typed_trees.specs.TypedTrees.{BasedOn, Elsewhere, Home, InConstants, InData, InFrame, Nowhere, Placed, TypedModule, TypedObject, TypedProcedure}
-use Rattle.meaning.specs.Access.{InTheFrame, Place, frame_bytes, home_in, home_of, place_in, place_of}
+use Rattle.meaning.specs.Access.{InTheFrame, home_in, place_in, place_of}
 use Rattle.meaning.specs.Meaning.{frame_of, is_frame_of}
-use Rattle.treecode.specs.declared.procedure.ProcedureKind.{ProcedureKind}
 use Rattle.treecode.specs.declared.procedure.ProcedureKind.TheVariants as kinds
 use Rattle.treecode.specs.declared.procedure.TreeProcedure.{TreeProcedure}
 use Rattle.treecode.specs.Homes.{kind_of}
@@ -23,14 +22,14 @@ use Rattle.treecode.specs.Nodes.{nodes_of}
 use Rattle.frames.specs.declared.frame_plan.FramePlan.{FramePlan}
 use Rattle.frames.specs.Frames.{IsPlanOf, distance_of, parameter_distance}
 use Rattle.treecode.specs.Homes.{frame_number}
-use Rattle.procedure_frames.proofs.Bytes.{IsListed, listed, scalar_size}
+use Rattle.procedure_frames.proofs.Bytes.{listed, scalar_size}
 use Rattle.procedure_frames.proofs.Parameters.{has_parameters}
 use Rattle.procedure_meaning.specs.Calls.{Entries}
 use Rattle.procedure_meaning.specs.Contexts.{activation_in, frame_shape, size_in_frame}
 use Rattle.procedure_meaning.specs.Modules.{ModuleCode, ModuleLies, surroundings_in}
 use Rattle.procedure_meaning.proofs.FramesPlanned.{parameter_lies, variable_lies}
 use Rattle.procedure_meaning.proofs.ProcedureCalls.{as_many_parameters}
-use Rattle.procedure_meaning.proofs.FramesSet.{AreInWords, IsAmong, IsInWord, IsOfParameters, LiesBut}
+use Rattle.procedure_meaning.proofs.FramesSet.{AreInWords, IsAmong, IsOfParameters, LiesBut}
 
 -- whether an object is in a frame, in the words of the meaning
 same_test : (procedure : ℕ) (home : Home) → is_frame_of procedure home ≡ is_in_frame procedure home

@@ -1,5 +1,5 @@
 -- Where the variables and the parameters in the frame of a procedure lie by the plan of its frame.
-use Rattle.std.proofs.Common.{◌≡◌, ◌≢◌, ℕ, zero, suc, ◌+◌, ◌-◌, ◌%◌, ◌<◌, ◌≤◌, ◌⊎◌, inl, inr, min, Bool, true, false, List, [], ◌∷◌, length, take, slice_get, slice_index_or, Option, Some, None, refl, ap, sym, ◌∙◌, subst, nat_lt, arith, mod-eq_of_lt, ltb-true, ltb-false}
+use Rattle.std.proofs.Common.{◌≡◌, ◌≢◌, ℕ, ◌+◌, ◌-◌, ◌%◌, ◌<◌, ◌≤◌, min, Bool, true, false, List, length, take, slice_get, Option, Some, None, refl, ap, sym, ◌∙◌, subst, nat_lt, arith, mod-eq_of_lt, ltb-true, ltb-false}
 use Rattle.std.specs.Prelude.{AllPairs, option_map}
 use Rattle.std.proofs.lemmas.Bool.{true≢false}
 use Rattle.std.proofs.lemmas.Option.{get_or_from_slice_get, slice_get-map, slice_get_within}

@@ -1,5 +1,5 @@
 -- Planned steps that stand in the code, taken one by one.
-use Rattle.std.proofs.Common.{◌≡◌, ℕ, ◌+◌, ◌<◌, ◌≤◌, Bool, true, false, List, [], ◌∷◌, ◌++◌, Option, Some, None, refl, sym, ap, subst, ◌∙◌, arith}
+use Rattle.std.proofs.Common.{◌≡◌, ℕ, ◌+◌, Bool, true, false, List, [], ◌∷◌, ◌++◌, None, refl, subst}
 use Rattle.ports.specs.declared.event.Event.{Event}
 use Rattle.meaning.specs.Outcomes.{State as SourceState, Outcome}
 use Rattle.isa8080.specs.declared.instr.Condition.{Condition}
@@ -17,13 +17,12 @@ use Rattle.code_meaning.proofs.FirstItems.{jump_passed, jump_taken, plain_first}
 use Rattle.code_meaning.proofs.Standing.{after_mark, after_plain, after_word, mark_lies}
 use Rattle.steps8080.specs.declared.facts.Facts.{Facts}
 use Rattle.steps8080.specs.declared.step.LabelNumber.{LabelNumber}
-use Rattle.steps8080.specs.declared.step.Step.TheVariants as steps
-use Rattle.steps8080.specs.Facts.{after, after_form, no_facts, with_facts}
-use Rattle.exprgen8080.specs.Emission.{AreWritten, HoldsWritten, JumpWritten, MarkWritten, NoneWritten, PlainWritten}
+use Rattle.steps8080.specs.Facts.{after, no_facts, with_facts}
+use Rattle.exprgen8080.specs.Emission.{HoldsWritten, JumpWritten, MarkWritten, NoneWritten, PlainWritten}
 use Rattle.statements8080.specs.declared.plan.Planned.{Planned}
 use Rattle.statements8080.specs.Plans.{holds, jump, mark, plain}
 use Rattle.codegen8080.specs.declared.meeting.Here.{Here}
-use Rattle.codegen8080.specs.Generated.{AreCarriedOut, NoneCarriedOut, StepCarriedOut, StatementCarriedOut, ListCarriedOut, HoldsNoStatement, carried_steps, here_after, site_of, waiting_after}
+use Rattle.codegen8080.specs.Generated.{AreCarriedOut, NoneCarriedOut, StepCarriedOut, carried_steps, here_after, waiting_after}
 use Rattle.statement_meaning.specs.Bodies.{BodyContext}
 
 -- planned steps whose code stands from one place to another, where the code is here before them and there after them

@@ -1,5 +1,5 @@
 -- Bytes are dropped from the stack before a return; the result stays where it is.
-use Rattle.std.proofs.Common.{◌≡◌, ◌≢◌, ℕ, zero, suc, ◌+◌, ◌-◌, ◌*◌, ◌/◌, ◌%◌, ◌<◌, ◌≤◌, nat_le, Bool, true, false, if◌then◌else◌, List, [], ◌∷◌, ◌++◌, replicate, length, Option, Some, None, refl, sym, ap, subst, ◌∙◌, arith}
+use Rattle.std.proofs.Common.{◌≡◌, ℕ, zero, suc, ◌+◌, ◌-◌, ◌*◌, ◌/◌, ◌%◌, ◌<◌, ◌≤◌, nat_le, Bool, true, false, if◌then◌else◌, List, [], ◌∷◌, ◌++◌, replicate, Option, Some, None, refl, sym, ap, subst, ◌∙◌, arith}
 use Rattle.std.proofs.lemmas.List.{append_assoc}
 use Rattle.mem80.specs.declared.memory.TheConstants.{MEMORY_SIZE}
 use Rattle.mem80.specs.Memory.{IsMemory, byte_at}
@@ -11,7 +11,7 @@ use Rattle.meaning.specs.Outcomes.{State as SourceState, Outcome}
 use Rattle.isa8080.specs.declared.instr.Instr.TheVariants.{Dad, Inx, Lxi, Pop, Sphl, Xchg}
 use Rattle.isa8080.specs.declared.instr.Pair.TheVariants.{Hl, Sp}
 use Rattle.isa8080.specs.declared.instr.StackPair.{StackPair}
-use Rattle.isa8080.specs.declared.instr.StackPair.TheVariants.{StackBc, StackDe, StackHl}
+use Rattle.isa8080.specs.declared.instr.StackPair.TheVariants.{StackBc}
 use Rattle.isa8080.specs.Act.{act}
 use Rattle.isa8080.specs.State.{HoldBytes, Registers, State, word, wrap, with_popped}
 use Rattle.asm8080.specs.Standing.{AgreesIn}

@@ -1,28 +1,22 @@
 -- A return over the words of arguments above the return address, and then all returns of REENTRANT procedures.
 use Rattle.std.proofs.Common.{◌≡◌, ◌≢◌, ℕ, zero, suc, ◌+◌, ◌-◌, ◌*◌, ◌/◌, ◌%◌, ◌<◌, ◌≤◌, nat_eq, min, inr, Bool, true, false, if◌then◌else◌, List, [], ◌∷◌, ◌++◌, length, slice_get, Option, Some, None, refl, sym, ap, subst, ◌∙◌, arith}
-use Rattle.std.proofs.lemmas.Bool.{eqb-true, eqb-false}
-use Rattle.std.proofs.lemmas.List.{append_assoc, length-set}
+use Rattle.std.proofs.lemmas.Bool.{eqb-true}
+use Rattle.std.proofs.lemmas.List.{length-set}
 use Rattle.mem80.specs.declared.memory.TheConstants.{MEMORY_SIZE}
-use Rattle.mem80.specs.Memory.{IsMemory, byte_at}
-use Rattle.ports.specs.declared.event.Event.{Event}
+use Rattle.mem80.specs.Memory.{byte_at}
 use Rattle.trees.specs.declared.declaration.ScalarType.{ScalarType}
 use Rattle.trees.specs.declared.declaration.ScalarType.TheVariants.{Byte, Address}
-use Rattle.typed_trees.specs.Frames.{HasParameters}
-use Rattle.typed_trees.specs.TypedTrees.{TypedProcedure}
 use Rattle.meaning.specs.Outcomes.{Gave, State as SourceState}
 use Rattle.isa8080.specs.declared.instr.Instr.TheVariants.{Pchl, Pop, Push, Ret}
-use Rattle.isa8080.specs.declared.instr.StackPair.TheVariants.{StackBc, StackDe, StackHl}
-use Rattle.isa8080.specs.Act.{act}
+use Rattle.isa8080.specs.declared.instr.StackPair.TheVariants.{StackDe, StackHl}
 use Rattle.isa8080.specs.State.{HoldBytes, Registers, State, high_byte, low_byte, word, wrap, with_popped}
 use Rattle.isa8080.specs.Step.{running}
-use Rattle.asm8080.specs.Standing.{AgreesIn}
 use Rattle.machine_runs.proofs.Calls.{pushed, pushed_is_memory, pushed_is_pushed, pushed_keeps}
 use Rattle.code_meaning.specs.Activations.{LiesWell, Shares}
 use Rattle.code_meaning.specs.Landing.{Does, at_place}
 use Rattle.code_meaning.proofs.Landing.{gives}
 use Rattle.code_meaning.proofs.Owning.{keeps_all}
 use Rattle.code_meaning.proofs.Pushes.{push_does}
-use Rattle.statements8080.specs.declared.plan.Planned.{Planned}
 use Rattle.statements8080.specs.Plans.{plain}
 use Rattle.codegen8080.specs.declared.meeting.Here.{Here}
 use Rattle.codegen8080.specs.Procedures.{pops_steps, return_over_any_steps, return_over_steps}
@@ -31,9 +25,8 @@ use Rattle.statement_meaning.specs.Bodies.{BodyContext}
 use Rattle.procedure_meaning.specs.Calls.{IsOfCall, ReturnLies}
 use Rattle.procedure_meaning.specs.Procedures.{HasReturned}
 use Rattle.procedure_meaning.proofs.FramesSteps.{StepsLie, plain_goes}
-use Rattle.procedure_meaning.proofs.ReturnsDrop.{IsAt, IsBack, pop_is, word_small, word_there, words_dropped}
+use Rattle.procedure_meaning.proofs.ReturnsDrop.{IsBack, pop_is, word_small, word_there, words_dropped}
 use Rattle.procedure_meaning.proofs.StaticReturns.{result_kept, return_does}
-use Rattle.procedure_meaning.proofs.Zeros.{same_steps}
 
 word_back : (back low high : ℕ) → low ≡ wrap back % 256 → high ≡ wrap back / 256 → low + 256 * high ≡ wrap back
 word_back back low high one other = omega (arith, one, other)

@@ -1,10 +1,8 @@
 -- A REENTRANT procedure returns: its frame is dropped, and the words of its other arguments.
-use Rattle.std.proofs.Common.{◌≡◌, ◌≢◌, ℕ, zero, suc, ◌+◌, ◌-◌, ◌*◌, ◌<◌, ◌≤◌, nat_eq, min, Bool, true, false, if◌then◌else◌, List, [], ◌∷◌, ◌++◌, length, slice_get, Option, Some, None, refl, sym, ap, subst, ◌∙◌, arith}
+use Rattle.std.proofs.Common.{◌≡◌, ◌≢◌, ℕ, suc, ◌+◌, ◌-◌, ◌*◌, ◌<◌, ◌≤◌, nat_eq, min, Bool, true, false, if◌then◌else◌, ◌++◌, length, refl, sym, ap, subst, ◌∙◌, arith}
 use Rattle.std.proofs.lemmas.Bool.{eqb-true, eqb-false}
 use Rattle.mem80.specs.declared.memory.TheConstants.{MEMORY_SIZE}
-use Rattle.mem80.specs.Memory.{byte_at}
 use Rattle.typed_trees.specs.Frames.{HasParameters}
-use Rattle.typed_trees.specs.TypedTrees.{TypedProcedure}
 use Rattle.meaning.specs.Outcomes.{Gave, State as SourceState}
 use Rattle.isa8080.specs.State.{State}
 use Rattle.treecode.specs.declared.procedure.ProcedureKind.{ProcedureKind}
@@ -18,16 +16,13 @@ use Rattle.procedure_frames.proofs.Parameters.{frame_fits, has_parameters}
 use Rattle.code_meaning.specs.Activations.{LiesWell}
 use Rattle.code_meaning.specs.Landing.{Does, at_place}
 use Rattle.statements8080.specs.declared.body.Body.{Body}
-use Rattle.statements8080.specs.declared.plan.Planned.{Planned}
 use Rattle.codegen8080.specs.Procedures.{drop_steps, return_of_frame_steps, return_over_any_steps, return_steps, return_steps_by}
-use Rattle.statement_meaning.specs.Bodies.{BodyContext}
 use Rattle.procedure_meaning.specs.Calls.{Entries, ReturnLies}
 use Rattle.procedure_meaning.specs.Modules.{ModuleCode, ModuleLies}
-use Rattle.procedure_meaning.specs.Premises.{IsBodyOf, ReentrantReturns, frame_level, reentrant_body}
-use Rattle.procedure_meaning.specs.Procedures.{HasReturned, ReturnDoes}
-use Rattle.procedure_meaning.proofs.FramesSteps.{StepsLie}
+use Rattle.procedure_meaning.specs.Premises.{ReentrantReturns, frame_level, reentrant_body}
+use Rattle.procedure_meaning.specs.Procedures.{HasReturned}
 use Rattle.procedure_meaning.proofs.ProcedureCalls.{return_is}
-use Rattle.procedure_meaning.proofs.ReturnsDrop.{IsBack, frame_dropped}
+use Rattle.procedure_meaning.proofs.ReturnsDrop.{frame_dropped}
 use Rattle.procedure_meaning.proofs.ReturnsOver.{over_returns}
 use Rattle.procedure_meaning.proofs.Zeros.{same_steps}
 

@@ -1,6 +1,6 @@
 -- Zeros are pushed for the variables of a frame; A and HL stay as they are.
-use Rattle.std.proofs.Common.{◌≡◌, ◌≢◌, ℕ, zero, suc, ◌+◌, ◌-◌, ◌*◌, ◌/◌, ◌%◌, ◌<◌, ◌≤◌, ◌==◌, ◌⊎◌, inl, inr, nat_le, nat_eq, not, Bool, true, false, if◌then◌else◌, List, [], ◌∷◌, ◌++◌, replicate, length, Option, Some, None, refl, sym, ap, subst, ◌∙◌, arith}
-use Rattle.std.proofs.lemmas.Bool.{eqb-true, eqb-false, leb-true, leb-false}
+use Rattle.std.proofs.Common.{◌≡◌, ◌≢◌, ℕ, zero, suc, ◌+◌, ◌-◌, ◌*◌, ◌/◌, ◌%◌, ◌<◌, ◌≤◌, ◌==◌, nat_le, nat_eq, Bool, true, false, if◌then◌else◌, List, [], ◌∷◌, ◌++◌, replicate, refl, sym, ap, subst, ◌∙◌, arith}
+use Rattle.std.proofs.lemmas.Bool.{eqb-true, eqb-false, leb-false}
 use Rattle.std.proofs.lemmas.List.{append_assoc}
 use Rattle.mem80.specs.declared.memory.TheConstants.{MEMORY_SIZE}
 use Rattle.mem80.specs.Memory.{IsMemory, byte_at}
@@ -16,7 +16,7 @@ use Rattle.isa8080.specs.Act.{act}
 use Rattle.isa8080.specs.Arithmetic.{decrement_of}
 use Rattle.isa8080.specs.State.{HoldBytes, Registers, State, word, wrap}
 use Rattle.asm8080.specs.declared.item.WordForm.TheVariants.{JumpWhere}
-use Rattle.asm8080.specs.Standing.{AgreesIn, size_of_instruction}
+use Rattle.asm8080.specs.Standing.{AgreesIn}
 use Rattle.machine_runs.proofs.Calls.{pushed, pushed_is_memory, pushed_is_pushed, pushed_keeps}
 use Rattle.machine_runs.proofs.Loops.{counted_out, counts_on, one_less_is}
 use Rattle.code_meaning.specs.Activations.{LiesWell}
@@ -30,7 +30,7 @@ use Rattle.steps8080.specs.Step.{label_of}
 use Rattle.codegen8080.specs.Procedures.{odd_byte_steps, push_loop_steps, pushes_steps, zeros_steps}
 use Rattle.statement_meaning.specs.Bodies.{BodyContext}
 use Rattle.procedure_meaning.specs.Modules.{at_start}
-use Rattle.procedure_meaning.proofs.FramesSteps.{MarkLies, StepsLie, jump_goes, jump_stays, mark_goes, plain_goes}
+use Rattle.procedure_meaning.proofs.FramesSteps.{StepsLie, jump_goes, jump_stays, mark_goes, plain_goes}
 
 -- The bytes from one address to another are zeros, and the stack pointer is at the lower one; A and HL are as before,
 -- DE is 0, B counts, and no other byte changed but the one below.
