@@ -1,5 +1,5 @@
 -- The CALL instruction: where the code from entries on does what calls mean, so does code from a CALL on.
-use Rattle.std.proofs.Common.{◌≡◌, ◌≢◌, ℕ, suc, ◌+◌, ◌-◌, ◌*◌, ◌/◌, ◌%◌, ◌<◌, ◌≤◌, ◌==◌, inl, inr, Bool, true, false, if◌then◌else◌, List, [], ◌∷◌, length, slice_get, slice_set, nat_lt, Option, Some, None, refl, sym, ap, subst, ◌∙◌, arith, ltb-false}
+use Rattle.std.proofs.Common.{◌≡◌, ◌≢◌, ℕ, suc, ◌+◌, ◌-◌, ◌*◌, ◌<◌, ◌≤◌, ◌==◌, inl, inr, Bool, true, false, if◌then◌else◌, List, [], ◌∷◌, length, slice_set, nat_lt, Option, refl, sym, ap, subst, ◌∙◌, arith, ltb-false}
 use Rattle.std.specs.Option.{option_map_or}
 use Rattle.std.proofs.lemmas.Bool.{eqb-true, eqb-false}
 use Rattle.std.proofs.lemmas.List.{length-set}
@@ -14,13 +14,13 @@ use Rattle.typed_trees.specs.WellTyped.{Within}
 use Rattle.layout.specs.Joined.{InProgram}
 use Rattle.meaning.specs.declared.reason.Reason.TheVariants.{Stack}
 use Rattle.meaning.specs.Access.{Surroundings}
-use Rattle.meaning.specs.Meaning.{Later, called, called_for, callee_in, charged, entered, later_by, procedure_at}
+use Rattle.meaning.specs.Meaning.{called, called_for, callee_in, charged, entered, later_by, procedure_at}
 use Rattle.meaning.specs.Outcomes.{State as SourceState, More, Outside, Outcome, Gave, Stopped, taking_one}
 use Rattle.meaning.proofs.AgreementStatements.{call_is}
 use Rattle.isa8080.specs.declared.instr.Instr.TheVariants.{Call}
 use Rattle.isa8080.specs.declared.registers.Status.TheVariants.{Running}
 use Rattle.isa8080.specs.Act.{act}
-use Rattle.isa8080.specs.State.{HoldBytes, Registers, State, high_byte, low_byte, two_less, wrap}
+use Rattle.isa8080.specs.State.{Registers, State, high_byte, low_byte, two_less, wrap}
 use Rattle.isa8080.specs.Step.{running, step_of}
 use Rattle.asm8080.specs.declared.item.Item.TheVariants as items
 use Rattle.asm8080.specs.declared.item.WordForm.TheVariants.{CallTo}
@@ -29,8 +29,7 @@ use Rattle.asm8080.specs.Standing.{Keeps}
 use Rattle.machine_runs.proofs.Calls.{one_below, pushed, pushed_is_pushed, pushed_keeps, two_below}
 use Rattle.std.specs.Borrow.{Bor}
 use Rattle.frames.specs.declared.frame_plan.FramePlan.{FramePlan}
-use Rattle.exprgen8080.specs.Emission.{call_items}
-use Rattle.code_meaning.specs.Activations.{Activation, Arrives, HasRoom, IsReady, IsThere, IsVariable, LiesWell, Owns, FrameLies}
+use Rattle.code_meaning.specs.Activations.{Activation, Arrives, IsReady, IsThere, LiesWell, Owns, FrameLies}
 use Rattle.code_meaning.specs.Landing.{Does, IsLeft, Lands, at_place}
 use Rattle.code_meaning.proofs.FirstItems.{word_step}
 use Rattle.code_meaning.proofs.Landing.{after_paid_step, gives, landed}
@@ -38,7 +37,7 @@ use Rattle.code_meaning.proofs.Owning.{keeps_both, keeps_wider, owns_more}
 use Rattle.code_meaning.proofs.Pushes.{ready_after_push}
 use Rattle.task_meaning.specs.Contexts.{ArgumentsLie, CallsDo, InRegister, InWord, ResultLies, bytes_pushed}
 use Rattle.task_meaning.proofs.Stages.{does_same, gives_then}
-use Rattle.procedure_meaning.specs.Calls.{CallsAreKnown, ComesBack, Entries, IsEntered, IsOfCall, ReturnLies}
+use Rattle.procedure_meaning.specs.Calls.{CallsAreKnown, ComesBack, Entries, IsOfCall, ReturnLies}
 use Rattle.procedure_meaning.specs.Contexts.{Shape, activation_in, context_in}
 use Rattle.procedure_meaning.specs.Modules.{ModuleCode, ModuleLies, surroundings_in}
 use Rattle.procedure_meaning.proofs.Callees.{IsCallee, callee_of}

@@ -1,7 +1,7 @@
 -- What a call in a module calls: the procedure that it stands for, and the items of its CALL.
-use Rattle.std.proofs.Common.{◌≡◌, ◌≢◌, ℕ, ◌+◌, ◌<◌, ◌≤◌, ◌⊎◌, inl, inr, get_or, Bool, true, false, List, [], ◌∷◌, length, slice_get, Option, Some, None, option_map, refl, sym, ap, subst, ◌∙◌, arith}
+use Rattle.std.proofs.Common.{◌≡◌, ◌≢◌, ℕ, ◌+◌, ◌<◌, ◌≤◌, ◌⊎◌, inl, inr, get_or, Bool, true, false, [], ◌∷◌, length, slice_get, Option, Some, None, option_map, refl, sym, ap, subst, ◌∙◌, arith}
 use Rattle.std.specs.Prelude.{IsSomeAnd}
-use Rattle.std.specs.Option.{option_and_then, option_map_or, unwrap_or}
+use Rattle.std.specs.Option.{option_and_then, unwrap_or}
 use Rattle.std.proofs.lemmas.Option.{slice_get_cases, slice_get_within}
 use Rattle.object_modules.specs.declared.segment.Target.TheVariants.{External as ExternalTarget}
 use Rattle.typed_trees.specs.declared.parts.Visibility.{Visibility}
@@ -11,7 +11,6 @@ use Rattle.layout.specs.Joined.{DeclaredProcedure, InProgram, agree, is_public_p
 use Rattle.layout.proofs.Meant.{MeansProcedure, external_procedure_meant, procedures_agree}
 use Rattle.meaning.specs.Meaning.{callee_in, procedure_at}
 use Rattle.isa8080.specs.State.{wrap}
-use Rattle.asm8080.specs.declared.item.Item.{Item}
 use Rattle.asm8080.specs.declared.item.Item.TheVariants as items
 use Rattle.asm8080.specs.declared.item.Reference.{Reference}
 use Rattle.asm8080.specs.declared.item.Reference.TheVariants.{AtLabel, AtTarget}

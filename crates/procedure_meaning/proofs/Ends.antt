@@ -1,5 +1,5 @@
 -- The end of a procedure that is reached: its result is 0, and it returns.
-use Rattle.std.proofs.Common.{◌≡◌, ℕ, ◌+◌, ◌<◌, ◌≤◌, Bool, true, false, List, [], ◌∷◌, ◌++◌, Option, Some, None, bit_xor, refl, sym, ap, subst, ◌∙◌, arith}
+use Rattle.std.proofs.Common.{◌≡◌, ℕ, ◌+◌, List, [], ◌∷◌, ◌++◌, Option, Some, None, bit_xor, refl, sym, ap, subst, arith}
 use Rattle.std.specs.Int.Bits.{xor_self}
 use Rattle.ports.specs.declared.event.Event.{Event}
 use Rattle.trees.specs.declared.declaration.ScalarType.{ScalarType}
@@ -9,9 +9,8 @@ use Rattle.isa8080.specs.declared.instr.Instr.{Instr}
 use Rattle.isa8080.specs.declared.instr.Instr.TheVariants.{Lxi}
 use Rattle.isa8080.specs.declared.instr.Operation.TheVariants.{ExclusiveOr}
 use Rattle.isa8080.specs.declared.instr.Pair.TheVariants.{Hl}
-use Rattle.isa8080.specs.Act.{act}
 use Rattle.isa8080.specs.Arithmetic.{operate}
-use Rattle.isa8080.specs.State.{HoldBytes, Registers, State}
+use Rattle.isa8080.specs.State.{Registers, State}
 use Rattle.asm8080.specs.declared.item.Item.{Item}
 use Rattle.asm8080.specs.declared.item.Item.TheVariants as items
 use Rattle.asm8080.specs.Standing.{size_of_instruction}
@@ -26,7 +25,7 @@ use Rattle.exprgen8080.specs.Emission.{AreWritten, NoneWritten, PlainWritten}
 use Rattle.statements8080.specs.declared.plan.Planned.{Planned}
 use Rattle.statements8080.specs.Plans.{plain}
 use Rattle.codegen8080.specs.declared.meeting.Here.{Here}
-use Rattle.codegen8080.specs.Generated.{AreCarriedOut, NoneCarriedOut, StepCarriedOut, StatementCarriedOut, ListCarriedOut, HoldsNoStatement, carried_steps, here_after, site_of, waiting_after}
+use Rattle.codegen8080.specs.Generated.{AreCarriedOut, StepCarriedOut, carried_steps, here_after, site_of, waiting_after}
 use Rattle.codegen8080.specs.Procedures.{end_steps, return_steps, zero_result_steps}
 use Rattle.task_meaning.specs.Contexts.{ResultLies}
 use Rattle.task_meaning.proofs.Rules.{ready_with_registers}

@@ -1,5 +1,5 @@
 -- All calls of a program do what they mean, by the number of calls, turns and jumps that are left.
-use Rattle.std.proofs.Common.{◌≡◌, ◌≢◌, ℕ, zero, suc, ◌+◌, ◌<◌, ◌≤◌, List, slice_get, Option, Some, None, option_map, refl, sym, ap, subst, ◌∙◌, arith}
+use Rattle.std.proofs.Common.{◌≡◌, ◌≢◌, ℕ, zero, suc, ◌≤◌, List, slice_get, Option, Some, None, option_map, refl, sym, ap, subst, ◌∙◌, arith}
 use Rattle.std.specs.Option.{option_and_then}
 use Rattle.std.proofs.lemmas.Option.{same_Some}
 use Rattle.typed_trees.specs.declared.parts.Visibility.TheVariants as visibilities
@@ -9,8 +9,10 @@ use Rattle.meaning.specs.Meaning.{later_by, procedure_at}
 use Rattle.meaning.specs.Outcomes.{Program}
 use Rattle.procedure_meaning.specs.Calls.{CallsAreKnown, Entries, EntryDoes}
 use Rattle.procedure_meaning.specs.Modules.{ModuleCode, ModuleLies}
-use Rattle.procedure_meaning.specs.Premises.{CallsOfModuleFit, ListsAreDone, ReentrantBegins, ReentrantReturns, StaticBegins, StaticReturns}
+use Rattle.procedure_meaning.specs.Premises.{CallsOfModuleFit, ListsAreDone, ReentrantBegins, ReentrantReturns}
 use Rattle.procedure_meaning.proofs.ProcedureCalls.{procedures_do}
+use Rattle.procedure_meaning.proofs.StaticProcedures.{static_begins}
+use Rattle.procedure_meaning.proofs.StaticReturns.{static_returns}
 
 -- the code of a module of a program, with what its procedures take from the laws of others
 pub record ModuleIsThere (program : Program) (image : List ℕ) (entries : Entries) (bound number : ℕ) : Type 0 where
@@ -20,8 +22,6 @@ pub record ModuleIsThere (program : Program) (image : List ℕ) (entries : Entri
   pub number_is : code.number ≡ number
   pub lies : ModuleLies code entries
   pub fit : CallsOfModuleFit code bound
-  pub begins : StaticBegins code bound
-  pub returns : StaticReturns code bound
   pub frame_begins : ReentrantBegins code bound
   pub frame_returns : ReentrantReturns code bound
 
@@ -99,8 +99,8 @@ in_module {program = program} {image = image} {entries = entries} {bound = bound
     (record { number_of_module = code.number; number = index }) code.typed found
     (entries (record { number_of_module = code.number; number = index })))
     there.program_is
-    (procedures_do code entries bound number there.lies its_known bounded lists there.fit there.begins there.returns
-    there.frame_begins there.frame_returns index found
+    (procedures_do code entries bound number there.lies its_known bounded lists there.fit
+    (static_begins code entries bound there.lies) (static_returns code bound) there.frame_begins there.frame_returns index found
     (ap (λ (one : TypedModule). slice_get one.procedures index) same_module ∙ is) here))))
   where
     code : ModuleCode

@@ -19,3 +19,12 @@ pub mod FramesBegin
 pub mod ReturnsDrop
 pub mod ReturnsOver
 pub mod ReturnsReentrant
+pub mod Puts
+pub mod Planned
+pub mod StaticStages
+pub mod StaticLoops
+pub mod StaticArguments
+pub mod StaticBegins
+pub mod StaticEntries
+pub mod StaticSlots
+pub mod StaticProcedures

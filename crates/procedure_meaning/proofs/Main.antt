@@ -1,26 +1,26 @@
 -- The main program, from its start on.
-use Rattle.std.proofs.Common.{◌≡◌, ◌≢◌, ℕ, zero, suc, ◌+◌, ◌-◌, ◌*◌, ◌<◌, ◌≤◌, Bool, true, false, List, [], ◌∷◌, ◌++◌, length, Option, Some, None, refl, sym, ap, subst, ◌∙◌, arith}
+use Rattle.std.proofs.Common.{◌≡◌, ℕ, suc, ◌+◌, ◌-◌, ◌*◌, ◌≤◌, Bool, true, false, List, [], ◌∷◌, ◌++◌, length, slice_get, Some, refl, sym, ap, subst, arith}
+use Rattle.meaning.specs.Access.{frame_bytes}
 use Rattle.object_modules.specs.declared.segment.Segment.TheVariants.{Stack}
 use Rattle.object_modules.specs.declared.segment.Target.TheVariants.{InSegment}
 use Rattle.typed_trees.specs.Charge.{charge_of, height_of_list}
-use Rattle.typed_trees.specs.TypedTrees.{TypedProcedure}
+use Rattle.typed_trees.specs.TypedTrees.{TypedModule, TypedProcedure}
 use Rattle.typed_trees.specs.WellTyped.{WithinMain}
-use Rattle.meaning.specs.Meaning.{charged, done_list, later_by}
-use Rattle.meaning.specs.Outcomes.{Ended, Flow, Gave, Jumped, More, Onward, Outcome, Outside, Returned, State as SourceState, Stop, Stopped, then_do}
+use Rattle.meaning.specs.Meaning.{done_list, later_by}
+use Rattle.meaning.specs.Outcomes.{Ended, Flow, Gave, Jumped, More, Onward, Outcome, Outside, Returned, State as SourceState, Stopped, then_do}
 use Rattle.meaning.specs.Run.{main_done, run_of}
 use Rattle.isa8080.specs.declared.instr.Instr.TheVariants.{Hlt}
 use Rattle.isa8080.specs.declared.instr.Pair.TheVariants.{Sp}
 use Rattle.isa8080.specs.declared.registers.Status.TheVariants.{Halted, Running}
 use Rattle.isa8080.specs.State.{HoldBytes, Registers, State, wrap}
-use Rattle.asm8080.specs.declared.item.Item.{Item}
 use Rattle.asm8080.specs.declared.item.Item.TheVariants as items
 use Rattle.asm8080.specs.declared.item.Reference.TheVariants.{AtTarget}
 use Rattle.asm8080.specs.declared.item.WordForm.TheVariants.{LoadPair}
 use Rattle.asm8080.specs.Items.{word_of}
-use Rattle.treecode.specs.Lowered.{HasBody}
+use Rattle.treecode.specs.Lowered.{HasBody, reaches_end_of_list}
 use Rattle.treecode.specs.Nodes.{nodes_of}
-use Rattle.code_meaning.specs.Activations.{Activation, Arrives, IsReady, IsThere, LiesWell, Owns, Shares}
-use Rattle.code_meaning.specs.Landing.{Does, IsLeft, Lands, Told, at_place}
+use Rattle.code_meaning.specs.Activations.{IsReady, IsThere, LiesWell, Owns, Shares}
+use Rattle.code_meaning.specs.Landing.{Does, IsLeft, Lands, at_place}
 use Rattle.code_meaning.proofs.FirstItems.{plain_first, word_first}
 use Rattle.code_meaning.proofs.Landing.{gives}
 use Rattle.code_meaning.proofs.Owning.{keeps_all}
@@ -30,13 +30,14 @@ use Rattle.code_facts.specs.Holding.{place_at}
 use Rattle.code_facts.proofs.Changes.{no_facts_hold}
 use Rattle.steps8080.specs.Facts.{no_facts}
 use Rattle.task_meaning.proofs.Stages.{then_does_where}
-use Rattle.statement_meaning.specs.Bodies.{BodyContext, GoesOn, IsSoundBody, Leaves}
+use Rattle.statement_meaning.specs.Bodies.{BodyContext, IsSoundBody, Leaves}
 use Rattle.procedure_meaning.specs.Calls.{CallsAreKnown, Entries}
-use Rattle.procedure_meaning.specs.Contexts.{Shape, activation_in, body_in, context_in, main_shape}
-use Rattle.procedure_meaning.specs.Main.{ComesTo, EndsAs}
+use Rattle.procedure_meaning.specs.Contexts.{activation_in, body_in, main_shape}
+use Rattle.procedure_meaning.specs.Main.{EndsAs}
 use Rattle.procedure_meaning.specs.Modules.{MainStands, ModuleCode, ModuleLies, surroundings_in}
 use Rattle.procedure_meaning.specs.Premises.{CallsOfModuleFit, ListsAreDone}
 use Rattle.procedure_meaning.proofs.CallInstructions.{charged_does}
+use Rattle.procedure_meaning.proofs.KnownCalls.{ModuleIsThere, calls_known}
 use Rattle.procedure_meaning.proofs.Labels.{main_labels_differ}
 use Rattle.procedure_meaning.proofs.ProcedureCalls.{charge_is}
 use Rattle.procedure_meaning.proofs.Soundness.{body_sound, context_sound, main_planned, static_lies, there_in}
@@ -167,7 +168,7 @@ main_does code entries start budget room s r memory lies known lists fit stands 
           shares = shares;
           frame_lies = record {
             sizes = λ object.
-                ap (λ (frame : List (List ℕ)). length (Rattle.meaning.specs.Access.frame_bytes frame object)) no_frame;
+                ap (λ (frame : List (List ℕ)). length (frame_bytes frame object)) no_frame;
             bytes = λ object offset within. absurd (omega (arith, within));
           };
           kept = keeps_all (Owns (activation_in code (room - charge_of code.typed.main)
@@ -194,7 +195,7 @@ main_does code entries start budget room s r memory lies known lists fit stands 
 
         reaches_end : Bool
         reaches_end =
-            Rattle.treecode.specs.Lowered.reaches_end_of_list (nodes_of code.tree.now).homes code.storage true
+            reaches_end_of_list (nodes_of code.tree.now).homes code.storage true
             code.typed.main.body
 
         left : IsLeftBy (record { reaches = reaches_end; returns = false; labels = [] })
@@ -263,3 +264,25 @@ main_runs code entries start budget room s r memory lies known lists fit stands 
     (main_done budget code.typed (surroundings_in code room) s) IsHalted) is
     (main_does code entries start budget room s r memory lies known lists fit stands (omega (arith, is)) no_frame enough
     shares bytes))
+
+-- And so it does where all modules of the program lie as they are to: for each budget the machine ends as the source does.
+pub program_runs :
+    (code : ModuleCode) (entries : Entries) (start budget room : ℕ) (s : SourceState) (r : Registers) (memory : List ℕ)
+    → ModuleLies code entries
+    → ListsAreDone
+    → ((number : ℕ) (typed : TypedModule) → slice_get code.program.modules number ≡ Some typed
+    → ModuleIsThere code.program code.image entries (suc budget) number)
+    → CallsOfModuleFit code (suc budget)
+    → MainStands code start
+    → s.budget ≡ budget
+    → s.frame ≡ []
+    → room ≤ code.program.placement.stack.len
+    → Shares code.program code.image s.memory memory
+    → HoldBytes r
+    → EndsAs code.program.script budget (at_place start r memory s.events)
+    (run_of (main_done budget code.typed (surroundings_in code room) s)).end
+    (run_of (main_done budget code.typed (surroundings_in code room) s)).events
+program_runs code entries start budget room s r memory lies lists modules fit stands is no_frame enough shares bytes =
+    main_runs code entries start budget room s r memory lies
+    (calls_known code.program code.image entries (suc budget) lists modules budget (omega arith)) lists fit stands is
+    no_frame enough shares bytes

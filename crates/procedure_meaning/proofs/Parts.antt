@@ -1,32 +1,30 @@
 -- A call from three parts: how its procedure begins, its statements, and how it returns.
-use Rattle.std.proofs.Common.{◌≡◌, ◌≢◌, ℕ, zero, suc, ◌+◌, ◌-◌, ◌*◌, ◌<◌, ◌≤◌, ◌⊎◌, inl, inr, Bool, true, false, List, [], ◌∷◌, ◌++◌, length, Option, Some, None, refl, sym, ap, subst, ◌∙◌, arith}
+use Rattle.std.proofs.Common.{◌≡◌, ℕ, ◌+◌, ◌-◌, ◌*◌, ◌<◌, ◌≤◌, ◌⊎◌, inl, inr, Bool, true, false, List, [], length, Option, refl, sym, ap, subst, ◌∙◌, arith}
 use Rattle.trees.specs.declared.declaration.ScalarType.{ScalarType}
 use Rattle.typed_trees.specs.Charge.{height_of_list}
 use Rattle.typed_trees.specs.Jumps.{ListStands}
-use Rattle.typed_trees.specs.TypedTrees.{TypedList, TypedProcedure}
+use Rattle.typed_trees.specs.TypedTrees.{TypedProcedure}
 use Rattle.typed_trees.specs.WellTyped.{TypesHoldInList}
-use Rattle.meaning.specs.Meaning.{done_list, entered, frame_of, parameters_set, value_of_flow}
+use Rattle.meaning.specs.Meaning.{done_list, entered, value_of_flow}
 use Rattle.meaning.specs.Outcomes.{Flow, Gave, Jumped, Onward, Outcome, Returned, State as SourceState, then_do}
-use Rattle.isa8080.specs.State.{Registers, State}
+use Rattle.isa8080.specs.State.{Registers, State, wrap}
 use Rattle.asm8080.specs.declared.item.Item.{Item}
 use Rattle.asm8080.specs.Standing.{Keeps}
-use Rattle.mem80.specs.Memory.{byte_at}
 use Rattle.treecode.specs.declared.lists.Range.{Range}
 use Rattle.treecode.specs.Lowered.{IsList}
-use Rattle.code_meaning.specs.Activations.{Activation, HasRoom, IsReady, IsThere, IsVariable, LiesWell, Owns}
-use Rattle.code_meaning.specs.Landing.{Does, Lands, Told, at_place}
+use Rattle.code_meaning.specs.Activations.{Activation, IsReady, IsThere, LiesWell, Owns, Arrives}
+use Rattle.code_meaning.specs.Landing.{Does, at_place}
 use Rattle.code_meaning.proofs.Landing.{then_does}
 use Rattle.code_meaning.proofs.Owning.{keeps_both, keeps_wider}
 use Rattle.steps8080.specs.declared.facts.Facts.{Facts}
 use Rattle.codegen8080.specs.declared.meeting.Here.{Here}
-use Rattle.codegen8080.specs.Generated.{AreCarriedOut}
 use Rattle.task_meaning.specs.Contexts.{ResultLies, bytes_pushed, nodes_in}
-use Rattle.task_meaning.proofs.Stages.{does_same, then_does_where}
+use Rattle.task_meaning.proofs.Stages.{then_does_where}
 use Rattle.statement_meaning.specs.Bodies.{BodyContext, ComesToReturn, GoesOn, Leaves, ReturnStands}
 use Rattle.statement_meaning.specs.Statements.{ListDoes}
 use Rattle.procedure_meaning.specs.Calls.{ComesBack, IsEntered, IsOfCall, ReturnLies}
 use Rattle.procedure_meaning.specs.Modules.{EndIs}
-use Rattle.procedure_meaning.specs.Procedures.{BeginDoes, HasBegun, HasReturned, ReturnDoes}
+use Rattle.procedure_meaning.specs.Procedures.{BeginDoes, HasReturned, ReturnDoes}
 use Rattle.procedure_meaning.proofs.Ends.{end_does}
 use Rattle.procedure_meaning.proofs.Ways.{IsLeftBy, LeavesBy, Ways, no_jump}
 
@@ -198,7 +196,7 @@ entered_does at number found range room entry middle end_place to top bound fact
           shares = has.shares;
           frame = refl;
           registers = has.registers;
-          pointer = has.pointer ∙ ap Rattle.isa8080.specs.State.wrap above_is;
+          pointer = has.pointer ∙ ap wrap above_is;
           kept =
               keeps_both (IsOfCall activation.around.program (top + 2 + bytes_pushed values)) memory before has.memory kept
               (keeps_both (IsOfCall activation.around.program (top + 2 + bytes_pushed values)) before ended has.memory
@@ -248,7 +246,7 @@ entered_does at number found range room entry middle end_place to top bound fact
         returning : ComesToReturn at before value u state
         returning = leaves
 
-        comes_of : Rattle.code_meaning.specs.Activations.Arrives activation activation.level before returning.place
+        comes_of : Arrives activation activation.level before returning.place
             (λ (given : Unit {0}) (r : Registers) (memory : List ℕ).
             ResultLies at.body.procedure.now.result value r memory) tt u state
         comes_of = returning.comes

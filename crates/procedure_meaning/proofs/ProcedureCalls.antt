@@ -1,7 +1,5 @@
 -- A module's own procedures do what calls of them mean, where calls of all procedures do so in runs of less.
-use Rattle.std.proofs.Common.{◌≡◌, ◌≢◌, ℕ, zero, suc, ◌+◌, ◌-◌, ◌*◌, ◌<◌, ◌≤◌, ◌⊎◌, inl, inr, Bool, true, false, List, [], ◌∷◌, ◌++◌, length, slice_get, slice_index_or, Option, Some, None, All, refl, sym, ap, subst, ◌∙◌, arith}
-use Rattle.std.specs.Borrow.{Bor}
-use Rattle.ports.specs.declared.event.Event.{Event}
+use Rattle.std.proofs.Common.{◌≡◌, ◌≢◌, ℕ, zero, suc, ◌+◌, ◌-◌, ◌*◌, ◌<◌, ◌≤◌, ◌⊎◌, inl, inr, Bool, true, false, List, [], ◌∷◌, ◌++◌, length, slice_get, Some, All, refl, sym, ap, subst, ◌∙◌, arith}
 use Rattle.trees.specs.declared.declaration.ScalarType.{ScalarType}
 use Rattle.typed_trees.specs.declared.parts.Visibility.{Visibility}
 use Rattle.typed_trees.specs.declared.parts.Visibility.TheVariants as visibilities
@@ -10,20 +8,18 @@ use Rattle.typed_trees.specs.Frames.{AreParameters, HasParameters, home_of_param
 use Rattle.typed_trees.specs.Jumps.{BodyIsSound}
 use Rattle.typed_trees.specs.TypedTrees.{Home, TypedModule, TypedProcedure}
 use Rattle.typed_trees.specs.WellTyped.{TypesHoldInList, TypesHoldInProcedure, WithinProcedure}
-use Rattle.layout.specs.Joined.{InProgram}
 use Rattle.meaning.specs.Meaning.{done_list, entered, later_by}
 use Rattle.meaning.specs.Outcomes.{State as SourceState}
-use Rattle.isa8080.specs.State.{Registers, State, wrap}
+use Rattle.isa8080.specs.State.{Registers, State}
 use Rattle.isa8080.specs.Step.{running}
-use Rattle.asm8080.specs.declared.item.Item.{Item}
 use Rattle.treecode.specs.declared.procedure.ProcedureKind.{ProcedureKind}
 use Rattle.treecode.specs.declared.procedure.ProcedureKind.TheVariants as kinds
 use Rattle.treecode.specs.declared.procedure.TreeProcedure.{TreeProcedure}
 use Rattle.treecode.specs.Homes.{kind_of}
-use Rattle.treecode.specs.Lowered.{IsProcedure, reaches_end_of_list}
+use Rattle.treecode.specs.Lowered.{IsProcedure}
 use Rattle.treecode.specs.Nodes.{nodes_of}
 use Rattle.frames.specs.declared.frame_plan.FramePlan.{FramePlan}
-use Rattle.frames.specs.Frames.{IsPlanOf, return_distance, return_of}
+use Rattle.frames.specs.Frames.{return_distance, return_of}
 use Rattle.procedure_frames.proofs.Frames.{parameter_count}
 use Rattle.procedure_frames.proofs.Parameters.{has_parameters, numbered_at}
 use Rattle.code_meaning.specs.Activations.{IsThere, LiesWell}
@@ -35,9 +31,9 @@ use Rattle.statement_meaning.specs.Bodies.{BodyContext, IsSoundBody}
 use Rattle.procedure_meaning.specs.Calls.{CallsAreKnown, ComesBack, Entries, EntryDoes, IsEntered}
 use Rattle.procedure_meaning.specs.Contexts.{Shape, activation_in, body_in, context_in, frame_shape, static_shape}
 use Rattle.procedure_meaning.specs.Modules.{ModuleCode, ModuleLies, ProcedureStands, bare, surroundings_in}
-use Rattle.procedure_meaning.specs.Premises.{CallsOfModuleFit, IsBodyOf, ListsAreDone, ReentrantBegins, ReentrantReturns, StaticBegins, StaticReturns, frame_level, reentrant_body, static_body, static_level}
+use Rattle.procedure_meaning.specs.Premises.{CallsOfModuleFit, IsBodyOf, ListsAreDone, ReentrantBegins, ReentrantReturns, StaticBegins, StaticReturns, frame_level, static_level}
 use Rattle.procedure_meaning.specs.Procedures.{BeginDoes, ReturnDoes}
-use Rattle.procedure_meaning.proofs.Callees.{IsTree, tree_of}
+use Rattle.procedure_meaning.proofs.Callees.{tree_of}
 use Rattle.procedure_meaning.proofs.Labels.{procedure_labels_differ}
 use Rattle.procedure_meaning.proofs.Parts.{entered_does}
 use Rattle.procedure_meaning.proofs.Soundness.{body_sound, context_sound, frame_lies, frame_planned, static_lies, static_planned, there_in}
@@ -54,7 +50,7 @@ holds_at P (first ∷ others) (suc index) one all there =
     holds_at P others index one (λ i d below. all (suc i) d (omega (arith, below))) there
 
 -- as many values as types
-as_many_values : (types : List ScalarType) (values : List ℕ) (top : ℕ) (r : Registers) (memory : List ℕ)
+pub as_many_values : (types : List ScalarType) (values : List ℕ) (top : ℕ) (r : Registers) (memory : List ℕ)
     → ArgumentsLie types values top r memory → length values ≡ length types
 as_many_values [] [] top r memory lie = refl
 as_many_values [] (value ∷ values) top r memory lie = absurd lie

@@ -1,9 +1,8 @@
 -- The bodies of a module are carried out in what is asked of their contexts.
-use Rattle.std.proofs.Common.{◌≡◌, ◌≢◌, ℕ, zero, suc, ◌+◌, ◌-◌, ◌*◌, ◌<◌, ◌≤◌, ◌==◌, Bool, true, false, if◌then◌else◌, List, [], ◌∷◌, length, slice_get, Option, Some, None, refl, sym, ap, subst, ◌∙◌, arith, eq-eqb, eqb-true}
+use Rattle.std.proofs.Common.{◌≡◌, ◌≢◌, ℕ, suc, ◌+◌, ◌*◌, ◌<◌, ◌≤◌, Bool, true, false, if◌then◌else◌, List, length, slice_get, Option, Some, None, refl, sym, ap, ◌∙◌, arith, eq-eqb, eqb-true}
 use Rattle.std.specs.Prelude.{AllPairs, IsSomeAnd}
 use Rattle.std.specs.Borrow.{Bor}
 use Rattle.std.specs.Option.{option_map_or}
-use Rattle.mem80.specs.Range.{IsIn}
 use Rattle.trees.specs.declared.declaration.ScalarType.{ScalarType}
 use Rattle.typed_trees.specs.Frames.{is_in_frame}
 use Rattle.typed_trees.specs.Sizes.{size_of_object}
@@ -17,12 +16,10 @@ use Rattle.asm8080.specs.declared.item.Item.{Item}
 use Rattle.treecode.specs.Homes.{frame_number}
 use Rattle.treecode.specs.Lowered.{labels_numbered_in_list}
 use Rattle.frames.specs.declared.frame_plan.FramePlan.{FramePlan}
-use Rattle.frames.specs.Frames.{IsPlanOf, distance_of, return_of}
+use Rattle.frames.specs.Frames.{IsPlanOf, distance_of}
 use Rattle.procedure_frames.specs.internal.Objects.{HasByte, ObjectsLie}
 use Rattle.procedure_frames.proofs.Objects.{lowered_framed}
 use Rattle.code_meaning.specs.Activations.{IsThere, LiesWell}
-use Rattle.exprgen8080.specs.Emission.{has_routine}
-use Rattle.sites8080.specs.declared.site.Site.{Site}
 use Rattle.steps8080.specs.Facts.{no_facts}
 use Rattle.statements8080.specs.declared.body.Body.{Body}
 use Rattle.task_meaning.specs.Contexts.{CallsFit, FrameIsPlanned, IsSound, RoutineIsAt}
@@ -31,7 +28,6 @@ use Rattle.procedure_meaning.specs.Calls.{CallsAreKnown, Entries}
 use Rattle.procedure_meaning.specs.Contexts.{Shape, activation_in, body_in, context_in, frame_shape, main_shape, size_in_frame, static_shape}
 use Rattle.procedure_meaning.specs.Modules.{ModuleCode, ModuleLies, bare}
 use Rattle.procedure_meaning.proofs.CallInstructions.{calls_do}
-use Rattle.procedure_meaning.proofs.Labels.{main_labels_differ, procedure_labels_differ}
 
 -- what stands in the code stands there for each activation
 pub there_in :

@@ -1,5 +1,5 @@
 -- A procedure that is not REENTRANT returns by RET.
-use Rattle.std.proofs.Common.{◌≡◌, ◌≢◌, ℕ, ◌+◌, ◌-◌, ◌*◌, ◌/◌, ◌%◌, ◌<◌, ◌≤◌, List, [], ◌∷◌, Option, Some, None, refl, sym, ap, subst, ◌∙◌, arith}
+use Rattle.std.proofs.Common.{◌≡◌, ℕ, ◌+◌, ◌*◌, ◌/◌, ◌%◌, ◌≤◌, List, [], ◌∷◌, Option, Some, None, refl, ap, subst, ◌∙◌, arith}
 use Rattle.mem80.specs.declared.memory.TheConstants.{MEMORY_SIZE}
 use Rattle.mem80.specs.Memory.{byte_at, word_at}
 use Rattle.ports.specs.declared.event.Event.{Event}
@@ -8,11 +8,9 @@ use Rattle.trees.specs.declared.declaration.ScalarType.TheVariants.{Byte, Addres
 use Rattle.meaning.specs.Outcomes.{Gave, State as SourceState}
 use Rattle.isa8080.specs.declared.instr.Instr.TheVariants.{Ret}
 use Rattle.isa8080.specs.Act.{act}
-use Rattle.isa8080.specs.State.{HoldBytes, Registers, State, wrap}
+use Rattle.isa8080.specs.State.{Registers, State, wrap}
 use Rattle.isa8080.specs.Step.{running, step_of}
 use Rattle.asm8080.specs.declared.item.Item.{Item}
-use Rattle.asm8080.specs.declared.item.Item.TheVariants as items
-use Rattle.asm8080.specs.Standing.{Keeps}
 use Rattle.treecode.specs.declared.procedure.ProcedureKind.{ProcedureKind}
 use Rattle.treecode.specs.declared.procedure.ProcedureKind.TheVariants as kinds
 use Rattle.treecode.specs.declared.procedure.TreeProcedure.{TreeProcedure}
@@ -27,11 +25,11 @@ use Rattle.statements8080.specs.Plans.{plain}
 use Rattle.codegen8080.specs.Generated.{AreCarriedOut}
 use Rattle.codegen8080.specs.Procedures.{return_steps, return_steps_by}
 use Rattle.task_meaning.specs.Contexts.{ResultLies}
-use Rattle.statement_meaning.specs.Bodies.{BodyContext, ReturnStands}
+use Rattle.statement_meaning.specs.Bodies.{BodyContext}
 use Rattle.procedure_meaning.specs.Calls.{IsOfCall, ReturnLies}
 use Rattle.procedure_meaning.specs.Modules.{ModuleCode}
 use Rattle.procedure_meaning.specs.Premises.{StaticReturns, static_body, static_level}
-use Rattle.procedure_meaning.specs.Procedures.{HasReturned, ReturnDoes}
+use Rattle.procedure_meaning.specs.Procedures.{HasReturned}
 use Rattle.procedure_meaning.proofs.Ends.{plain_planned}
 
 -- a result lies where it does at another place of the program, with another stack pointer

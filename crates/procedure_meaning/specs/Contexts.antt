@@ -1,11 +1,11 @@
 -- The activations and contexts of the bodies of a module.
-use Rattle.std.specs.Prelude.{◌≡◌, ℕ, ◌+◌, ◌-◌, ◌*◌, List, length, slice_get, Option, Some, None, if◌then◌else◌}
+use Rattle.std.specs.Prelude.{ℕ, ◌+◌, ◌*◌, length, slice_get, if◌then◌else◌}
 use Rattle.std.specs.Borrow.{Bor}
 use Rattle.std.specs.Option.{option_map_or}
 use Rattle.typed_trees.specs.Frames.{is_in_frame}
 use Rattle.typed_trees.specs.Sizes.{size_of_object}
 use Rattle.typed_trees.specs.TypedTrees.{TypedModule, TypedObject, TypedProcedure}
-use Rattle.typed_trees.specs.WellTyped.{Within, WithinMain, WithinProcedure}
+use Rattle.typed_trees.specs.WellTyped.{Within}
 use Rattle.meaning.specs.Meaning.{later_by}
 use Rattle.treecode.specs.Homes.{frame_number}
 use Rattle.treecode.specs.Lowered.{labels_numbered_in_list}

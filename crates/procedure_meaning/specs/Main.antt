@@ -2,7 +2,6 @@
 use Rattle.std.specs.Prelude.{ℕ, ◌≤◌, List}
 use Rattle.ports.specs.declared.event.Event.{Event}
 use Rattle.meaning.specs.Outcomes.{Ended, More, Outside, Stop}
-use Rattle.meaning.specs.Run.{Run}
 use Rattle.isa8080.specs.declared.registers.Status.TheVariants.{Halted, Running}
 use Rattle.isa8080.specs.State.{State}
 use Rattle.asm8080.specs.Runs.{Comes}

@@ -8,7 +8,8 @@ use Rattle.ports.specs.Input.{IsScript}
 use Rattle.typed_trees.specs.Frames.{FramesFit, ParametersFit}
 use Rattle.typed_trees.specs.Globals.{ListsGlobals}
 use Rattle.typed_trees.specs.Jumps.{JumpsAreSound}
-use Rattle.typed_trees.specs.TypedTrees.{InFrame, TypedModule, TypedObject, TypedProcedure}
+use Rattle.typed_trees.specs.Sizes.{size_of_object}
+use Rattle.typed_trees.specs.TypedTrees.{InData, InFrame, TypedModule, TypedObject, TypedProcedure}
 use Rattle.typed_trees.specs.WellTyped.{IsWellTyped}
 use Rattle.layout.specs.Joined.{InProgram, IsJoined}
 use Rattle.layout.specs.Storage.{Storage}
@@ -125,6 +126,21 @@ FramesAreReentrant typed =
     → found.home ≡ InFrame number
     → heading.is_reentrant ≡ true
 
+-- variables of the data segment without AT and INITIAL have no byte in common
+abbrev pub VariablesAreApart : ModuleCode → Type 0
+VariablesAreApart code =
+    (one other : ℕ) (first second : TypedObject) (left right : Place) (offset distance : ℕ)
+    → one ≢ other
+    → slice_get code.typed.objects one ≡ Some first
+    → slice_get code.typed.objects other ≡ Some second
+    → first.home ≡ InData []
+    → second.home ≡ InData []
+    → home_at code.tree.now.homes.items one ≡ Static left
+    → home_at code.tree.now.homes.items other ≡ Static right
+    → offset < size_of_object first
+    → distance < size_of_object second
+    → wrap (place_at code.layout left + offset) ≢ wrap (place_at code.layout right + distance)
+
 -- What is true of a module of a program and of where its code lies, where the entries of procedures are these.
 pub record ModuleLies (code : ModuleCode) (entries : Entries) : Type 0 where
   pub is_module : slice_get code.program.modules code.number ≡ Some code.typed
@@ -142,6 +158,7 @@ pub record ModuleLies (code : ModuleCode) (entries : Entries) : Type 0 where
   pub numbers : NumbersAreWords (nodes_of code.tree.now)
   pub script : IsScript code.program.script
   pub placed : PlacementLies code.program
+  pub apart : VariablesAreApart code
   pub resolves : (room : ℕ)
       → Resolves (surroundings_in code room) code.tree.now.homes.items code.storage (place_at code.layout)
   pub words : (object : ℕ) (place : Place) → home_at code.tree.now.homes.items object ≡ Static place
