@@ -50,7 +50,8 @@ use Rattle.procedure_meaning.specs.Calls.{Entries, IsEntered, IsOfCall}
 use Rattle.procedure_meaning.specs.Modules.{ModuleCode, ModuleLies, at_start, surroundings_in}
 use Rattle.procedure_meaning.specs.Premises.{IsBodyOf, ReentrantBegins, frame_level, reentrant_body}
 use Rattle.procedure_meaning.specs.Procedures.{HasBegun}
-use Rattle.procedure_meaning.proofs.FramesLast.{LastIs, NoneAre, facts_of_last, facts_of_none, in_word_stays, last_in_word, last_is, last_pushed, pushed_word, pushed_word_small, steps_of_last, steps_of_none}
+use Rattle.procedure_meaning.proofs.CallInstructions.{register_kept, word_kept}
+use Rattle.procedure_meaning.proofs.FramesLast.{LastIs, NoneAre, facts_of_last, facts_of_none, last_in_word, last_is, last_pushed, pushed_word, pushed_word_small, steps_of_last, steps_of_none}
 use Rattle.procedure_meaning.proofs.FramesNew.{IsObjectOf, home_reentrant, new_lies, object_of, parameters_in_words, size_in_frame_is}
 use Rattle.procedure_meaning.proofs.FramesPlanned.{parameter_lies}
 use Rattle.procedure_meaning.proofs.FramesSet.{LieInWords, all_set}
@@ -391,16 +392,11 @@ module _ (code : ModuleCode) (entries : Entries) (bound : ℕ) (lies : ModuleLie
       in_word : InWord last.scalar last.value ended (level + found.frame_bytes)
       in_word =
           subst (λ (address : ℕ). InWord last.scalar last.value ended address) (sym place)
-          (in_word_stays last.scalar last.value (top - 2) (pushed_memory last.scalar) ended
+          (word_kept last.scalar last.value (top - 2) (pushed_memory last.scalar) ended
           (are.kept (top - 2) (λ from below. omega (arith, below)))
           (are.kept (top - 2 + 1) (λ from below. omega (arith, below)))
           (last_in_word last.scalar last.value top r memory some limit enters.shares.is_memory.size enters.registers
           last.in_register))
-
-  register_stays : (scalar : ScalarType) (value : ℕ) (now : Registers)
-      → now.a ≡ r.a → now.h ≡ r.h → now.l ≡ r.l → InRegister scalar value r → InRegister scalar value now
-  register_stays Byte value now a h l is = a ∙ is
-  register_stays Address value now a h l is = (h ∙ is.0, l ∙ is.1)
 
   -- the code of a procedure with parameters
   with_last :
@@ -447,7 +443,7 @@ module _ (code : ModuleCode) (entries : Entries) (bound : ℕ) (lies : ModuleLie
       ∙ ap (λ (facts : Facts). with_facts no_facts facts) facts_are))
       (known_last last.scalar last.value last.parameter now ended distance
       (size_in_frame_is code.typed index last.scalar last.parameter object)
-      (register_stays last.scalar last.value now made.0.a made.0.h made.0.l last.in_register) made.1
+      (register_kept last.scalar last.value r now made.0.a made.0.h made.0.l last.in_register) made.1
       (omega (arith, place, some, limit)))))))
     where
       object : IsObjectOf code.typed index last.scalar last.parameter

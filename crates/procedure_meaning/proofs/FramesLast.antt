@@ -21,6 +21,7 @@ use Rattle.steps8080.specs.Facts.{no_facts}
 use Rattle.statements8080.specs.Plans.{plain}
 use Rattle.codegen8080.specs.Procedures.{last_argument_facts, last_argument_steps, pair_of, with_argument}
 use Rattle.task_meaning.specs.Contexts.{ArgumentsLie, InRegister, InWord}
+use Rattle.procedure_meaning.proofs.CallInstructions.{word_kept}
 use Rattle.procedure_meaning.proofs.FramesSet.{LieInWords}
 
 -- the steps of the last argument, and what is known of it, by the last parameter
@@ -111,16 +112,6 @@ last_in_word Address value top r memory room limit size bytes is = (
       ∙ high_of r.h r.l (value / 256) bytes.l is.0,
 )
 
--- a value in a word stays there while its bytes do
-pub in_word_stays :
-    (scalar : ScalarType) (value address : ℕ) (memory ended : List ℕ)
-    → byte_at ended address ≡ byte_at memory address
-    → byte_at ended (address + 1) ≡ byte_at memory (address + 1)
-    → InWord scalar value memory address
-    → InWord scalar value ended address
-in_word_stays Byte value address memory ended low high is = high ∙ is
-in_word_stays Address value address memory ended low high is = (low ∙ is.0, high ∙ is.1)
-
 -- The last one of parameters and arguments; and all arguments lie in their words where that one does, and the others are
 -- where they were.
 pub record LastIs
@@ -176,7 +167,7 @@ one_more {scalars = scalars} {parameters = parameters} {values = values} {top = 
   some = omega arith;
   words = λ level bytes ended same in_word stays.
       (subst (λ (address : ℕ). InWord scalar value ended address) (word_place level bytes top (length scalars) same)
-      (in_word_stays scalar value (top + 2 * length scalars) memory ended (stays (top + 2 * length scalars) (omega arith))
+      (word_kept scalar value (top + 2 * length scalars) memory ended (stays (top + 2 * length scalars) (omega arith))
       (stays (top + 2 * length scalars + 1) (omega arith)) lie),
       last.words level bytes ended same in_word stays);
 }

@@ -29,6 +29,7 @@ use Rattle.procedure_meaning.specs.Contexts.{activation_in, frame_shape, size_in
 use Rattle.procedure_meaning.specs.Modules.{ModuleCode, ModuleLies, surroundings_in}
 use Rattle.procedure_meaning.proofs.FramesPlanned.{parameter_lies, variable_lies}
 use Rattle.procedure_meaning.proofs.ProcedureCalls.{as_many_parameters}
+use Rattle.procedure_meaning.proofs.Soundness.{frame_home}
 use Rattle.procedure_meaning.proofs.FramesSet.{AreInWords, IsAmong, IsOfParameters, LiesBut}
 
 -- whether an object is in a frame, in the words of the meaning
@@ -90,15 +91,6 @@ zeros_from :
 zeros_from procedure object offset [] within = absurd (omega (arith, within))
 zeros_from procedure zero offset (first ∷ others) within = new_zero procedure first offset within
 zeros_from procedure (suc object) offset (first ∷ others) within = zeros_from procedure object offset others within
-
-frame_home : (procedure : ℕ) (home : Home) → is_in_frame procedure home ≡ true → home ≡ InFrame procedure
-frame_home procedure (InFrame other) is = ap (λ (one : ℕ). InFrame one) (sym (eqb-true procedure other is))
-frame_home procedure (InData values) is = let bad : ⊥ = cc in absurd bad
-frame_home procedure (InConstants values) is = let bad : ⊥ = cc in absurd bad
-frame_home procedure (Placed address) is = let bad : ⊥ = cc in absurd bad
-frame_home procedure (BasedOn base) is = let bad : ⊥ = cc in absurd bad
-frame_home procedure Elsewhere is = let bad : ⊥ = cc in absurd bad
-frame_home procedure Nowhere is = let bad : ⊥ = cc in absurd bad
 
 -- what stands in a list is among its items
 stands_among : (items : List ℕ) (index item : ℕ) → slice_get items index ≡ Some item → IsAmong item items

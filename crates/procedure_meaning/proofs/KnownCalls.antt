@@ -9,8 +9,10 @@ use Rattle.meaning.specs.Meaning.{later_by, procedure_at}
 use Rattle.meaning.specs.Outcomes.{Program}
 use Rattle.procedure_meaning.specs.Calls.{CallsAreKnown, Entries, EntryDoes}
 use Rattle.procedure_meaning.specs.Modules.{ModuleCode, ModuleLies}
-use Rattle.procedure_meaning.specs.Premises.{CallsOfModuleFit, ListsAreDone, ReentrantBegins, ReentrantReturns}
+use Rattle.procedure_meaning.specs.Premises.{CallsOfModuleFit, ListsAreDone}
+use Rattle.procedure_meaning.proofs.FramesBegin.{reentrant_begins}
 use Rattle.procedure_meaning.proofs.ProcedureCalls.{procedures_do}
+use Rattle.procedure_meaning.proofs.ReturnsReentrant.{reentrant_returns}
 use Rattle.procedure_meaning.proofs.StaticProcedures.{static_begins}
 use Rattle.procedure_meaning.proofs.StaticReturns.{static_returns}
 
@@ -22,8 +24,6 @@ pub record ModuleIsThere (program : Program) (image : List ℕ) (entries : Entri
   pub number_is : code.number ≡ number
   pub lies : ModuleLies code entries
   pub fit : CallsOfModuleFit code bound
-  pub frame_begins : ReentrantBegins code bound
-  pub frame_returns : ReentrantReturns code bound
 
 -- what a place in a program has
 record IsAt (modules : List TypedModule) (at : InProgram) (typed : TypedModule) (found : TypedProcedure) : Type 0 where
@@ -100,7 +100,8 @@ in_module {program = program} {image = image} {entries = entries} {bound = bound
     (entries (record { number_of_module = code.number; number = index })))
     there.program_is
     (procedures_do code entries bound number there.lies its_known bounded lists there.fit
-    (static_begins code entries bound there.lies) (static_returns code bound) there.frame_begins there.frame_returns index found
+    (static_begins code entries bound there.lies) (static_returns code bound)
+    (reentrant_begins code entries bound there.lies) (reentrant_returns code entries bound there.lies) index found
     (ap (λ (one : TypedModule). slice_get one.procedures index) same_module ∙ is) here))))
   where
     code : ModuleCode
