@@ -43,12 +43,12 @@ use Rattle.procedure_meaning.specs.Modules.{ModuleCode, ModuleLies, surroundings
 use Rattle.procedure_meaning.proofs.Callees.{IsCallee, callee_of}
 
 -- arguments lie where they do while the bytes above the stack pointer, A and HL stay
-register_kept : (scalar : ScalarType) (value : ℕ) (r now : Registers)
+pub register_kept : (scalar : ScalarType) (value : ℕ) (r now : Registers)
     → now.a ≡ r.a → now.h ≡ r.h → now.l ≡ r.l → InRegister scalar value r → InRegister scalar value now
 register_kept Byte value r now a h l is = a ∙ is
 register_kept Address value r now a h l is = (h ∙ is.0, l ∙ is.1)
 
-word_kept : (scalar : ScalarType) (value address : ℕ) (memory ended : List ℕ)
+pub word_kept : (scalar : ScalarType) (value address : ℕ) (memory ended : List ℕ)
     → byte_at ended address ≡ byte_at memory address
     → byte_at ended (address + 1) ≡ byte_at memory (address + 1)
     → InWord scalar value memory address → InWord scalar value ended address

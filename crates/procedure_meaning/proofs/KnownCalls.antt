@@ -9,8 +9,10 @@ use Rattle.meaning.specs.Meaning.{later_by, procedure_at}
 use Rattle.meaning.specs.Outcomes.{Program}
 use Rattle.procedure_meaning.specs.Calls.{CallsAreKnown, Entries, EntryDoes}
 use Rattle.procedure_meaning.specs.Modules.{ModuleCode, ModuleLies}
-use Rattle.procedure_meaning.specs.Premises.{Anywhere, with_tree, CallsOfModuleFit, ListsAreDone, ReentrantBegins, ReentrantReturns}
+use Rattle.procedure_meaning.specs.Premises.{with_tree, CallsOfModuleFit, ListsAreDone}
+use Rattle.procedure_meaning.proofs.FramesBegin.{reentrant_begins}
 use Rattle.procedure_meaning.proofs.ProcedureCalls.{procedures_do}
+use Rattle.procedure_meaning.proofs.ReturnsReentrant.{reentrant_returns}
 use Rattle.procedure_meaning.proofs.Trees.{lies_anywhere}
 use Rattle.procedure_meaning.proofs.StaticProcedures.{static_begins}
 use Rattle.procedure_meaning.proofs.StaticReturns.{static_returns}
@@ -23,8 +25,6 @@ pub record ModuleIsThere (program : Program) (image : List ℕ) (entries : Entri
   pub number_is : code.number ≡ number
   pub lies : ModuleLies code entries
   pub fit : CallsOfModuleFit code bound
-  pub frame_begins : Anywhere (λ one. ReentrantBegins one bound) code
-  pub frame_returns : Anywhere (λ one. ReentrantReturns one bound) code
 
 -- what a place in a program has
 record IsAt (modules : List TypedModule) (at : InProgram) (typed : TypedModule) (found : TypedProcedure) : Type 0 where
@@ -102,7 +102,10 @@ in_module {program = program} {image = image} {entries = entries} {bound = bound
     there.program_is
     (procedures_do code entries bound number there.lies its_known bounded lists there.fit
     (λ tree same. static_begins (with_tree code tree) entries bound (lies_anywhere code entries tree same there.lies))
-    (λ tree same. static_returns (with_tree code tree) bound) there.frame_begins there.frame_returns index found
+    (λ tree same. static_returns (with_tree code tree) bound)
+    (λ tree same. reentrant_begins (with_tree code tree) entries bound (lies_anywhere code entries tree same there.lies))
+    (λ tree same. reentrant_returns (with_tree code tree) entries bound (lies_anywhere code entries tree same there.lies))
+    index found
     (ap (λ (one : TypedModule). slice_get one.procedures index) same_module ∙ is) here))))
   where
     code : ModuleCode

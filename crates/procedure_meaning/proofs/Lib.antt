@@ -10,6 +10,16 @@ pub mod ProcedureCalls
 pub mod StaticReturns
 pub mod KnownCalls
 pub mod Main
+pub mod FramesSteps
+pub mod Zeros
+pub mod FramesPlanned
+pub mod FramesSet
+pub mod FramesNew
+pub mod FramesLast
+pub mod FramesBegin
+pub mod ReturnsDrop
+pub mod ReturnsOver
+pub mod ReturnsReentrant
 pub mod Puts
 pub mod Planned
 pub mod StaticStages

@@ -80,7 +80,7 @@ unfolding charge_of
 charge_is found = refl
 
 -- where the return address of a frame lies
-return_is : (plan : FramePlan) (bytes count : ℕ)
+pub return_is : (plan : FramePlan) (bytes count : ℕ)
     → plan.variable_bytes ≡ bytes → plan.parameter_count ≡ count
     → ((return_of plan).start + 2 + 2 * (count - 1) ≡ 2 + 2 * count + bytes)
     × ((return_of plan).start + 2 ≤ 2 + 2 * count + bytes)

@@ -151,7 +151,7 @@ size_at typed procedure object found there home =
     ∙ ap (λ (home : Home). if is_in_frame procedure home then size_of_object found else 0) home
     ∙ ap (λ (test : Bool). if test then size_of_object found else 0) (eq-eqb procedure procedure refl)
 
-frame_home : (procedure : ℕ) (home : Home) → is_in_frame procedure home ≡ true → home ≡ InFrame procedure
+pub frame_home : (procedure : ℕ) (home : Home) → is_in_frame procedure home ≡ true → home ≡ InFrame procedure
 frame_home procedure (InFrame other) is = ap (λ (one : ℕ). InFrame one) (sym (eqb-true procedure other is))
 frame_home procedure (InData values) is = let bad : ⊥ = cc in absurd bad
 frame_home procedure (InConstants values) is = let bad : ⊥ = cc in absurd bad
