@@ -13,3 +13,4 @@ pub mod Firsts
 pub mod Assignments
 pub mod Assigned
 pub mod Together
+pub mod SameValues
