@@ -14,3 +14,4 @@ pub mod Assignments
 pub mod Assigned
 pub mod Together
 pub mod SameValues
+pub mod SameParts
