@@ -15,3 +15,4 @@ pub mod Assigned
 pub mod Together
 pub mod SameValues
 pub mod SameParts
+pub mod QuietParts

@@ -60,7 +60,7 @@ same_bases context home object one other one_inside other_inside s t u p q same 
     sums : (m one other : ℕ) → one % 65536 ≡ other % 65536 → (m + one) % 65536 ≡ (m + other) % 65536
     sums m one other same = omega (arith, same)
 
-either_true : (one other : Bool) → (one || other) ≡ true → (one ≡ true) ⊎ (other ≡ true)
+pub either_true : (one other : Bool) → (one || other) ≡ true → (one ≡ true) ⊎ (other ≡ true)
 either_true true other is = inl refl
 either_true false other is = inr is
 
@@ -175,7 +175,7 @@ module _
           x.same both.1 ∙ both.0 ∙ sym (y.same (subst (λ (n : ℕ). n < 65536) both.0 both.1))
 
   -- what two subscripts that are the same add
-  same_displacements :
+  pub same_displacements :
       {one_bound other_bound : ℕ} (left right : Option IndexNode) (one other : Subscript) (a b : Displacement) (t u : SourceState)
       → IsSubscript (nodes_in context) context.storage one_bound left one
       → IsSubscript (nodes_in context) context.storage other_bound right other
