@@ -16,3 +16,4 @@ pub mod Together
 pub mod SameValues
 pub mod SameParts
 pub mod QuietParts
+pub mod Counts
