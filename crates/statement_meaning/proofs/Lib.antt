@@ -17,3 +17,4 @@ pub mod SameValues
 pub mod SameParts
 pub mod QuietParts
 pub mod Counts
+pub mod Counted
