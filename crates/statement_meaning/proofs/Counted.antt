@@ -1,5 +1,5 @@
 -- The code of a BYTE that is counted by 1 does what the assignment says.
-use Rattle.std.proofs.Common.{◌≡◌, ℕ, ◌+◌, ◌-◌, ◌%◌, ◌<◌, ◌≤◌, List, [], ◌∷◌, slice_set, Option, Some, None, refl, sym, ap, subst, ◌∙◌, arith}
+use Rattle.std.proofs.Common.{◌≡◌, ℕ, ◌+◌, ◌-◌, ◌%◌, ◌<◌, List, slice_set, Option, Some, refl, sym, ap, subst, ◌∙◌, arith}
 use Rattle.std.proofs.lemmas.Option.{same_Some}
 use Rattle.mem80.specs.Memory.{byte_at}
 use Rattle.trees.specs.declared.declaration.ScalarType.TheVariants.{Byte}
@@ -8,7 +8,7 @@ use Rattle.trees.specs.declared.expression.BinaryOperator.TheVariants as operato
 use Rattle.typed_trees.specs.TypedTrees.{StoredIn, TypedReference}
 use Rattle.meaning.specs.Access.{Place, read_byte, read_scalar, write_byte, write_scalar}
 use Rattle.meaning.specs.Meaning.{computed, located, stored}
-use Rattle.meaning.specs.Outcomes.{State as SourceState, Outside, Outcome, Gave, Stopped, then_do, Flow, Onward}
+use Rattle.meaning.specs.Outcomes.{State as SourceState, Outcome, Gave, then_do, Flow, Onward}
 use Rattle.meaning.specs.Values.{as_type, result_of}
 use Rattle.ports.specs.declared.event.Event.{Event}
 use Rattle.isa8080.specs.declared.instr.Instr.{Instr}
@@ -26,12 +26,12 @@ use Rattle.steps8080.specs.declared.facts.Facts.{Facts}
 use Rattle.sites8080.specs.declared.site.Site.{Site}
 use Rattle.exprgen8080.specs.Emission.{knowing}
 use Rattle.statements8080.specs.Assignments.{count_by, count_of}
-use Rattle.task_meaning.specs.Contexts.{Context, distances_in}
+use Rattle.task_meaning.specs.Contexts.{distances_in}
 use Rattle.task_meaning.specs.Tasks.{address_on_machine}
 use Rattle.task_meaning.proofs.Effects.{then_again}
 use Rattle.task_meaning.proofs.Fitting.{located_fits}
 use Rattle.task_meaning.proofs.Stages.{does_same, script_of}
-use Rattle.statement_meaning.specs.Bodies.{BodyContext, IsSoundBody}
+use Rattle.statement_meaning.specs.Bodies.{BodyContext}
 use Rattle.statement_meaning.proofs.Assigned.{CountsDo}
 use Rattle.statement_meaning.proofs.Counts.{is_count}
 use Rattle.statement_meaning.proofs.FirstSteps.{part_first, plain_first}
