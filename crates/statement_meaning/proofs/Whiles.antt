@@ -32,7 +32,7 @@ use Rattle.sites8080.specs.Queries.{number}
 use Rattle.exprgen8080.specs.Emission.{knowing}
 use Rattle.statements8080.specs.declared.plan.Planned.TheVariants as planned
 use Rattle.statements8080.specs.Branches.{branch, forever_steps, tested_while_steps}
-use Rattle.statements8080.specs.Plans.{jump, mark, nth_label}
+use Rattle.statements8080.specs.Plans.{jump, mark, nth_label, plain}
 use Rattle.codegen8080.specs.declared.meeting.Here.{Here}
 use Rattle.codegen8080.specs.Generated.{jump_on_steps, site_of}
 use Rattle.codegen8080.specs.Statements.{statement_steps}
