@@ -41,3 +41,4 @@ pub mod Cases
 pub mod CaseForms
 pub mod CasesDo
 pub mod TestedLoops
+pub mod Counted
