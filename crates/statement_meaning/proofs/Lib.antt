@@ -8,6 +8,7 @@ pub mod Ifs
 pub mod Whiles
 pub mod Returns
 pub mod Targets
+pub mod Gains
 pub mod Singles
 pub mod Firsts
 pub mod Assignments
