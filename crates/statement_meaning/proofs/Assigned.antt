@@ -56,7 +56,7 @@ own_suits Byte tree n small = small_suits tree n small
 own_suits Address tree n small = address_suits tree n
 
 -- the type of an expression at a site
-scalar_there :
+pub scalar_there :
     (at : BodyContext) (sound : IsSoundBody at) (facts : Facts) (of : ExpressionNumber) (tree : TypedExpression)
     → IsExpressionIn (nodes_in at.context) at.context.storage of tree
     → scalar (knowing (site_of at.body) facts) of ≡ type_of tree

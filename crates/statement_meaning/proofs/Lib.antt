@@ -32,6 +32,7 @@ pub mod LoopEnds
 pub mod SteadyReads
 pub mod KnownLoops
 pub mod FirstValues
+pub mod FirstStored
 pub mod EnteredLoops
 pub mod MovedBlocks
 pub mod MoveCalls
