@@ -44,3 +44,4 @@ pub mod CaseForms
 pub mod CasesDo
 pub mod TestedLoops
 pub mod Counted
+pub mod IterateHeads
