@@ -1,14 +1,14 @@
 -- The code of a BYTE that is counted by 1 does what the assignment says.
-use Rattle.std.proofs.Common.{◌≡◌, ℕ, ◌+◌, ◌-◌, ◌%◌, ◌<◌, List, slice_set, Option, Some, refl, sym, ap, subst, ◌∙◌, arith}
+use Rattle.std.proofs.Common.{◌≡◌, ℕ, ◌+◌, ◌-◌, ◌%◌, ◌*◌, ◌<◌, ◌≤◌, List, [], slice_set, Option, Some, refl, sym, ap, subst, ◌∙◌, arith}
 use Rattle.std.proofs.lemmas.Option.{same_Some}
 use Rattle.mem80.specs.Memory.{byte_at}
 use Rattle.trees.specs.declared.declaration.ScalarType.TheVariants.{Byte}
 use Rattle.trees.specs.declared.expression.BinaryOperator.{BinaryOperator}
 use Rattle.trees.specs.declared.expression.BinaryOperator.TheVariants as operators
-use Rattle.typed_trees.specs.TypedTrees.{StoredIn, TypedReference}
+use Rattle.typed_trees.specs.TypedTrees.{StoredIn, TypedExpression, TypedReference}
 use Rattle.meaning.specs.Access.{Place, read_byte, read_scalar, write_byte, write_scalar}
 use Rattle.meaning.specs.Meaning.{computed, located, stored}
-use Rattle.meaning.specs.Outcomes.{State as SourceState, Outcome, Gave, then_do, Flow, Onward}
+use Rattle.meaning.specs.Outcomes.{State as SourceState, Outcome, Gave, then_do, Onward}
 use Rattle.meaning.specs.Values.{as_type, result_of}
 use Rattle.ports.specs.declared.event.Event.{Event}
 use Rattle.isa8080.specs.declared.instr.Instr.{Instr}
@@ -26,13 +26,20 @@ use Rattle.steps8080.specs.declared.facts.Facts.{Facts}
 use Rattle.sites8080.specs.declared.site.Site.{Site}
 use Rattle.exprgen8080.specs.Emission.{knowing}
 use Rattle.statements8080.specs.Assignments.{count_by, count_of}
-use Rattle.task_meaning.specs.Contexts.{distances_in}
+use Rattle.task_meaning.specs.Contexts.{distances_in, nodes_in}
 use Rattle.task_meaning.specs.Tasks.{address_on_machine}
 use Rattle.task_meaning.proofs.Effects.{then_again}
 use Rattle.task_meaning.proofs.Fitting.{located_fits}
 use Rattle.task_meaning.proofs.Stages.{does_same, script_of}
-use Rattle.statement_meaning.specs.Bodies.{BodyContext}
+use Rattle.typed_trees.specs.Charge.{height_of}
+use Rattle.typed_trees.specs.WellTyped.{TypesHold}
+use Rattle.treecode.specs.declared.expression.ExpressionNumber.{ExpressionNumber}
+use Rattle.treecode.specs.Lowered.{IsExpressionIn}
+use Rattle.statements8080.specs.declared.plan.Planned.{Planned}
+use Rattle.codegen8080.specs.declared.meeting.Here.{Here}
+use Rattle.statement_meaning.specs.Bodies.{BodyContext, IsSoundBody, Leaves}
 use Rattle.statement_meaning.proofs.Assigned.{CountsDo}
+use Rattle.statement_meaning.proofs.Assignments.{Counted as CountedAs}
 use Rattle.statement_meaning.proofs.Counts.{is_count}
 use Rattle.statement_meaning.proofs.FirstSteps.{part_first, plain_first}
 use Rattle.statement_meaning.proofs.QuietParts.{quiet_state, same_parts}
@@ -98,16 +105,16 @@ counts_byte at i operator same = by operator same
 
 -- where a byte is found and read, or what is meant goes outside
 by_answer :
-    {script : List (List ℕ)} {budget : ℕ} {from : State} {Good : Flow → SourceState → State → Type 0} {i : Instr}
-    (at : BodyContext) (s : SourceState) (store : ℕ → SourceState → Outcome Flow) (operator : BinaryOperator) (part : TypedReference)
+    {B : Type 0} {script : List (List ℕ)} {budget more : ℕ} {from : State} {Good : B → SourceState → State → Type 0} {i : Instr}
+    (at : BodyContext) (s : SourceState) (store : ℕ → SourceState → Outcome B) (operator : BinaryOperator) (part : TypedReference)
     (answer : Answer Place)
     → located at.context.later at.context.activation.around part s ≡ outcome_of answer s
     → (byte : CountsByte at i operator)
     → ((p : Place) (x : ℕ)
     → located at.context.later at.context.activation.around part s ≡ Gave p s
     → read_byte at.context.activation.around.program p s ≡ Gave x s
-    → Does script budget 0 from (store (byte.change x) s) Good)
-    → Does script budget 0 from
+    → Does script budget more from (store (byte.change x) s) Good)
+    → Does script budget more from
     (then_do (then_do (located at.context.later at.context.activation.around part s)
     (λ place t. then_do (read_scalar at.context.activation.around.program Byte place t)
     (λ n u. computed (result_of Byte operator n 1) u))) store) Good
@@ -117,7 +124,7 @@ by_answer at s store operator part (Fails reason) is byte rest =
     (λ place t. then_do (read_scalar at.context.activation.around.program Byte place t)
     (λ n u. computed (result_of Byte operator n 1) u))) store) is)
     (record { told = tt })
-by_answer {script = script} {budget = budget} {from = from} {Good = Good} at s store operator part (Found p) is byte rest =
+by_answer {script = script} {budget = budget} {more = more} {from = from} {Good = Good} at s store operator part (Found p) is byte rest =
     does_same _
     (ap (λ (given : Outcome Place). then_do (then_do given
     (λ place t. then_do (read_scalar at.context.activation.around.program Byte place t)
@@ -127,7 +134,7 @@ by_answer {script = script} {budget = budget} {from = from} {Good = Good} at s s
   where
     by : (found : Answer ℕ)
         → read_byte at.context.activation.around.program p s ≡ outcome_of found s
-        → Does script budget 0 from
+        → Does script budget more from
         (then_do (then_do (read_byte at.context.activation.around.program p s) (λ n u. computed (result_of Byte operator n 1) u)) store) Good
     by (Fails reason) read =
         does_same _
@@ -142,8 +149,15 @@ by_answer {script = script} {budget = budget} {from = from} {Good = Good} at s s
 twice_low : (n m : ℕ) → n < 256 → n ≡ m → n % 256 % 256 ≡ m
 twice_low n m small same = omega (arith, small, same)
 
-pub counts_do : (at : BodyContext) → CountsDo at
-counts_do at sound facts need base of tree is types fits last to before i from_scalar bound reference part_tree from here s r memory none counts goes stand reference_is refers part_types tall stage rest =
+-- whatever follows it
+pub counted_does :
+    (at : BodyContext) (sound : IsSoundBody at) (facts : Facts) (need : ℕ) (base : List ℕ) (of : ExpressionNumber)
+    (tree : TypedExpression) (is : IsExpressionIn (nodes_in at.context) at.context.storage of tree)
+    (types : TypesHold at.context.typed at.context.within tree) (fits : 2 * height_of tree ≤ need)
+    {B : Type 0} (go : Unit {0} → SourceState → Outcome B) (Good : B → SourceState → State → Type 0)
+    (others : List Planned) (last : Here) (to : ℕ)
+    → CountedAs at sound facts need base of tree is types fits go Good others last to
+counted_does at sound facts need base of tree is types fits {B = B} go Good others last to i from_scalar bound reference part_tree from here s r memory none counts goes stand reference_is refers part_types tall stage rest =
     let context = at.context in
     let later = at.context.later in
     let around = at.context.activation.around in
@@ -155,8 +169,7 @@ counts_do at sound facts need base of tree is types fits last to before i from_s
     count.is reference_is count.types part_types count.same in
     let address = part_first stand in
     let change = plain_first address.rest in
-    let go : Unit {0} → SourceState → Outcome Flow = λ _ u. Gave Onward u in
-    let store : ℕ → SourceState → Outcome Flow = λ n t. then_do (stored later around (StoredIn from_scalar Byte part_tree) n t) go in
+    let store : ℕ → SourceState → Outcome B = λ n t. then_do (stored later around (StoredIn from_scalar Byte part_tree) n t) go in
     does_same _
     (ap (λ (given : Outcome ℕ). then_do given store) (count.means s))
     (by_answer at s store count.operator count.part (alike.first.answer s.memory s.frame) (alike.first.gives s) byte
@@ -184,3 +197,8 @@ counts_do at sound facts need base of tree is types fits last to before i from_s
     (byte.acts _ now kept u.events) refl
     (record { a = held.a; b = held.b; c = held.c; d = held.d; e = held.e; h = held.h; l = held.l }) next
     (λ v last_stage. rest _ _ v _ _ goes change.rest last_stage))))))
+
+-- where an assignment ends after it
+pub counts_do : (at : BodyContext) → CountsDo at
+counts_do at sound facts need base of tree is types fits last to before =
+    counted_does at sound facts need base of tree is types fits (λ _ u. Gave Onward u) (Leaves at base to last before) [] last to

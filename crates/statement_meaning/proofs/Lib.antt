@@ -8,6 +8,7 @@ pub mod Ifs
 pub mod Whiles
 pub mod Returns
 pub mod Targets
+pub mod Gains
 pub mod Singles
 pub mod Firsts
 pub mod Assignments
@@ -31,6 +32,7 @@ pub mod LoopEnds
 pub mod SteadyReads
 pub mod KnownLoops
 pub mod FirstValues
+pub mod FirstStored
 pub mod EnteredLoops
 pub mod MovedBlocks
 pub mod MoveCalls
@@ -42,3 +44,4 @@ pub mod CaseForms
 pub mod CasesDo
 pub mod TestedLoops
 pub mod Counted
+pub mod IterateHeads
