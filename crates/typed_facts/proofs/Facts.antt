@@ -1,25 +1,22 @@
 -- Every module that a text of the grammar is typed as is soundly typed.
-use Rattle.std.proofs.Common.{◌≡◌, ℕ, zero, suc, ◌<◌, Bool, true, List, [], ◌∷◌, length, map, Option, Some, None, Ok, refl, sym, ap, subst, ◌∙◌}
+use Rattle.std.proofs.Common.{◌≡◌, ℕ, zero, suc, Bool, true, List, [], ◌∷◌, Some, Ok, refl, sym, ap, subst, ◌∙◌}
 use Rattle.std.specs.Prelude.{All, slice_get}
 use Rattle.std.proofs.lemmas.List.Elements.{All-cons, All-nil}
 use Rattle.std.proofs.lemmas.Option.{none-some}
-use Rattle.words.specs.Spelling.{Lexeme}
-use Rattle.grammar.specs.Derivation.{Derives}
 use Rattle.trees.specs.Trees.{ModuleTree}
 use Rattle.typed_trees.specs.declared.parts.AtAddress.TheVariants.{AtNumber, AtObject}
-use Rattle.typed_trees.specs.TypedTrees.{Home, InData, InConstants, Placed, BasedOn, Elsewhere, Nowhere, InFrame, TypedList, TypedModule, TypedObject, TypedProcedure}
+use Rattle.typed_trees.specs.TypedTrees.{Home, InData, InConstants, Placed, BasedOn, Elsewhere, Nowhere, InFrame, TypedModule, TypedObject, TypedProcedure}
 use Rattle.layout.specs.StartingMemory.{values_in}
-use Rattle.typing.specs.Blocks.{Progress, TheModule}
-use Rattle.typing.specs.Typing.{at_the_beginning, declarations, module_block, module_with, statements, typing_of}
-use Rattle.typing.specs.Statements.{list_of}
+use Rattle.typing.specs.Blocks.{TheModule}
+use Rattle.typing.specs.Typing.{at_the_beginning, module_block, statements, typing_of}
 use Rattle.typing.proofs.Kept.{Gives, gives_ok, in_turn}
 use Rattle.typing.proofs.JumpsLaw.{jumps_are_sound}
 use Rattle.typing.proofs.StorableStatements.{is_storable}
 use Rattle.typing.proofs.TypesOfStatements.{is_well_typed, globals_are_listed, frames_are_summed}
 use Rattle.typed_parameters.proofs.Walks.{parameters_fit}
-use Rattle.typed_facts.specs.Facts.{AddWords, AddsWord, AtAddsWord, BasesStandBefore, FramesAreReentrant, IsSoundlyTyped, ModuleIsFormed, PlacesAddWords, TakeBytes}
+use Rattle.typed_facts.specs.Facts.{AddsWord, AtAddsWord, BasesStandBefore, FramesAreReentrant, IsSoundlyTyped, ModuleIsFormed}
 use Rattle.typed_facts.proofs.Items.{HomeStands}
-use Rattle.typed_facts.proofs.Walks.{Goes, ObjectStands, ObjectsStand, StandsAt, declarations_go, flag_of, flags_of, list_goes, stands_after, statements_go}
+use Rattle.typed_facts.proofs.Walks.{ObjectsStand, StandsAt, declarations_go, flags_of, list_goes, stands_after, statements_go}
 
 -- the objects of a module stand
 abbrev ModuleStands : TypedModule → Type 0

@@ -19,7 +19,7 @@ mutual
       → KindIsFormed tree
   kind_formed null = tt
   kind_formed (assignment targets value) = tt
-  kind_formed (call arguments) = tt
+  kind_formed (call values) = tt
   kind_formed return = tt
   kind_formed (return_value value) = tt
   kind_formed halt = tt

@@ -1,7 +1,6 @@
 -- Where objects that are declared live, and that each takes a byte or more.
-use Rattle.std.proofs.Common.{◌≡◌, ℕ, zero, suc, ◌+◌, ◌-◌, ◌*◌, ◌/◌, ◌%◌, ◌<◌, ◌≤◌, Bool, true, false, List, [], ◌∷◌, ◌++◌, length, map, flat_map, replicate, sum_by, slice_get, Option, Some, None, Ok, nat_le, nat_lt, refl, sym, ap, ◌∙◌, subst, cond, length-append, arith, zero-mul, suc-mul, mod-lt, div-add-mod'}
+use Rattle.std.proofs.Common.{◌≡◌, ℕ, zero, suc, ◌+◌, ◌-◌, ◌*◌, ◌<◌, Bool, true, false, List, [], ◌∷◌, ◌++◌, length, flat_map, replicate, slice_get, Option, Some, None, nat_le, nat_lt, refl, ap, cond, length-append, arith, zero-mul, suc-mul, mod-lt, div-add-mod'}
 use Rattle.std.specs.Prelude.{All, IfSome, is_none, is_some, not, ◌&&◌}
-use Rattle.std.specs.List.{AllByRecursion}
 use Rattle.std.specs.Option.{option_map_or}
 use Rattle.std.proofs.lemmas.Bool.{leb-true}
 use Rattle.std.proofs.lemmas.Grind.{flat_map-append}
@@ -24,16 +23,16 @@ use Rattle.typed_trees.specs.declared.parts.AtAddress.{AtAddress}
 use Rattle.typed_trees.specs.declared.parts.InitialValue.TheVariants.{ByteValue, WordValue, LocationValue}
 use Rattle.typed_trees.specs.declared.parts.InitialValue.{InitialValue}
 use Rattle.typed_trees.specs.declared.parts.TypedMember.{TypedMember}
-use Rattle.typed_trees.specs.TypedTrees.{ObjectType, ScalarObject, StructureObject, Home, InData, InConstants, Placed, BasedOn, Elsewhere, Nowhere, InFrame, TypedObject}
+use Rattle.typed_trees.specs.TypedTrees.{ObjectType, StructureObject, Home, InData, InConstants, Placed, BasedOn, Elsewhere, Nowhere, InFrame}
 use Rattle.typed_trees.specs.Sizes.{size_of_scalar, count_of, size_of_member, size_of_element, has_member, scalars_of_member, scalars_of_element, scalars_of_elements}
 use Rattle.typing.specs.declared.fault.Cause.TheVariants.{DeclaredTwice, WrongUse, MisplacedAttribute, WrongConstant}
-use Rattle.typing.specs.Checks.{Checked, ◌>>=◌, require, found}
+use Rattle.typing.specs.Checks.{◌>>=◌, require, found}
 use Rattle.typing.specs.Constants.{number_of_characters, number_of_constant, moved_by, with_offsets}
-use Rattle.typing.specs.References.{Known, line_of, bound, object_of}
-use Rattle.typing.specs.Blocks.{Owner, TheModule, OfProcedure, Block, is_external_linkage, is_reentrant}
-use Rattle.typing.specs.Filling.{Reach, ThisModule, OtherModulesToo, static_object, RestrictedValue, ANumber, FromObject, restricted_value, address_of, at_address, Filled, fill_scalar, fill_characters, fill_string, line_of_origin, fill_value, fill, Extents, NoArray, Elements, AsListed, Contents, enough_elements, elements_for, contents_as_listed, contents}
+use Rattle.typing.specs.References.{Known, line_of, bound}
+use Rattle.typing.specs.Blocks.{Owner, TheModule, OfProcedure, Block, is_external_linkage}
+use Rattle.typing.specs.Filling.{Reach, ThisModule, OtherModulesToo, static_object, RestrictedValue, ANumber, FromObject, restricted_value, address_of, at_address, Filled, fill_scalar, fill_characters, fill_string, line_of_origin, fill_value, fill, Extents, NoArray, Elements, AsListed, Contents, enough_elements, elements_for, contents}
 use Rattle.typing.specs.Items.{TypedItem, base_of, is_base, is_group, line_of_item, names_parameter, object_bound, typed_base, extents_of, member_dimension, typed_members, typed_type, check_linkage, is_plain, typed_at, place_of_storage, typed_contents, is_data, home_in, home_with_values, home_of, typed_item, size_of_item}
-use Rattle.typing.proofs.Kept.{Gives, then_more, gives_ok, gives_fault, gives_after, in_turn, required, is_found}
+use Rattle.typing.proofs.Kept.{Gives, gives_ok, gives_fault, gives_after, in_turn, required, is_found}
 use Rattle.typed_facts.specs.Facts.{AddsWord}
 
 -- Where the object of a number lives: based on one before it, or in the frame of a procedure that is REENTRANT. What is

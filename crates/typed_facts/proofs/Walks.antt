@@ -1,5 +1,5 @@
 -- The objects and the procedures of a text stand, from part to part.
-use Rattle.std.proofs.Common.{◌≡◌, ℕ, zero, suc, ◌+◌, ◌<◌, ◌≤◌, Bool, true, false, List, [], ◌∷◌, ◌++◌, length, map, Option, Some, None, nat_le, refl, sym, ap, ◌∙◌, subst, length-append, arith}
+use Rattle.std.proofs.Common.{◌≡◌, ℕ, zero, suc, ◌+◌, ◌<◌, Bool, true, List, [], ◌∷◌, ◌++◌, length, map, Some, nat_le, refl, sym, ap, ◌∙◌, subst, length-append, arith}
 use Rattle.std.specs.Prelude.{slice_get, slice_set, is_some, not}
 use Rattle.std.specs.List.{AllByRecursion}
 use Rattle.std.proofs.lemmas.List.{map-append}
@@ -18,7 +18,7 @@ use Rattle.typed_trees.specs.declared.parts.AtAddress.TheVariants.{AtNumber, AtO
 use Rattle.typing.specs.declared.fault.Cause.TheVariants.{DeclaredTwice, MisplacedAttribute, TooLarge}
 use Rattle.typing.specs.Blocks.{Block, OfProcedure, Owner, Progress, TheModule, is_external}
 use Rattle.typing.specs.Checks.{Checked, require}
-use Rattle.typing.specs.Items.{TypedItem, declare_definition, declare_element, declare_elements, declare_item, declare_names, line_of_item, object_named, size_of_item, with_objects, with_typed_object}
+use Rattle.typing.specs.Items.{TypedItem, declare_element, declare_elements, declare_item, declare_names, line_of_item, object_named, size_of_item, with_objects, with_typed_object}
 use Rattle.typing.specs.Expressions.{arguments}
 use Rattle.typing.specs.Procedures.{check_body, close_procedure, own_block, parameter_objects, parameter_types, procedure_with}
 use Rattle.typing.specs.References.{Known, line_of}
@@ -31,7 +31,7 @@ use Rattle.typed_parameters.proofs.Opening.{Opened, opens}
 use Rattle.typed_parameters.proofs.OwnBlock.{front_or_back}
 use Rattle.typed_parameters.proofs.Walks.{Same, assignment_same, call_same, goto_same, iteration_same, return_same, value_same}
 use Rattle.typed_facts.specs.Facts.{AreFormed, ElseIsFormed, IsFormed, KindIsFormed, StatementIsFormed, StatementsAreFormed}
-use Rattle.typed_facts.proofs.Items.{HomeStands, ItemStands, OwnerFlag, typed_item_stands}
+use Rattle.typed_facts.proofs.Items.{HomeStands, OwnerFlag, typed_item_stands}
 
 -- which procedures are REENTRANT
 abbrev pub flag_of : TypedProcedure → Bool

@@ -1,5 +1,5 @@
 -- What is true of a typed module, so that code can be made of it.
-use Rattle.std.specs.Prelude.{◌≡◌, ℕ, ◌<◌, true, List, All, Some, slice_get}
+use Rattle.std.specs.Prelude.{◌≡◌, ℕ, ◌<◌, true, All, Some, slice_get}
 use Rattle.std.specs.List.{AllByRecursion}
 use Rattle.trees.specs.Trees.{StatementTree, LabelledStatement, StatementKindTree, NullStatement, AssignmentStatement, CallStatement, ReturnStatement, HaltStatement, GotoStatement, IfStatement, ElseTree, NoElse, ElseStatement, DoStatement, WhileStatement, IterateStatement, CaseStatement, StatementTrees, NoStatements, MoreStatements, DeclarationTree, DeclareTree, ProcedureTree, DeclarationTrees, NoDeclarations, MoreDeclarations, ModuleTree}
 use Rattle.grammar.specs.Forms.{IsElement}
@@ -11,7 +11,7 @@ use Rattle.typed_trees.specs.Globals.{ListsGlobals}
 use Rattle.typed_trees.specs.Jumps.{JumpsAreSound}
 use Rattle.typed_trees.specs.Sizes.{size_of_object}
 use Rattle.typed_trees.specs.Storable.{IsStorable}
-use Rattle.typed_trees.specs.TypedTrees.{Home, InData, InConstants, Placed, BasedOn, InFrame, TypedObject, TypedProcedure, TypedModule}
+use Rattle.typed_trees.specs.TypedTrees.{Home, Placed, BasedOn, InFrame, TypedObject, TypedProcedure, TypedModule}
 use Rattle.typed_trees.specs.WellTyped.{IsWellTyped}
 use Rattle.layout.specs.StartingMemory.{values_in}
 
