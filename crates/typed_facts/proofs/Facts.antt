@@ -62,7 +62,8 @@ all_of P [] each = All-nil P
 all_of P (first ∷ objects) each =
     All-cons P first objects (each 0 first refl) (all_of P objects (λ number object is. each (suc number) object is))
 
-values_add : (flags : List Bool) (number : ℕ) (home : Home) → HomeStands flags number home → All AddsWord (values_in home)
+values_add : (flags : List Bool) (number : ℕ) (home : Home) → HomeStands flags number home
+    → All AddsWord (values_in home)
 values_add flags number (InData values) stands = stands
 values_add flags number (InConstants values) stands = stands
 values_add flags number (Placed at) stands = All-nil AddsWord

@@ -231,7 +231,9 @@ module _ (heading : HeadingTree) (declared : DeclarationTrees) (block : Block) (
     where
       there : slice_get (its_flags ++ is_some heading.reentrant ∷ []) its_number ≡ Some (is_some heading.reentrant)
       there =
-          subst (λ (at : ℕ). slice_get (its_flags ++ is_some heading.reentrant ∷ []) at ≡ Some (is_some heading.reentrant))
+          subst
+          (λ (at : ℕ).
+          slice_get (its_flags ++ is_some heading.reentrant ∷ []) at ≡ Some (is_some heading.reentrant))
           (length_flags progress.known.procedures) (at_the_end its_flags (is_some heading.reentrant))
         where
           length_flags : (procedures : List TypedProcedure) → length (flags_of procedures) ≡ length procedures
