@@ -1,4 +1,5 @@
 pub mod Rules
+pub mod PlaceWords
 pub mod Nodes
 pub mod RegisterCode
 pub mod Addresses

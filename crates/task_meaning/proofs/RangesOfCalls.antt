@@ -102,9 +102,10 @@ module _ (around : Surroundings) (program : HasTypes around.program) (typed : Ty
       → (found.result ≡ heading.result) × (found.parameter_types ≡ heading.parameter_types)
       → IsHeaded modules at heading.result heading.parameter_types
   headed_by modules at heading its found there are other procedure is =
-      let same : found ≡ procedure = same_pair its other found procedure (sym there ∙ is) in
-      (ap (λ (one : TypedProcedure). one.result) (sym same) ∙ are.0,
-      ap (λ (one : TypedProcedure). one.parameter_types) (sym same) ∙ are.1)
+      let same : found ≡ procedure = same_pair its other found procedure (sym there ∙ is) in (
+        ap (λ (one : TypedProcedure). one.result) (sym same) ∙ are.0,
+        ap (λ (one : TypedProcedure). one.parameter_types) (sym same) ∙ are.1,
+      )
 
   -- an EXTERNAL one
   meant_headed : (at : InProgram) (heading : TypedProcedure)
@@ -278,8 +279,10 @@ module _ (later : Later) (fits : LaterFits later) where
           → Gives (λ found t. IsOfResult result found × SourceFits around t) outcome
       back room procedure outcome same IsStopped = IsStopped
       back room procedure outcome same (IsGiven {found = found} both) =
-          IsGiven (subst (λ (its : Option ScalarType). IsOfResult its found) same both.0,
-          record { memory = both.1.memory; frame = both.1.frame })
+          IsGiven (
+            subst (λ (its : Option ScalarType). IsOfResult its found) same both.0,
+            record { memory = both.1.memory; frame = both.1.frame },
+          )
 
       run : (typed : TypedModule) (procedure : TypedProcedure)
           → slice_get around.program.modules at.number_of_module ≡ Some typed

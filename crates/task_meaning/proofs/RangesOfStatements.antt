@@ -59,9 +59,10 @@ rest_types typed within label (ListOf first_label places statements) rest types 
         → (if test then option_map (λ at. dropped at statements) place else None) ≡ Some rest
         → TypesHoldInStatements typed within rest × NumbersFitInStatements rest
     by true (Some place) same =
-        let found : dropped place statements ≡ rest = cc in
-        (subst (TypesHoldInStatements typed within) found (dropped_types typed within place statements types.0),
-        subst NumbersFitInStatements found (dropped_numbers place statements types.1))
+        let found : dropped place statements ≡ rest = cc in (
+          subst (TypesHoldInStatements typed within) found (dropped_types typed within place statements types.0),
+          subst NumbersFitInStatements found (dropped_numbers place statements types.1),
+        )
     by true None same = absurd cc
     by false place same = absurd cc
 

@@ -162,8 +162,11 @@ module _ (later : Later) (typed : TypedModule) (within : Within) (around : Surro
         (λ n t one.
         gives_then (stored later around to n t) (λ _ u. Gave n u)
         (target_fits (type_of inner) to t n types.1 small.1 one.1)
-        (λ _ u two. IsGiven (of_type (type_of inner) (type_of_target to) n
-        (sym (target_type typed within to (type_of inner) types.1)) one.0, two)))
+        (λ _ u two. IsGiven (
+          of_type (type_of inner) (type_of_target to) n
+              (sym (target_type typed within to (type_of inner) types.1)) one.0,
+          two,
+        )))
     tree_fits (UnaryNode scalar operator operand) s types small source =
         gives_then (value later around operand s) (λ n t. Gave (result_of_one scalar operator n) t)
         (tree_fits operand s types.0 small source)
