@@ -124,8 +124,8 @@ module _ (code : ModuleCode) (entries : Entries) (bound : ℕ) (lies : ModuleLie
 
   placed : IsPlaced code found body top
   placed =
-      let bytes = is.frame.variable_bytes ∙ lowered.frame_bytes in
-      let count = is.frame.parameter_count
+      let bytes = (is.frame kind).variable_bytes ∙ lowered.frame_bytes in
+      let count = (is.frame kind).parameter_count
       ∙ parameter_count code.typed index found (nodes_of code.tree.now).homes procedure.parameters.items has
       lowered.has_body.parameters in
       let starts = start_of body.frame.now.variable_bytes (length found.parameters) body.frame.now.parameter_count count in
@@ -163,9 +163,9 @@ module _ (code : ModuleCode) (entries : Entries) (bound : ℕ) (lies : ModuleLie
       let set = all_set (surroundings_in code (room - charge_of found)) at.context.activation found.frame_bytes ended
       made.is_memory found.parameter_types found.parameters values (record s { frame = frame_of index code.typed })
       (parameters_in_words code entries index procedure found body.frame.now (room - charge_of found) level lies is.there
-      is.is is.frame kind)
+      is.is (is.frame kind) kind)
       made.words
-      (new_lies code entries index procedure found body.frame.now (room - charge_of found) level lies is.there is.is is.frame
+      (new_lies code entries index procedure found body.frame.now (room - charge_of found) level lies is.there is.is (is.frame kind)
       ended made.zeros) in
       does_same (Gave tt (record s { frame = set.frame })) set.is
       (gives (record {
@@ -287,12 +287,7 @@ module _ (code : ModuleCode) (entries : Entries) (bound : ℕ) (lies : ModuleLie
     byte_holds = (
       register ∙ sym lie
           ∙ ap (byte_at ended) (omega (arith, distance, limit)),
-      inr (record {
-        object = parameter;
-        offset = 0;
-        within = omega (arith, size);
-        is_there = omega (arith, distance, limit);
-      }),
+      record { apart = λ low below. omega (arith, distance, limit, below) },
     );
     word_holds = tt;
     address_holds = tt;
@@ -303,21 +298,11 @@ module _ (code : ModuleCode) (entries : Entries) (bound : ℕ) (lies : ModuleLie
     word_holds = record {
       low_is = (
         register.1 ∙ sym lie.0 ∙ ap (byte_at ended) (omega (arith, distance, limit)),
-        inr (record {
-          object = parameter;
-          offset = 0;
-          within = omega (arith, size);
-          is_there = omega (arith, distance, limit);
-        }),
+        record { apart = λ low below. omega (arith, distance, limit, below) },
       );
       high_is = (
         register.0 ∙ sym lie.1 ∙ ap (byte_at ended) (omega (arith, distance, limit)),
-        inr (record {
-          object = parameter;
-          offset = 1;
-          within = omega (arith, size);
-          is_there = omega (arith, distance, limit);
-        }),
+        record { apart = λ low below. omega (arith, distance, limit, below) },
       );
     };
     address_holds = tt;
@@ -503,7 +488,7 @@ module _ (code : ModuleCode) (entries : Entries) (bound : ℕ) (lies : ModuleLie
           ≡ parameter_distance found.frame_bytes 0 (size_of_scalar last.scalar)
       distance =
           parameter_lies code.typed (nodes_of code.tree.now) code.storage index procedure found body.frame.now lies.sized
-          lies.parameters lies.frames is.is lowered is.frame last.parameter (length found.parameter_types - 1) last.scalar
+          lies.parameters lies.frames is.is lowered (is.frame kind) last.parameter (length found.parameter_types - 1) last.scalar
           object.found object.there object.home object.scalar_is last.stands
           ∙ ap (λ (count : ℕ). parameter_distance found.frame_bytes count (size_of_scalar last.scalar)) followers
 

@@ -69,7 +69,7 @@ reentrant_returns code entries bound lies index number room top procedure found 
 
     few : body.frame.now.variable_bytes ≤ 1024
     few =
-        let bytes = is.frame.variable_bytes ∙ lowered.frame_bytes in
+        let bytes = (is.frame kind).variable_bytes ∙ lowered.frame_bytes in
         let limit : found.frame_bytes ≤ 1024 = (frame_fits code.typed index found lies.frames is.is).bytes in
         omega (arith, bytes, limit)
 
@@ -78,7 +78,7 @@ reentrant_returns code entries bound lies index number room top procedure found 
 
     count : body.frame.now.parameter_count ≡ length found.parameters
     count =
-        is.frame.parameter_count
+        (is.frame kind).parameter_count
         ∙ parameter_count code.typed index found (nodes_of code.tree.now).homes procedure.parameters.items has
         lowered.has_body.parameters
 
@@ -86,7 +86,7 @@ reentrant_returns code entries bound lies index number room top procedure found 
         ≡ 2 + 2 * length found.parameters + found.frame_bytes
     whole =
         (return_is body.frame.now found.frame_bytes (length found.parameters)
-        (is.frame.variable_bytes ∙ lowered.frame_bytes) count).0
+        ((is.frame kind).variable_bytes ∙ lowered.frame_bytes) count).0
 
     above_is : frame_level body.frame.now top + dropped body.frame.now.variable_bytes body.frame.now.parameter_count + 2
         + 2 * (body.frame.now.parameter_count - 1)
