@@ -58,17 +58,18 @@ at_end activation = record activation {
   whole = 0;
 }
 
--- with variables of a frame where they are,
+-- with variables of a frame where they are:
 abbrev pub distances_at_end : Context → Distances
 distances_at_end context variable =
     distances_in context variable + context.activation.level
     + (MEMORY_SIZE - (at_end context.activation).level)
 
+-- this is known there
 abbrev pub KnownOutside : Context → Facts → Registers → (memory : List ℕ) → Type 0
 KnownOutside context facts r memory =
     FactsHold (at_end context.activation) (distances_at_end context) facts r memory
 
--- so that it is known in the activation too
+-- so what is known there is known in the activation
 steady_within : (activation : Activation) (address : ℕ) → LiesWell activation
     → IsSteady (at_end activation) address → IsSteady activation address
 steady_within activation address lies steady =

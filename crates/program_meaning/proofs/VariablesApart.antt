@@ -1,6 +1,5 @@
 -- Variables of the data segment have no byte in common, wherever the segment lies.
 use Rattle.std.proofs.Common.{◌≡◌, ◌≢◌, ℕ, zero, suc, ◌+◌, ◌<◌, ◌≤◌, ◌⊎◌, inl, inr, List, [], ◌∷◌, take, slice_get, Some, refl, ap, sym, ◌∙◌, arith}
-use Rattle.std.specs.Prelude.{sum_by}
 use Rattle.std.proofs.lemmas.List.Sums.{sum_by-cons}
 use Rattle.std.proofs.lemmas.Option.{none-some, same_Some}
 use Rattle.object_modules.specs.declared.segment.Segment.TheVariants as segments
@@ -8,11 +7,10 @@ use Rattle.object_modules.specs.declared.segment.Target.TheVariants.{InSegment}
 use Rattle.typed_trees.specs.Sizes.{size_of_object}
 use Rattle.typed_trees.specs.TypedTrees.{Home as TypedHome, InData, TypedModule, TypedObject}
 use Rattle.layout.specs.declared.slot.Segment.TheVariants.{Data}
-use Rattle.layout.specs.Segments.{After, Location, SegmentStart, location_by_home, locations_after}
+use Rattle.layout.specs.Segments.{After, SegmentStart, location_by_home, locations_after}
 use Rattle.layout.specs.Storage.{Storage, bytes_in_data, data_bytes}
 use Rattle.layout.proofs.Locations.{location_is}
 use Rattle.isa8080.specs.State.{wrap}
-use Rattle.asm8080.specs.Items.{Layout}
 use Rattle.treecode.specs.declared.module.ExternalName.{ExternalName}
 use Rattle.treecode.specs.declared.place.Home.{Home}
 use Rattle.treecode.specs.declared.place.Home.TheVariants.{Static}
