@@ -30,7 +30,7 @@ use Rattle.program_sources.specs.declared.sources.Source as declared_source
 use Rattle.program_sources.specs.Programs.{text_of, texts_of}
 use Rattle.tool.specs.Code.{module_code}
 use Rattle.tool.specs.Made.{IsMadeOf}
-use Rattle.tool.specs.Sources.{AreWithoutFault, HasCause, HasLongCode, IsInOrder, IsReadable, IsRefusedAlone, IsWithoutFault}
+use Rattle.tool.specs.Sources.{AreWithoutFault, HasCause, HasLongCode, IsInOrder, IsReadable, IsWithoutFault}
 use Rattle.tool.specs.internal.Compiling.{AreCompiled, HasCompileCause, HasGenerationCause, HasSourceCause, IsCompiled, module_in}
 
 pub is_compiled : (plan : Plan) (text : List ℕ) (one : Compiled) → IsSourceOf text (module_in one) → layout_view one.source.storage ≡ storage_with (module_in one) → IsStorable (module_in one) → JumpsAreSound (module_in one)
