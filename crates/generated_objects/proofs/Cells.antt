@@ -246,7 +246,7 @@ flags_of_set (byte ∷ bytes) (true ∷ flags) same =
 flags_of_set (byte ∷ bytes) (false ∷ flags) same =
     ap (λ (rest : List Bool). false ∷ rest) (flags_of_set bytes flags (omega (arith, same)))
 
-set_length : (bytes : List ℕ) (flags : List Bool) → length (set_bytes bytes flags) ≡ length bytes
+pub set_length : (bytes : List ℕ) (flags : List Bool) → length (set_bytes bytes flags) ≡ length bytes
 set_length [] flags = refl
 set_length (byte ∷ bytes) [] = ap (λ n. suc n) (set_length bytes [])
 set_length (byte ∷ bytes) (flag ∷ flags) = ap (λ n. suc n) (set_length bytes flags)

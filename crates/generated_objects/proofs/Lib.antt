@@ -1,1 +1,3 @@
 pub mod Cells
+pub mod Placed
+pub mod Contents
