@@ -1,3 +1,6 @@
 pub mod Cells
 pub mod Placed
 pub mod Contents
+pub mod Words
+pub mod Listed
+pub mod Segments
