@@ -42,7 +42,7 @@ IsWordContent (contents.Word place) = IsWordPlace place
 IsWordContent (contents.Gap count) = Unit {0}
 
 -- what holds of each list that begins with an item holds of what was made of it
-in_front_of :
+pub in_front_of :
     (item : Item) (others : Option (List Item)) (made : List Item) (P : List Item → Type 0)
     → in_front (Some item) others ≡ Some made
     → ((rest : List Item) → others ≡ Some rest → P (item ∷ rest))

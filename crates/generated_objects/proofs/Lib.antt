@@ -4,3 +4,5 @@ pub mod Contents
 pub mod Words
 pub mod Listed
 pub mod Segments
+pub mod Names
+pub mod Objects
