@@ -6,3 +6,4 @@ pub mod Listed
 pub mod Segments
 pub mod Names
 pub mod Objects
+pub mod Made
