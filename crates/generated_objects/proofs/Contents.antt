@@ -24,9 +24,9 @@ use Rattle.steps8080.specs.Externals.{Extends, entry}
 use Rattle.steps8080.specs.Instructions.{high, low}
 use Rattle.steps8080.specs.Writer.{Written, in_front, numbered}
 use Rattle.codegen8080.specs.Modules.{AreTargets, IsNamed, content_items, contents_items}
-use Rattle.module_segments.specs.internal.Places.{name_at, places_of_content, places_of_contents}
+use Rattle.module_segments.specs.internal.Places.{KeepWords, name_at, places_of_content, places_of_contents}
 use Rattle.program_memory.specs.internal.Segments.{BeginWith, IsTarget}
-use Rattle.generated_objects.proofs.Cells.{at_zero}
+use Rattle.generated_objects.proofs.Cells.{HasByte, at_zero}
 use Rattle.generated_objects.proofs.Placed.{place_to}
 
 -- what is counted from a segment or a name is a word
@@ -161,3 +161,72 @@ module _
             ),
             ((high_of offset words.0, tt), later rest are),
           ))
+
+  -- the bytes after a gap
+  gap_bytes :
+      (count : ℕ) (others : List (Option SetByte))
+      → AllByRecursion HasByte (map (place_to to) (row_of (replicate count None) ++ others))
+      → AllByRecursion HasByte (map (place_to to) others)
+  gap_bytes zero others all = all
+  gap_bytes (suc count) others all = gap_bytes count others all.1
+
+  -- What is made of contents has no number above that of a word.
+  pub contents_keep :
+      (list : List Content) (made : List Item)
+      → numbered written (items_from list) ≡ Some made
+      → AllByRecursion HasByte (placed made)
+      → KeepWords list
+  contents_keep [] made same all = tt
+  contents_keep (contents.Byte value ∷ others) made same all =
+      in_front_of (items.Byte value) (numbered written (items_from others)) made
+      (λ made. AllByRecursion HasByte (placed made) → KeepWords (contents.Byte value ∷ others)) same
+      (λ rest is all. (tt, contents_keep others rest is all.1)) all
+  contents_keep (contents.Gap count ∷ others) made same all =
+      in_front_of (items.Gap count) (numbered written (items_from others)) made
+      (λ made. AllByRecursion HasByte (placed made) → KeepWords (contents.Gap count ∷ others)) same
+      (λ rest is all. (
+        tt,
+        contents_keep others rest is (gap_bytes count (set_of_items (layout_at at_zero assembly) (rest ++ more)) all),
+      )) all
+  contents_keep (contents.Word (places.Number number) ∷ others) made same all =
+      in_front_of (items.Byte (low number))
+      (in_front (Some (items.Byte (high number))) (numbered written (items_from others))) made
+      (λ made. AllByRecursion HasByte (placed made) → KeepWords (contents.Word (places.Number number) ∷ others)) same
+      (λ rest is.
+      in_front_of (items.Byte (high number)) (numbered written (items_from others)) rest
+      (λ rest.
+      AllByRecursion HasByte (placed (items.Byte (low number) ∷ rest))
+      → KeepWords (contents.Word (places.Number number) ∷ others)) is
+      (λ last are all. (word_of_high number all.1.0, contents_keep others last are all.1.1))) all
+    where
+      word_of_high : (number : ℕ) → number / 256 < 256 → number < 65536
+      word_of_high number small = omega (arith, small)
+  contents_keep (contents.Word (places.Code offset) ∷ others) made same all =
+      in_front_of (items.Address (AtTarget (InSegment object_segments.Code) offset))
+      (numbered written (items_from others)) made
+      (λ made. AllByRecursion HasByte (placed made) → KeepWords (contents.Word (places.Code offset) ∷ others)) same
+      (λ rest is all. (tt, contents_keep others rest is all.1.1)) all
+  contents_keep (contents.Word (places.Data offset) ∷ others) made same all =
+      in_front_of (items.Address (AtTarget (InSegment object_segments.Data) offset))
+      (numbered written (items_from others)) made
+      (λ made. AllByRecursion HasByte (placed made) → KeepWords (contents.Word (places.Data offset) ∷ others)) same
+      (λ rest is all. (tt, contents_keep others rest is all.1.1)) all
+  contents_keep (contents.Word (places.External offset index) ∷ others) made same all =
+      by (entry written.externals index) same (λ rest is all. contents_keep others rest is all)
+    where
+      by : (number : Option ℕ)
+          → in_front
+          (option_map items.Address (option_map (λ number. AtTarget (External number) offset) number))
+          (numbered written (items_from others))
+          ≡ Some made
+          → ((rest : List Item)
+          → numbered written (items_from others) ≡ Some rest
+          → AllByRecursion HasByte (placed rest)
+          → KeepWords others)
+          → KeepWords (contents.Word (places.External offset index) ∷ others)
+      by None is later = absurd (none-some made is)
+      by (Some number) is later =
+          in_front_of (items.Address (AtTarget (External number) offset)) (numbered written (items_from others)) made
+          (λ made.
+          AllByRecursion HasByte (placed made) → KeepWords (contents.Word (places.External offset index) ∷ others)) is
+          (λ rest are all. (tt, later rest are all.1.1)) all

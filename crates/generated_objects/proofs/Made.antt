@@ -23,7 +23,7 @@ have_segments [] (object ∷ objects) made = absurd made
 have_segments (typed ∷ modules) [] made = absurd made
 have_segments (typed ∷ modules) (object ∷ objects) made =
     let is = made.0 in (
-      has_segments typed is.storage is.tree object is.laid is.words is.lowered is.valid is.generated,
+      has_segments typed is.storage is.tree object is.laid is.lowered is.valid is.generated,
       have_segments modules objects made.1,
     )
 
@@ -37,7 +37,7 @@ are_objects_of [] (object ∷ objects) made = absurd made
 are_objects_of (typed ∷ modules) [] made = absurd made
 are_objects_of (typed ∷ modules) (object ∷ objects) made =
     let is = made.0 in (
-      is_object_of typed is.storage is.tree object is.laid is.words is.lowered is.generated,
+      is_object_of typed is.storage is.tree object is.laid is.lowered is.valid is.generated,
       are_objects_of modules objects made.1,
     )
 

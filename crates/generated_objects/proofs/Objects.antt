@@ -6,7 +6,7 @@ use Rattle.std.proofs.lemmas.Option.{none-some, same_Some}
 use Rattle.object_modules.specs.declared.segment.Segment.TheVariants as object_segments
 use Rattle.object_modules.specs.declared.segment.Target.{Target}
 use Rattle.object_modules.specs.declared.segment.Target.TheVariants.{InSegment, External}
-use Rattle.object_modules.specs.Module.{ObjectModule, Places as ObjectPlaces}
+use Rattle.object_modules.specs.Module.{IsObjectModule, ObjectModule, Places as ObjectPlaces}
 use Rattle.object_images.proofs.NoHighs.{NoHighs, assembled_highs, no_high_targets}
 use Rattle.typed_trees.specs.TypedTrees.{TypedModule}
 use Rattle.layout.specs.Segments.{SegmentByte, Places}
@@ -26,12 +26,13 @@ use Rattle.steps8080.specs.Externals.{entry}
 use Rattle.steps8080.specs.Instructions.{high, low}
 use Rattle.steps8080.specs.Writer.{Written, in_front, numbered}
 use Rattle.codegen8080.specs.Modules.{IsGenerated, IsSegmentOf, contents_items}
-use Rattle.module_segments.specs.internal.Places.{AddWords, places_of_content, places_of_contents}
+use Rattle.module_segments.specs.internal.Places.{places_of_content, places_of_contents}
 use Rattle.module_segments.proofs.Homes.{IsLaidOut}
 use Rattle.module_segments.proofs.Lowered.{data_length_is}
 use Rattle.program_images.specs.internal.AtPlans.{IsObjectOf}
 use Rattle.generated_objects.proofs.Contents.{in_front_of}
 use Rattle.generated_objects.proofs.Placed.{places_length}
+use Rattle.generated_objects.proofs.Segments.{data_keep}
 
 -- Contents take as many bytes as items as they have places.
 contents_size :
@@ -102,18 +103,18 @@ no_highs written bytes to segment is =
 pub is_object_of :
     (typed : TypedModule) (storage : Storage) (tree : TreeModule) (object : ObjectModule)
     → IsLaidOut typed storage
-    → AddWords typed
     → IsLowered typed storage tree
+    → IsObjectModule object
     → IsGenerated tree object
     → IsObjectOf typed object
-is_object_of typed storage tree object laid add lowered is = record {
+is_object_of typed storage tree object laid lowered valid is = record {
   code_alignment = is.code_segment.alignment;
   data_alignment = is.data_segment.alignment;
   data_size =
       places_length is.variables is.variable_bytes is.to object.data_places is.data_segment
       ∙ is.data_segment.assembles.size
       ∙ contents_size is.variables tree.externals.items tree.variables.items is.variables.code.items is.variables_are
-      ∙ data_length_is typed storage tree laid add lowered;
+      ∙ data_length_is typed storage tree laid (data_keep typed storage tree object laid lowered valid is) lowered;
   highs =
       no_high_targets object (no_highs is.code is.code_bytes is.to object.code is.code_segment)
       (no_highs is.variables is.variable_bytes is.to object.data_places is.data_segment);

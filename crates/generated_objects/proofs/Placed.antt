@@ -106,6 +106,24 @@ bytes_valid count (Some here ∷ others) all = (
   (list_all (λ place. option_map_or (is_valid_byte count) place true) others) all),
 )
 
+-- its bytes, and how many they are
+valid_parts :
+    (count : ℕ) (segment : Places)
+    → IsTrue (is_valid_segment count segment)
+    → (nat_le (length segment.places) SEGMENT_LIMIT ≡ true)
+    × (list_all (λ place. option_map_or (is_valid_byte count) place true) segment.places ≡ true)
+valid_parts count segment valid =
+    holds (nat_le (length segment.places) SEGMENT_LIMIT)
+    (list_all (λ place. option_map_or (is_valid_byte count) place true) segment.places)
+    (words_are_whole segment.places)
+    (not (is_page segment.alignment) || nat_lt 0 (length segment.places)) valid
+
+pub segment_bytes :
+    (count : ℕ) (segment : Places)
+    → IsTrue (is_valid_segment count segment)
+    → AllByRecursion HasByte segment.places
+segment_bytes count segment valid = bytes_valid count segment.places (valid_parts count segment valid).1
+
 -- The places of a segment are those of the items of its code.
 pub segment_is :
     (written : Written) (bytes : Assembled) (to : Target → Target) (segment : Places) (count : ℕ)
@@ -118,21 +136,13 @@ segment_is written bytes to segment count is valid =
     ∙ ap (map (place_to to)) (places_are written.code bytes is.assembles few
     (cells_of_bytes (map (retargeted to) bytes.fixes) 0 cells
     (subst (λ (places : List (Option SetByte)). AllByRecursion HasByte places) is.same
-    (bytes_valid count segment.places parts.1))))
+    (segment_bytes count segment valid))))
   where
     cells : List (Option ℕ)
     cells = set_bytes bytes.bytes bytes.is_set
 
-    parts : (nat_le (length segment.places) SEGMENT_LIMIT ≡ true)
-        × (list_all (λ place. option_map_or (is_valid_byte count) place true) segment.places ≡ true)
-    parts =
-        holds (nat_le (length segment.places) SEGMENT_LIMIT)
-        (list_all (λ place. option_map_or (is_valid_byte count) place true) segment.places)
-        (words_are_whole segment.places)
-        (not (is_page segment.alignment) || nat_lt 0 (length segment.places)) valid
-
     few : length bytes.bytes ≤ 65536
     few =
-        let limit = leb-true (length segment.places) 65535 parts.0 in
+        let limit = leb-true (length segment.places) 65535 (valid_parts count segment valid).0 in
         let same = places_length written bytes to segment is in
         omega (arith, limit, same)

@@ -1,6 +1,6 @@
 -- The object module of a module has its segments: the code begins with the constants, the data are the variables, and
 -- each PUBLIC object is a public where it lies.
-use Rattle.std.proofs.Common.{◌≡◌, ℕ, zero, suc, Bool, true, List, [], ◌∷◌, ◌++◌, map, Option, Some, None, refl, sym, ap, subst, ◌∙◌, append-nil, append_assoc}
+use Rattle.std.proofs.Common.{◌≡◌, ℕ, zero, suc, Bool, true, List, [], ◌∷◌, ◌++◌, length, map, Option, Some, None, refl, sym, ap, subst, ◌∙◌, append-nil, append_assoc}
 use Rattle.std.specs.Prelude.{IsTrue, filter_map, slice_get}
 use Rattle.std.specs.List.{AllByRecursion}
 use Rattle.std.proofs.lemmas.List.Elements.{recursion_from_All}
@@ -31,72 +31,82 @@ use Rattle.treecode.specs.Lowered.{IsLowered}
 use Rattle.steps8080.specs.Externals.{entry}
 use Rattle.steps8080.specs.Writer.{Written, numbered}
 use Rattle.codegen8080.specs.Modules.{ArePublicsOf, IsAtPlace, IsGenerated, IsOwnCode, IsPublicOf, contents_items}
-use Rattle.module_segments.specs.internal.Places.{AddWords, IsHere, location_of_place, places_of_contents}
+use Rattle.module_segments.specs.internal.Places.{IsHere, KeepWords, location_of_place, places_of_contents}
 use Rattle.module_segments.proofs.Homes.{IsLaidOut}
 use Rattle.module_segments.proofs.Lowered.{code_is, data_is}
 use Rattle.module_segments.proofs.Publics.{IsPublicObject, public_lies}
 use Rattle.program_memory.specs.internal.Segments.{BeginWith, HasPublic, HasSegments, IsPublicAt}
-use Rattle.generated_objects.proofs.Cells.{at_zero}
-use Rattle.generated_objects.proofs.Contents.{IsWordContent, contents_begin}
+use Rattle.generated_objects.proofs.Cells.{HasByte, at_zero}
+use Rattle.generated_objects.proofs.Contents.{IsWordContent, contents_begin, contents_keep}
 use Rattle.generated_objects.proofs.Listed.{InList, kept_in, object_listed}
-use Rattle.generated_objects.proofs.Placed.{place_to, segment_is}
+use Rattle.generated_objects.proofs.Placed.{place_to, segment_bytes, segment_is}
 use Rattle.generated_objects.proofs.Words.{constants_are_words, variables_are_words}
 
--- the code segment
-code_begins :
+-- A segment that begins with contents: as places, and as items of what was made.
+module _
     (typed : TypedModule) (storage : Storage) (tree : TreeModule) (object : ObjectModule)
-    → IsLaidOut typed storage
-    → AddWords typed
-    → IsLowered typed storage tree
-    → IsObjectModule object
-    → IsGenerated tree object
-    → BeginWith object (constant_places typed) object.code.places
-code_begins typed storage tree object laid add lowered valid is =
-    subst (λ (bytes : Places). BeginWith object bytes object.code.places) (code_is typed storage tree laid add lowered)
-    (subst (BeginWith object (places_of_contents tree.externals.items tree.constants.items)) (sym same)
-    (contents_begin object is.code is.code.code tree.externals.items is.variables.externals is.to
-    (own.main ++ own.procedures) is.code_is.listed is.targets is.grown tree.constants.items is.code_is.made words
-    (ap (numbered is.code) (sym own.list_is) ∙ is.code_is.same)))
-  where
-    own : IsOwnCode tree is.code_is.called is.start_label is.code_is.own
-    own = is.code_is.own_is
+    (laid : IsLaidOut typed storage) (lowered : IsLowered typed storage tree) (valid : IsObjectModule object)
+    (is : IsGenerated tree object) where
+  own : IsOwnCode tree is.code_is.called is.start_label is.code_is.own
+  own = is.code_is.own_is
 
-    same : object.code.places
-        ≡ map (place_to is.to) (set_of_items (layout_at at_zero is.code.code) (is.code_is.made ++ is.code_is.listed))
-    same =
-        segment_is is.code is.code_bytes is.to object.code _ is.code_segment valid.code
-        ∙ ap (λ (items : List Item). map (place_to is.to) (set_of_items (layout_at at_zero is.code.code) items))
-        is.code_is.items_are
+  code_same : object.code.places
+      ≡ map (place_to is.to) (set_of_items (layout_at at_zero is.code.code) (is.code_is.made ++ is.code_is.listed))
+  code_same =
+      segment_is is.code is.code_bytes is.to object.code (length object.externals) is.code_segment valid.code
+      ∙ ap (λ (items : List Item). map (place_to is.to) (set_of_items (layout_at at_zero is.code.code) items))
+      is.code_is.items_are
 
-    words : AllByRecursion IsWordContent tree.constants.items
-    words = subst (AllByRecursion IsWordContent) (sym lowered.constants) (constants_are_words typed tree.homes.items)
+  code_numbered : numbered is.code (contents_items tree.constants.items ++ (own.main ++ own.procedures))
+      ≡ Some is.code_is.made
+  code_numbered = ap (numbered is.code) (sym own.list_is) ∙ is.code_is.same
 
--- the data segment
-data_begin :
-    (typed : TypedModule) (storage : Storage) (tree : TreeModule) (object : ObjectModule)
-    → IsLaidOut typed storage
-    → AddWords typed
-    → IsLowered typed storage tree
-    → IsObjectModule object
-    → IsGenerated tree object
-    → BeginWith object (data_places typed) object.data_places.places
-data_begin typed storage tree object laid add lowered valid is =
-    subst (λ (bytes : Places). BeginWith object bytes object.data_places.places)
-    (data_is typed storage tree laid add lowered)
-    (subst (BeginWith object (places_of_contents tree.externals.items tree.variables.items)) (sym same)
-    (contents_begin object is.variables is.variables.code tree.externals.items is.variables.externals is.to [] []
-    is.targets (λ number found at. at) tree.variables.items is.variables.code.items words
-    (ap (numbered is.variables) (append-nil (contents_items tree.variables.items)) ∙ is.variables_are)))
-  where
-    same : object.data_places.places
-        ≡ map (place_to is.to) (set_of_items (layout_at at_zero is.variables.code) (is.variables.code.items ++ []))
-    same =
-        segment_is is.variables is.variable_bytes is.to object.data_places _ is.data_segment valid.data_places
-        ∙ ap (λ (items : List Item). map (place_to is.to) (set_of_items (layout_at at_zero is.variables.code) items))
-        (sym (append-nil is.variables.code.items))
+  code_keeps : KeepWords tree.constants.items
+  code_keeps =
+      contents_keep object is.code is.code.code tree.externals.items is.variables.externals is.to
+      (own.main ++ own.procedures) is.code_is.listed is.targets is.grown tree.constants.items is.code_is.made
+      code_numbered
+      (subst (AllByRecursion HasByte) code_same (segment_bytes (length object.externals) object.code valid.code))
 
-    words : AllByRecursion IsWordContent tree.variables.items
-    words = subst (AllByRecursion IsWordContent) (sym lowered.variables) (variables_are_words typed tree.homes.items)
+  -- the code begins with the constants
+  code_begins : BeginWith object (constant_places typed) object.code.places
+  code_begins =
+      subst (λ (bytes : Places). BeginWith object bytes object.code.places)
+      (code_is typed storage tree laid code_keeps lowered)
+      (subst (BeginWith object (places_of_contents tree.externals.items tree.constants.items)) (sym code_same)
+      (contents_begin object is.code is.code.code tree.externals.items is.variables.externals is.to
+      (own.main ++ own.procedures) is.code_is.listed is.targets is.grown tree.constants.items is.code_is.made
+      (subst (AllByRecursion IsWordContent) (sym lowered.constants) (constants_are_words typed tree.homes.items))
+      code_numbered))
+
+  data_same : object.data_places.places
+      ≡ map (place_to is.to) (set_of_items (layout_at at_zero is.variables.code) (is.variables.code.items ++ []))
+  data_same =
+      segment_is is.variables is.variable_bytes is.to object.data_places (length object.externals) is.data_segment
+      valid.data_places
+      ∙ ap (λ (items : List Item). map (place_to is.to) (set_of_items (layout_at at_zero is.variables.code) items))
+      (sym (append-nil is.variables.code.items))
+
+  data_numbered : numbered is.variables (contents_items tree.variables.items ++ []) ≡ Some is.variables.code.items
+  data_numbered = ap (numbered is.variables) (append-nil (contents_items tree.variables.items)) ∙ is.variables_are
+
+  pub data_keep : KeepWords tree.variables.items
+  data_keep =
+      contents_keep object is.variables is.variables.code tree.externals.items is.variables.externals is.to [] []
+      is.targets (λ number found at. at) tree.variables.items is.variables.code.items data_numbered
+      (subst (AllByRecursion HasByte) data_same
+      (segment_bytes (length object.externals) object.data_places valid.data_places))
+
+  -- the data are the variables
+  data_begin : BeginWith object (data_places typed) object.data_places.places
+  data_begin =
+      subst (λ (bytes : Places). BeginWith object bytes object.data_places.places)
+      (data_is typed storage tree laid data_keep lowered)
+      (subst (BeginWith object (places_of_contents tree.externals.items tree.variables.items)) (sym data_same)
+      (contents_begin object is.variables is.variables.code tree.externals.items is.variables.externals is.to [] []
+      is.targets (λ number found at. at) tree.variables.items is.variables.code.items
+      (subst (AllByRecursion IsWordContent) (sym lowered.variables) (variables_are_words typed tree.homes.items))
+      data_numbered))
 
 -- a public of a name
 record PublicAt (written : Written) (bytes : Assembled) (name : PublicName) (index : ℕ) (publics : List Public) :
@@ -197,14 +207,13 @@ has_public typed storage tree object number each laid lowered is found public =
 pub has_segments :
     (typed : TypedModule) (storage : Storage) (tree : TreeModule) (object : ObjectModule)
     → IsLaidOut typed storage
-    → AddWords typed
     → IsLowered typed storage tree
     → IsObjectModule object
     → IsGenerated tree object
     → HasSegments typed object
-has_segments typed storage tree object laid add lowered valid is = record {
-  code = code_begins typed storage tree object laid add lowered valid is;
-  data_places = data_begin typed storage tree object laid add lowered valid is;
+has_segments typed storage tree object laid lowered valid is = record {
+  code = code_begins typed storage tree object laid lowered valid is;
+  data_places = data_begin typed storage tree object laid lowered valid is;
   publics = λ number each found public.
       has_public typed storage tree object number each laid lowered is found public;
 }

@@ -6,7 +6,6 @@ use Rattle.layout.specs.Storage.{Storage}
 use Rattle.treecode.specs.declared.module.TreeModule.{TreeModule}
 use Rattle.treecode.specs.Lowered.{IsLowered}
 use Rattle.codegen8080.specs.Modules.{IsGenerated}
-use Rattle.module_segments.specs.internal.Places.{AddWords}
 use Rattle.module_segments.proofs.Homes.{IsLaidOut}
 
 -- An object module is made of a module, with its storage, by tree code that is this module. It is one that has a file.
@@ -14,7 +13,6 @@ pub record IsMadeOf (typed : TypedModule) (object : ObjectModule) : Type 0 where
   pub storage : Storage
   pub tree : TreeModule
   pub laid : IsLaidOut typed storage
-  pub words : AddWords typed
   pub lowered : IsLowered typed storage tree
   pub generated : IsGenerated tree object
   pub valid : IsObjectModule object
