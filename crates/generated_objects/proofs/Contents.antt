@@ -1,6 +1,5 @@
 -- Contents of tree code, as items of a segment, are the bytes that they are before the module has its place.
-use Rattle.std.proofs.Common.{◌≡◌, ℕ, zero, suc, ◌+◌, ◌%◌, ◌/◌, ◌<◌, List, [], ◌∷◌, ◌++◌, length, map, replicate, flat_map, Option, Some, None, option_map, refl, sym, ap, subst, ◌∙◌, arith}
-use Rattle.std.specs.Prelude.{slice_get}
+use Rattle.std.proofs.Common.{◌≡◌, ℕ, zero, suc, ◌+◌, ◌%◌, ◌/◌, ◌<◌, List, [], ◌∷◌, ◌++◌, map, replicate, Option, Some, None, option_map, refl, sym, ap, subst, ◌∙◌, arith}
 use Rattle.std.specs.List.{AllByRecursion}
 use Rattle.std.specs.Option.{option_map_or}
 use Rattle.std.proofs.lemmas.Option.{none-some, same_Some}
@@ -8,12 +7,12 @@ use Rattle.object_modules.specs.declared.segment.Segment.TheVariants as object_s
 use Rattle.object_modules.specs.declared.segment.Target.{Target}
 use Rattle.object_modules.specs.declared.segment.Target.TheVariants.{InSegment, External}
 use Rattle.object_modules.specs.Module.{ObjectModule, SetByte}
-use Rattle.layout.specs.Segments.{SegmentByte, Places, ExternalName as Named}
+use Rattle.layout.specs.Segments.{Places, ExternalName as Named}
 use Rattle.asm8080.specs.declared.item.Item.{Item}
 use Rattle.asm8080.specs.declared.item.Item.TheVariants as items
 use Rattle.asm8080.specs.declared.item.Reference.TheVariants.{AtTarget}
 use Rattle.asm8080.specs.Assembled.{layout_at}
-use Rattle.asm8080.specs.Items.{Assembly, size_of, size_of_items}
+use Rattle.asm8080.specs.Items.{Assembly}
 use Rattle.asm8080.proofs.Fixing.{row_of, set_of_items}
 use Rattle.treecode.specs.declared.module.Content.{Content}
 use Rattle.treecode.specs.declared.module.Content.TheVariants as contents
@@ -23,8 +22,8 @@ use Rattle.treecode.specs.declared.place.Place.TheVariants as places
 use Rattle.steps8080.specs.Externals.{Extends, entry}
 use Rattle.steps8080.specs.Instructions.{high, low}
 use Rattle.steps8080.specs.Writer.{Written, in_front, numbered}
-use Rattle.codegen8080.specs.Modules.{AreTargets, IsNamed, content_items, contents_items}
-use Rattle.module_segments.specs.internal.Places.{KeepWords, name_at, places_of_content, places_of_contents}
+use Rattle.codegen8080.specs.Modules.{AreTargets, IsNamed, contents_items}
+use Rattle.module_segments.specs.internal.Places.{KeepWords, name_at, places_of_contents}
 use Rattle.program_memory.specs.internal.Segments.{BeginWith, IsTarget}
 use Rattle.generated_objects.proofs.Cells.{HasByte, at_zero}
 use Rattle.generated_objects.proofs.Placed.{place_to}

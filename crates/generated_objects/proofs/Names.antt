@@ -1,8 +1,8 @@
 -- The object module of a module has its names: its PUBLIC names in their order, EXTERNAL ones alone, and a start where it
 -- is a main module.
-use Rattle.std.proofs.Common.{◌≡◌, ℕ, zero, suc, ◌<◌, Bool, true, false, ◌||◌, List, [], ◌∷◌, map, Option, Some, None, option_map, is_some, if◌then◌else◌, refl, sym, ap, ap₂, subst, ◌∙◌, arith}
+use Rattle.std.proofs.Common.{◌≡◌, ℕ, zero, suc, Bool, true, false, ◌||◌, List, [], ◌∷◌, map, Option, Some, None, option_map, is_some, if◌then◌else◌, refl, sym, ap, ap₂, subst, ◌∙◌, arith}
 use Rattle.std.specs.Prelude.{All, filter, filter_map, nat_lt, not, slice_get}
-use Rattle.std.specs.List.{AllByRecursion, cons_option, list_any}
+use Rattle.std.specs.List.{AllByRecursion, cons_option}
 use Rattle.std.specs.Option.{option_and_then}
 use Rattle.std.specs.Str.{bytes_eq}
 use Rattle.std.proofs.lemmas.Bool.{lt-ltb}
@@ -15,9 +15,9 @@ use Rattle.typed_trees.specs.declared.parts.GlobalItem.TheVariants.{GlobalObject
 use Rattle.typed_trees.specs.declared.parts.Visibility.{Visibility}
 use Rattle.typed_trees.specs.declared.parts.Visibility.TheVariants as visibilities
 use Rattle.typed_trees.specs.Globals.{IsHereIfPublic, ListsGlobals, is_global, is_shared}
-use Rattle.typed_trees.specs.TypedTrees.{NoStatements, MoreStatements, TypedStatements, TypedList, ListOf, Home as TypedHome, InData, InConstants, Placed, BasedOn, Elsewhere, Nowhere, InFrame, TypedObject, TypedProcedure, TypedModule}
+use Rattle.typed_trees.specs.TypedTrees.{TypedStatements, TypedList, ListOf, Home as TypedHome, InData, InConstants, Placed, BasedOn, Elsewhere, Nowhere, InFrame, TypedObject, TypedProcedure, TypedModule}
 use Rattle.layout.proofs.Segments.{of_all}
-use Rattle.layout.specs.Joined.{Global, global_object, global_of, global_procedure, has_statement, is_main}
+use Rattle.layout.specs.Joined.{Global, global_object, global_of, global_procedure, has_statement}
 use Rattle.layout.specs.Storage.{Storage}
 use Rattle.asm8080.specs.Assembled.{Assembled}
 use Rattle.treecode.specs.declared.lists.Range.{Range}
@@ -30,14 +30,14 @@ use Rattle.treecode.specs.declared.place.Home.{Home}
 use Rattle.treecode.specs.declared.place.Place.{Place}
 use Rattle.treecode.specs.declared.place.Place.TheVariants as places
 use Rattle.treecode.specs.Contents.{public_item, public_object, public_procedure, publics_of, static_place}
-use Rattle.treecode.specs.Homes.{external_name, external_object, external_procedure, externals_of}
+use Rattle.treecode.specs.Homes.{external_name, external_object, external_procedure}
 use Rattle.treecode.specs.Lowered.{AreMoreStatements, AreNoStatements, AreStatements, IsList, IsListOf, IsLowered}
-use Rattle.treecode.specs.Nodes.{Nodes, home_at, nodes_of}
+use Rattle.treecode.specs.Nodes.{Nodes, home_at}
 use Rattle.steps8080.specs.Writer.{Written, place_of_label}
 use Rattle.codegen8080.specs.Modules.{ArePublicsOf, IsAtPlace, IsGenerated, IsPublicOf, has_main, used_names}
 use Rattle.module_segments.proofs.Homes.{IsLaidOut}
-use Rattle.program_merges.specs.internal.Names.{HasNames, external_names_in, public_names_in, shared_in}
-use Rattle.generated_objects.proofs.Listed.{InList, SharedObject, SharedProcedure, object_shared, of_each, procedure_shared}
+use Rattle.program_merges.specs.internal.Names.{HasNames, external_names_in, public_names_in}
+use Rattle.generated_objects.proofs.Listed.{InList, object_shared, of_each, procedure_shared}
 
 abbrev name_of_public : Public → List ℕ
 name_of_public public = public.name

@@ -1,6 +1,6 @@
 -- The object module of a module is an object of it: its data segment holds the variables, neither segment asks for a page,
 -- no high byte is fixed alone, and it asks for no stack.
-use Rattle.std.proofs.Common.{◌≡◌, ℕ, suc, ◌+◌, List, [], ◌∷◌, ◌++◌, length, map, replicate, Option, Some, None, option_map, refl, sym, ap, ap₂, subst, ◌∙◌, append-nil, arith}
+use Rattle.std.proofs.Common.{◌≡◌, ℕ, ◌+◌, List, [], ◌∷◌, length, replicate, Option, Some, None, option_map, sym, ap, subst, ◌∙◌, arith}
 use Rattle.std.proofs.lemmas.List.{length-append, length-replicate}
 use Rattle.std.proofs.lemmas.Option.{none-some, same_Some}
 use Rattle.object_modules.specs.declared.segment.Segment.TheVariants as object_segments
@@ -9,13 +9,13 @@ use Rattle.object_modules.specs.declared.segment.Target.TheVariants.{InSegment, 
 use Rattle.object_modules.specs.Module.{IsObjectModule, ObjectModule, Places as ObjectPlaces}
 use Rattle.object_images.proofs.NoHighs.{NoHighs, assembled_highs, no_high_targets}
 use Rattle.typed_trees.specs.TypedTrees.{TypedModule}
-use Rattle.layout.specs.Segments.{SegmentByte, Places}
+use Rattle.layout.specs.Segments.{SegmentByte}
 use Rattle.layout.specs.Storage.{Storage}
 use Rattle.asm8080.specs.declared.item.Item.{Item}
 use Rattle.asm8080.specs.declared.item.Item.TheVariants as items
 use Rattle.asm8080.specs.declared.item.Reference.TheVariants.{AtTarget}
 use Rattle.asm8080.specs.Assembled.{Assembled}
-use Rattle.asm8080.specs.Items.{size_of, size_of_items}
+use Rattle.asm8080.specs.Items.{size_of_items}
 use Rattle.treecode.specs.declared.module.Content.{Content}
 use Rattle.treecode.specs.declared.module.Content.TheVariants as contents
 use Rattle.treecode.specs.declared.module.ExternalName.{ExternalName}
@@ -26,7 +26,7 @@ use Rattle.steps8080.specs.Externals.{entry}
 use Rattle.steps8080.specs.Instructions.{high, low}
 use Rattle.steps8080.specs.Writer.{Written, in_front, numbered}
 use Rattle.codegen8080.specs.Modules.{IsGenerated, IsSegmentOf, contents_items}
-use Rattle.module_segments.specs.internal.Places.{places_of_content, places_of_contents}
+use Rattle.module_segments.specs.internal.Places.{places_of_contents}
 use Rattle.module_segments.proofs.Homes.{IsLaidOut}
 use Rattle.module_segments.proofs.Lowered.{data_length_is}
 use Rattle.program_images.specs.internal.AtPlans.{IsObjectOf}

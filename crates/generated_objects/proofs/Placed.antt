@@ -1,5 +1,5 @@
 -- A segment of an object module has the bytes of the items of its code, with the targets that the module has for them.
-use Rattle.std.proofs.Common.{◌≡◌, ℕ, suc, ◌+◌, ◌<◌, ◌≤◌, Bool, true, false, ◌&&◌, ◌||◌, not, ◌==◌, cond, List, [], ◌∷◌, length, map, find, Option, Some, None, option_map, refl, sym, ap, subst, ◌∙◌, arith}
+use Rattle.std.proofs.Common.{◌≡◌, ℕ, suc, ◌+◌, ◌≤◌, Bool, true, false, ◌&&◌, ◌||◌, not, ◌==◌, cond, List, [], ◌∷◌, length, map, find, Option, Some, None, option_map, refl, ap, subst, ◌∙◌, arith}
 use Rattle.std.specs.Prelude.{IsTrue, nat_le, nat_lt}
 use Rattle.std.specs.List.{AllByRecursion, list_all}
 use Rattle.std.specs.Option.{option_map_or}
@@ -9,12 +9,12 @@ use Rattle.object_modules.specs.declared.segment.Target.{Target}
 use Rattle.object_modules.specs.declared.segment.TheConstants.{SEGMENT_LIMIT}
 use Rattle.object_modules.specs.Module.{Fixup, SetByte, Places, is_page, is_target, is_valid_byte, is_valid_segment, words_are_whole}
 use Rattle.object_modules.specs.Runs.{fixup_at}
-use Rattle.asm8080.specs.Assembled.{Assembled, Assembles, fixed_bytes, layout_at, places_of, set_bytes}
+use Rattle.asm8080.specs.Assembled.{Assembled, fixed_bytes, layout_at, set_bytes}
 use Rattle.asm8080.proofs.Fixing.{set_of_items}
 use Rattle.steps8080.specs.Writer.{Written}
-use Rattle.codegen8080.specs.internal.Segments.{retargeted, with_targets}
+use Rattle.codegen8080.specs.internal.Segments.{retargeted}
 use Rattle.codegen8080.specs.Modules.{IsSegmentOf}
-use Rattle.generated_objects.proofs.Cells.{HasByte, IsCell, at_zero, cells_of_bytes, places_are, set_length}
+use Rattle.generated_objects.proofs.Cells.{HasByte, at_zero, cells_of_bytes, places_are, set_length}
 
 -- a place whose fix has another target
 abbrev pub fixup_to : (Target → Target) → Fixup → Fixup

@@ -1,15 +1,14 @@
 -- The object module of a module has its segments: the code begins with the constants, the data are the variables, and
 -- each PUBLIC object is a public where it lies.
-use Rattle.std.proofs.Common.{◌≡◌, ℕ, zero, suc, Bool, true, List, [], ◌∷◌, ◌++◌, length, map, Option, Some, None, refl, sym, ap, subst, ◌∙◌, append-nil, append_assoc}
-use Rattle.std.specs.Prelude.{IsTrue, filter_map, slice_get}
+use Rattle.std.proofs.Common.{◌≡◌, ℕ, zero, suc, true, List, [], ◌∷◌, ◌++◌, length, map, Some, refl, sym, ap, subst, ◌∙◌, append-nil}
+use Rattle.std.specs.Prelude.{slice_get}
 use Rattle.std.specs.List.{AllByRecursion}
 use Rattle.std.proofs.lemmas.List.Elements.{recursion_from_All}
 use Rattle.std.proofs.lemmas.Option.{none-some, same_Some}
-use Rattle.object_modules.specs.declared.segment.Target.{Target}
-use Rattle.object_modules.specs.Module.{IsObjectModule, ObjectModule, Public, SetByte}
+use Rattle.object_modules.specs.Module.{IsObjectModule, ObjectModule, Public}
 use Rattle.typed_trees.specs.declared.parts.GlobalItem.{GlobalItem}
 use Rattle.typed_trees.specs.declared.parts.GlobalItem.TheVariants.{GlobalObject}
-use Rattle.typed_trees.specs.Globals.{IsHereIfPublic, ListsGlobals, is_shared}
+use Rattle.typed_trees.specs.Globals.{IsHereIfPublic, is_shared}
 use Rattle.typed_trees.specs.TypedTrees.{Home as TypedHome, InData, InConstants, Placed, BasedOn, Elsewhere, Nowhere, InFrame, TypedObject, TypedModule}
 use Rattle.layout.proofs.Segments.{of_all}
 use Rattle.layout.specs.Segments.{Location, Places, constant_places, data_places, location_of}
@@ -17,7 +16,6 @@ use Rattle.layout.specs.Storage.{Storage}
 use Rattle.asm8080.specs.declared.item.Item.{Item}
 use Rattle.asm8080.specs.Assembled.{Assembled, layout_at}
 use Rattle.asm8080.proofs.Fixing.{set_of_items}
-use Rattle.treecode.specs.declared.module.Content.{Content}
 use Rattle.treecode.specs.declared.module.ExternalName.{ExternalName}
 use Rattle.treecode.specs.declared.module.PublicName.{PublicName}
 use Rattle.treecode.specs.declared.module.PublicPlace.TheVariants as public_places
@@ -28,13 +26,12 @@ use Rattle.treecode.specs.declared.place.Place.TheVariants as places
 use Rattle.treecode.specs.Contents.{public_item, publics_of}
 use Rattle.treecode.specs.Homes.{externals_of, homes_of}
 use Rattle.treecode.specs.Lowered.{IsLowered}
-use Rattle.steps8080.specs.Externals.{entry}
 use Rattle.steps8080.specs.Writer.{Written, numbered}
 use Rattle.codegen8080.specs.Modules.{ArePublicsOf, IsAtPlace, IsGenerated, IsOwnCode, IsPublicOf, contents_items}
 use Rattle.module_segments.specs.internal.Places.{IsHere, KeepWords, location_of_place, places_of_contents}
 use Rattle.module_segments.proofs.Homes.{IsLaidOut}
 use Rattle.module_segments.proofs.Lowered.{code_is, data_is}
-use Rattle.module_segments.proofs.Publics.{IsPublicObject, public_lies}
+use Rattle.module_segments.proofs.Publics.{public_lies}
 use Rattle.program_memory.specs.internal.Segments.{BeginWith, HasPublic, HasSegments, IsPublicAt}
 use Rattle.generated_objects.proofs.Cells.{HasByte, at_zero}
 use Rattle.generated_objects.proofs.Contents.{IsWordContent, contents_begin, contents_keep}
