@@ -115,20 +115,25 @@ cells_of_bytes fixes offset (Some value ∷ others) all = (all.0, cells_of_bytes
 -- Bytes that are set stand in a memory that has them.
 stand_by :
     (memory : List ℕ) (from : ℕ) (cells : List (Option ℕ))
-    → ((index value : ℕ) → slice_get cells index ≡ Some (Some value) → byte_at memory (wrap (from + index)) ≡ value)
+    → ((index value : ℕ)
+    → slice_get cells index ≡ Some (Some value)
+    → byte_at memory (wrap (from + index)) ≡ value)
     → SetBytesStand memory from cells
 stand_by memory from [] has = tt
-stand_by memory from (None ∷ others) has = stand_by memory (from + 1) others (λ index value found. later index ∙ has (suc index) value found)
+stand_by memory from (None ∷ others) has =
+    stand_by memory (from + 1) others (λ index value found. later index ∙ has (suc index) value found)
   where
     later : (index : ℕ) → byte_at memory (wrap (from + 1 + index)) ≡ byte_at memory (wrap (from + suc index))
-    later index = let same : from + 1 + index ≡ from + suc index = omega arith in ap (λ n. byte_at memory (wrap n)) same
+    later index =
+        let same : from + 1 + index ≡ from + suc index = omega arith in ap (λ n. byte_at memory (wrap n)) same
 stand_by memory from (Some byte ∷ others) has = (
   (let same : from ≡ from + 0 = omega arith in ap (λ n. byte_at memory (wrap n)) same) ∙ has 0 byte refl,
   stand_by memory (from + 1) others (λ index value found. later index ∙ has (suc index) value found),
 )
   where
     later : (index : ℕ) → byte_at memory (wrap (from + 1 + index)) ≡ byte_at memory (wrap (from + suc index))
-    later index = let same : from + 1 + index ≡ from + suc index = omega arith in ap (λ n. byte_at memory (wrap n)) same
+    later index =
+        let same : from + 1 + index ≡ from + suc index = omega arith in ap (λ n. byte_at memory (wrap n)) same
 
 -- a memory with bytes from 0 on
 abbrev or_zero : Option ℕ → ℕ
@@ -156,7 +161,10 @@ same_bytes :
     → map is_some cells ≡ replicate (length bytes) true ++ more
     → SetBytesStand memory from cells
     → BytesStand memory from bytes
-    → ((rest : List (Option ℕ)) → map is_some rest ≡ more → SetBytesStand memory (from + length bytes) rest → rest ≡ out)
+    → ((rest : List (Option ℕ))
+    → map is_some rest ≡ more
+    → SetBytesStand memory (from + length bytes) rest
+    → rest ≡ out)
     → cells ≡ map Some bytes ++ out
 same_bytes memory [] from cells out more flags set stands rest =
     rest cells flags (let same : from ≡ from + 0 = omega arith in subst (λ n. SetBytesStand memory n cells) same set)
@@ -166,7 +174,9 @@ same_bytes memory (byte ∷ bytes) from (Some cell ∷ cells) out more flags set
     ap (λ (value : ℕ). Some value ∷ cells) (sym set.0 ∙ stands.0)
     ∙ ap (λ (others : List (Option ℕ)). Some byte ∷ others)
     (same_bytes memory bytes (from + 1) cells out more (tail flags) set.1 stands.1
-    (λ others is there. rest others is (let same : from + 1 + length bytes ≡ from + suc (length bytes) = omega arith in
+    (λ others is there.
+    rest others is
+    (let same : from + 1 + length bytes ≡ from + suc (length bytes) = omega arith in
     subst (λ n. SetBytesStand memory n others) same there)))
   where
     tail : {x y : Bool} {xs ys : List Bool} → ◌≡◌ {A = List Bool} (x ∷ xs) (y ∷ ys) → xs ≡ ys
@@ -179,7 +189,10 @@ same_item :
     → map is_some cells ≡ replicate size true ++ more
     → SetBytesStand memory from cells
     → BytesStand memory from bytes
-    → ((rest : List (Option ℕ)) → map is_some rest ≡ more → SetBytesStand memory (from + size) rest → rest ≡ out)
+    → ((rest : List (Option ℕ))
+    → map is_some rest ≡ more
+    → SetBytesStand memory (from + size) rest
+    → rest ≡ out)
     → cells ≡ map Some bytes ++ out
 same_item memory bytes size from cells out more sized flags set stands rest =
     same_bytes memory bytes from cells out more (flags ∙ ap (λ n. replicate n true ++ more) (sym sized)) set stands
@@ -190,7 +203,10 @@ same_gap :
     (memory : List ℕ) (count from : ℕ) (cells out : List (Option ℕ)) (more : List Bool)
     → map is_some cells ≡ replicate count false ++ more
     → SetBytesStand memory from cells
-    → ((rest : List (Option ℕ)) → map is_some rest ≡ more → SetBytesStand memory (from + count) rest → rest ≡ out)
+    → ((rest : List (Option ℕ))
+    → map is_some rest ≡ more
+    → SetBytesStand memory (from + count) rest
+    → rest ≡ out)
     → cells ≡ replicate count None ++ out
 same_gap memory zero from cells out more flags set rest =
     rest cells flags (let same : from ≡ from + 0 = omega arith in subst (λ n. SetBytesStand memory n cells) same set)
@@ -216,7 +232,8 @@ cells_by_items layout memory [] from to (cell ∷ cells) flags set stands = absu
 cells_by_items layout memory (Plain instruction ∷ others) from to cells flags set stands =
     same_item memory (bytes_of instruction) (size_of (Plain instruction)) from cells (cells_of_items layout others)
     (flags_of_items others) refl flags set stands.0
-    (λ rest is there. cells_by_items layout memory others (from + size_of (Plain instruction)) to rest is there stands.1)
+    (λ rest is there.
+    cells_by_items layout memory others (from + size_of (Plain instruction)) to rest is there stands.1)
 cells_by_items layout memory (WithWord form reference ∷ others) from to cells flags set stands =
     same_item memory (bytes_of_item layout (WithWord form reference)) 3 from cells (cells_of_items layout others)
     (flags_of_items others) (item_length layout (WithWord form reference)) flags set stands.0

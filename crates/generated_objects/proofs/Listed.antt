@@ -29,11 +29,14 @@ of_each P (first ∷ others) holds = (
 
 -- what a function keeps of items
 after_option :
-    {A : Type 0} (first : Option A) (list : List A) (item : A) → InList list item → InList (cons_option first list) item
+    {A : Type 0} (first : Option A) (list : List A) (item : A)
+    → InList list item → InList (cons_option first list) item
 after_option None list item in_list = in_list
 after_option (Some first) list item in_list = later first list item in_list
 
-in_front : {A : Type 0} (first : Option A) (list : List A) (item : A) → first ≡ Some item → InList (cons_option first list) item
+in_front :
+    {A : Type 0} (first : Option A) (list : List A) (item : A)
+    → first ≡ Some item → InList (cons_option first list) item
 in_front None list item is = absurd (none-some item is)
 in_front (Some first) list item is = record { index = 0; found = is }
 
@@ -62,9 +65,13 @@ pub came_from :
     {A B : Type 0} (f : A → Option B) (list : List A) (index : ℕ) (made : B)
     → slice_get (filter_map f list) index ≡ Some made → CameFrom f list made
 came_from f [] index made found = absurd (none-some made found)
-came_from f (first ∷ others) index made found = by (f first) refl index found (λ at there. came_from f others at made there)
+came_from f (first ∷ others) index made found =
+    by (f first) refl index found (λ at there. came_from f others at made there)
   where
-    by : (one : Option _) → f first ≡ one → (at : ℕ) → slice_get (cons_option one (filter_map f others)) at ≡ Some made
+    by : (one : Option _)
+        → f first ≡ one
+        → (at : ℕ)
+        → slice_get (cons_option one (filter_map f others)) at ≡ Some made
         → ((at : ℕ) → slice_get (filter_map f others) at ≡ Some made → CameFrom f others made)
         → CameFrom f (first ∷ others) made
     by None e at there rest = came_later f first others made (rest at there)
@@ -134,7 +141,10 @@ pub record SharedObject (typed : TypedModule) (number : ℕ) : Type 0 where
   pub shared : is_shared object.home object.is_public ≡ true
 
 -- what a test keeps has passed it
-passed : (test : Bool) (number kept : ℕ) → (if test then Some number else None) ≡ Some kept → (test ≡ true) × (number ≡ kept)
+passed :
+    (test : Bool) (number kept : ℕ)
+    → (if test then Some number else None) ≡ Some kept
+    → (test ≡ true) × (number ≡ kept)
 passed true number kept is = (refl, same_Some number kept is)
 passed false number kept is = absurd (none-some kept is)
 

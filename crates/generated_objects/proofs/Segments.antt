@@ -39,7 +39,7 @@ use Rattle.generated_objects.proofs.Listed.{InList, kept_in, object_listed}
 use Rattle.generated_objects.proofs.Placed.{place_to, segment_bytes, segment_is}
 use Rattle.generated_objects.proofs.Words.{constants_are_words, variables_are_words}
 
--- A segment that begins with contents: as places, and as items of what was made.
+-- Each segment: its places are those of what was written, whose items begin with those of its contents.
 module _
     (typed : TypedModule) (storage : Storage) (tree : TreeModule) (object : ObjectModule)
     (laid : IsLaidOut typed storage) (lowered : IsLowered typed storage tree) (valid : IsObjectModule object)
@@ -166,7 +166,8 @@ in_publics :
     → public_item typed starts item ≡ Some name
     → InList (publics_of typed starts) name
 unfolding publics_of
-in_publics typed starts index item name found is = kept_in (public_item typed starts) typed.globals index item name found is
+in_publics typed starts index item name found is =
+    kept_in (public_item typed starts) typed.globals index item name found is
 
 has_public :
     (typed : TypedModule) (storage : Storage) (tree : TreeModule) (object : ObjectModule) (number : ℕ)

@@ -8,7 +8,7 @@ use Rattle.treecode.specs.Lowered.{IsLowered}
 use Rattle.codegen8080.specs.Modules.{IsGenerated}
 use Rattle.module_segments.proofs.Homes.{IsLaidOut}
 
--- An object module is made of a module, with its storage, by tree code that is this module. It is one that has a file.
+-- An object module is made of a module, with its storage, by tree code that is this module. It is valid.
 pub record IsMadeOf (typed : TypedModule) (object : ObjectModule) : Type 0 where
   pub storage : Storage
   pub tree : TreeModule
