@@ -1,6 +1,6 @@
 -- Object modules that are made of the modules of a program are what linking, placing and loading want of them.
-use Rattle.std.proofs.Common.{◌≡◌, ℕ, zero, suc, ◌≤◌, List, [], ◌∷◌, length, Option, Some, None, Ok, refl, subst, arith}
-use Rattle.std.specs.Prelude.{slice_get}
+use Rattle.std.proofs.Common.{◌≡◌, ℕ, zero, suc, ◌≤◌, List, [], ◌∷◌, length, Option, Some, None, Ok, zip, refl, ap, subst, arith}
+use Rattle.std.specs.Prelude.{All, slice_get}
 use Rattle.std.specs.List.{AllByRecursion}
 use Rattle.std.proofs.lemmas.List.Elements.{All-from_recursion}
 use Rattle.std.proofs.lemmas.Option.{none-some, same_Some}
@@ -12,6 +12,7 @@ use Rattle.object_modules.specs.Module.{IsObjectModule, ObjectModule, SetByte}
 use Rattle.typed_trees.specs.Globals.{ListsGlobals}
 use Rattle.typed_trees.specs.Storable.{IsStorable}
 use Rattle.typed_trees.specs.TypedTrees.{TypedModule}
+use Rattle.typed_trees.specs.Weight.{constant_bytes}
 use Rattle.layout.proofs.Placements.{HoldConstants}
 use Rattle.layout.proofs.Segments.{constants_length}
 use Rattle.layout.specs.Joined.{IsJoined}
@@ -186,3 +187,40 @@ hold_constants (typed ∷ modules) (object ∷ objects) made =
       omega (arith, within, size),
       hold_constants modules objects made.1,
     )
+
+-- the same of each module with its length, as the placement of a program asks it
+holds_each :
+    (modules : List TypedModule) (objects : List ObjectModule)
+    → AreMadeOf modules objects
+    → AllByRecursion (λ (segment : TypedModule × ℕ). constant_bytes segment.0 ≤ segment.1)
+    (zip modules (code_lengths_of objects))
+holds_each [] [] made = tt
+holds_each [] (object ∷ objects) made = absurd made
+holds_each (typed ∷ modules) [] made = absurd made
+holds_each (typed ∷ modules) (object ∷ objects) made =
+    ((hold_constants (typed ∷ modules) (object ∷ objects) made).0, holds_each modules objects made.1)
+
+pub each_holds_constants :
+    (modules : List TypedModule) (objects : List ObjectModule)
+    → AreMadeOf modules objects
+    → All (λ (segment : TypedModule × ℕ). constant_bytes segment.0 ≤ segment.1)
+    (zip modules (code_lengths_of objects))
+each_holds_constants modules objects made =
+    All-from_recursion (λ (segment : TypedModule × ℕ). constant_bytes segment.0 ≤ segment.1)
+    (zip modules (code_lengths_of objects)) (holds_each modules objects made)
+
+-- there are as many lengths as modules
+pub as_many_lengths :
+    (modules : List TypedModule) (objects : List ObjectModule)
+    → AreMadeOf modules objects
+    → length (code_lengths_of objects) ≡ length modules
+as_many_lengths [] [] made = refl
+as_many_lengths [] (object ∷ objects) made = absurd made
+as_many_lengths (typed ∷ modules) [] made = absurd made
+as_many_lengths (typed ∷ modules) (object ∷ objects) made =
+    ap (λ n. suc n) (as_many_lengths modules objects made.1)
+
+-- and all modules have a place for their objects and constants
+pub are_storable :
+    (modules : List TypedModule) (objects : List ObjectModule) → AreMadeOf modules objects → All IsStorable modules
+are_storable modules objects made = All-from_recursion IsStorable modules (all_storable modules objects made)
