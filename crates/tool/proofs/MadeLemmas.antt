@@ -7,6 +7,7 @@ use Rattle.layout.specs.Storage.{Storage, storage_with}
 use Rattle.treecode.specs.declared.module.TreeModule.{TreeModule}
 use Rattle.treecode.specs.Lowered.{IsLowered}
 use Rattle.treecode.specs.Nodes.{NumbersAreWords, nodes_of}
+use Rattle.home_words.specs.HomeWords.{HomesAreWords}
 use Rattle.codegen8080.specs.Modules.{IsGenerated}
 use Rattle.object_modules.specs.Merge.{merge_of}
 use Rattle.object_modules.specs.Module.{ObjectModule}
@@ -19,11 +20,12 @@ use Rattle.tool.specs.declared.fault.ToolFault.{ToolFault}
 use Rattle.tool.specs.Made.{IsImageOfObjects, IsMadeOf}
 use Rattle.tool.specs.Sources.{IsServed}
 
-pub is_made : (typed : TypedModule) (storage : Storage) (tree : TreeModule) (object : ObjectModule) → IsLowered typed storage tree → storage ≡ storage_with typed → NumbersAreWords (nodes_of tree) → IsGenerated tree object → IsMadeOf typed object
-is_made typed storage tree object lowered is words generated = record {
+pub is_made : (typed : TypedModule) (storage : Storage) (tree : TreeModule) (object : ObjectModule) → IsLowered typed storage tree → storage ≡ storage_with typed → NumbersAreWords (nodes_of tree) → HomesAreWords tree.homes.items → IsGenerated tree object → IsMadeOf typed object
+is_made typed storage tree object lowered is words homes generated = record {
   tree = tree;
   lowered = subst (λ (s : Storage). IsLowered typed s tree) is lowered;
   words = words;
+  homes = homes;
   generated = generated;
 }
 

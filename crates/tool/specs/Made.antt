@@ -5,17 +5,20 @@ use Rattle.layout.specs.Storage.{storage_with}
 use Rattle.treecode.specs.declared.module.TreeModule.{TreeModule}
 use Rattle.treecode.specs.Lowered.{IsLowered}
 use Rattle.treecode.specs.Nodes.{NumbersAreWords, nodes_of}
+use Rattle.home_words.specs.HomeWords.{HomesAreWords}
 use Rattle.codegen8080.specs.Modules.{IsGenerated}
 use Rattle.object_modules.specs.Merge.{merge_of}
 use Rattle.object_modules.specs.Module.{ObjectModule}
 use Rattle.locate.specs.Locating.{Absolute, IsPlaced, plan_view}
 use Rattle.plans.specs.declared.Plan.{Plan}
 
--- an object module is made of a module: it is generated from the tree code of the module, whose numbers are words
+-- an object module is made of a module: it is generated from the tree code of the module, whose numbers are words, as
+-- are those where its objects begin
 pub record IsMadeOf (typed : TypedModule) (object : ObjectModule) : Type 0 where
   pub tree : TreeModule
   pub lowered : IsLowered typed (storage_with typed) tree
   pub words : NumbersAreWords (nodes_of tree)
+  pub homes : HomesAreWords tree.homes.items
   pub generated : IsGenerated tree object
 
 -- object modules are made of modules, one by one

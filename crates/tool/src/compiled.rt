@@ -25,6 +25,7 @@ use crate::fault::ToolFault;
 use codegen8080::generate;
 use failure::Failure;
 use frontend::{SourceModule, read_source};
+use home_words::hold_homes;
 use layout::Layout;
 use object_modules::{ObjectModule, Segment};
 use plans::Plan;
@@ -104,6 +105,7 @@ fn object_of(
 {
     let tree = lower(alloc, &source.typed, &source.storage)?;
     tree.hold_words();
+    hold_homes(&tree);
     let generated = generate(alloc, &tree);
     drop(tree);
     match generated {
