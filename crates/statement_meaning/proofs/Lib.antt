@@ -45,3 +45,4 @@ pub mod CasesDo
 pub mod TestedLoops
 pub mod Counted
 pub mod IterateHeads
+pub mod ToKnownLoops
