@@ -46,3 +46,4 @@ pub mod TestedLoops
 pub mod Counted
 pub mod IterateHeads
 pub mod ToKnownLoops
+pub mod Iterated
