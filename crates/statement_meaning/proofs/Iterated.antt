@@ -1,10 +1,9 @@
 -- An iterative DO, by the form that its code has.
-use Rattle.std.proofs.Common.{◌≡◌, ℕ, ◌+◌, ◌*◌, ◌<◌, ◌≤◌, Bool, true, false, if◌then◌else◌, nat_le, List, [], ◌++◌, Option, Some, None, refl, sym, subst, arith}
+use Rattle.std.proofs.Common.{◌≡◌, ℕ, Bool, true, false, if◌then◌else◌, List, [], ◌++◌, Option, Some, None, refl, sym, arith}
 use Rattle.std.proofs.lemmas.Bool.{leb-false}
-use Rattle.meaning.specs.Meaning.{done, value, write_variable}
+use Rattle.meaning.specs.Meaning.{value, write_variable}
 use Rattle.meaning.specs.Outcomes.{State as SourceState}
 use Rattle.meaning.specs.Values.{as_type}
-use Rattle.typed_trees.specs.TypedTrees.{IterateStatement, TypedIteration, TypedList}
 use Rattle.isa8080.specs.State.{Registers}
 use Rattle.treecode.specs.declared.lists.Range.{Range}
 use Rattle.treecode.specs.declared.statement.Iteration.{Iteration}

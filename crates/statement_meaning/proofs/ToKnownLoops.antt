@@ -1,14 +1,14 @@
 -- An iterative DO that counts by 1 to a known last value does what it says.
-use Rattle.std.proofs.Common.{◌≡◌, ℕ, ◌+◌, ◌*◌, ◌/◌, ◌%◌, ◌<◌, ◌≤◌, Bool, true, false, not, ◌&&◌, ◌||◌, if◌then◌else◌, is_some, nat_eq, nat_le, List, [], ◌∷◌, ◌++◌, Option, Some, None, refl, sym, ap, subst, ◌∙◌, arith}
+use Rattle.std.proofs.Common.{◌≡◌, ℕ, ◌+◌, ◌%◌, ◌<◌, ◌≤◌, Bool, true, false, not, ◌&&◌, ◌||◌, if◌then◌else◌, is_some, nat_eq, nat_le, List, [], ◌∷◌, ◌++◌, Some, None, refl, sym, ap, subst, ◌∙◌, arith}
 use Rattle.std.proofs.lemmas.Bool.{eqb-true, leb-true, leb-false}
+use Rattle.std.proofs.lemmas.Option.{same_Some}
+use Rattle.mem80.specs.Memory.{IsMemory}
 use Rattle.trees.specs.declared.declaration.ScalarType.{ScalarType}
 use Rattle.trees.specs.declared.declaration.ScalarType.TheVariants.{Byte, Address}
 use Rattle.meaning.specs.Outcomes.{State as SourceState, Gave, Onward}
 use Rattle.meaning.specs.Values.{values_of}
 use Rattle.isa8080.specs.declared.instr.Condition.TheVariants.{NoCarry}
-use Rattle.isa8080.specs.declared.instr.Instr.TheVariants.{AccumulateImmediate}
-use Rattle.isa8080.specs.declared.instr.Operation.TheVariants.{Compare}
-use Rattle.isa8080.specs.State.{Registers, State}
+use Rattle.isa8080.specs.State.{Registers}
 use Rattle.asm8080.specs.declared.item.WordForm.TheVariants.{JumpWhere}
 use Rattle.treecode.specs.declared.lists.Range.{Range}
 use Rattle.treecode.specs.declared.place.Location.{Location}
@@ -20,9 +20,7 @@ use Rattle.steps8080.specs.declared.facts.Facts.{Facts}
 use Rattle.steps8080.specs.declared.step.LabelNumber.{LabelNumber}
 use Rattle.steps8080.specs.declared.step.Step.TheVariants as steps
 use Rattle.steps8080.specs.Facts.{no_facts}
-use Rattle.steps8080.specs.Instructions.{low}
 use Rattle.steps8080.specs.Step.{label_of, plain}
-use Rattle.sites8080.specs.declared.site.Site.{Site}
 use Rattle.sites8080.specs.Queries.{number, place_in_memory}
 use Rattle.exprgen8080.specs.Emission.{knowing}
 use Rattle.statements8080.specs.declared.iteration.Counter.{Counter}
@@ -30,19 +28,19 @@ use Rattle.statements8080.specs.declared.plan.Planned.{Planned}
 use Rattle.statements8080.specs.declared.plan.Planned.TheVariants as planned
 use Rattle.statements8080.specs.Bodies.{whole}
 use Rattle.statements8080.specs.Counters.{address_fact, counter_of, counter_place, counts_by_one, word_fact}
-use Rattle.statements8080.specs.Iterations.{asked_mark, asked_test_steps, below_steps, counts_in_place, facts_of_turn, first_steps, first_test_steps, is_byte_type, next_turn_steps, to_known_steps}
-use Rattle.statements8080.specs.Plans.{jump, nth_label}
-use Rattle.statements8080.specs.Tests.{less_steps}
+use Rattle.statements8080.specs.Iterations.{asked_mark, asked_test_steps, below_steps, counts_in_place, facts_of_turn, first_test_steps, is_byte_type, next_turn_steps, to_known_steps}
+use Rattle.statements8080.specs.Plans.{all, jump, nth_label}
 use Rattle.codegen8080.specs.Generated.{load_byte_steps, load_word_steps, site_of}
 use Rattle.task_meaning.specs.Tasks.{Know}
 use Rattle.task_meaning.proofs.Stages.{script_of}
 use Rattle.statement_meaning.specs.Bodies.{BodyContext}
 use Rattle.statement_meaning.proofs.CountedVariables.{variable_address}
-use Rattle.statement_meaning.proofs.EnteredLoops.{TurnsAt, enters_surely, enters_then, whole_loop}
-use Rattle.statement_meaning.proofs.FirstStored.{first_stored, first_stores}
+use Rattle.statement_meaning.proofs.EnteredLoops.{enters_surely, enters_then, whole_loop}
+use Rattle.statement_meaning.proofs.FirstStored.{FirstThere, first_stored}
 use Rattle.statement_meaning.proofs.FirstSteps.{going}
 use Rattle.statement_meaning.proofs.IterateHeads.{KnownEntry, counter_is, entry_value, to_known_is}
 use Rattle.statement_meaning.proofs.KnownLoops.{ToKnown, TurnsStand, at_site, byte_turns, counted_as, counter_for, word_turns}
+use Rattle.statement_meaning.proofs.LoopCode.{Steps}
 use Rattle.statement_meaning.proofs.LoopEnds.{Iterates, goes_at_end}
 use Rattle.statement_meaning.proofs.LoopMeaning.{IsSteadyScalar, scalar_at, scalar_small}
 use Rattle.statement_meaning.proofs.LoopTurns.{Loop, Out, StageAt, from_test}
@@ -130,7 +128,7 @@ module _
     (budget_is : s.budget ≡ loop.budget)
     (stage : StageAt at loop.need loop.base s facts r memory)
     (stores : Does (script_of at.context) s.budget 1 (at_place from r memory s.events) (first_stored loop s)
-    (Rattle.statement_meaning.proofs.FirstStored.FirstThere loop
+    (FirstThere loop
     (to_known_steps (counter_of (knowing (site_of at.body) facts) head) last is_tested list label)))
     where
   abbrev turn : LabelNumber
@@ -246,11 +244,11 @@ module _
           → u.budget ≤ loop.budget
           → StageAt at loop.need loop.base u known now memory_now
           → (found : Facts) (middle : ℕ)
-          → Rattle.statement_meaning.proofs.LoopCode.Steps at.context known place
+          → Steps at.context known place
           (load_word_steps (knowing (site_of at.body) known) (whole (loop.head).variable)) found middle
           → Stand at (with_known (going true known) found) None middle
-          (((if none then Rattle.statements8080.specs.Plans.all (word_test last true)
-          else Rattle.statements8080.specs.Plans.all (word_test last false)) ++ (jump (JumpWhere NoCarry) end ∷ []))
+          (((if none then all (word_test last true)
+          else all (word_test last false)) ++ (jump (JumpWhere NoCarry) end ∷ []))
           ++ turns_planned (counter Address) last is_tested list turn end) loop.after loop.to
           → Does (script_of at.context) u.budget 0 (at_place place now memory_now u.events) (from_test loop u) (Out loop)
       by true none known place u now memory_now less there loaded middle loads rest =
@@ -298,7 +296,7 @@ module _
     where
       of_least :
           (scalar : ScalarType) → (loop.head).scalar ≡ scalar → values_of scalar ≤ last + 1
-          → (memory_now : List ℕ) → Rattle.mem80.specs.Memory.IsMemory memory_now
+          → (memory_now : List ℕ) → IsMemory memory_now
           → scalar_at scalar memory_now (variable_address at.context (loop.head).variable) ≤ last
       of_least scalar same great memory_now is_memory =
           let small = scalar_small scalar memory_now (variable_address at.context (loop.head).variable) is_memory in
@@ -313,7 +311,7 @@ module _
       known_first none u now memory_now stored_is ready_now steady =
           let its = entry none in
           let value = leb-true _ _ (entry_value loop head list facts true s u iterates its stored_is stage.ready ready_now steady) in
-          let same : its.last ≡ last = Rattle.std.proofs.lemmas.Option.same_Some its.last last (sym its.last_is ∙ last_is) in
+          let same : its.last ≡ last = same_Some its.last last (sym its.last_is ∙ last_is) in
           omega (arith, value, same)
 
       by : (tested : Bool) → is_tested ≡ tested
