@@ -1,11 +1,11 @@
 -- What is known of the head of an iterative DO: its numbers, and the variable by which its code counts.
-use Rattle.std.proofs.Common.{◌≡◌, ℕ, ◌+◌, ◌*◌, ◌%◌, ◌<◌, ◌≤◌, max, Bool, true, false, nat_eq, nat_le, List, Option, Some, None, refl, sym, ap, subst, ◌∙◌, arith}
+use Rattle.std.proofs.Common.{◌≡◌, ℕ, ◌+◌, ◌*◌, ◌<◌, Bool, true, false, nat_eq, nat_le, List, Option, Some, None, refl, sym, ap, ◌∙◌, arith}
 use Rattle.std.specs.Prelude.{IfSome}
-use Rattle.std.proofs.lemmas.Bool.{eqb-true, leb-true, leb-false}
+use Rattle.std.proofs.lemmas.Bool.{eqb-true}
 use Rattle.std.proofs.lemmas.Option.{same_Some}
 use Rattle.trees.specs.declared.declaration.ScalarType.{ScalarType}
 use Rattle.trees.specs.declared.declaration.ScalarType.TheVariants.{Byte, Address}
-use Rattle.typed_trees.specs.Charge.{height_of_iteration, height_of_list, height_of_statement}
+use Rattle.typed_trees.specs.Charge.{height_of_statement}
 use Rattle.typed_trees.specs.ExpressionTypes.{type_of}
 use Rattle.typed_trees.specs.Jumps.{ListStands}
 use Rattle.typed_trees.specs.TypedTrees.{IterateStatement, TypedExpression, TypedIteration, TypedList}
@@ -24,7 +24,6 @@ use Rattle.steps8080.specs.declared.facts.Facts.{Facts}
 use Rattle.sites8080.specs.declared.site.Site.{Site}
 use Rattle.sites8080.specs.Queries.{location_of, number}
 use Rattle.exprgen8080.specs.Emission.{knowing}
-use Rattle.statements8080.specs.declared.iteration.Counter.{Counter}
 use Rattle.statements8080.specs.Bodies.{whole}
 use Rattle.statements8080.specs.Counters.{converted, counter_of, counts_by_one, has_a_turn}
 use Rattle.codegen8080.specs.declared.meeting.Here.{Here}
@@ -35,10 +34,10 @@ use Rattle.statement_meaning.specs.Bodies.{BodyContext, IsSoundBody}
 use Rattle.statement_meaning.proofs.CountedVariables.{is_counted, variable_address}
 use Rattle.statement_meaning.proofs.EnteredLoops.{first_value_is}
 use Rattle.statement_meaning.proofs.FirstStored.{first_stored}
-use Rattle.statement_meaning.proofs.KnownLoops.{ToKnown, counted_as, counter_for}
+use Rattle.statement_meaning.proofs.KnownLoops.{ToKnown, counter_for}
 use Rattle.statement_meaning.proofs.LoopEnds.{Iterates}
 use Rattle.statement_meaning.proofs.LoopMeaning.{IsSteadyScalar, scalar_at}
-use Rattle.statement_meaning.proofs.LoopTurns.{Loop, StageAt}
+use Rattle.statement_meaning.proofs.LoopTurns.{Loop}
 
 -- the loop that a statement is, where the machine is at its start
 abbrev pub loop_of :

@@ -45,3 +45,5 @@ pub mod CasesDo
 pub mod TestedLoops
 pub mod Counted
 pub mod IterateHeads
+pub mod ToKnownLoops
+pub mod Iterated
