@@ -97,13 +97,13 @@ bytes_valid count [] all = tt
 bytes_valid count (None ∷ others) all = (tt, bytes_valid count others all)
 bytes_valid count (Some here ∷ others) all = (
   ltb-true here.value 256
-  (first_holds (nat_lt here.value 256)
-  (option_map_or (λ (fixup : Fixup). is_target count fixup.target) here.fixup true)
-  (first_holds (is_valid_byte count here)
-  (list_all (λ place. option_map_or (is_valid_byte count) place true) others) all)),
+      (first_holds (nat_lt here.value 256)
+      (option_map_or (λ (fixup : Fixup). is_target count fixup.target) here.fixup true)
+      (first_holds (is_valid_byte count here)
+      (list_all (λ place. option_map_or (is_valid_byte count) place true) others) all)),
   bytes_valid count others
-  (second_holds (is_valid_byte count here)
-  (list_all (λ place. option_map_or (is_valid_byte count) place true) others) all),
+      (second_holds (is_valid_byte count here)
+      (list_all (λ place. option_map_or (is_valid_byte count) place true) others) all),
 )
 
 -- its bytes, and how many they are

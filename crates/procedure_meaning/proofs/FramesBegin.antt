@@ -338,21 +338,22 @@ module _ (code : ModuleCode) (entries : Entries) (bound : ℕ) (lies : ModuleLie
       → IsFilled level (top - 2) pushed_registers (pushed_memory last.scalar) now ended
       → IsMade level found.frame_bytes top found.parameter_types values r memory now ended
       × InWord last.scalar last.value ended (level + found.frame_bytes)
-  made_with_last now ended last are =
-      (record {
-        a = are.a;
-        h = are.h;
-        l = are.l;
-        registers = are.registers;
-        pointer = are.pointer;
-        is_memory = are.is_memory;
-        zeros = λ address from below. are.zeros address from (omega (arith, below, place));
-        words =
-            last.words level found.frame_bytes ended (omega (arith, place, some)) in_word
-            (λ address above. kept address (λ from below. omega (arith, above, below)));
-        kept = kept;
-      },
-      in_word)
+  made_with_last now ended last are = (
+    record {
+      a = are.a;
+      h = are.h;
+      l = are.l;
+      registers = are.registers;
+      pointer = are.pointer;
+      is_memory = are.is_memory;
+      zeros = λ address from below. are.zeros address from (omega (arith, below, place));
+      words =
+          last.words level found.frame_bytes ended (omega (arith, place, some)) in_word
+          (λ address above. kept address (λ from below. omega (arith, above, below)));
+      kept = kept;
+    },
+    in_word,
+  )
     where
       place : level + found.frame_bytes ≡ top - 2
       place = (word_place (let one = last.some in let many = as_many in omega (arith, one, many))).0
@@ -412,8 +413,13 @@ module _ (code : ModuleCode) (entries : Entries) (bound : ℕ) (lies : ModuleLie
       (omega (arith, high)) found.frame_bytes first (from + size_of_instruction (Push (pair_of last.scalar)))
       (holds (last_argument_facts body.procedure.now.parameters.items) ∷ []) placed.few (omega (arith, low, place))
       (record {
-        a = enters.registers.a; b = enters.registers.b; c = enters.registers.c; d = enters.registers.d;
-        e = enters.registers.e; h = enters.registers.h; l = enters.registers.l;
+        a = enters.registers.a;
+        b = enters.registers.b;
+        c = enters.registers.c;
+        d = enters.registers.d;
+        e = enters.registers.e;
+        h = enters.registers.h;
+        l = enters.registers.l;
       }) refl
       (pushed_is_memory top (pushed_word last.scalar r) memory (pushed_word_small last.scalar r enters.registers)
       enters.shares.is_memory) more

@@ -165,11 +165,12 @@ one_more {scalars = scalars} {parameters = parameters} {values = values} {top = 
   object = last.object;
   in_register = last.in_register;
   some = omega arith;
-  words = λ level bytes ended same in_word stays.
-      (subst (λ (address : ℕ). InWord scalar value ended address) (word_place level bytes top (length scalars) same)
-      (word_kept scalar value (top + 2 * length scalars) memory ended (stays (top + 2 * length scalars) (omega arith))
-      (stays (top + 2 * length scalars + 1) (omega arith)) lie),
-      last.words level bytes ended same in_word stays);
+  words = λ level bytes ended same in_word stays. (
+    subst (λ (address : ℕ). InWord scalar value ended address) (word_place level bytes top (length scalars) same)
+        (word_kept scalar value (top + 2 * length scalars) memory ended (stays (top + 2 * length scalars) (omega arith))
+        (stays (top + 2 * length scalars + 1) (omega arith)) lie),
+    last.words level bytes ended same in_word stays,
+  );
 }
 
 pub last_is :

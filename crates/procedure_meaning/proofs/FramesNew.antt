@@ -262,8 +262,7 @@ module _ (code : ModuleCode) (entries : Entries) (index : ℕ) (procedure : Tree
   words_from before [] (parameter ∷ parameters) are count stand = absurd are
   words_from before (scalar ∷ scalars) [] are count stand = absurd are
   words_from before (scalar ∷ scalars) (parameter ∷ parameters) are count stand =
-      let object = object_of code.typed index scalar parameter are.0 in
-      (
+      let object = object_of code.typed index scalar parameter are.0 in (
         record {
           place = place_there scalar parameter object;
           size = size_in_frame_is code.typed index scalar parameter object;

@@ -182,103 +182,105 @@ byte_address : (level distance word : ℕ) → distance ≡ word + (2 - 1) → l
 byte_address level distance word is = omega (arith, is)
 
 module _ (around : Surroundings) (activation : Activation) (bytes : ℕ) (memory : List ℕ) (is_memory : IsMemory memory)
-    where
-  -- one parameter
-  one_set :
-      (scalar : ScalarType) (parameter followers value : ℕ) (parameters : List ℕ) (s : SourceState)
-      → IsInWord around activation bytes scalar parameter followers
-      → InWord scalar value memory (activation.level + word_distance bytes followers)
-      → LiesBut activation (IsOfParameters activation (parameter ∷ parameters)) s.frame memory
-      → (frame : List (List ℕ))
-      × (write_scalar around.program scalar (place_of around parameter) value s ≡ Gave tt (record s { frame = frame }))
-      × LiesBut activation (IsOfParameters activation parameters) frame memory
-  one_set Byte parameter followers value parameters s is lie lies =
-      (with_byte s.frame parameter 0 (value % 256),
+  where
+    -- one parameter
+    one_set :
+        (scalar : ScalarType) (parameter followers value : ℕ) (parameters : List ℕ) (s : SourceState)
+        → IsInWord around activation bytes scalar parameter followers
+        → InWord scalar value memory (activation.level + word_distance bytes followers)
+        → LiesBut activation (IsOfParameters activation (parameter ∷ parameters)) s.frame memory
+        → (frame : List (List ℕ))
+        × (write_scalar around.program scalar (place_of around parameter) value s ≡ Gave tt (record s { frame = frame }))
+        × LiesBut activation (IsOfParameters activation parameters) frame memory
+    one_set Byte parameter followers value parameters s is lie lies = (
+      with_byte s.frame parameter 0 (value % 256),
       ap (λ (place : Place). write_scalar around.program Byte place value s) is.place,
       opens still
-      (byte_set parameter 0 (value % 256) (omega (arith, is.size)) (put ∙ small) lies))
-    where
-      put : byte_at memory (activation.level + activation.distance parameter + 0) ≡ value
-      put =
-          ap (byte_at memory)
-          (byte_address activation.level (activation.distance parameter) (word_distance bytes followers) is.distance)
-          ∙ lie
+          (byte_set parameter 0 (value % 256) (omega (arith, is.size)) (put ∙ small) lies),
+    )
+      where
+        put : byte_at memory (activation.level + activation.distance parameter + 0) ≡ value
+        put =
+            ap (byte_at memory)
+            (byte_address activation.level (activation.distance parameter) (word_distance bytes followers) is.distance)
+            ∙ lie
 
-      small : value ≡ value % 256
-      small =
-          let below =
-          byte_small memory (activation.level + activation.distance parameter + 0) is_memory in
-          omega (arith, below, put)
+        small : value ≡ value % 256
+        small =
+            let below =
+            byte_small memory (activation.level + activation.distance parameter + 0) is_memory in
+            omega (arith, below, put)
 
-      still : (object offset : ℕ)
-          → IsOfParameters activation (parameter ∷ parameters) object offset
-          × ((object ≡ parameter) × (offset ≡ 0) → ⊥)
-          → IsOfParameters activation parameters object offset
-      still object offset is_open = by_place is_open.0.1
-        where
-          by_place : IsAmong object (parameter ∷ parameters) → IsOfParameters activation parameters object offset
-          by_place (inl same) =
-              let within : offset < activation.size object = is_open.0.0 in
-              let size = ap (λ (one : ℕ). activation.size one) same ∙ is.size in
-              absurd (is_open.1 (same, omega (arith, within, size)))
-          by_place (inr among) = (is_open.0.0, among)
-  one_set Address parameter followers value parameters s is lie lies =
-      (with_byte (with_byte s.frame parameter 0 (value % 256)) parameter 1 (value / 256),
+        still : (object offset : ℕ)
+            → IsOfParameters activation (parameter ∷ parameters) object offset
+            × ((object ≡ parameter) × (offset ≡ 0) → ⊥)
+            → IsOfParameters activation parameters object offset
+        still object offset is_open = by_place is_open.0.1
+          where
+            by_place : IsAmong object (parameter ∷ parameters) → IsOfParameters activation parameters object offset
+            by_place (inl same) =
+                let within : offset < activation.size object = is_open.0.0 in
+                let size = ap (λ (one : ℕ). activation.size one) same ∙ is.size in
+                absurd (is_open.1 (same, omega (arith, within, size)))
+            by_place (inr among) = (is_open.0.0, among)
+    one_set Address parameter followers value parameters s is lie lies = (
+      with_byte (with_byte s.frame parameter 0 (value % 256)) parameter 1 (value / 256),
       ap (λ (place : Place). write_scalar around.program Address place value s) is.place,
       opens still
-      (byte_set parameter 1 (value / 256) (omega (arith, is.size)) high
-      (byte_set parameter 0 (value % 256) (omega (arith, is.size)) low lies)))
-    where
-      low : byte_at memory (activation.level + activation.distance parameter + 0) ≡ value % 256
-      low =
-          ap (byte_at memory)
-          (low_address activation.level (activation.distance parameter) (word_distance bytes followers) is.distance)
-          ∙ lie.0
+          (byte_set parameter 1 (value / 256) (omega (arith, is.size)) high
+          (byte_set parameter 0 (value % 256) (omega (arith, is.size)) low lies)),
+    )
+      where
+        low : byte_at memory (activation.level + activation.distance parameter + 0) ≡ value % 256
+        low =
+            ap (byte_at memory)
+            (low_address activation.level (activation.distance parameter) (word_distance bytes followers) is.distance)
+            ∙ lie.0
 
-      high : byte_at memory (activation.level + activation.distance parameter + 1) ≡ value / 256
-      high =
-          ap (byte_at memory)
-          (high_address activation.level (activation.distance parameter) (word_distance bytes followers) is.distance)
-          ∙ lie.1
+        high : byte_at memory (activation.level + activation.distance parameter + 1) ≡ value / 256
+        high =
+            ap (byte_at memory)
+            (high_address activation.level (activation.distance parameter) (word_distance bytes followers) is.distance)
+            ∙ lie.1
 
-      still : (object offset : ℕ)
-          → (IsOfParameters activation (parameter ∷ parameters) object offset
-          × ((object ≡ parameter) × (offset ≡ 0) → ⊥))
-          × ((object ≡ parameter) × (offset ≡ 1) → ⊥)
-          → IsOfParameters activation parameters object offset
-      still object offset is_open = by_place is_open.0.0.1
-        where
-          by_offset : (offset : ℕ) → offset < 2 → (offset ≡ 0 → ⊥) → (offset ≡ 1 → ⊥) → ⊥
-          by_offset offset below not_low not_high = omega (arith, below, not_low, not_high)
+        still : (object offset : ℕ)
+            → (IsOfParameters activation (parameter ∷ parameters) object offset
+            × ((object ≡ parameter) × (offset ≡ 0) → ⊥))
+            × ((object ≡ parameter) × (offset ≡ 1) → ⊥)
+            → IsOfParameters activation parameters object offset
+        still object offset is_open = by_place is_open.0.0.1
+          where
+            by_offset : (offset : ℕ) → offset < 2 → (offset ≡ 0 → ⊥) → (offset ≡ 1 → ⊥) → ⊥
+            by_offset offset below not_low not_high = omega (arith, below, not_low, not_high)
 
-          by_place : IsAmong object (parameter ∷ parameters) → IsOfParameters activation parameters object offset
-          by_place (inl same) =
-              let within : offset < activation.size object = is_open.0.0.0 in
-              let size = ap (λ (one : ℕ). activation.size one) same ∙ is.size in
-              absurd (by_offset offset (omega (arith, within, size)) (λ first. is_open.0.1 (same, first))
-              (λ second. is_open.1 (same, second)))
-          by_place (inr among) = (is_open.0.0.0, among)
+            by_place : IsAmong object (parameter ∷ parameters) → IsOfParameters activation parameters object offset
+            by_place (inl same) =
+                let within : offset < activation.size object = is_open.0.0.0 in
+                let size = ap (λ (one : ℕ). activation.size one) same ∙ is.size in
+                absurd (by_offset offset (omega (arith, within, size)) (λ first. is_open.0.1 (same, first))
+                (λ second. is_open.1 (same, second)))
+            by_place (inr among) = (is_open.0.0.0, among)
 
-  -- all of them
-  pub all_set :
-      (scalars : List ScalarType) (parameters values : List ℕ) (s : SourceState)
-      → AreInWords around activation bytes scalars parameters
-      → LieInWords activation.level bytes scalars values memory
-      → LiesBut activation (IsOfParameters activation parameters) s.frame memory
-      → AreSet activation memory s (parameters_set around scalars parameters values s)
-  all_set [] [] [] s are lie lies = record { frame = s.frame; is = refl; lies = all_closed lies }
-  all_set [] [] (value ∷ values) s are lie lies = absurd lie
-  all_set [] (parameter ∷ parameters) values s are lie lies = absurd are
-  all_set (scalar ∷ scalars) [] values s are lie lies = absurd are
-  all_set (scalar ∷ scalars) (parameter ∷ parameters) [] s are lie lies = absurd lie
-  all_set (scalar ∷ scalars) (parameter ∷ parameters) (value ∷ values) s are lie lies =
-      let one = one_set scalar parameter (length scalars) value parameters s are.0 lie.0 lies in
-      let rest = all_set scalars parameters values (record s { frame = one.0 }) are.1 lie.1 one.2 in
-      record {
-        frame = rest.frame;
-        is =
-            ap (λ (outcome : Outcome (Unit {0})).
-            then_do outcome (λ _ t. parameters_set around scalars parameters values t)) one.1
-            ∙ rest.is;
-        lies = rest.lies;
-      }
+    -- all of them
+    pub all_set :
+        (scalars : List ScalarType) (parameters values : List ℕ) (s : SourceState)
+        → AreInWords around activation bytes scalars parameters
+        → LieInWords activation.level bytes scalars values memory
+        → LiesBut activation (IsOfParameters activation parameters) s.frame memory
+        → AreSet activation memory s (parameters_set around scalars parameters values s)
+    all_set [] [] [] s are lie lies = record { frame = s.frame; is = refl; lies = all_closed lies }
+    all_set [] [] (value ∷ values) s are lie lies = absurd lie
+    all_set [] (parameter ∷ parameters) values s are lie lies = absurd are
+    all_set (scalar ∷ scalars) [] values s are lie lies = absurd are
+    all_set (scalar ∷ scalars) (parameter ∷ parameters) [] s are lie lies = absurd lie
+    all_set (scalar ∷ scalars) (parameter ∷ parameters) (value ∷ values) s are lie lies =
+        let one = one_set scalar parameter (length scalars) value parameters s are.0 lie.0 lies in
+        let rest = all_set scalars parameters values (record s { frame = one.0 }) are.1 lie.1 one.2 in
+        record {
+          frame = rest.frame;
+          is =
+              ap (λ (outcome : Outcome (Unit {0})).
+              then_do outcome (λ _ t. parameters_set around scalars parameters values t)) one.1
+              ∙ rest.is;
+          lies = rest.lies;
+        }

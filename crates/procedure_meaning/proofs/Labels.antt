@@ -40,7 +40,7 @@ module _ (n : ℕ) where
     statement_same (LabelStatement label) none stand = absurd none
     statement_same NullStatement none stand = refl
     statement_same (AssignmentStatement targets expression) none stand = refl
-    statement_same (CallStatement procedure arguments) none stand = refl
+    statement_same (CallStatement procedure given) none stand = refl
     statement_same (MoveStatement count source destination) none stand = refl
     statement_same (ReturnStatement expression) none stand = refl
     statement_same HaltStatement none stand = refl

@@ -135,7 +135,6 @@ module _ (code : ModuleCode) (entries : Entries) (bound number : ℕ) (lies : Mo
       (is : slice_get code.typed.procedures index ≡ Some found)
       (not_outside : (name : ℕ) → procedure.kind ≢ kinds.External name)
       (stands : ProcedureStands code procedure (code.layout.place_of index)) (one_tree : stands.body.tree ≡ code.tree) where
-
     lowered : IsProcedure code.typed (nodes_of code.tree.now) code.storage index procedure found
     lowered = lies.lowered.procedures index procedure found there is
 

@@ -237,8 +237,11 @@ is_written program Byte at value s = by (is_declared program at) (is_constant pr
         else Stopped (Outside UndeclaredByte) s)
     by true true one other = inr (Constant, s, refl)
     by true false one other =
-        inl ((λ (address : ℕ) (same : address ≡ at).
-        subst (λ (one : ℕ). IsVariable program one) (sym same) (one, other)), refl)
+        inl (
+          (λ (address : ℕ) (same : address ≡ at).
+              subst (λ (one : ℕ). IsVariable program one) (sym same) (one, other)),
+          refl,
+        )
     by false constant one other = inr (UndeclaredByte, s, refl)
 is_written program Address at value s =
     by (is_declared program at) (is_constant program at) (is_declared program (wrap (at + 1)))

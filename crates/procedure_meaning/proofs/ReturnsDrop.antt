@@ -131,10 +131,20 @@ module _ {A : Type 0} {budget : ℕ} {outcome : Outcome A} {Good : A → SourceS
       (words_dropped words (top + 2) (from + 1) kept
       (record (with_popped StackBc (word_there memory top) now) { sp = wrap (top + 2) }) others (omega (arith, limit)) more
       (record {
-        a = is.a; d = is.d; e = is.e; h = is.h; l = is.l; pointer = refl;
+        a = is.a;
+        d = is.d;
+        e = is.e;
+        h = is.h;
+        l = is.l;
+        pointer = refl;
         registers = record {
-          a = is.registers.a; b = omega (arith, small); c = omega arith; d = is.registers.d; e = is.registers.e;
-          h = is.registers.h; l = is.registers.l;
+          a = is.registers.a;
+          b = omega (arith, small);
+          c = omega arith;
+          d = is.registers.d;
+          e = is.registers.e;
+          h = is.registers.h;
+          l = is.registers.l;
         };
       })
       (subst (λ (end : ℕ). GoesOnAt at last others budget outcome Good events end to kept memory) (up words top) rest)))
@@ -160,11 +170,20 @@ module _ {A : Type 0} {budget : ℕ} {outcome : Outcome A} {Good : A → SourceS
       (λ more.
       bytes_dropped bytes (top + 1) (from + 1) kept (record now { sp = wrap (now.sp + 1) }) others more
       (record {
-        a = is.a; d = is.d; e = is.e; h = is.h; l = is.l;
+        a = is.a;
+        d = is.d;
+        e = is.e;
+        h = is.h;
+        l = is.l;
         pointer = ap (λ (sp : ℕ). wrap (sp + 1)) is.pointer ∙ over top;
         registers = record {
-          a = is.registers.a; b = is.registers.b; c = is.registers.c; d = is.registers.d; e = is.registers.e;
-          h = is.registers.h; l = is.registers.l;
+          a = is.registers.a;
+          b = is.registers.b;
+          c = is.registers.c;
+          d = is.registers.d;
+          e = is.registers.e;
+          h = is.registers.h;
+          l = is.registers.l;
         };
       })
       (subst (λ (end : ℕ). GoesOnAt at last others budget outcome Good events end to kept memory) (up bytes top) rest))
@@ -194,7 +213,8 @@ module _ {A : Type 0} {budget : ℕ} {outcome : Outcome A} {Good : A → SourceS
       = ap (λ (n : ℕ). wrap (n + now.sp)) (halves bytes small) ∙ sum_is bytes now.sp top small is.pointer in
       plain_goes at Sphl others
       (record now {
-        h = sum / 256; l = sum % 256;
+        h = sum / 256;
+        l = sum % 256;
         flags = record now.flags {
           cy = Rattle.isa8080.specs.State.carries (word (bytes / 256) (bytes % 256) + now.sp);
         };
@@ -202,20 +222,28 @@ module _ {A : Type 0} {budget : ℕ} {outcome : Outcome A} {Good : A → SourceS
       (λ last_more.
       rest _ (from + 3 + 1 + 1)
       (record now {
-        h = sum / 256; l = sum % 256;
+        h = sum / 256;
+        l = sum % 256;
         flags = record now.flags {
           cy = Rattle.isa8080.specs.State.carries (word (bytes / 256) (bytes % 256) + now.sp);
         };
         sp = word (sum / 256) (sum % 256);
       }) last_more
       (record {
-        a = is.a; d = is.d; e = is.e;
+        a = is.a;
+        d = is.d;
+        e = is.e;
         h = ap (λ (n : ℕ). n / 256) is_sum;
         l = ap (λ (n : ℕ). n % 256) is_sum;
         pointer = halves sum (omega arith) ∙ is_sum;
         registers = record {
-          a = is.registers.a; b = is.registers.b; c = is.registers.c; d = is.registers.d; e = is.registers.e;
-          h = omega arith; l = omega arith;
+          a = is.registers.a;
+          b = is.registers.b;
+          c = is.registers.c;
+          d = is.registers.d;
+          e = is.registers.e;
+          h = omega arith;
+          l = omega arith;
         };
       }))))
 
@@ -232,10 +260,20 @@ module _ {A : Type 0} {budget : ℕ} {outcome : Outcome A} {Good : A → SourceS
       (λ more.
       rest _ (from + 1) (record now { h = now.d; l = now.e; d = now.h; e = now.l }) more
       (record {
-        a = is.a; d = is.h; e = is.l; h = is.d; l = is.e; pointer = is.pointer;
+        a = is.a;
+        d = is.h;
+        e = is.l;
+        h = is.d;
+        l = is.e;
+        pointer = is.pointer;
         registers = record {
-          a = is.registers.a; b = is.registers.b; c = is.registers.c; d = is.registers.h; e = is.registers.l;
-          h = is.registers.d; l = is.registers.e;
+          a = is.registers.a;
+          b = is.registers.b;
+          c = is.registers.c;
+          d = is.registers.h;
+          e = is.registers.l;
+          h = is.registers.d;
+          l = is.registers.e;
         };
       }))
 
@@ -268,7 +306,13 @@ module _ {A : Type 0} {budget : ℕ} {outcome : Outcome A} {Good : A → SourceS
     where
       itself : IsAt top now now
       itself = record {
-        a = refl; d = refl; e = refl; h = refl; l = refl; registers = is.registers; pointer = is.pointer;
+        a = refl;
+        d = refl;
+        e = refl;
+        h = refl;
+        l = refl;
+        registers = is.registers;
+        pointer = is.pointer;
       }
 
       end_is : top + 2 * (bytes / 2) + bytes % 2 ≡ top + bytes

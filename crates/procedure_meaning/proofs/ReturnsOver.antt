@@ -91,8 +91,13 @@ module _ (at : BodyContext) (result : Option ScalarType) (value above back : ℕ
       })))
       (returned_so (record now { sp = wrap (top + 2) })
       (record {
-        a = is.registers.a; b = is.registers.b; c = is.registers.c; d = is.registers.d; e = is.registers.e;
-        h = is.registers.h; l = is.registers.l;
+        a = is.registers.a;
+        b = is.registers.b;
+        c = is.registers.c;
+        d = is.registers.d;
+        e = is.registers.e;
+        h = is.registers.h;
+        l = is.registers.l;
       })
       (ap wrap same)
       (result_kept result value now (record now { sp = wrap (top + 2) }) memory memory refl refl refl is.lies)))
@@ -127,10 +132,20 @@ module _ (at : BodyContext) (result : Option ScalarType) (value above back : ℕ
       (record (with_popped StackHl (word_there memory top) now) { sp = wrap (top + 2) }) (plain Pchl ∷ [])
       (let whole = above_in_memory in omega (arith, same, whole)) more
       (record {
-        a = refl; d = refl; e = refl; h = refl; l = refl; pointer = refl;
+        a = refl;
+        d = refl;
+        e = refl;
+        h = refl;
+        l = refl;
+        pointer = refl;
         registers = record {
-          a = bytes.a; b = bytes.b; c = bytes.c; d = bytes.d; e = bytes.e;
-          h = high_small; l = omega arith;
+          a = bytes.a;
+          b = bytes.b;
+          c = bytes.c;
+          d = bytes.d;
+          e = bytes.e;
+          h = high_small;
+          l = omega arith;
         };
       })
       (λ here_after place after stand_after is_at.
@@ -176,10 +191,20 @@ module _ (at : BodyContext) (result : Option ScalarType) (value above back : ℕ
       (plain (Push StackDe) ∷ plain Ret ∷ [])
       (let whole = above_in_memory in omega (arith, same, whole)) more
       (record {
-        a = refl; d = refl; e = refl; h = refl; l = refl; pointer = refl;
+        a = refl;
+        d = refl;
+        e = refl;
+        h = refl;
+        l = refl;
+        pointer = refl;
         registers = record {
-          a = bytes.a; b = bytes.b; c = bytes.c; d = high_small; e = omega arith;
-          h = bytes.h; l = bytes.l;
+          a = bytes.a;
+          b = bytes.b;
+          c = bytes.c;
+          d = high_small;
+          e = omega arith;
+          h = bytes.h;
+          l = bytes.l;
         };
       })
       (λ here_after place after stand_after is_at.
@@ -207,8 +232,13 @@ module _ (at : BodyContext) (result : Option ScalarType) (value above back : ℕ
         is_at = refl;
         shares = now_shares;
         registers = record {
-          a = is_at.registers.a; b = is_at.registers.b; c = is_at.registers.c; d = is_at.registers.d;
-          e = is_at.registers.e; h = is_at.registers.h; l = is_at.registers.l;
+          a = is_at.registers.a;
+          b = is_at.registers.b;
+          c = is_at.registers.c;
+          d = is_at.registers.d;
+          e = is_at.registers.e;
+          h = is_at.registers.h;
+          l = is_at.registers.l;
         };
         pointer = ap wrap up;
         kept = record {

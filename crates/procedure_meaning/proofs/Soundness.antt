@@ -221,8 +221,7 @@ pub frame_planned :
     → FrameIsPlanned (context_in code (WithinProcedure index result) frame bound number room
     (frame_shape code.typed index found frame.now level))
 frame_planned code index found result frame bound number room level procedure object other its within there home =
-    let same : index ≡ procedure = same_procedure index procedure result other within in
-    (
+    let same : index ≡ procedure = same_procedure index procedure result other within in (
       ap (λ (one : ℕ). distance_of frame.now (frame_number code.typed one object)) same,
       size_at code.typed index object its there (home ∙ ap (λ (one : ℕ). InFrame one) (sym same)),
     )

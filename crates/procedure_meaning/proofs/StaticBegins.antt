@@ -164,8 +164,7 @@ module _ (at : BodyContext) (sound : IsSound at.context)
   byte_holds (Some location) a memory shares held =
       let declared = part_declared held.2 (held.2).slot.at refl in
       subst (λ (address : ℕ). IsByteAt at.context.activation memory address a)
-      (place_is held.2)
-      (
+      (place_is held.2) (
         held.1 ∙ sym (lies_at held.0 held.2) ∙ sym (shares.declared (held.2).slot.at declared),
         declared_is_steady at.context.activation (held.2).slot.at sound.lies declared,
       )

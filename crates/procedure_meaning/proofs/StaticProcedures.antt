@@ -244,9 +244,10 @@ static_begins code entries bound lies index number room from to top first proced
         (omega (arith, many))
         (finish (static_body code index found body bound number room top) sound.sound (λ object. refl) memory
         (frame_of index code.typed) none has.slots values s.memory
-        (λ its slot its_there.
-        ((slot_fits code has.slots its slot has.fit its_there).at_is,
-        (slot_fits code has.slots its slot has.fit its_there).small))
+        (λ its slot its_there. (
+          (slot_fits code has.slots its slot has.fit its_there).at_is,
+          (slot_fits code has.slots its slot has.fit its_there).small,
+        ))
         apart many enters.shares.size variables top back to begun
         (record s { frame = frame_of index code.typed; memory = set_all has.slots values s.memory }) low high
         (omega (arith, types_long)) refl refl refl enters.return_lies no_facts at_start list from top memory r memory
@@ -266,9 +267,10 @@ static_begins code entries bound lies index number room from to top first proced
         (omega (arith, many))
         (some_does (static_body code index found body bound number room top) sound.sound (λ object. refl) memory
         (frame_of index code.typed) none has.slots values s.memory
-        (λ its slot its_there.
-        ((slot_fits code has.slots its slot has.fit its_there).at_is,
-        (slot_fits code has.slots its slot has.fit its_there).small))
+        (λ its slot its_there. (
+          (slot_fits code has.slots its slot has.fit its_there).at_is,
+          (slot_fits code has.slots its slot has.fit its_there).small,
+        ))
         apart many enters.shares.size variables top back to begun
         (record s { frame = frame_of index code.typed; memory = set_all has.slots values s.memory }) low high
         (omega (arith, types_long)) refl refl refl enters.return_lies others list from r count

@@ -102,46 +102,46 @@ there_below [] at below none = omega (arith, below)
 there_below (item ∷ others) zero below none = cc
 there_below (item ∷ others) (suc at) below none = there_below others at (omega (arith, below)) none
 
-found_by : (test : Bool) (first label : ℕ) (places : List ℕ) (statements : TypedStatements) (found : Option ℕ)
+found_by : (test : Bool) (first label : ℕ) (places : List ℕ) (body : TypedStatements) (found : Option ℕ)
     → nat_le first label ≡ test → slice_get places (label - first) ≡ found
-    → cond test (option_map (λ place. dropped place statements) found) None ≡ None
+    → cond test (option_map (λ place. dropped place body) found) None ≡ None
     → IsAmongLabels label (labels_of_list first places) → ⊥
-found_by true first label places statements (Some place) is at none among = cc
-found_by true first label places statements None is at none among =
+found_by true first label places body (Some place) is at none among = cc
+found_by true first label places body None is at none among =
     there_below places (label - first) (omega (arith, among.0, among.1)) at
-found_by false first label places statements found is at none among =
+found_by false first label places body found is at none among =
     let bad : false ≡ true = sym is ∙ le-leb first label among.0 in
     cc
 
-outer_label : (first label : ℕ) (places : List ℕ) (statements : TypedStatements) (labels : List LabelsOf)
-    → rest_from label (ListOf first places statements) ≡ None
+outer_label : (first label : ℕ) (places : List ℕ) (body : TypedStatements) (labels : List LabelsOf)
+    → rest_from label (ListOf first places body) ≡ None
     → Any (IsAmongLabels label) (labels_of_list first places ∷ labels) → Any (IsAmongLabels label) labels
-outer_label first label places statements labels none (zero, one, below, same, among) =
+outer_label first label places body labels none (zero, one, below, same, among) =
     let own : IsAmongLabels label (labels_of_list first places) =
     subst (λ (these : LabelsOf). IsAmongLabels label these) (sym same) among in
-    absurd (found_by (nat_le first label) first label places statements (slice_get places (label - first)) refl refl none own)
-outer_label first label places statements labels none (suc index, one, below, same, among) =
+    absurd (found_by (nat_le first label) first label places body (slice_get places (label - first)) refl refl none own)
+outer_label first label places body labels none (suc index, one, below, same, among) =
     (index, one, omega (arith, below), same, among)
 
 -- what is left of a list: it begins with a label
-record IsRest (label first : ℕ) (places : List ℕ) (statements rest : TypedStatements) : Type 0 where
+record IsRest (label first : ℕ) (places : List ℕ) (body rest : TypedStatements) : Type 0 where
   place : ℕ
   found : slice_get places (label - first) ≡ Some place
-  is : dropped place statements ≡ rest
+  is : dropped place body ≡ rest
 
-rest_is : (test : Bool) (label first : ℕ) (places : List ℕ) (found : Option ℕ) (statements rest : TypedStatements)
+rest_is : (test : Bool) (label first : ℕ) (places : List ℕ) (found : Option ℕ) (body rest : TypedStatements)
     → slice_get places (label - first) ≡ found
-    → cond test (option_map (λ place. dropped place statements) found) None ≡ Some rest
-    → IsRest label first places statements rest
-rest_is true label first places (Some place) statements rest at same =
+    → cond test (option_map (λ place. dropped place body) found) None ≡ Some rest
+    → IsRest label first places body rest
+rest_is true label first places (Some place) body rest at same =
     record { place = place; found = at; is = cc }
-rest_is true label first places None statements rest at same = let bad : ⊥ = cc in absurd bad
-rest_is false label first places found statements rest at same = let bad : ⊥ = cc in absurd bad
+rest_is true label first places None body rest at same = let bad : ⊥ = cc in absurd bad
+rest_is false label first places found body rest at same = let bad : ⊥ = cc in absurd bad
 
 -- a label stands at its place
-record StandsThere (from place : ℕ) (statements : TypedStatements) : Type 0 where
+record StandsThere (from place : ℕ) (body : TypedStatements) : Type 0 where
   low : from ≤ place
-  some : IsSome (dropped (place - from) statements)
+  some : IsSome (dropped (place - from) body)
 
 one_on : (from place : ℕ) → from + 1 ≤ place → suc (place - (from + 1)) ≡ place - from
 one_on from place low = omega (arith, low)
@@ -162,10 +162,10 @@ none_there from other same = omega (arith, same)
 from_zero : (place : ℕ) → place - 0 ≡ place
 from_zero place = omega arith
 
-stands_there : (label from : ℕ) (places : List ℕ) (statements : TypedStatements) (index place : ℕ)
-    → LabelsStand label from places statements
+stands_there : (label from : ℕ) (places : List ℕ) (body : TypedStatements) (index place : ℕ)
+    → LabelsStand label from places body
     → slice_get places index ≡ Some place
-    → StandsThere from place statements
+    → StandsThere from place body
 stands_there label from places NoStatements index place stands found = absurd (nothing places index stands found)
   where
     nothing : (none : List ℕ) (index : ℕ) → none ≡ [] → slice_get none index ≡ Some place → ⊥
@@ -188,31 +188,31 @@ stands_there label from places (MoreStatements statement others) index place sta
     after_one from place statement others (stands_there label (from + 1) places others index place stands found)
 
 -- whether the end of a list is reached from a label on, which there is, is whether its end is reached
-reaches_rest : (starts : List Home) (storage : Storage) (before other : Bool) (count : ℕ) (statements : TypedStatements)
-    → IsSome (dropped count statements)
-    → reaches_end_of_statements starts storage other (dropped count statements)
-    ≡ reaches_end_of_statements starts storage before statements
+reaches_rest : (starts : List Home) (storage : Storage) (before other : Bool) (count : ℕ) (body : TypedStatements)
+    → IsSome (dropped count body)
+    → reaches_end_of_statements starts storage other (dropped count body)
+    ≡ reaches_end_of_statements starts storage before body
 reaches_rest starts storage before other zero NoStatements some = absurd some
 reaches_rest starts storage before other zero (MoreStatements first others) some = refl
 reaches_rest starts storage before other (suc count) NoStatements some = absurd some
 reaches_rest starts storage before other (suc count) (MoreStatements first others) some =
     reaches_rest starts storage (reaches_end starts storage first) other count others some
 
-jumps_dropped : (labels : List LabelsOf) (count : ℕ) (statements : TypedStatements)
-    → JumpsStayInStatements labels statements → JumpsStayInStatements labels (dropped count statements)
-jumps_dropped labels zero statements jumps = jumps
+jumps_dropped : (labels : List LabelsOf) (count : ℕ) (body : TypedStatements)
+    → JumpsStayInStatements labels body → JumpsStayInStatements labels (dropped count body)
+jumps_dropped labels zero body jumps = jumps
 jumps_dropped labels (suc count) NoStatements jumps = tt
 jumps_dropped labels (suc count) (MoreStatements first others) jumps = jumps_dropped labels count others jumps.1
 
-stands_dropped : (count : ℕ) (statements : TypedStatements)
-    → ListsStandInStatements statements → ListsStandInStatements (dropped count statements)
-stands_dropped zero statements stands = stands
+stands_dropped : (count : ℕ) (body : TypedStatements)
+    → ListsStandInStatements body → ListsStandInStatements (dropped count body)
+stands_dropped zero body stands = stands
 stands_dropped (suc count) NoStatements stands = tt
 stands_dropped (suc count) (MoreStatements first others) stands = stands_dropped count others stands.1
 
-types_dropped : (typed : TypedModule) (within : Within) (count : ℕ) (statements : TypedStatements)
-    → TypesHoldInStatements typed within statements → TypesHoldInStatements typed within (dropped count statements)
-types_dropped typed within zero statements types = types
+types_dropped : (typed : TypedModule) (within : Within) (count : ℕ) (body : TypedStatements)
+    → TypesHoldInStatements typed within body → TypesHoldInStatements typed within (dropped count body)
+types_dropped typed within zero body types = types
 types_dropped typed within (suc count) NoStatements types = tt
 types_dropped typed within (suc count) (MoreStatements first others) types =
     types_dropped typed within count others types.1
@@ -266,29 +266,29 @@ module _ (typed : TypedModule) (within : Within) (nodes : Nodes) (storage : Stor
             left_then (record { reaches = false; returns = true; labels = labels }) (value later around expression s) _
             (λ found t. refl)
 
-    lands : (first label : ℕ) (places : List ℕ) (statements : TypedStatements) (labels : List LabelsOf)
+    lands : (first label : ℕ) (places : List ℕ) (body : TypedStatements) (labels : List LabelsOf)
         (found : Option TypedStatements) (t : State)
-        → rest_from label (ListOf first places statements) ≡ found
-        → IsGood labels (ListOf first places statements)
+        → rest_from label (ListOf first places body) ≡ found
+        → IsGood labels (ListOf first places body)
         → Any (IsAmongLabels label) (labels_of_list first places ∷ labels)
-        → IsLeftBy (by (reaches_end_of_list starts storage true (ListOf first places statements)) labels)
-        (landed later around (ListOf first places statements) label found t)
-    lands first label places statements labels None t is good among =
-        outer_label first label places statements labels is among
-    lands first label places statements labels (Some rest) t is good among =
-        left.onto labels (ListOf first places statements) rest label t good is
+        → IsLeftBy (by (reaches_end_of_list starts storage true (ListOf first places body)) labels)
+        (landed later around (ListOf first places body) label found t)
+    lands first label places body labels None t is good among =
+        outer_label first label places body labels is among
+    lands first label places body labels (Some rest) t is good among =
+        left.onto labels (ListOf first places body) rest label t good is
 
-    catches : (first : ℕ) (places : List ℕ) (statements : TypedStatements) (labels : List LabelsOf) (flow : Flow)
+    catches : (first : ℕ) (places : List ℕ) (body : TypedStatements) (labels : List LabelsOf) (flow : Flow)
         (t : State)
-        → IsGood labels (ListOf first places statements)
-        → LeavesBy (by (reaches_end_of_list starts storage true (ListOf first places statements))
+        → IsGood labels (ListOf first places body)
+        → LeavesBy (by (reaches_end_of_list starts storage true (ListOf first places body))
         (labels_of_list first places ∷ labels)) flow
-        → IsLeftBy (by (reaches_end_of_list starts storage true (ListOf first places statements)) labels)
-        (caught_in later around (ListOf first places statements) flow t)
-    catches first places statements labels Onward t good leaves = leaves
-    catches first places statements labels (Returned found) t good leaves = leaves
-    catches first places statements labels (Jumped label) t good leaves =
-        lands first label places statements labels (rest_from label (ListOf first places statements)) t refl good leaves
+        → IsLeftBy (by (reaches_end_of_list starts storage true (ListOf first places body)) labels)
+        (caught_in later around (ListOf first places body) flow t)
+    catches first places body labels Onward t good leaves = leaves
+    catches first places body labels (Returned found) t good leaves = leaves
+    catches first places body labels (Jumped label) t good leaves =
+        lands first label places body labels (rest_from label (ListOf first places body)) t refl good leaves
 
     turns : (labels : List LabelsOf) (turn : Turn) (other : Bool) (flow : Flow) (t : State)
         → IsGood labels (body_of_turn turn)
@@ -478,9 +478,9 @@ module _ (typed : TypedModule) (within : Within) (nodes : Nodes) (storage : Stor
           (λ done u.
           iterates labels head body u (record { jumps = jumps; stands = stand; types = types.1 })
           (λ v. list_left body labels v jumps stand types.1)))
-      statement_left (CaseStatement choice statements) labels s jumps stand types =
+      statement_left (CaseStatement choice body) labels s jumps stand types =
           left_then (by true labels) (value later around choice s) _
-          (λ found t. case_left statements found labels t jumps stand types.1)
+          (λ found t. case_left body found labels t jumps stand types.1)
 
       else_left : (otherwise : TypedElse) (labels : List LabelsOf) (s : State)
           → JumpsStayInElse labels otherwise
@@ -491,11 +491,11 @@ module _ (typed : TypedModule) (within : Within) (nodes : Nodes) (storage : Stor
       else_left (ElseStatement statement) labels s jumps stand types =
           statement_left statement labels s jumps stand.1 types
 
-      case_left : (statements : TypedStatements) (found : ℕ) (labels : List LabelsOf) (s : State)
-          → JumpsStayInStatements labels statements
-          → ListsStandInCases statements
-          → TypesHoldInStatements typed within statements
-          → IsLeftBy (by true labels) (done_case later around statements found s)
+      case_left : (body : TypedStatements) (found : ℕ) (labels : List LabelsOf) (s : State)
+          → JumpsStayInStatements labels body
+          → ListsStandInCases body
+          → TypesHoldInStatements typed within body
+          → IsLeftBy (by true labels) (done_case later around body found s)
       case_left NoStatements found labels s jumps stand types = refl
       case_left (MoreStatements first others) zero labels s jumps stand types =
           left_wider (by (reaches_end starts storage first) labels) (by true labels) (done later around first s)
@@ -504,12 +504,12 @@ module _ (typed : TypedModule) (within : Within) (nodes : Nodes) (storage : Stor
       case_left (MoreStatements first others) (suc found) labels s jumps stand types =
           case_left others found labels s jumps.1 stand.2 types.1
 
-      statements_left : (statements : TypedStatements) (labels : List LabelsOf) (s : State)
-          → JumpsStayInStatements labels statements
-          → ListsStandInStatements statements
-          → TypesHoldInStatements typed within statements
-          → IsLeftBy (by (reaches_end_of_statements starts storage true statements) labels)
-          (done_all later around statements s)
+      statements_left : (body : TypedStatements) (labels : List LabelsOf) (s : State)
+          → JumpsStayInStatements labels body
+          → ListsStandInStatements body
+          → TypesHoldInStatements typed within body
+          → IsLeftBy (by (reaches_end_of_statements starts storage true body) labels)
+          (done_all later around body s)
       statements_left NoStatements labels s jumps stand types = refl
       statements_left (MoreStatements first others) labels s jumps stand types =
           left_flow (by (reaches_end starts storage first) labels)
@@ -524,15 +524,14 @@ module _ (typed : TypedModule) (within : Within) (nodes : Nodes) (storage : Stor
           → ListStands list
           → TypesHoldInList typed within list
           → IsLeftBy (by (reaches_end_of_list starts storage true list) labels) (done_list later around list s)
-      list_left (ListOf first places statements) labels s jumps stand types =
-          left_flow (by (reaches_end_of_statements starts storage true statements) (labels_of_list first places ∷ labels))
-          (by (reaches_end_of_statements starts storage true statements) labels)
-          (done_all later around statements s) (caught_in later around (ListOf first places statements))
-          (statements_left statements (labels_of_list first places ∷ labels) s jumps stand.1 types)
+      list_left (ListOf first places body) labels s jumps stand types =
+          left_flow (by (reaches_end_of_statements starts storage true body) (labels_of_list first places ∷ labels))
+          (by (reaches_end_of_statements starts storage true body) labels)
+          (done_all later around body s) (caught_in later around (ListOf first places body))
+          (statements_left body (labels_of_list first places ∷ labels) s jumps stand.1 types)
           (λ flow t leaves.
-          catches first places statements labels flow t
+          catches first places body labels flow t
           (record { jumps = jumps; stands = stand; types = types }) leaves)
-
 
     turn_left : (labels : List LabelsOf) (turn : Turn) (s : State)
         → IsGood labels (body_of_turn turn)
@@ -547,33 +546,33 @@ module _ (typed : TypedModule) (within : Within) (nodes : Nodes) (storage : Stor
         → IsGood labels list
         → rest_from label list ≡ Some rest
         → IsLeftBy (by (reaches_end_of_list starts storage true list) labels) (rest_of later list rest around s)
-    rest_left labels (ListOf first places statements) rest label s good found =
+    rest_left labels (ListOf first places body) rest label s good found =
         subst (λ (one : TypedStatements).
-        IsLeftBy (by (reaches_end_of_statements starts storage true statements) labels)
-        (rest_of later (ListOf first places statements) one around s))
+        IsLeftBy (by (reaches_end_of_statements starts storage true body) labels)
+        (rest_of later (ListOf first places body) one around s))
         part.is
-        (left_flow (by (reaches_end_of_statements starts storage true statements) (labels_of_list first places ∷ labels))
-        (by (reaches_end_of_statements starts storage true statements) labels)
-        (done_all later around (dropped part.place statements) s)
-        (caught_in later around (ListOf first places statements))
+        (left_flow (by (reaches_end_of_statements starts storage true body) (labels_of_list first places ∷ labels))
+        (by (reaches_end_of_statements starts storage true body) labels)
+        (done_all later around (dropped part.place body) s)
+        (caught_in later around (ListOf first places body))
         (subst (λ (reaches : Bool).
         IsLeftBy (by reaches (labels_of_list first places ∷ labels))
-        (done_all later around (dropped part.place statements) s))
-        (reaches_rest starts storage true true part.place statements some)
-        (statements_left (dropped part.place statements) (labels_of_list first places ∷ labels) s
-        (jumps_dropped (labels_of_list first places ∷ labels) part.place statements good.jumps)
-        (stands_dropped part.place statements good.stands.1)
-        (types_dropped typed within part.place statements good.types)))
-        (λ flow t leaves. catches first places statements labels flow t good leaves))
+        (done_all later around (dropped part.place body) s))
+        (reaches_rest starts storage true true part.place body some)
+        (statements_left (dropped part.place body) (labels_of_list first places ∷ labels) s
+        (jumps_dropped (labels_of_list first places ∷ labels) part.place body good.jumps)
+        (stands_dropped part.place body good.stands.1)
+        (types_dropped typed within part.place body good.types)))
+        (λ flow t leaves. catches first places body labels flow t good leaves))
       where
-        part : IsRest label first places statements rest
-        part = rest_is (nat_le first label) label first places (slice_get places (label - first)) statements rest refl found
+        part : IsRest label first places body rest
+        part = rest_is (nat_le first label) label first places (slice_get places (label - first)) body rest refl found
 
-        there : StandsThere 0 part.place statements
-        there = stands_there first 0 places statements (label - first) part.place good.stands.0 part.found
+        there : StandsThere 0 part.place body
+        there = stands_there first 0 places body (label - first) part.place good.stands.0 part.found
 
-        some : IsSome (dropped part.place statements)
-        some = subst (λ (count : ℕ). IsSome (dropped count statements)) (from_zero part.place) there.some
+        some : IsSome (dropped part.place body)
+        some = subst (λ (count : ℕ). IsSome (dropped count body)) (from_zero part.place) there.some
 
   pub later_left : (count : ℕ) → LaterIsLeft (later_by count)
   later_left zero = record {

@@ -74,7 +74,15 @@ pub no_zeros :
     → IsMemory memory
     → AreZeros now.b high high r memory now memory
 no_zeros high r now memory a h l d e bytes pointer is = record {
-  b = refl; a = a; h = h; l = l; d = d; e = e; registers = bytes; pointer = pointer; is_memory = is;
+  b = refl;
+  a = a;
+  h = h;
+  l = l;
+  d = d;
+  e = e;
+  registers = bytes;
+  pointer = pointer;
+  is_memory = is;
   zeros = λ address from below. absurd (omega (arith, from, below));
   kept = λ address outside. refl;
 }
@@ -91,10 +99,20 @@ one_word :
     → AreZeros count low high r memory now ended
     → AreZeros count (low - 2) high r memory (record now { sp = wrap (low - 2) }) (pushed low 0 ended)
 one_word {high = high} {r = r} {now = now} {memory = memory} {ended = ended} low room limit below are = record {
-  b = are.b; a = are.a; h = are.h; l = are.l; d = are.d; e = are.e;
+  b = are.b;
+  a = are.a;
+  h = are.h;
+  l = are.l;
+  d = are.d;
+  e = are.e;
   registers = record {
-    a = are.registers.a; b = are.registers.b; c = are.registers.c; d = are.registers.d; e = are.registers.e;
-    h = are.registers.h; l = are.registers.l;
+    a = are.registers.a;
+    b = are.registers.b;
+    c = are.registers.c;
+    d = are.registers.d;
+    e = are.registers.e;
+    h = are.registers.h;
+    l = are.registers.l;
   };
   pointer = refl;
   is_memory = pushed_is_memory low 0 ended (omega arith) are.is_memory;
@@ -135,10 +153,20 @@ one_back :
 one_back {high = high} {r = r} {now = now} {memory = memory} {ended = ended} low room limit below are =
     let more = one_word low room limit below are in
     record {
-      b = are.b; a = are.a; h = are.h; l = are.l; d = are.d; e = are.e;
+      b = are.b;
+      a = are.a;
+      h = are.h;
+      l = are.l;
+      d = are.d;
+      e = are.e;
       registers = record {
-        a = are.registers.a; b = are.registers.b; c = are.registers.c; d = are.registers.d; e = are.registers.e;
-        h = are.registers.h; l = are.registers.l;
+        a = are.registers.a;
+        b = are.registers.b;
+        c = are.registers.c;
+        d = are.registers.d;
+        e = are.registers.e;
+        h = are.registers.h;
+        l = are.registers.l;
       };
       pointer = refl;
       is_memory = more.is_memory;
@@ -167,10 +195,20 @@ renumbered :
     → AreZeros count low high r memory now ended
     → AreZeros number low high r memory (record now { b = number }) ended
 renumbered number small are = record {
-  b = refl; a = are.a; h = are.h; l = are.l; d = are.d; e = are.e;
+  b = refl;
+  a = are.a;
+  h = are.h;
+  l = are.l;
+  d = are.d;
+  e = are.e;
   registers = record {
-    a = are.registers.a; b = small; c = are.registers.c; d = are.registers.d; e = are.registers.e;
-    h = are.registers.h; l = are.registers.l;
+    a = are.registers.a;
+    b = small;
+    c = are.registers.c;
+    d = are.registers.d;
+    e = are.registers.e;
+    h = are.registers.h;
+    l = are.registers.l;
   };
   pointer = are.pointer;
   is_memory = are.is_memory;
@@ -206,8 +244,14 @@ filled :
     → AreZeros count low high r memory now ended
     → IsFilled low high r memory now ended
 filled are = record {
-  a = are.a; h = are.h; l = are.l; registers = are.registers; pointer = are.pointer; is_memory = are.is_memory;
-  zeros = are.zeros; kept = are.kept;
+  a = are.a;
+  h = are.h;
+  l = are.l;
+  registers = are.registers;
+  pointer = are.pointer;
+  is_memory = are.is_memory;
+  zeros = are.zeros;
+  kept = are.kept;
 }
 
 -- where the stack begins
@@ -233,10 +277,20 @@ counted :
     → AreZeros turns low high r memory
     (record now { b = (now.b + 254 + 1) % 256; flags = (decrement_of now.b now.flags).flags }) ended
 counted {turns = turns} {now = now} few are = record {
-  b = one_less_is now.b turns are.b (omega (arith, few)); a = are.a; h = are.h; l = are.l; d = are.d; e = are.e;
+  b = one_less_is now.b turns are.b (omega (arith, few));
+  a = are.a;
+  h = are.h;
+  l = are.l;
+  d = are.d;
+  e = are.e;
   registers = record {
-    a = are.registers.a; b = omega arith; c = are.registers.c; d = are.registers.d; e = are.registers.e;
-    h = are.registers.h; l = are.registers.l;
+    a = are.registers.a;
+    b = omega arith;
+    c = are.registers.c;
+    d = are.registers.d;
+    e = are.registers.e;
+    h = are.registers.h;
+    l = are.registers.l;
   };
   pointer = are.pointer;
   is_memory = are.is_memory;
@@ -516,7 +570,11 @@ module _ {A : Type 0} {budget : ℕ} {outcome : Outcome A} {Good : A → SourceS
           → Does at.context.activation.around.program.script budget 0 (at_place from r memory events) outcome Good
       by_test true same stand =
           rest from r memory stand (record {
-            a = refl; h = refl; l = refl; registers = bytes_held; is_memory = is_memory;
+            a = refl;
+            h = refl;
+            l = refl;
+            registers = bytes_held;
+            is_memory = is_memory;
             pointer = pointer ∙ ap wrap (sym (none (eqb-true bytes 0 same)));
             zeros = λ address low below. absurd (omega (arith, low, below, none (eqb-true bytes 0 same)));
             kept = λ address outside. refl;
@@ -530,7 +588,12 @@ module _ {A : Type 0} {budget : ℕ} {outcome : Outcome A} {Good : A → SourceS
           (same_steps at (append_assoc (pushes_steps (bytes / 2) first) (odd_byte_steps bytes) others) more)
           (no_zeros high r (record r { d = 0; e = 0 }) memory refl refl refl refl refl
           (record {
-            a = bytes_held.a; b = bytes_held.b; c = bytes_held.c; d = omega arith; e = omega arith; h = bytes_held.h;
+            a = bytes_held.a;
+            b = bytes_held.b;
+            c = bytes_held.c;
+            d = omega arith;
+            e = omega arith;
+            h = bytes_held.h;
             l = bytes_held.l;
           }) pointer is_memory)
           (λ count place after last_memory stand_after are_after.

@@ -1,7 +1,6 @@
 -- A machine that does what each run of a source does agrees with the source.
-use Rattle.std.proofs.Common.{◌≡◌, ◌≢◌, ℕ, suc, ◌+◌, ◌-◌, ◌≤◌, ◌<◌, ◌⊎◌, List, refl, sym, ap, ◌∙◌, subst, arith, ⊎_elim}
+use Rattle.std.proofs.Common.{◌≡◌, ◌≢◌, ℕ, ◌+◌, ◌-◌, ◌≤◌, ◌<◌, List, refl, sym, ap, ◌∙◌, subst, arith, ⊎_elim}
 use Rattle.std.proofs.lemmas.Bool.{cases_lt}
-use Rattle.ports.specs.declared.event.Event.{Event}
 use Rattle.ports.specs.Events.{IsBeginning}
 use Rattle.isa8080.specs.declared.registers.Status.{Status}
 use Rattle.isa8080.specs.declared.registers.Status.TheVariants.{Halted, Illegal, Running}
@@ -10,7 +9,6 @@ use Rattle.isa8080.specs.Step.{state_after}
 use Rattle.isa8080.proofs.Endings.{stays_state, state_after_sum}
 use Rattle.isa8080.proofs.Growing.{begins_itself, run_adds}
 use Rattle.meaning.specs.Outcomes.{Stop, Ended, More, Outside}
-use Rattle.meaning.specs.declared.reason.Reason.{Reason}
 use Rattle.meaning.specs.Run.{NeverOutside, Run}
 use Rattle.program_meaning.specs.Agreement.{Agrees, ComesTo, Performs}
 
@@ -76,34 +74,38 @@ module _ (script : List (List ℕ)) (start : State) where
       (performs : (n : ℕ) → Performs script start n (source n))
       (never : NeverOutside source)
     where
-    -- a run that never goes outside ended, or wants more
-    by_end :
-        {A : Type 0} (n : ℕ)
-        → ((source n).end ≡ Ended → ComesTo script start 0 Halted (source n).events → A)
-        → ((source n).end ≡ More → ComesTo script start n Running (source n).events → A)
-        → A
-    by_end {A = A} n ended more = by (source n).end refl
-      where
-        by : (end : Stop) → (source n).end ≡ end → A
-        by Ended is = ended is ((performs n).ended is)
-        by More is = more is ((performs n).more is)
-        by (Outside reason) is = absurd (never n reason is)
+      -- a run that never goes outside ended, or wants more
+      by_end :
+          {A : Type 0} (n : ℕ)
+          → ((source n).end ≡ Ended → ComesTo script start 0 Halted (source n).events → A)
+          → ((source n).end ≡ More → ComesTo script start n Running (source n).events → A)
+          → A
+      by_end {A = A} n ended more = by (source n).end refl
+        where
+          by : (end : Stop) → (source n).end ≡ end → A
+          by Ended is = ended is ((performs n).ended is)
+          by More is = more is ((performs n).more is)
+          by (Outside reason) is = absurd (never n reason is)
 
-    pub agrees : Agrees source after
-    agrees = record {
-      keeps_up = λ n. by_end n (λ is comes. (comes.count, comes.events_are)) (λ is comes. (comes.count, comes.events_are));
-      runs_no_further = λ k. (k,
+      pub agrees : Agrees source after
+      agrees = record {
+        keeps_up = λ n. by_end n (λ is comes. (comes.count, comes.events_are)) (λ is comes. (comes.count, comes.events_are));
+        runs_no_further = λ k. (
+          k,
           by_end k
-          (λ is comes. subst (IsBeginning (after k).events) comes.events_are (begins_halted k comes.count comes.status_is))
-          (λ is comes. subst (IsBeginning (after k).events) comes.events_are (begins_before k comes.count comes.enough)));
-      halts_when_ended = λ n is. let comes = (performs n).ended is in (comes.count, comes.status_is, comes.events_are);
-      ended_when_halted = λ k halted. (k,
+              (λ is comes. subst (IsBeginning (after k).events) comes.events_are (begins_halted k comes.count comes.status_is))
+              (λ is comes. subst (IsBeginning (after k).events) comes.events_are (begins_before k comes.count comes.enough)),
+        );
+        halts_when_ended = λ n is. let comes = (performs n).ended is in (comes.count, comes.status_is, comes.events_are);
+        ended_when_halted = λ k halted. (
+          k,
           by_end k
-          (λ is comes. is)
-          (λ is comes. absurd (ran_before k comes.count comes.enough comes.status_is halted)));
-      never_illegal = λ k.
-          by_end k
-          (λ is comes. legal_halted k comes.count comes.status_is)
-          (λ is comes.
-          legal_before k comes.count Running comes.enough comes.status_is (λ e. let bad : Running ≡ Illegal = e in cc));
-    }
+              (λ is comes. is)
+              (λ is comes. absurd (ran_before k comes.count comes.enough comes.status_is halted)),
+        );
+        never_illegal = λ k.
+            by_end k
+            (λ is comes. legal_halted k comes.count comes.status_is)
+            (λ is comes.
+            legal_before k comes.count Running comes.enough comes.status_is (λ e. let bad : Running ≡ Illegal = e in cc));
+      }

@@ -1,13 +1,10 @@
 -- The code of a module stands where its object module was linked, placed and loaded.
-use Rattle.std.proofs.Common.{◌≡◌, ◌≢◌, ℕ, zero, suc, ◌+◌, ◌<◌, ◌≤◌, Bool, true, false, List, [], ◌∷◌, ◌++◌, length, sum, map, Option, option_map, Some, None, refl, sym, ap, ◌∙◌, subst, arith}
+use Rattle.std.proofs.Common.{◌≡◌, ℕ, zero, suc, ◌+◌, ◌≤◌, List, [], ◌∷◌, length, sum, map, Option, option_map, Some, refl, sym, ap, ◌∙◌, arith}
 use Rattle.std.specs.Prelude.{slice_get}
 use Rattle.std.specs.Option.{option_map_or, option_and_then}
-use Rattle.std.specs.List.{AllByRecursion}
 use Rattle.std.proofs.lemmas.List.Elements.{recursion_from_All}
 use Rattle.std.proofs.lemmas.List.Sums.{sum_by-cons}
 use Rattle.std.proofs.lemmas.Option.{none-some, same_Some, slice_get-map}
-use Rattle.mem80.specs.declared.memory.TheConstants.{MEMORY_SIZE}
-use Rattle.object_modules.specs.declared.segment.Segment.{Segment}
 use Rattle.object_modules.specs.declared.segment.Segment.TheVariants as segments
 use Rattle.object_modules.specs.declared.segment.Target.{Target}
 use Rattle.object_modules.specs.declared.segment.Target.TheVariants.{InSegment, External}
@@ -23,21 +20,17 @@ use Rattle.layout.specs.Placing.{Plan as PlacingPlan, bases_from}
 use Rattle.layout.specs.Segments.{ExternalName as Named}
 use Rattle.treecode.specs.declared.module.ExternalName.{ExternalName}
 use Rattle.layout.proofs.Segments.{of_all}
-use Rattle.asm8080.specs.declared.item.Item.{Item}
 use Rattle.isa8080.specs.State.{wrap}
 use Rattle.asm8080.specs.Assembled.{Assembled, Assembles, set_bytes}
-use Rattle.asm8080.specs.Items.{Assembly, Layout, Stands, size_of_items}
+use Rattle.asm8080.specs.Items.{Assembly, Layout, Stands}
 use Rattle.asm8080.proofs.Segments.{places_length, set_length}
-use Rattle.machine_runs.proofs.Kept.{stands_size}
-use Rattle.program_images.specs.internal.AtPlans.{AreObjectsOf, bases_of, code_lengths_of, plan_of}
+use Rattle.program_images.specs.internal.AtPlans.{bases_of, code_lengths_of, plan_of}
 use Rattle.program_memory.specs.internal.InMemory.{IsInMemory}
 use Rattle.program_memory.proofs.Modules.{address_for, bases_found}
-use Rattle.code_meaning.proofs.Sequences.{parted}
 use Rattle.steps8080.specs.Externals.{entry}
 use Rattle.steps8080.specs.Writer.{Written}
-use Rattle.codegen8080.specs.Modules.{IsCodeWritten, IsGenerated, IsNamed}
 use Rattle.program_meaning.specs.Linked.{ModuleIs, module_layout, written_layout}
-use Rattle.program_meaning.proofs.Renumbered.{LaysOut, stands_so}
+use Rattle.program_meaning.proofs.Renumbered.{LaysOut}
 
 -- the code of a module lies within that of the program
 pub within_code :

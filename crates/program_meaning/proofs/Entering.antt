@@ -1,7 +1,6 @@
 -- Calls of EXTERNAL procedures go where the code of the procedures begins that they stand for.
-use Rattle.std.proofs.Common.{◌≡◌, ◌≢◌, ℕ, zero, suc, ◌+◌, ◌%◌, ◌<◌, Bool, true, false, ◌&&◌, ◌||◌, List, [], ◌∷◌, ◌++◌, length, Option, Some, None, cond, refl, ap, sym, ◌∙◌, subst, arith}
-use Rattle.std.specs.Prelude.{slice_get, unwrap_or, position, bytes_eq, nat_lt, if◌then◌else◌}
-use Rattle.std.specs.List.{AllByRecursion}
+use Rattle.std.proofs.Common.{◌≡◌, ℕ, zero, suc, ◌+◌, ◌%◌, ◌<◌, Bool, true, false, ◌&&◌, ◌||◌, List, [], ◌∷◌, ◌++◌, length, Some, None, refl, ap, sym, ◌∙◌, subst, arith}
+use Rattle.std.specs.Prelude.{slice_get, unwrap_or, bytes_eq, if◌then◌else◌}
 use Rattle.std.specs.Option.{option_map_or, option_and_then}
 use Rattle.std.proofs.lemmas.Bool.{eq-eqb, lt-ltb}
 use Rattle.std.proofs.lemmas.Iterator.Adapters.{position_from-zero}
@@ -10,8 +9,8 @@ use Rattle.std.proofs.lemmas.Option.{none-some, same_Some, slice_get_within}
 use Rattle.std.proofs.lemmas.Slice.Eq.{bytes_eq-Decides}
 use Rattle.mem80.specs.declared.memory.TheConstants.{MEMORY_SIZE}
 use Rattle.object_modules.specs.declared.segment.Segment.TheVariants as segments
-use Rattle.object_modules.specs.declared.segment.Target.TheVariants.{InSegment, External}
-use Rattle.object_modules.specs.Displacements.{Linked, public_named}
+use Rattle.object_modules.specs.declared.segment.Target.TheVariants.{External}
+use Rattle.object_modules.specs.Displacements.{public_named}
 use Rattle.object_modules.specs.Image.{Image}
 use Rattle.object_modules.specs.Module.{ObjectModule, Public}
 use Rattle.object_images.specs.internal.InMemory.{address_of_public, address_of_target, piece_base}
@@ -22,35 +21,30 @@ use Rattle.typed_trees.specs.TypedTrees.{TypedModule, TypedProcedure}
 use Rattle.layout.specs.Joined.{InProgram, first_found, is_public_procedure, procedure_meant, public_procedure_in}
 use Rattle.layout.specs.Placing.{Plan as PlacingPlan}
 use Rattle.layout.proofs.Segments.{of_all}
-use Rattle.meaning.specs.Access.{Surroundings}
 use Rattle.meaning.specs.Meaning.{callee_in}
 use Rattle.isa8080.specs.State.{wrap}
-use Rattle.asm8080.specs.declared.item.Item.{Item}
 use Rattle.asm8080.specs.declared.item.Item.TheVariants.{Mark}
 use Rattle.asm8080.specs.Assembled.{Assembled, place_of}
 use Rattle.asm8080.specs.Items.{KnowsLabels, Layout, is_bound, marks, offset_of}
 use Rattle.asm8080.proofs.Parts.{bound_in_parts}
 use Rattle.treecode.specs.declared.module.PublicName.{PublicName}
 use Rattle.treecode.specs.declared.module.PublicPlace.TheVariants.{Procedure}
-use Rattle.treecode.specs.declared.procedure.ProcedureKind.{ProcedureKind}
 use Rattle.treecode.specs.declared.procedure.ProcedureKind.TheVariants as kinds
 use Rattle.treecode.specs.declared.procedure.TreeProcedure.{TreeProcedure}
-use Rattle.treecode.specs.Contents.{publics_of}
 use Rattle.treecode.specs.Homes.{external_number, externals_of, is_global_procedure, kind_of}
 use Rattle.module_segments.specs.internal.Places.{name_at}
 use Rattle.program_images.specs.internal.AtPlans.{plan_of}
-use Rattle.program_memory.specs.internal.InMemory.{IsInMemory, placement_of}
+use Rattle.program_memory.specs.internal.InMemory.{IsInMemory}
 use Rattle.program_memory.proofs.Lists.{some_within}
 use Rattle.program_memory.proofs.Meanings.{both_hold, first_position, found_place, public_lies}
-use Rattle.steps8080.specs.Externals.{entry}
 use Rattle.steps8080.specs.Writer.{Written, known_label, place_of_known, place_of_label}
 use Rattle.codegen8080.specs.Modules.{ArePublicsOf, IsCodeOfMain, IsMainCode, IsPublicOf, contents_items, has_main}
-use Rattle.procedure_meaning.specs.Modules.{ModuleCode, surroundings_in}
+use Rattle.procedure_meaning.specs.Modules.{surroundings_in}
 use Rattle.program_meaning.specs.Linked.{ModuleIs, written_layout}
 use Rattle.program_meaning.specs.Entering.{ModulesAre, entries_of, layout_of}
-use Rattle.program_meaning.proofs.Marks.{IsKnownAs, bound_label_small, label_known, or_left, or_right, procedures_bound}
+use Rattle.program_meaning.proofs.Marks.{bound_label_small, label_known, or_left, or_right, procedures_bound}
 use Rattle.program_meaning.proofs.ModuleStands.{IsOwn, code_of}
-use Rattle.program_meaning.proofs.Shared.{InList, external_named, public_in}
+use Rattle.program_meaning.proofs.Shared.{external_named, public_in}
 
 -- a procedure whose kind is EXTERNAL is so, and its name is the one of that number
 pub record IsExternal (typed : TypedModule) (number : ℕ) (heading : TypedProcedure) (name : ℕ) : Type 0 where

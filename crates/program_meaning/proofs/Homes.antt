@@ -5,7 +5,7 @@ use Rattle.std.proofs.lemmas.Option.{none-some, same_Some}
 use Rattle.typed_trees.specs.TypedTrees.{Home as TypedHome, BasedOn, InFrame, TypedObject, TypedModule}
 use Rattle.layout.specs.Storage.{Storage}
 use Rattle.treecode.specs.declared.place.Home.{Home}
-use Rattle.treecode.specs.declared.place.Home.TheVariants.{Static, Frame, Based}
+use Rattle.treecode.specs.declared.place.Home.TheVariants.{Static}
 use Rattle.treecode.specs.declared.place.Place.{Place}
 use Rattle.treecode.specs.declared.place.Place.TheVariants.{Number}
 use Rattle.treecode.specs.Homes.{home_of_object, homes_from, homes_of}

@@ -1,11 +1,10 @@
 -- A module of a program lies where its object module was linked, placed and loaded.
-use Rattle.std.proofs.Common.{◌≡◌, ◌≢◌, ℕ, ◌+◌, ◌%◌, ◌<◌, List, length, map, All, refl, sym, ap, ◌∙◌, subst, arith}
+use Rattle.std.proofs.Common.{◌≡◌, ℕ, ◌+◌, ◌%◌, ◌<◌, List, length, refl, ap, ◌∙◌, arith}
 use Rattle.std.specs.Prelude.{slice_get, Some}
 use Rattle.std.specs.List.{enumerate_from}
 use Rattle.std.proofs.lemmas.List.{length-map}
 use Rattle.std.proofs.lemmas.List.FromFn.{length-enumerate_from}
 use Rattle.mem80.specs.declared.memory.TheConstants.{MEMORY_SIZE}
-use Rattle.mem80.specs.Range.{address_past}
 use Rattle.object_modules.specs.declared.segment.Segment.TheVariants as segments
 use Rattle.object_modules.specs.declared.segment.Target.TheVariants.{InSegment}
 use Rattle.object_modules.specs.Image.{Image}
@@ -20,7 +19,6 @@ use Rattle.asm8080.specs.Items.{Layout}
 use Rattle.treecode.specs.declared.place.Home.TheVariants.{Static}
 use Rattle.treecode.specs.declared.place.Place.{Place}
 use Rattle.treecode.specs.declared.place.Place.TheVariants as places
-use Rattle.treecode.specs.declared.procedure.ProcedureKind.TheVariants as kinds
 use Rattle.treecode.specs.declared.procedure.TreeProcedure.{TreeProcedure}
 use Rattle.treecode.specs.Nodes.{home_at, nodes_of}
 use Rattle.frames.specs.Frames.{HasFrame}
@@ -29,7 +27,7 @@ use Rattle.program_images.specs.internal.AtPlans.{plan_of}
 use Rattle.program_memory.specs.internal.InMemory.{IsInMemory, placement_of}
 use Rattle.code_meaning.proofs.Lawful.{placement_lies}
 use Rattle.code_facts.specs.Holding.{place_at}
-use Rattle.procedure_meaning.specs.Modules.{ModuleLies, ProcedureStands}
+use Rattle.procedure_meaning.specs.Modules.{ModuleLies}
 use Rattle.program_meaning.specs.Entering.{ModulesAre, entries_of, layout_of}
 use Rattle.program_meaning.specs.Linked.{ModuleIs}
 use Rattle.program_meaning.specs.Typed.{HasWords, IsSoundlyTyped}

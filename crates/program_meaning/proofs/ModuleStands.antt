@@ -1,10 +1,8 @@
 -- The main program, the procedures and the routines of a module stand where its labels lie.
-use Rattle.std.proofs.Common.{◌≡◌, ◌≢◌, ℕ, zero, suc, ◌+◌, ◌<◌, ◌≤◌, Bool, true, false, List, [], ◌∷◌, ◌++◌, length, sum, Option, Some, None, refl, sym, ap, ◌∙◌, subst, arith}
+use Rattle.std.proofs.Common.{◌≡◌, ◌≢◌, ℕ, zero, suc, ◌+◌, ◌≤◌, Bool, true, false, List, [], ◌∷◌, ◌++◌, length, Some, refl, sym, ◌∙◌, subst, arith}
 use Rattle.std.specs.Prelude.{slice_get}
-use Rattle.std.specs.Option.{option_map_or}
 use Rattle.std.proofs.lemmas.Option.{none-some, same_Some}
 use Rattle.object_modules.specs.declared.segment.Segment.TheVariants as segments
-use Rattle.object_modules.specs.declared.segment.Target.{Target}
 use Rattle.object_modules.specs.Displacements.{Linked}
 use Rattle.object_modules.specs.Image.{Image}
 use Rattle.object_modules.specs.Module.{ObjectModule}
@@ -17,7 +15,7 @@ use Rattle.isa8080.specs.declared.instr.Pair.TheVariants.{Sp}
 use Rattle.asm8080.specs.declared.item.Item.{Item}
 use Rattle.asm8080.specs.declared.item.Item.TheVariants as items
 use Rattle.asm8080.specs.declared.item.WordForm.TheVariants.{LoadPair}
-use Rattle.asm8080.specs.Items.{Layout, Stands, size_of_items}
+use Rattle.asm8080.specs.Items.{Layout, Stands}
 use Rattle.machine_runs.proofs.Kept.{stands_size}
 use Rattle.runtime8080.specs.declared.routine.Routine.{Routine}
 use Rattle.runtime8080.specs.declared.routine.Routine.TheVariants as routines
@@ -27,15 +25,14 @@ use Rattle.treecode.specs.declared.procedure.TreeProcedure.{TreeProcedure}
 use Rattle.frames.specs.Frames.{HasFrame}
 use Rattle.statements8080.specs.declared.body.Body.{Body}
 use Rattle.codegen8080.specs.declared.meeting.Here.{Here}
-use Rattle.program_images.specs.internal.AtPlans.{code_lengths_of, plan_of}
+use Rattle.program_images.specs.internal.AtPlans.{plan_of}
 use Rattle.program_memory.specs.internal.InMemory.{IsInMemory, placement_of}
 use Rattle.code_meaning.specs.Activations.{Activation, IsThere}
-use Rattle.code_meaning.proofs.Sequences.{both_there, parted}
-use Rattle.steps8080.specs.Externals.{entry}
+use Rattle.code_meaning.proofs.Sequences.{both_there}
 use Rattle.steps8080.specs.Writer.{Written, stack_end_item}
 use Rattle.runtime8080.specs.Routines.{size_of_routine}
 use Rattle.exprgen8080.specs.Emission.{has_routine, index_of_routine, module_label_of_routine}
-use Rattle.codegen8080.specs.Modules.{AreCodeOf, AreRoutines, IsCodeOf, IsCodeOfMain, IsCodeOfRoutine, IsCodeWritten, IsEndCode, IsMainCode, IsOwnCode, IsProcedureCode, IsRoutineCode, all_routines, contents_items, has_main}
+use Rattle.codegen8080.specs.Modules.{AreCodeOf, AreRoutines, IsCodeOf, IsCodeOfMain, IsCodeOfRoutine, IsEndCode, IsMainCode, IsProcedureCode, IsRoutineCode, all_routines, contents_items, has_main}
 use Rattle.task_meaning.specs.Contexts.{RoutineIsAt}
 use Rattle.procedure_meaning.specs.Modules.{EndIs, MainStands, ModuleCode, ProcedureStands, bare}
 use Rattle.program_meaning.specs.Linked.{ModuleIs, module_layout, written_layout}

@@ -8,11 +8,10 @@ use Rattle.asm8080.specs.declared.item.Item.{Item}
 use Rattle.asm8080.specs.declared.item.Item.TheVariants.{Plain, WithWord, Byte, Address, Gap, Mark}
 use Rattle.asm8080.specs.declared.item.Reference.{Reference}
 use Rattle.asm8080.specs.declared.item.Reference.TheVariants.{AtLabel, AtTarget}
-use Rattle.asm8080.specs.declared.item.WordForm.{WordForm}
 use Rattle.asm8080.specs.Items.{Layout, Stands, instruction_with, word_of}
 use Rattle.asm8080.specs.Standing.{BytesStand}
 use Rattle.steps8080.specs.Externals.{entry}
-use Rattle.steps8080.specs.Writer.{Written, in_front, numbered, numbered_item, numbered_reference}
+use Rattle.steps8080.specs.Writer.{Written, in_front, numbered, numbered_reference}
 
 -- a layout by the module's numbers is one by the numbers of code
 pub record LaysOut (written : Written) (own layout : Layout) : Type 0 where
@@ -81,10 +80,11 @@ module _ (written : Written) (own layout : Layout) (lays : LaysOut written own l
   stands_so memory (WithWord form reference ∷ others) made from to is stands =
       let front = front_of (option_map (WithWord form) (numbered_reference written reference)) (numbered written others) made is in
       let word = mapped (WithWord form) (numbered_reference written reference) front.first front.item_is in
-      let here = subst (λ list. Stands layout memory list from to) (front.made_is ∙ ap (λ one. one ∷ front.more) word.made_is) stands in
-      (subst (λ number. BytesStand memory from (bytes_of (instruction_with form number)))
-      (sym (same_word reference word.given word.found_is)) here.0,
-      stands_so memory others front.more (from + 3) to front.others_are here.1)
+      let here = subst (λ list. Stands layout memory list from to) (front.made_is ∙ ap (λ one. one ∷ front.more) word.made_is) stands in (
+        subst (λ number. BytesStand memory from (bytes_of (instruction_with form number)))
+            (sym (same_word reference word.given word.found_is)) here.0,
+        stands_so memory others front.more (from + 3) to front.others_are here.1,
+      )
   stands_so memory (Byte value ∷ others) made from to is stands =
       let front = front_of (Some (Byte value)) (numbered written others) made is in
       let first : front.first ≡ Byte value = let same = front.item_is in cc in
@@ -93,10 +93,11 @@ module _ (written : Written) (own layout : Layout) (lays : LaysOut written own l
   stands_so memory (Address reference ∷ others) made from to is stands =
       let front = front_of (option_map Address (numbered_reference written reference)) (numbered written others) made is in
       let word = mapped Address (numbered_reference written reference) front.first front.item_is in
-      let here = subst (λ list. Stands layout memory list from to) (front.made_is ∙ ap (λ one. one ∷ front.more) word.made_is) stands in
-      (subst (λ number. BytesStand memory from (low_byte number ∷ high_byte number ∷ []))
-      (sym (same_word reference word.given word.found_is)) here.0,
-      stands_so memory others front.more (from + 2) to front.others_are here.1)
+      let here = subst (λ list. Stands layout memory list from to) (front.made_is ∙ ap (λ one. one ∷ front.more) word.made_is) stands in (
+        subst (λ number. BytesStand memory from (low_byte number ∷ high_byte number ∷ []))
+            (sym (same_word reference word.given word.found_is)) here.0,
+        stands_so memory others front.more (from + 2) to front.others_are here.1,
+      )
   stands_so memory (Gap count ∷ others) made from to is stands =
       let front = front_of (Some (Gap count)) (numbered written others) made is in
       let first : front.first ≡ Gap count = let same = front.item_is in cc in
@@ -105,6 +106,7 @@ module _ (written : Written) (own layout : Layout) (lays : LaysOut written own l
   stands_so memory (Mark label ∷ others) made from to is stands =
       let front = front_of (option_map Mark (entry written.labels label)) (numbered written others) made is in
       let mark = mapped Mark (entry written.labels label) front.first front.item_is in
-      let here = subst (λ list. Stands layout memory list from to) (front.made_is ∙ ap (λ one. one ∷ front.more) mark.made_is) stands in
-      (lays.labels label mark.given mark.found_is ∙ here.0,
-      stands_so memory others front.more from to front.others_are here.1)
+      let here = subst (λ list. Stands layout memory list from to) (front.made_is ∙ ap (λ one. one ∷ front.more) mark.made_is) stands in (
+        lays.labels label mark.given mark.found_is ∙ here.0,
+        stands_so memory others front.more from to front.others_are here.1,
+      )

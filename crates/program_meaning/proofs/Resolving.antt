@@ -1,28 +1,26 @@
 -- The places of tree code have addresses where the program lies: those at which its objects and lists begin.
-use Rattle.std.proofs.Common.{◌≡◌, ℕ, ◌+◌, ◌%◌, ◌<◌, ◌≤◌, Bool, true, List, [], ◌∷◌, length, zip, Option, Some, None, refl, sym, ap, ◌∙◌, subst, arith}
+use Rattle.std.proofs.Common.{◌≡◌, ℕ, ◌+◌, ◌%◌, ◌<◌, Bool, List, length, zip, Option, Some, None, refl, sym, ap, ◌∙◌, arith}
 use Rattle.std.specs.Prelude.{slice_get, slice_index}
 use Rattle.std.specs.List.{enumerate_from}
-use Rattle.std.specs.Option.{option_map_or, option_and_then}
+use Rattle.std.specs.Option.{option_map_or}
 use Rattle.std.proofs.lemmas.List.Elements.{recursion_from_All}
 use Rattle.std.proofs.lemmas.List.{length-map}
 use Rattle.std.proofs.lemmas.List.FromFn.{length-enumerate_from}
 use Rattle.std.proofs.lemmas.Option.{slice_get-get_or}
 use Rattle.mem80.specs.declared.memory.TheConstants.{MEMORY_SIZE}
 use Rattle.object_modules.specs.declared.segment.Segment.TheVariants as segments
-use Rattle.object_modules.specs.declared.segment.Target.{Target}
-use Rattle.object_modules.specs.declared.segment.Target.TheVariants.{InSegment, External}
-use Rattle.object_modules.specs.Displacements.{Linked, public_meant, public_named}
+use Rattle.object_modules.specs.declared.segment.Target.TheVariants.{InSegment}
+use Rattle.object_modules.specs.Displacements.{Linked}
 use Rattle.object_modules.specs.Image.{Image}
 use Rattle.object_modules.specs.Module.{ObjectModule}
-use Rattle.object_images.specs.internal.Code.{addresses_of}
-use Rattle.object_images.specs.internal.InMemory.{address_of_public, address_of_target}
+use Rattle.object_images.specs.internal.InMemory.{address_of_target}
 use Rattle.typed_trees.specs.TypedTrees.{Home as TypedHome, InData, InConstants, Placed, BasedOn, Elsewhere, Nowhere, InFrame, TypedModule, TypedObject}
 use Rattle.layout.specs.declared.slot.Segment.TheVariants as slots
 use Rattle.layout.specs.declared.slot.Slot.{Slot}
 use Rattle.layout.specs.Following.{address_of_slot, base_of}
 use Rattle.layout.specs.Placement.{ModulePlacement}
 use Rattle.layout.specs.Placing.{Plan as PlacingPlan}
-use Rattle.layout.specs.Segments.{address_of_location, location_of}
+use Rattle.layout.specs.Segments.{address_of_location}
 use Rattle.layout.specs.StartingMemory.{address_of_object}
 use Rattle.layout.specs.Storage.{Storage, slot_of_list, storage_with}
 use Rattle.layout.proofs.Segments.{of_all}
@@ -37,12 +35,12 @@ use Rattle.treecode.specs.declared.place.Home.TheVariants.{Static}
 use Rattle.treecode.specs.declared.place.Place.{Place}
 use Rattle.treecode.specs.declared.place.Place.TheVariants as places
 use Rattle.treecode.specs.Contents.{static_place}
-use Rattle.treecode.specs.Homes.{externals_of, homes_of, number_of_place, place_after}
+use Rattle.treecode.specs.Homes.{homes_of, number_of_place, place_after}
 use Rattle.treecode.specs.Known.{offset_of_list}
 use Rattle.treecode.specs.Nodes.{home_at}
 use Rattle.treecode.specs.Resolved.{Resolves}
-use Rattle.module_segments.specs.internal.Places.{location_of_place, name_at}
-use Rattle.module_segments.proofs.Homes.{IsLaidOut, any_lies}
+use Rattle.module_segments.specs.internal.Places.{location_of_place}
+use Rattle.module_segments.proofs.Homes.{any_lies}
 use Rattle.module_segments.proofs.Slots.{list_offset}
 use Rattle.program_images.specs.internal.AtPlans.{bases_of, plan_of}
 use Rattle.program_memory.specs.internal.InMemory.{IsInMemory, placement_of}
@@ -50,12 +48,8 @@ use Rattle.program_memory.proofs.Lists.{got_both, got_numbered, some_within}
 use Rattle.program_memory.proofs.Meanings.{address_meant}
 use Rattle.program_memory.proofs.Modules.{address_for, placed_by}
 use Rattle.code_facts.specs.Holding.{place_at}
-use Rattle.codegen8080.specs.Modules.{IsNamed}
-use Rattle.steps8080.specs.Externals.{entry}
-use Rattle.steps8080.specs.Writer.{Written}
-use Rattle.program_meaning.specs.Linked.{ModuleIs, module_layout, written_layout}
+use Rattle.program_meaning.specs.Linked.{ModuleIs, module_layout}
 use Rattle.program_meaning.proofs.Homes.{not_based, not_in_frame}
-use Rattle.program_meaning.proofs.Renumbered.{LaysOut}
 
 -- a further place of a layout is so many bytes on
 after_place : (layout : Layout) (place : Place) (distance : ℕ)

@@ -1,6 +1,6 @@
 -- PUBLIC and EXTERNAL procedures among the names of a module.
 use Rattle.std.proofs.Common.{◌≡◌, ℕ, zero, suc, ◌+◌, Bool, true, false, List, [], ◌∷◌, Option, Some, None, cond, refl, ap, sym, ◌∙◌, subst, arith}
-use Rattle.std.specs.Prelude.{◌||◌, ◌==◌, filter_map, slice_get, unwrap_or}
+use Rattle.std.specs.Prelude.{◌||◌, filter_map, slice_get, unwrap_or}
 use Rattle.std.specs.List.{cons_option, enumerate_from, list_any}
 use Rattle.std.specs.Option.{option_and_then, option_map_or}
 use Rattle.std.proofs.lemmas.Bool.{false≢true, eq-eqb, eqb-true}
@@ -12,7 +12,6 @@ use Rattle.typed_trees.specs.declared.parts.Visibility.TheVariants as visibiliti
 use Rattle.typed_trees.specs.Globals.{ListsGlobals, global_procedure, is_global, shared_procedure}
 use Rattle.typed_trees.specs.TypedTrees.{TypedModule, TypedProcedure}
 use Rattle.treecode.specs.declared.module.ExternalName.{ExternalName}
-use Rattle.treecode.specs.declared.module.PublicName.{PublicName}
 use Rattle.treecode.specs.declared.module.PublicPlace.TheVariants.{Procedure}
 use Rattle.treecode.specs.declared.place.Home.{Home}
 use Rattle.treecode.specs.Contents.{public_item, public_procedure, publics_of}

@@ -3,7 +3,6 @@ use Rattle.std.specs.Prelude.{◌≡◌, ℕ, List, Option, Some, slice_get}
 use Rattle.std.specs.Option.{option_map_or}
 use Rattle.object_modules.specs.Module.{ObjectModule}
 use Rattle.typed_trees.specs.TypedTrees.{TypedModule}
-use Rattle.layout.specs.Joined.{InProgram}
 use Rattle.layout.specs.Placing.{Plan as PlacingPlan}
 use Rattle.asm8080.specs.Items.{Layout}
 use Rattle.procedure_meaning.specs.Calls.{Entries}
