@@ -30,3 +30,4 @@ pub mod StaticEntries
 pub mod StaticSlots
 pub mod CallsFitting
 pub mod StaticProcedures
+pub mod ListsDone
