@@ -9,3 +9,4 @@ pub mod Marks
 pub mod Entering
 pub mod VariablesApart
 pub mod ModuleLies
+pub mod Programs
