@@ -29,6 +29,8 @@ pub mod WordCode
 pub mod CountedWords
 pub mod LoopEnds
 pub mod SteadyReads
+pub mod LoopRules
+pub mod LoopSteps
 pub mod KnownLoops
 pub mod FirstValues
 pub mod EnteredLoops
