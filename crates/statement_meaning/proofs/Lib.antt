@@ -31,6 +31,7 @@ pub mod LoopEnds
 pub mod SteadyReads
 pub mod LoopRules
 pub mod LoopSteps
+pub mod LoopTests
 pub mod KnownLoops
 pub mod FirstValues
 pub mod EnteredLoops

@@ -21,7 +21,7 @@ use Rattle.isa8080.specs.declared.instr.Operation.{Operation}
 use Rattle.isa8080.specs.declared.instr.Operation.TheVariants.{Add, AddWithCarry, Compare, Subtract, SubtractWithBorrow}
 use Rattle.isa8080.specs.Arithmetic.{operate, subtract_of}
 use Rattle.isa8080.specs.Flags.{bit}
-use Rattle.isa8080.specs.State.{Registers, State, holds, word, wrap}
+use Rattle.isa8080.specs.State.{Registers, State, high_byte, holds, low_byte, word, wrap}
 use Rattle.asm8080.specs.declared.item.WordForm.TheVariants.{JumpWhere}
 use Rattle.treecode.specs.declared.expression.ExpressionNumber.{ExpressionNumber}
 use Rattle.treecode.specs.Lowered.{IsExpressionIn}
@@ -346,3 +346,14 @@ pair_is_less d e h l one two three =
     borrow_shows_more d h (subtract_of e l false).flags.cy three
     ∙ ap (λ (borrow : Bool). nat_lt d (h + bit borrow)) (borrow_shows e l two)
     ∙ word_borrow d e h l one two
+
+-- the address after one
+pub next_word : (h l address : ℕ) → word h l ≡ address
+    → word (high_byte (wrap (word h l + 1))) (low_byte (wrap (word h l + 1)))
+    ≡ wrap (address + 1)
+next_word h l address is =
+    ap (λ (n : ℕ). word (high_byte (wrap (n + 1))) (low_byte (wrap (n + 1)))) is
+    ∙ in_halves (wrap (address + 1)) (omega arith)
+  where
+    in_halves : (n : ℕ) → n < 65536 → word (n / 256) (n % 256) ≡ n
+    in_halves n small = omega (arith, small)
