@@ -36,6 +36,7 @@ use Rattle.task_meaning.proofs.Effects.{then_again}
 use Rattle.task_meaning.proofs.KnownOperands.{number_is}
 use Rattle.task_meaning.proofs.Nodes.{node_of}
 use Rattle.task_meaning.proofs.Stages.{does_same, script_of}
+use Rattle.task_meaning.proofs.StoredValues.{without_more}
 use Rattle.statement_meaning.specs.Bodies.{BodyContext, IsSoundBody, Leaves}
 use Rattle.statement_meaning.specs.Statements.{StatementStands}
 use Rattle.statement_meaning.proofs.Assignments.{Counted, single_does}
@@ -55,7 +56,7 @@ own_suits Byte tree n small = small_suits tree n small
 own_suits Address tree n small = address_suits tree n
 
 -- the type of an expression at a site
-scalar_there :
+pub scalar_there :
     (at : BodyContext) (sound : IsSoundBody at) (facts : Facts) (of : ExpressionNumber) (tree : TypedExpression)
     → IsExpressionIn (nodes_in at.context) at.context.storage of tree
     → scalar (knowing (site_of at.body) facts) of ≡ type_of tree
@@ -147,6 +148,7 @@ module _
       (does_same _
       (sym (ap (λ (given : Outcome ℕ). then_do given (λ m u. then_do (stored at.context.later at.context.activation.around one m u) go))
       (number_is facts n sound.sound is types (ap (λ (s : Site). number (knowing s facts) of) sound.site ∙ known) t)))
+      (without_more
       (single_does at sound facts need base of tree is types fits go (Leaves at base to last before)
       (steps_from (each_at at.body site targets of) (suc index) left) last to _ target one from here t r memory
       (λ i from_scalar bound reference part_tree place_there here_there s_there r_there memory_there none counted. let never : ⊥ = cc in absurd never)
@@ -157,7 +159,7 @@ module _
       target_is some_types.0 (omega (arith, some_fit)) stage
       (λ next_here next_place u now kept next_goes next_stand next_stage.
       each_number n known more_are (suc index) next_here next_place u now kept (omega (arith, place)) (omega (arith, count)) some_types.1
-      (omega (arith, some_fit)) next_goes next_stand next_stage)))
+      (omega (arith, some_fit)) next_goes next_stand next_stage))))
 
   -- several targets, by how their types go together
   several :
@@ -224,6 +226,7 @@ module _
           (then_each (value at.context.later at.context.activation.around tree s) _
           (λ n t. then_do (stored at.context.later at.context.activation.around to_tree n t) (λ _ u. Gave Onward u))
           (λ n t. then_again (stored at.context.later at.context.activation.around to_tree n t) (λ _ u. Gave tt u) (λ _ u. Gave Onward u)))
+          (without_more
           (single_does at sound facts need base of tree is types fits (λ _ u. Gave Onward u) (Leaves at base to last before) [] last to _
           target to_tree from (going true facts) s r memory
           (counts sound facts need base of tree is types fits last to before) refl
@@ -231,7 +234,7 @@ module _
           (elim given as (λ (g : Option Target). List Planned) [ Some x ↦ single_steps at.body site x of | None ↦ [] ] ++ []) last to)
           found stand)
           target_is some_types.0 (omega (arith, some_fit)) stage
-          (λ here place u now kept goes ends_here next. ends_onward (ended ends_here) goes next))
+          (λ here place u now kept goes ends_here next. ends_onward (ended ends_here) goes next)))
 
   pub assigned :
       (from : ℕ) (s : SourceState) (r : Registers) (memory : List ℕ)

@@ -1,58 +1,31 @@
 -- A BYTE that is counted by 1 in memory.
-use Rattle.std.proofs.Common.{◌≡◌, ℕ, ◌+◌, ◌-◌, ◌*◌, ◌%◌, ◌<◌, ◌≤◌, Bool, true, false, ◌&&◌, if◌then◌else◌, nat_eq, List, [], ◌∷◌, slice_set, Option, Some, None, refl, sym, ap, subst, ◌∙◌, arith}
+use Rattle.std.proofs.Common.{◌≡◌, ℕ, Bool, true, false, ◌&&◌, if◌then◌else◌, nat_eq, Option, Some, None, refl, sym, ap, subst, ◌∙◌}
 use Rattle.std.proofs.lemmas.Bool.{and_parts, eqb-true}
-use Rattle.std.proofs.lemmas.Option.{same_Some}
-use Rattle.mem80.specs.Memory.{byte_at}
 use Rattle.trees.specs.declared.declaration.ScalarType.{ScalarType}
 use Rattle.trees.specs.declared.declaration.ScalarType.TheVariants.{Byte, Address}
 use Rattle.trees.specs.declared.expression.BinaryOperator.{BinaryOperator}
-use Rattle.trees.specs.declared.expression.BinaryOperator.TheVariants as operators
-use Rattle.typed_trees.specs.TypedTrees.{BinaryNode, TypedExpression, TypedReference, StoredIn, ValueNode}
+use Rattle.typed_trees.specs.TypedTrees.{BinaryNode, TypedExpression, TypedReference, ValueNode}
 use Rattle.typed_trees.specs.WellTyped.{RefersToScalar, TypesHold, TypesHoldInReference}
-use Rattle.meaning.specs.Access.{Place, read_byte, read_scalar, write_byte, write_scalar}
-use Rattle.meaning.specs.Meaning.{computed, located, stored, value}
-use Rattle.meaning.specs.Outcomes.{State as SourceState, Outcome, Gave, then_do}
-use Rattle.meaning.specs.Values.{as_type, result_of}
+use Rattle.meaning.specs.Access.{read_scalar}
+use Rattle.meaning.specs.Meaning.{computed, located, value}
+use Rattle.meaning.specs.Outcomes.{State as SourceState, Outcome, then_do}
+use Rattle.meaning.specs.Values.{result_of}
 use Rattle.isa8080.specs.declared.instr.Instr.{Instr}
-use Rattle.isa8080.specs.declared.instr.Instr.TheVariants.{Dcr, Inr}
-use Rattle.isa8080.specs.declared.instr.Operand.TheVariants.{M}
-use Rattle.isa8080.specs.State.{Registers, State}
 use Rattle.treecode.specs.declared.expression.Expression.{Expression}
 use Rattle.treecode.specs.declared.expression.ExpressionForm.{ExpressionForm}
-use Rattle.treecode.specs.declared.expression.ExpressionForm.TheVariants as forms
 use Rattle.treecode.specs.declared.expression.ExpressionNumber.{ExpressionNumber}
 use Rattle.treecode.specs.declared.reference.Reference.{Reference}
-use Rattle.treecode.specs.Lowered.{IsBinary, IsExpression, IsExpressionIn, IsForm, IsReference, IsValue}
+use Rattle.treecode.specs.Lowered.{IsBinary, IsExpression, IsForm, IsReference, IsValue}
 use Rattle.steps8080.specs.declared.facts.Facts.{Facts}
-use Rattle.sites8080.specs.declared.site.Site.{Site}
 use Rattle.sites8080.specs.Queries.{number}
-use Rattle.sites8080.specs.Site.{expression}
 use Rattle.exprgen8080.specs.Emission.{knowing}
 use Rattle.statements8080.specs.Assignments.{count_by, count_of, count_of_form, is_one, is_value_by, is_value_of}
 use Rattle.statements8080.specs.SamePlaces.{are_same}
 use Rattle.task_meaning.specs.Contexts.{Context, IsSound, nodes_in}
-use Rattle.isa8080.specs.declared.registers.Flags.{Flags}
-use Rattle.isa8080.specs.Act.{act}
-use Rattle.isa8080.specs.Arithmetic.{decrement_of, increment_of}
-use Rattle.ports.specs.declared.event.Event.{Event}
-use Rattle.isa8080.specs.State.{word, wrap}
 use Rattle.treecode.specs.Lowered.{IsNumber, IsLocation, IsConstantList, IsConversion, IsEmbedded, IsUnary, IsCallOf, IsFunction, IsShift, IsInput}
-use Rattle.quiet_expressions.specs.internal.Evaluations.{Answer, Fails, Found, outcome_of}
-use Rattle.quiet_expressions.proofs.Evaluating.{quiet_byte}
-use Rattle.code_meaning.specs.Landing.{Does, at_place}
-use Rattle.code_facts.specs.Asking.{Asks}
 use Rattle.task_meaning.proofs.Effects.{then_again}
-use Rattle.task_meaning.proofs.Fitting.{located_fits}
 use Rattle.task_meaning.proofs.KnownOperands.{number_is}
-use Rattle.task_meaning.proofs.Stages.{does_same, script_of}
-use Rattle.task_meaning.specs.Contexts.{distances_in}
-use Rattle.statement_meaning.specs.Bodies.{BodyContext, IsSoundBody}
-use Rattle.statement_meaning.proofs.Assigned.{CountsDo}
 use Rattle.statement_meaning.proofs.Firsts.{then_each}
-use Rattle.statement_meaning.proofs.FirstSteps.{going, part_first, plain_first}
-use Rattle.statement_meaning.proofs.QuietParts.{quiet_state, same_parts}
-use Rattle.statement_meaning.proofs.SameValues.{byte_is}
-use Rattle.statement_meaning.proofs.Singles.{at_address, byte_goes}
 use Rattle.task_meaning.proofs.Nodes.{node_of}
 
 -- a value that counts a BYTE

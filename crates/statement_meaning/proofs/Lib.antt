@@ -8,6 +8,7 @@ pub mod Ifs
 pub mod Whiles
 pub mod Returns
 pub mod Targets
+pub mod Gains
 pub mod Singles
 pub mod Firsts
 pub mod Assignments
@@ -34,6 +35,7 @@ pub mod LoopSteps
 pub mod LoopTests
 pub mod KnownLoops
 pub mod FirstValues
+pub mod FirstStored
 pub mod EnteredLoops
 pub mod MovedBlocks
 pub mod MoveCalls
@@ -44,3 +46,4 @@ pub mod Cases
 pub mod CaseForms
 pub mod CasesDo
 pub mod TestedLoops
+pub mod Counted

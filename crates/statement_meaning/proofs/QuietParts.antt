@@ -1,12 +1,12 @@
 -- References that are seen to be the same are located without a change, at one address.
-use Rattle.std.proofs.Common.{◌≡◌, ℕ, ◌+◌, ◌*◌, ◌%◌, ◌<◌, ◌≤◌, ◌⊎◌, inl, inr, Bool, true, false, ◌&&◌, ◌||◌, nat_eq, List, Option, Some, None, option_map, refl, sym, ap, subst, ◌∙◌, arith}
+use Rattle.std.proofs.Common.{◌≡◌, ℕ, ◌+◌, ◌%◌, ◌⊎◌, inl, inr, Bool, true, false, ◌&&◌, nat_eq, List, Option, Some, None, option_map, refl, sym, ap, subst, ◌∙◌, arith}
 use Rattle.std.proofs.lemmas.Bool.{and_parts, eqb-true}
 use Rattle.trees.specs.declared.declaration.ScalarType.{ScalarType}
-use Rattle.typed_trees.specs.TypedTrees.{At, NoSubscript, PartOf, Subscript, TypedExpression, TypedReference, ValueNode}
+use Rattle.typed_trees.specs.TypedTrees.{PartOf, Subscript, TypedExpression, TypedReference, ValueNode}
 use Rattle.typed_trees.specs.WellTyped.{RefersToScalar, TypesHold, TypesHoldInReference, TypesHoldInSubscript}
 use Rattle.meaning.specs.Access.{Place, home_of, read_scalar}
 use Rattle.meaning.specs.Meaning.{Displacement, based_place, displaced, displacement, located, no_displacement, value}
-use Rattle.meaning.specs.Outcomes.{State as SourceState, Outside, Outcome, Gave, Stopped, then_do}
+use Rattle.meaning.specs.Outcomes.{State as SourceState, Outcome, Gave, then_do}
 use Rattle.meaning.specs.Values.{as_type}
 use Rattle.isa8080.specs.State.{Registers}
 use Rattle.treecode.specs.declared.expression.Expression.{Expression}

@@ -1,18 +1,18 @@
 -- References that are seen to be the same have one address on the machine, and to locate them changes nothing.
-use Rattle.std.proofs.Common.{◌≡◌, ℕ, ◌+◌, ◌*◌, ◌%◌, ◌<◌, ◌≤◌, ◌==◌, ◌⊎◌, inl, inr, Bool, true, false, ◌&&◌, ◌||◌, nat_eq, List, Option, Some, None, refl, sym, ap, subst, ◌∙◌, arith}
+use Rattle.std.proofs.Common.{◌≡◌, ℕ, ◌+◌, ◌*◌, ◌%◌, ◌<◌, ◌⊎◌, inl, inr, Bool, true, false, ◌||◌, nat_eq, List, Option, Some, None, refl, sym, ap, subst, ◌∙◌, arith}
 use Rattle.std.proofs.lemmas.Bool.{and_parts, eqb-true}
 use Rattle.std.proofs.lemmas.Nat.{mul-mod_first}
 use Rattle.mem80.specs.declared.memory.TheConstants.{MEMORY_SIZE}
 use Rattle.trees.specs.declared.declaration.ScalarType.{ScalarType}
-use Rattle.trees.specs.declared.declaration.ScalarType.TheVariants.{Byte, Address}
+use Rattle.trees.specs.declared.declaration.ScalarType.TheVariants.{Address}
 use Rattle.typed_trees.specs.ExpressionTypes.{type_of}
-use Rattle.typed_trees.specs.TypedTrees.{At, BasedOn, ConversionNode, Elsewhere, Home, InConstants, InData, InFrame, NoSubscript, Nowhere, PartOf, Placed, Subscript, TypedExpression, TypedReference}
+use Rattle.typed_trees.specs.TypedTrees.{BasedOn, Home, InFrame, Subscript, TypedExpression}
 use Rattle.typed_trees.specs.WellTyped.{TypesHold, TypesHoldInSubscript}
-use Rattle.meaning.specs.Access.{InMemory, InTheFrame, Place, home_of, place_of, read_scalar}
-use Rattle.meaning.specs.Meaning.{Displacement, based_place, displaced, displacement, located, value}
-use Rattle.meaning.specs.Outcomes.{State as SourceState, Outcome, Gave, Stopped, then_do}
+use Rattle.meaning.specs.Access.{InMemory, Place, place_of, read_scalar}
+use Rattle.meaning.specs.Meaning.{Displacement, based_place, displaced, displacement, value}
+use Rattle.meaning.specs.Outcomes.{State as SourceState, Gave}
 use Rattle.meaning.specs.Values.{as_type}
-use Rattle.isa8080.specs.State.{Registers, wrap}
+use Rattle.isa8080.specs.State.{Registers}
 use Rattle.treecode.specs.declared.expression.Expression.{Expression}
 use Rattle.treecode.specs.declared.expression.ExpressionForm.{ExpressionForm}
 use Rattle.treecode.specs.declared.expression.ExpressionNumber.{ExpressionNumber}
@@ -21,7 +21,7 @@ use Rattle.treecode.specs.Lowered.{IsAbsent, IsExpression, IsForm, IsIndex, IsNu
 use Rattle.code_meaning.specs.Activations.{IsReady}
 use Rattle.steps8080.specs.declared.facts.Facts.{Facts}
 use Rattle.exprgen8080.specs.Emission.{knowing}
-use Rattle.statements8080.specs.SamePlaces.{are_same_leaf, are_same_scalar, are_same_subscript, are_same_subscripts, inside_conversion, unconverted}
+use Rattle.statements8080.specs.SamePlaces.{are_same_leaf, are_same_scalar, are_same_subscripts, inside_conversion, unconverted}
 use Rattle.task_meaning.specs.Contexts.{Context, IsSound, nodes_in}
 use Rattle.task_meaning.specs.Tasks.{address_on_machine}
 use Rattle.task_meaning.proofs.Nodes.{node_of}

@@ -1,5 +1,5 @@
 -- Scalars at one place have one value, which is that of the machine's memory.
-use Rattle.std.proofs.Common.{◌≡◌, ℕ, ◌+◌, ◌*◌, ◌%◌, ◌<◌, ◌≤◌, ◌==◌, inl, inr, Bool, true, false, ◌&&◌, ◌||◌, if◌then◌else◌, nat_eq, List, Option, Some, None, option_map, refl, sym, ap, subst, ◌∙◌, arith}
+use Rattle.std.proofs.Common.{◌≡◌, ℕ, ◌+◌, ◌*◌, ◌<◌, ◌≤◌, Bool, true, false, if◌then◌else◌, nat_eq, List, Option, Some, None, option_map, refl, sym, ap, ◌∙◌, arith}
 use Rattle.std.proofs.lemmas.Bool.{and_parts, eqb-true}
 use Rattle.std.proofs.lemmas.Option.{same_Some}
 use Rattle.mem80.specs.Memory.{byte_at}
@@ -8,13 +8,12 @@ use Rattle.trees.specs.declared.declaration.ScalarType.{ScalarType}
 use Rattle.trees.specs.declared.declaration.ScalarType.TheVariants.{Byte, Address}
 use Rattle.typed_trees.specs.ExpressionTypes.{type_of}
 use Rattle.typed_trees.specs.Sizes.{size_of_scalar}
-use Rattle.typed_trees.specs.TypedTrees.{ConversionNode, TypedExpression, TypedReference, ValueNode}
+use Rattle.typed_trees.specs.TypedTrees.{TypedExpression, TypedReference, ValueNode}
 use Rattle.typed_trees.specs.WellTyped.{RefersToScalar, TypesHold, TypesHoldInReference}
 use Rattle.meaning.specs.declared.reason.Reason.TheVariants.{Byte as UndeclaredByte}
-use Rattle.meaning.specs.Access.{InMemory, InTheFrame, Place, frame_bytes, is_declared, next_place, read_byte, read_scalar}
-use Rattle.meaning.specs.Meaning.{located, value}
+use Rattle.meaning.specs.Access.{InMemory, InTheFrame, Place, is_declared, next_place, read_byte, read_scalar}
+use Rattle.meaning.specs.Meaning.{value}
 use Rattle.meaning.specs.Outcomes.{State as SourceState, Outside, Outcome, Gave, Stopped, then_do}
-use Rattle.meaning.specs.Values.{as_type}
 use Rattle.isa8080.specs.State.{Registers, wrap}
 use Rattle.treecode.specs.declared.expression.Expression.{Expression}
 use Rattle.treecode.specs.declared.expression.ExpressionForm.{ExpressionForm}
@@ -28,7 +27,6 @@ use Rattle.code_facts.specs.Holding.{IsSteady, location_at}
 use Rattle.code_facts.proofs.Places.{same_locations}
 use Rattle.steps8080.specs.declared.facts.Facts.{Facts}
 use Rattle.steps8080.specs.Facts.{same_location}
-use Rattle.sites8080.specs.declared.site.Site.{Site}
 use Rattle.sites8080.specs.Queries.{location_of, number}
 use Rattle.exprgen8080.specs.Emission.{knowing}
 use Rattle.statements8080.specs.SamePlaces.{are_same_leaf, are_same_placed, are_same_scalar, same_scalar, scalar_at, scalar_of_form}

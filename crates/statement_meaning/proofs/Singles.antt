@@ -38,16 +38,19 @@ use Rattle.task_meaning.specs.Tasks.{AddressDoes, AddressIsGiven, address_on_mac
 use Rattle.task_meaning.proofs.Effects.{then_again}
 use Rattle.task_meaning.proofs.Fitting.{located_fits, refers_is_referred}
 use Rattle.task_meaning.proofs.Reading.{FitsIn}
-use Rattle.task_meaning.proofs.Rules.{plain_goes, ready_with_registers, registers_go}
+use Rattle.task_meaning.proofs.Rules.{ready_with_registers, registers_go}
 use Rattle.task_meaning.proofs.Stages.{at_carried, does_same, script_of}
+use Rattle.task_meaning.proofs.StoredValues.{without_more}
+use Rattle.task_meaning.proofs.Stores.{plain_gains}
 use Rattle.task_meaning.proofs.WordWriting.{first_fits, next_address, second_fits}
 use Rattle.task_meaning.proofs.Writing.{byte_written}
 use Rattle.statement_meaning.specs.Bodies.{BodyContext, IsSoundBody}
 use Rattle.statement_meaning.proofs.FirstSteps.{Stand, going, part_first, plain_first}
+use Rattle.statement_meaning.proofs.Gains.{target_spares}
 use Rattle.statement_meaning.proofs.Outcomes.{Between}
-use Rattle.statement_meaning.proofs.Targets.{as_register, at_any_value, Suits, target_stored}
+use Rattle.statement_meaning.proofs.Targets.{as_register, at_any_value, Suits}
 
--- an instruction that writes a byte at the address in HL
+-- an instruction that writes a byte at the address in HL, which makes a step to spare
 pub byte_goes :
     {A : Type 0} {need : ℕ} {base : List ℕ} {facts : Facts} {Good : A → SourceState → State → Type 0}
     (at : BodyContext) (i : Instr) (from : ℕ) (place : Place) (byte : ℕ) (t : SourceState) (r now : Registers) (memory : List ℕ)
@@ -68,7 +71,7 @@ pub byte_goes :
     → Between at need base u (after facts i) now (slice_set memory (word r.h r.l) byte)
     → Does (script_of at.context) u.budget 0
     (at_place (from + size_of_instruction i) now (slice_set memory (word r.h r.l) byte) u.events) (go tt u) Good)
-    → Does (script_of at.context) t.budget 0 (at_place from r memory t.events)
+    → Does (script_of at.context) t.budget 1 (at_place from r memory t.events)
     (then_do (write_byte at.context.activation.around.program place byte t) go) Good
 byte_goes {need = need} {base = base} {facts = facts} {Good = Good} at i from place byte t r now memory go sound there small hl fits asks does pointer bytes stage rest =
     let script = script_of at.context in
@@ -78,7 +81,7 @@ byte_goes {need = need} {base = base} {facts = facts} {Good = Good} at i from pl
     let same : slice_set memory (address_on_machine at.context.activation place) byte ≡ left =
     ap (λ (n : ℕ). slice_set memory n byte) (sym hl) in
     let below = stage.below in
-    plain_goes r now left t.events sound.sound there (record { ready = stage.ready; known = stage.known }) (asks steady) does
+    plain_gains r now left t.events sound.sound there (record { ready = stage.ready; known = stage.known }) (asks steady) does
     (λ known.
     subst (λ (budget : ℕ). Does script budget 0 (at_place (from + size_of_instruction i) now left t.events) (go tt u) Good) budget_same
     (subst (λ (events : List _). Does script u.budget 0 (at_place (from + size_of_instruction i) now left events) (go tt u) Good) events_same
@@ -93,8 +96,8 @@ byte_goes {need = need} {base = base} {facts = facts} {Good = Good} at i from pl
 
 -- the address of a scalar into HL
 pub at_address :
-    {B : Type 0} {need bound : ℕ} {base : List ℕ} {t : SourceState} {facts found : Facts} {r : Registers} {memory : List ℕ}
-    {tree : TypedReference} {Good : B → SourceState → State → Type 0}
+    {B : Type 0} {need bound more : ℕ} {base : List ℕ} {t : SourceState} {facts found : Facts} {r : Registers}
+    {memory : List ℕ} {tree : TypedReference} {Good : B → SourceState → State → Type 0}
     (at : BodyContext) (scalar : ScalarType) (from middle : ℕ) (reference : Reference) (go : Place → SourceState → Outcome B)
     → IsSoundBody at
     → AddressDoes at.context facts reference 0 from found middle
@@ -107,8 +110,8 @@ pub at_address :
     → located at.context.later at.context.activation.around tree t ≡ Gave place u
     → AddressIsGiven at.context found reference r memory place now memory_now
     → Between at need base u found now memory_now
-    → Does (script_of at.context) u.budget 0 (at_place middle now memory_now u.events) (go place u) Good)
-    → Does (script_of at.context) t.budget 0 (at_place from r memory t.events)
+    → Does (script_of at.context) u.budget more (at_place middle now memory_now u.events) (go place u) Good)
+    → Does (script_of at.context) t.budget more (at_place from r memory t.events)
     (then_do (located at.context.later at.context.activation.around tree t) go) Good
 at_address {bound = bound} {found = found} {r = r} {memory = memory} {tree = tree} at scalar from middle reference go sound does is refers types fits stage rest =
     at_carried from middle found
@@ -140,9 +143,10 @@ module _
       → Between at need base u here.facts r memory
       → Does (script_of at.context) u.budget 0 (at_place place r memory u.events) (go tt u) Good
 
+  -- the target gets the value, with a step to spare
   abbrev pub Goal : (to_tree : TypedTarget) (from : ℕ) (s : SourceState) (r : Registers) (memory : List ℕ) → Type 0
   Goal to_tree from s r memory =
-      Does (script_of at.context) s.budget 0 (at_place from r memory s.events)
+      Does (script_of at.context) s.budget 1 (at_place from r memory s.events)
       (then_do (value at.context.later at.context.activation.around tree s)
       (λ n t. then_do (stored at.context.later at.context.activation.around to_tree n t) go)) Good
 
@@ -165,15 +169,15 @@ module _
       let second = part_first first.rest in
       at_any_value at there from first.middle of first.does is types fits stage
       (λ n u now kept in_register small is_small next.
-      target_stored at scalar there first.middle second.middle n (as_register there n) target to_tree go second.does target_is target_types
+      target_spares at scalar there first.middle second.middle n (as_register there n) target to_tree go second.does target_is target_types
       (suits n is_small) small tall in_register next
-      (λ v here_now held wanted there_now. rest (going here.goes_on second.known) second.middle v here_now held goes second.rest there_now))
+      (λ v here_now held there_now. rest (going here.goes_on second.known) second.middle v here_now held goes second.rest there_now))
 
   -- the value is a number
   module _ (known : ℕ) (value_is : (s : SourceState) → value at.context.later at.context.activation.around tree s ≡ Gave known s) where
     of_number :
         (to_tree : TypedTarget) (from : ℕ) (s : SourceState) (r : Registers) (memory : List ℕ)
-        → Does (script_of at.context) s.budget 0 (at_place from r memory s.events)
+        → Does (script_of at.context) s.budget 1 (at_place from r memory s.events)
         (then_do (stored at.context.later at.context.activation.around to_tree known s) go) Good
         → Goal to_tree from s r memory
     of_number to_tree from s r memory does =
@@ -234,7 +238,7 @@ module _
         let program = at.context.activation.around.program in
         let same : as_type Address known ≡ known = omega (arith, small) in
         of_number (StoredIn from_scalar Address part_tree) from s r memory
-        (subst (λ (n : ℕ). Does (script_of at.context) s.budget 0 (at_place from r memory s.events)
+        (subst (λ (n : ℕ). Does (script_of at.context) s.budget 1 (at_place from r memory s.events)
         (then_do (then_do (located at.context.later at.context.activation.around part_tree s)
         (λ place t. write_scalar program Address place n t)) go) Good) (sym same)
         (does_same _
@@ -253,11 +257,12 @@ module _
         (λ _ t. then_do (write_byte program (next_place place) (known / 256) t) go) sound second.there (omega arith) given.hl
         (first_fits at.context.activation place two_fit) (λ steady. tt) refl refl held next
         (λ v once.
-        registers_go now two sound.sound third.there (record { ready = once.ready; known = once.known }) tt refl refl
+        without_more
+        (registers_go now two sound.sound third.there (record { ready = once.ready; known = once.known }) tt refl refl
         (record { a = held.a; b = held.b; c = held.c; d = held.d; e = held.e; h = omega arith; l = omega arith })
         (λ on_two.
         byte_goes at (Mvi M (high known)) _ (next_place place) (known / 256) v two two _ go sound fourth.there (omega (arith, small))
         (after_one now.h now.l (address_on_machine at.context.activation place) given.hl ∙ sym (next_address at.context.activation place))
         (second_fits at.context.activation place two_fit) (λ steady. tt) refl refl on_two.ready.registers
         (record { below = once.below; room = once.room; ready = on_two.ready; known = on_two.known })
-        (λ w there_now. rest (going here.goes_on _) _ w two _ goes fourth.rest there_now))))))))
+        (λ w there_now. rest (going here.goes_on _) _ w two _ goes fourth.rest there_now)))))))))

@@ -56,7 +56,7 @@ pub retyped_types :
 retyped_types at scalar there (StoredIn from to part) types = (refl, types.1, types.2)
 retyped_types at scalar there (SentTo from port) types = refl
 
-retyped_height : (tree : TypedTarget) (there : ScalarType) → height_of_target (retyped tree there) ≡ height_of_target tree
+pub retyped_height : (tree : TypedTarget) (there : ScalarType) → height_of_target (retyped tree there) ≡ height_of_target tree
 retyped_height (StoredIn from to part) there = refl
 retyped_height (SentTo from port) there = refl
 
@@ -65,7 +65,7 @@ abbrev pub Suits : TypedTarget → (number other : ℕ) → Type 0
 Suits (StoredIn from to part) number other = as_type to other ≡ as_type to number
 Suits (SentTo from port) number other = other % 256 ≡ number % 256
 
-stored_alike :
+pub stored_alike :
     (at : BodyContext) (tree : TypedTarget) (there : ScalarType) (number other : ℕ) (s : SourceState)
     → Suits tree number other
     → stored at.context.later at.context.activation.around (retyped tree there) other s

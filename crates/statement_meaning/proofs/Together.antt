@@ -9,7 +9,8 @@ use Rattle.steps8080.specs.declared.facts.Facts.{Facts}
 use Rattle.codegen8080.specs.declared.meeting.Here.{Here}
 use Rattle.statement_meaning.specs.Bodies.{BodyContext, IsSoundBody}
 use Rattle.statement_meaning.specs.Statements.{StatementStands, StatementsDo}
-use Rattle.statement_meaning.proofs.Assigned.{CountsDo, assignment_does}
+use Rattle.statement_meaning.proofs.Assigned.{assignment_does}
+use Rattle.statement_meaning.proofs.Counted.{counts_do}
 use Rattle.statement_meaning.proofs.Ifs.{if_does}
 use Rattle.statement_meaning.proofs.Returns.{return_does}
 use Rattle.statement_meaning.proofs.Simple.{FormDoes, call_does, do_does, form_does, goto_does, halt_does, label_does, null_does}
@@ -24,7 +25,6 @@ FormStands at statement =
 
 -- what is asked of the forms that stand elsewhere
 pub record OthersDo (at : BodyContext) : Type 0 where
-  pub counts : CountsDo at
   pub moves : (count source destination : ExpressionNumber) → FormStands at (statements.Move count source destination)
   pub iterations : (head : Iteration) (list : Range) → FormStands at (statements.Iterate head list)
   pub cases : (choice : ExpressionNumber) (list : Range) → FormStands at (statements.Case choice list)
@@ -36,7 +36,7 @@ statements_do at sound others before number statement label from after to there 
     by : (of : Statement) → StatementStands at before of label from after to → FormDoes at before of from after to
     by (statements.Label of) stands = label_does at before of label from after to stands
     by statements.Null stands = null_does at before label from after to stands
-    by (statements.Assignment targets value) stands = assignment_does at before targets value label from after to sound others.counts stands
+    by (statements.Assignment targets value) stands = assignment_does at before targets value label from after to sound (counts_do at) stands
     by (statements.Call procedure arguments) stands = call_does at before procedure arguments label from after to stands
     by (statements.Move count source destination) stands = others.moves count source destination before label from after to stands
     by (statements.Return value) stands = return_does at before value label from after to sound stands
