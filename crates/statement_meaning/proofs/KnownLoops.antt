@@ -64,7 +64,7 @@ pub record ToKnown {at : BodyContext} (loop : Loop at) (scalar : ScalarType) (la
       → step_value at.context.later at.context.activation.around (loop.head).step s ≡ Gave 1 s
 
 -- the variable has the type
-counted_as : {at : BodyContext} (loop : Loop at) (head : Iteration) (list : Range) (scalar : ScalarType)
+pub counted_as : {at : BodyContext} (loop : Loop at) (head : Iteration) (list : Range) (scalar : ScalarType)
     → Iterates at loop head list → (loop.head).scalar ≡ scalar → IsCounted at.context (loop.head).variable scalar
 counted_as {at = at} loop head list scalar iterates same =
     subst (λ (scalar : ScalarType). IsCounted at.context (loop.head).variable scalar) same iterates.counted

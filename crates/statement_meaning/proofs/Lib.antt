@@ -33,6 +33,11 @@ pub mod SteadyReads
 pub mod LoopRules
 pub mod LoopSteps
 pub mod LoopTests
+pub mod GeneralParts
+pub mod GeneralLoops
+pub mod GeneralTests
+pub mod LoopSums
+pub mod LoopWordSums
 pub mod KnownLoops
 pub mod FirstValues
 pub mod FirstStored

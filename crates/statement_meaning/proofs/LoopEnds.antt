@@ -1,5 +1,6 @@
 -- The ends of loops, and entering them.
 use Rattle.std.proofs.Common.{◌≡◌, ℕ, ◌+◌, ◌*◌, ◌≤◌, Bool, true, false, [], ◌∷◌, ◌++◌, Option, sym, ap, subst, ◌∙◌}
+use Rattle.std.specs.Prelude.{IfSome}
 use Rattle.typed_trees.specs.Charge.{height_of, height_of_list, height_of_optional}
 use Rattle.typed_trees.specs.Jumps.{ListStands}
 use Rattle.typed_trees.specs.WellTyped.{TypesHold, TypesHoldInList}
@@ -30,6 +31,7 @@ pub record Iterates (at : BodyContext) (loop : Loop at) (head : Iteration) (list
   pub is : IsIteration (nodes_in at.context) at.context.storage head loop.head
   pub first_types : TypesHold at.context.typed at.context.within (loop.head).first
   pub last_types : TypesHold at.context.typed at.context.within (loop.head).last
+  pub step_types : IfSome (loop.head).step (TypesHold at.context.typed at.context.within)
   pub first_fits : 2 * height_of (loop.head).first ≤ loop.need
   pub last_fits : 2 * height_of (loop.head).last ≤ loop.need
   pub step_fits : 2 * height_of_optional (loop.head).step ≤ loop.need

@@ -85,7 +85,7 @@ byte_comes {context = context} {top = top} {need = need} {base = base} {tree = t
     (next n u arrives.r arrives.memory found middle gave (record { small = (arrives.holds).small; a = (arrives.holds).a }) spent rest
     (record { below = omega (arith, below, spent); room = stage.room; ready = arrives.ready; known = (arrives.holds).known })))
 
-of_any_type : (scalar : ScalarType) (n : ℕ) → n < values_of scalar → n < 65536
+pub of_any_type : (scalar : ScalarType) (n : ℕ) → n < values_of scalar → n < 65536
 of_any_type Byte n small = omega (arith, small)
 of_any_type Address n small = small
 
