@@ -38,6 +38,7 @@ pub mod GeneralLoops
 pub mod GeneralTests
 pub mod LoopSums
 pub mod LoopWordSums
+pub mod LoopFrameSums
 pub mod KnownLoops
 pub mod FirstValues
 pub mod FirstStored

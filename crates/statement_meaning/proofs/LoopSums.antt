@@ -6,11 +6,13 @@ use Rattle.mem80.specs.Memory.{byte_at}
 use Rattle.mem80.proofs.MemoryLemmas.{byte_small}
 use Rattle.trees.specs.declared.declaration.ScalarType.TheVariants.{Byte, Address}
 use Rattle.typed_trees.specs.Charge.{height_of}
+use Rattle.typed_trees.specs.ExpressionTypes.{type_of}
 use Rattle.typed_trees.specs.TypedTrees.{TypedExpression}
 use Rattle.typed_trees.specs.WellTyped.{TypesHold}
 use Rattle.meaning.specs.Access.{Place as SourcePlace}
 use Rattle.meaning.specs.Meaning.{next_turn, step_value, value}
 use Rattle.meaning.specs.Outcomes.{State as SourceState, Outcome, Gave, then_do, Flow, Onward}
+use Rattle.meaning.specs.Values.{values_of}
 use Rattle.isa8080.specs.declared.instr.Condition.TheVariants.{Carry, NotZero}
 use Rattle.isa8080.specs.declared.instr.Instr.TheVariants.{Accumulate, MovToMemory, Xchg}
 use Rattle.isa8080.specs.declared.instr.Operand.TheVariants.{M}
@@ -66,7 +68,8 @@ pub add_byte :
     {facts found : Facts} {from to : ℕ} (t : SourceState) (r : Registers) (memory : List ℕ)
     → HasStep loop Byte limit end
     → HasAdded loop step tree
-    → ((s u : SourceState) (n : ℕ) → value at.context.later at.context.activation.around tree s ≡ Gave n u → n < 256)
+    → ((s u : SourceState) (n : ℕ) → value at.context.later at.context.activation.around tree s ≡ Gave n u
+    → n < values_of (type_of tree) → n < 256)
     → Steps at.context facts from
     (byte_step step ∷ address_step (loop.head).variable ∷ steps.Plain (Accumulate Add M) ∷ steps.Plain (MovToMemory A)
     ∷ steps.Jump (JumpWhere Carry) end ∷ []) found to
@@ -83,7 +86,7 @@ add_byte {at = at} loop limit step tree end t r memory has added_value is_byte s
     ∙ ap (λ (one : Option TypedExpression). then_do (step_value at.context.later at.context.activation.around one t) (stepped_with loop Byte)) added_value.is_step)
     (byte_comes step (stepped_with loop Byte) t r memory added_value.is added_value.types added_value.fits stand stage
     (λ n u now memory_now known middle gave comes spent rest there.
-    let small = is_byte t u n gave in
+    let small = is_byte t u n gave comes.small in
     address_then counted has.enough rest there
     (λ known_address place at_variable memory_then at_add holds here.
     let number : ℕ = byte_at memory_then address in
