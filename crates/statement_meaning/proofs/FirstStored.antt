@@ -1,5 +1,5 @@
 -- The variable of an iterative DO gets its first value, with a step to spare, and what is planned after it stands.
-use Rattle.std.proofs.Common.{◌≡◌, ℕ, ◌+◌, ◌*◌, ◌≤◌, true, List, ◌++◌, None, refl, sym, ap, subst, ◌∙◌}
+use Rattle.std.proofs.Common.{◌≡◌, ℕ, true, List, ◌++◌, None, refl, sym, ap, subst, ◌∙◌}
 use Rattle.trees.specs.declared.declaration.ScalarType.{ScalarType}
 use Rattle.typed_trees.specs.ExpressionTypes.{type_of}
 use Rattle.typed_trees.specs.TypedTrees.{StoredIn}
@@ -24,7 +24,6 @@ use Rattle.statements8080.specs.Assignments.{single_steps}
 use Rattle.statements8080.specs.Bodies.{whole}
 use Rattle.statements8080.specs.Counters.{counter_of}
 use Rattle.statements8080.specs.Iterations.{first_steps}
-use Rattle.codegen8080.specs.declared.meeting.Here.{Here}
 use Rattle.codegen8080.specs.Generated.{site_of}
 use Rattle.task_meaning.specs.Tasks.{Know}
 use Rattle.task_meaning.proofs.Stages.{does_same, script_of}
@@ -32,7 +31,7 @@ use Rattle.statement_meaning.specs.Bodies.{BodyContext}
 use Rattle.statement_meaning.proofs.Assigned.{scalar_there}
 use Rattle.statement_meaning.proofs.Assignments.{single_does}
 use Rattle.statement_meaning.proofs.Counted.{counted_does}
-use Rattle.statement_meaning.proofs.CountedVariables.{variable_place, whole_is, whole_tree, whole_types}
+use Rattle.statement_meaning.proofs.CountedVariables.{whole_is, whole_tree, whole_types}
 use Rattle.statement_meaning.proofs.Firsts.{then_each}
 use Rattle.statement_meaning.proofs.FirstSteps.{going}
 use Rattle.statement_meaning.proofs.LoopEnds.{Iterates}

@@ -1,5 +1,5 @@
 -- Steps to spare: a store makes one, which what follows it may spend.
-use Rattle.std.proofs.Common.{◌≡◌, ℕ, ◌+◌, ◌*◌, ◌<◌, ◌≤◌, false, List, sym, ap, subst, arith}
+use Rattle.std.proofs.Common.{ℕ, ◌+◌, ◌*◌, ◌<◌, ◌≤◌, false, List, sym, ap, subst, arith}
 use Rattle.trees.specs.declared.declaration.ScalarType.{ScalarType}
 use Rattle.typed_trees.specs.Charge.{height_of_target}
 use Rattle.typed_trees.specs.TypedTrees.{TypedTarget}
@@ -16,7 +16,7 @@ use Rattle.code_meaning.proofs.Landing.{told_on}
 use Rattle.steps8080.specs.declared.facts.Facts.{Facts}
 use Rattle.statements8080.specs.Assignments.{from_type}
 use Rattle.task_meaning.specs.Contexts.{InRegister, nodes_in}
-use Rattle.task_meaning.specs.Tasks.{IsStored as WasStored, StoreDoes}
+use Rattle.task_meaning.specs.Tasks.{StoreDoes}
 use Rattle.task_meaning.proofs.Stages.{does_same, has_less_room, script_of}
 use Rattle.statement_meaning.specs.Bodies.{BodyContext}
 use Rattle.statement_meaning.proofs.Outcomes.{Between}

@@ -53,3 +53,6 @@ pub mod CaseForms
 pub mod CasesDo
 pub mod TestedLoops
 pub mod Counted
+pub mod IterateHeads
+pub mod ToKnownLoops
+pub mod Iterated
