@@ -39,6 +39,8 @@ pub mod GeneralTests
 pub mod LoopSums
 pub mod LoopWordSums
 pub mod LoopFrameSums
+pub mod GeneralSteps
+pub mod GeneralDo
 pub mod KnownLoops
 pub mod FirstValues
 pub mod FirstStored
