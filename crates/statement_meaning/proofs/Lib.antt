@@ -40,6 +40,7 @@ pub mod LoopSums
 pub mod LoopWordSums
 pub mod LoopFrameSums
 pub mod GeneralSteps
+pub mod PlaceTests
 pub mod GeneralDo
 pub mod KnownLoops
 pub mod FirstValues
