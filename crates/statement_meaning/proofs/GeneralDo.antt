@@ -1,9 +1,8 @@
 -- An iterative DO in its general form does what it says, and with it each iterative DO.
-use Rattle.std.proofs.Common.{◌≡◌, ℕ, ◌<◌, ◌≤◌, Bool, true, false, nat_le, List, Option, Some, refl, sym, ap, subst, arith}
+use Rattle.std.proofs.Common.{◌≡◌, ℕ, ◌<◌, ◌≤◌, Bool, true, false, List, Some, None, refl, subst, arith}
 use Rattle.std.proofs.lemmas.Bool.{leb-true}
 use Rattle.meaning.specs.Outcomes.{State as SourceState}
 use Rattle.isa8080.specs.State.{Registers}
-use Rattle.treecode.specs.declared.expression.ExpressionNumber.{ExpressionNumber}
 use Rattle.treecode.specs.declared.lists.Range.{Range}
 use Rattle.treecode.specs.declared.statement.Iteration.{Iteration}
 use Rattle.steps8080.specs.declared.facts.Facts.{Facts}
@@ -24,13 +23,14 @@ use Rattle.statement_meaning.proofs.FirstSteps.{going}
 use Rattle.statement_meaning.proofs.FirstStored.{FirstThere, first_stored}
 use Rattle.statement_meaning.proofs.GeneralLoops.{FormsDo, GeneralEntry, general_stands}
 use Rattle.statement_meaning.proofs.GeneralSteps.{step_does, step_is_code}
-use Rattle.statement_meaning.proofs.GeneralTests.{PlaceTests, test_does, test_is_code}
+use Rattle.statement_meaning.proofs.GeneralTests.{test_does, test_is_code}
 use Rattle.statement_meaning.proofs.IterateHeads.{KnownEntry, counter_is, entry_value, number_of_head}
 use Rattle.statement_meaning.proofs.Iterated.{GeneralDoes, IsGeneral}
 use Rattle.statement_meaning.proofs.KnownLoops.{counter_for}
 use Rattle.statement_meaning.proofs.LoopEnds.{Iterates}
 use Rattle.statement_meaning.proofs.LoopTests.{HasLast}
 use Rattle.statement_meaning.proofs.LoopTurns.{Loop, Out, StageAt}
+use Rattle.statement_meaning.proofs.PlaceTests.{place_tests_do}
 use Rattle.statement_meaning.proofs.PlannedParts.{Stand}
 
 -- the counter of a loop
@@ -38,20 +38,12 @@ abbrev own_counter : {at : BodyContext} (loop : Loop at) (head : Iteration) (lis
 own_counter {at = at} loop head list iterates =
     counter_for at (loop.head).variable (loop.head).scalar (Some (iterates.counted).location)
 
--- what is left: the test of an ADDRESS in memory against an ADDRESS at a place
-abbrev pub PlaceTestsDo : BodyContext → Type 0
-PlaceTestsDo at =
-    (loop : Loop at) (head : Iteration) (list : Range) (facts : Facts) (first : ℕ)
-    → Iterates at loop head list
-    → PlaceTests loop head.last facts (label_of first)
-
 -- the step and the test of a loop do what they mean
 forms_do :
     {at : BodyContext} (loop : Loop at) (head : Iteration) (list : Range) (facts : Facts) (first : ℕ)
     (iterates : Iterates at loop head list)
-    → PlaceTests loop head.last facts (label_of first)
     → FormsDo loop (knowing (site_of at.body) facts) (own_counter loop head list iterates) head first
-forms_do {at = at} loop head list facts first iterates places = record {
+forms_do {at = at} loop head list facts first iterates = record {
   step_is_code = step_is_code (knowing (site_of at.body) facts) (own_counter loop head list iterates) head.step first;
   test_is_code =
       test_is_code (own_counter loop head list iterates)
@@ -59,13 +51,18 @@ forms_do {at = at} loop head list facts first iterates places = record {
   step_does = λ stand. step_does loop head list facts first iterates stand;
   test_does = λ stand.
       test_does loop (loop.head).scalar head.last facts (label_of first) iterates.sound refl iterates.counted
-      (let enough = iterates.enough in omega (arith, enough))
-      (record { is = (iterates.is).last; types = iterates.last_types; fits = iterates.last_fits }) places stand;
+      need_is has_last (place_tests_do loop head.last facts (label_of first) iterates.sound need_is has_last) stand;
 }
+  where
+    need_is : 2 ≤ loop.need
+    need_is = let enough = iterates.enough in omega (arith, enough)
+
+    has_last : HasLast loop head.last
+    has_last = record { is = (iterates.is).last; types = iterates.last_types; fits = iterates.last_fits }
 
 -- the general form does what it means
-pub general_does : (at : BodyContext) → PlaceTestsDo at → GeneralDoes at
-general_does at places loop head list facts label from s r memory iterates budget_is stage is_tested is stores entry =
+pub general_does : (at : BodyContext) → GeneralDoes at
+general_does at loop head list facts label from s r memory iterates budget_is stage is_tested is stores entry =
     by is_tested refl
     (subst (λ (counter : Counter). Does (script_of at.context) s.budget 1 (at_place from r memory s.events) (first_stored loop s)
     (FirstThere loop (general_steps (knowing (site_of at.body) facts) counter head is_tested list label)))
@@ -77,11 +74,11 @@ general_does at places loop head list facts label from s r memory iterates budge
     others : (tested : Bool) → List Planned
     others tested = general_steps site (own_counter loop head list iterates) head tested list label
 
-    entered : (tested : Bool) (known : Facts) (place : ℕ) → Stand at (going true known) Rattle.std.proofs.Common.None place (others tested) loop.after loop.to
+    entered : (tested : Bool) (known : Facts) (place : ℕ) → Stand at (going true known) None place (others tested) loop.after loop.to
         → GeneralEntry loop tested known place
     entered tested known place stand =
         general_stands loop head list site (own_counter loop head list iterates) tested label known place iterates
-        (forms_do loop head list facts label iterates (places loop head list facts label iterates)) stand
+        (forms_do loop head list facts label iterates) stand
 
     by : (tested : Bool) → is_tested ≡ tested
         → Does (script_of at.context) s.budget 1 (at_place from r memory s.events) (first_stored loop s) (FirstThere loop (others is_tested))

@@ -30,7 +30,8 @@ use Rattle.steps8080.specs.Instructions.{with_register}
 use Rattle.sites8080.specs.declared.site.Site.{Site}
 use Rattle.sites8080.specs.Queries.{direct}
 use Rattle.sites8080.specs.Site.{expression}
-use Rattle.sites8080.specs.Widths.{direct_word, word_in_memory}
+use Rattle.std.specs.Prelude.{option_and_then}
+use Rattle.sites8080.specs.Widths.{direct_word, word_in_memory, word_of}
 use Rattle.exprgen8080.specs.Emission.{knowing}
 use Rattle.codegen8080.specs.Generated.{load_word_steps, site_of}
 use Rattle.statements8080.specs.declared.bound.Test.TheVariants as tests
@@ -165,3 +166,44 @@ place_tests {at = at} loop limit last turn turn_facts site_facts place {loaded =
         (sym (ap (λ (m : ℕ). m % 256) same) ∙ read.low) (sym (ap (λ (m : ℕ). m / 256) same) ∙ read.high)
         read.low_steady read.high_steady low high steady steady_too stand enters fewer there goes
     by n gave steady steady_too in_hl memory_then low high there (inr outside) = absurd (not_outside outcome n t gave outside)
+
+-- a word at a place, as other code sees it
+direct_word_is : (site : Site) (number : ExpressionNumber) (place : Place) → word_at site number ≡ Some place
+    → direct_word site number ≡ Some place
+unfolding direct_word word_in_memory
+direct_word_is site number place is = by (expression site number) is
+  where
+    by_form : (form : ExpressionForm) (scalar : ScalarType) → word_of_form site form scalar ≡ Some place
+        → option_and_then (direct site) (word_of form scalar) ≡ Some place
+    by_form (forms.Value reference) Address is = is
+    by_form (forms.Value reference) Byte is = let never : ⊥ = cc in absurd never
+    by_form other scalar is = let never : ⊥ = cc in absurd never
+
+    by : (found : Option Expression)
+        → elim found as (λ (found : Option Expression). Option Place) [
+          | Some one ↦ word_of_form site one.form one.traits.scalar
+          | None ↦ None
+        ] ≡ Some place
+        → option_and_then (direct site)
+        (option_and_then (λ (one : Expression). word_of one.form one.traits.scalar) found) ≡ Some place
+    by (Some found) is = by_form found.form found.traits.scalar is
+    by None is = let never : ⊥ = cc in absurd never
+
+-- the test does what it means
+pub place_tests_do :
+    {at : BodyContext} (loop : Loop at) (last : ExpressionNumber) (facts : Facts) (turn : LabelNumber)
+    → IsSoundBody at
+    → 2 ≤ loop.need
+    → HasLast loop last
+    → PlaceTests loop last facts turn
+unfolding test_steps
+place_tests_do {at = at} loop last facts turn sound enough has counted own other here after waiting from to same lies there stand
+    limit turn_facts runs enters goes t r memory fewer stage =
+    let loaded = word_parted stand in
+    place_tests loop limit last turn turn_facts facts other t r memory
+    (record { sound = sound; scalar_is = same; counted = counted; enough = enough; turns = runs }) has
+    (ap (λ (one : Site). direct_word (knowing one facts) last) sound.site
+    ∙ direct_word_is (knowing (site_of at.body) facts) last other there)
+    (at_site (λ site. load_word_steps site (whole (loop.head).variable)) sound loaded.stand)
+    (all_code (place_compare other turn) loaded.rest)
+    enters fewer stage goes
