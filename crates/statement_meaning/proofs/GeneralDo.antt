@@ -5,6 +5,7 @@ use Rattle.meaning.specs.Outcomes.{State as SourceState}
 use Rattle.isa8080.specs.State.{Registers}
 use Rattle.treecode.specs.declared.lists.Range.{Range}
 use Rattle.treecode.specs.declared.statement.Iteration.{Iteration}
+use Rattle.treecode.specs.declared.statement.Statement.TheVariants as statements
 use Rattle.steps8080.specs.declared.facts.Facts.{Facts}
 use Rattle.steps8080.specs.Step.{label_of}
 use Rattle.sites8080.specs.declared.site.Site.{Site}
@@ -14,10 +15,12 @@ use Rattle.statements8080.specs.declared.plan.Planned.{Planned}
 use Rattle.statements8080.specs.Counters.{counter_of}
 use Rattle.statements8080.specs.Iterations.{general_steps}
 use Rattle.statements8080.specs.Tests.{test_of}
+use Rattle.codegen8080.specs.declared.meeting.Here.{Here}
 use Rattle.codegen8080.specs.Generated.{site_of}
 use Rattle.code_meaning.specs.Landing.{Does, at_place}
 use Rattle.task_meaning.proofs.Stages.{script_of}
-use Rattle.statement_meaning.specs.Bodies.{BodyContext}
+use Rattle.statement_meaning.specs.Bodies.{BodyContext, IsSoundBody}
+use Rattle.statement_meaning.specs.Statements.{StatementStands}
 use Rattle.statement_meaning.proofs.EnteredLoops.{enters_surely, enters_then, whole_loop}
 use Rattle.statement_meaning.proofs.FirstSteps.{going}
 use Rattle.statement_meaning.proofs.FirstStored.{FirstThere, first_stored}
@@ -25,11 +28,12 @@ use Rattle.statement_meaning.proofs.GeneralLoops.{FormsDo, GeneralEntry, general
 use Rattle.statement_meaning.proofs.GeneralSteps.{step_does, step_is_code}
 use Rattle.statement_meaning.proofs.GeneralTests.{test_does, test_is_code}
 use Rattle.statement_meaning.proofs.IterateHeads.{KnownEntry, counter_is, entry_value, number_of_head}
-use Rattle.statement_meaning.proofs.Iterated.{GeneralDoes, IsGeneral}
+use Rattle.statement_meaning.proofs.Iterated.{GeneralDoes, iterate_does}
 use Rattle.statement_meaning.proofs.KnownLoops.{counter_for}
 use Rattle.statement_meaning.proofs.LoopEnds.{Iterates}
 use Rattle.statement_meaning.proofs.LoopTests.{HasLast}
 use Rattle.statement_meaning.proofs.LoopTurns.{Loop, Out, StageAt}
+use Rattle.statement_meaning.proofs.Simple.{FormDoes}
 use Rattle.statement_meaning.proofs.PlaceTests.{place_tests_do}
 use Rattle.statement_meaning.proofs.PlannedParts.{Stand}
 
@@ -97,3 +101,12 @@ general_does at loop head list facts label from s r memory iterates budget_is st
         record { facts = found.turn_facts; turns = found.runs same; enters = found.enters same })
         (λ u now memory_now stored_is ready_now steady.
         leb-true _ _ (entry_value loop head list facts true s u iterates its stored_is stage.ready ready_now steady))
+
+-- each iterative DO does what it says
+pub each_iterate_does :
+    (at : BodyContext) (before : Facts) (head : Iteration) (list : Range) (label from : ℕ) (after : Here) (to : ℕ)
+    → IsSoundBody at
+    → StatementStands at before (statements.Iterate head list) label from after to
+    → FormDoes at before (statements.Iterate head list) from after to
+each_iterate_does at before head list label from after to sound stands =
+    iterate_does at before head list label from after to sound (general_does at) stands

@@ -42,6 +42,7 @@ pub mod LoopFrameSums
 pub mod GeneralSteps
 pub mod PlaceTests
 pub mod GeneralDo
+pub mod AllStatements
 pub mod KnownLoops
 pub mod FirstValues
 pub mod FirstStored
