@@ -1,8 +1,6 @@
 -- An iterative DO in its general form does what it says, and with it each iterative DO.
-use Rattle.std.proofs.Common.{◌≡◌, ℕ, ◌<◌, ◌≤◌, Bool, true, false, List, Some, None, refl, subst, arith}
+use Rattle.std.proofs.Common.{◌≡◌, ℕ, ◌≤◌, Bool, true, false, List, Some, None, refl, subst, arith}
 use Rattle.std.proofs.lemmas.Bool.{leb-true}
-use Rattle.meaning.specs.Outcomes.{State as SourceState}
-use Rattle.isa8080.specs.State.{Registers}
 use Rattle.treecode.specs.declared.lists.Range.{Range}
 use Rattle.treecode.specs.declared.statement.Iteration.{Iteration}
 use Rattle.treecode.specs.declared.statement.Statement.TheVariants as statements
@@ -12,7 +10,6 @@ use Rattle.sites8080.specs.declared.site.Site.{Site}
 use Rattle.exprgen8080.specs.Emission.{knowing}
 use Rattle.statements8080.specs.declared.iteration.Counter.{Counter}
 use Rattle.statements8080.specs.declared.plan.Planned.{Planned}
-use Rattle.statements8080.specs.Counters.{counter_of}
 use Rattle.statements8080.specs.Iterations.{general_steps}
 use Rattle.statements8080.specs.Tests.{test_of}
 use Rattle.codegen8080.specs.declared.meeting.Here.{Here}
@@ -27,12 +24,12 @@ use Rattle.statement_meaning.proofs.FirstStored.{FirstThere, first_stored}
 use Rattle.statement_meaning.proofs.GeneralLoops.{FormsDo, GeneralEntry, general_stands}
 use Rattle.statement_meaning.proofs.GeneralSteps.{step_does, step_is_code}
 use Rattle.statement_meaning.proofs.GeneralTests.{test_does, test_is_code}
-use Rattle.statement_meaning.proofs.IterateHeads.{KnownEntry, counter_is, entry_value, number_of_head}
+use Rattle.statement_meaning.proofs.IterateHeads.{counter_is, entry_value, number_of_head}
 use Rattle.statement_meaning.proofs.Iterated.{GeneralDoes, iterate_does}
 use Rattle.statement_meaning.proofs.KnownLoops.{counter_for}
 use Rattle.statement_meaning.proofs.LoopEnds.{Iterates}
 use Rattle.statement_meaning.proofs.LoopTests.{HasLast}
-use Rattle.statement_meaning.proofs.LoopTurns.{Loop, Out, StageAt}
+use Rattle.statement_meaning.proofs.LoopTurns.{Loop, Out}
 use Rattle.statement_meaning.proofs.Simple.{FormDoes}
 use Rattle.statement_meaning.proofs.PlaceTests.{place_tests_do}
 use Rattle.statement_meaning.proofs.PlannedParts.{Stand}

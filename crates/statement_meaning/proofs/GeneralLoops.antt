@@ -1,11 +1,7 @@
 -- Turns of an iterative DO in its general form: where its step and its test do what they mean, so do all turns.
-use Rattle.std.proofs.Common.{◌≡◌, ℕ, ◌+◌, ◌<◌, ◌≤◌, Bool, true, false, not, ◌&&◌, if◌then◌else◌, List, [], ◌∷◌, ◌++◌, Option, Some, None, refl, sym, ap, subst, ◌∙◌, arith}
-use Rattle.isa8080.specs.State.{Registers}
-use Rattle.meaning.specs.Outcomes.{State as SourceState}
+use Rattle.std.proofs.Common.{◌≡◌, ℕ, Bool, true, false, not, ◌&&◌, if◌then◌else◌, List, [], ◌∷◌, ◌++◌, Option, Some, None, refl, sym, subst, arith}
 use Rattle.treecode.specs.declared.lists.Range.{Range}
 use Rattle.treecode.specs.declared.statement.Iteration.{Iteration}
-use Rattle.trees.specs.declared.declaration.ScalarType.{ScalarType}
-use Rattle.code_meaning.specs.Landing.{Does, at_place}
 use Rattle.code_meaning.proofs.Landing.{after_step}
 use Rattle.steps8080.specs.declared.facts.Facts.{Facts}
 use Rattle.steps8080.specs.declared.step.Step.TheVariants as steps
@@ -23,14 +19,13 @@ use Rattle.statements8080.specs.Iterations.{general_begin_steps, general_end_ste
 use Rattle.statements8080.specs.Tests.{facts_of_test, test_of, test_steps}
 use Rattle.codegen8080.specs.declared.meeting.Here.{Here}
 use Rattle.codegen8080.specs.Generated.{common}
-use Rattle.task_meaning.proofs.Stages.{script_of}
 use Rattle.statement_meaning.specs.Bodies.{BodyContext}
 use Rattle.statement_meaning.proofs.GeneralParts.{AreCode, LabelParted, RunParted, StepDoes, TestDoes, label_parted, list_goes, run_parted, weaker_checks}
 use Rattle.statement_meaning.proofs.LoopCode.{jump_always}
 use Rattle.statement_meaning.proofs.LoopEnds.{EndsKnown, Iterates, ends_known, goes_at_end}
 use Rattle.statement_meaning.proofs.LoopRules.{Checks}
 use Rattle.statement_meaning.proofs.LoopTests.{Enters}
-use Rattle.statement_meaning.proofs.LoopTurns.{Loop, Runs, StageAt, from_list, turns_do}
+use Rattle.statement_meaning.proofs.LoopTurns.{Loop, Runs, from_list, turns_do}
 use Rattle.statement_meaning.proofs.MetFacts.{first_meets, second_meets}
 use Rattle.statement_meaning.proofs.PlannedParts.{ListParted, Stand, again_parted, code_parted, jumped_parted, list_parted, with_known}
 

@@ -1,10 +1,10 @@
 -- Parts of the general form of an iterative DO: code that stands before other steps, the label of the test, and what is asked
 -- of the step and of the test.
-use Rattle.std.proofs.Common.{◌≡◌, ℕ, ◌+◌, ◌*◌, ◌<◌, ◌≤◌, Bool, true, false, if◌then◌else◌, List, [], ◌∷◌, ◌++◌, map, Option, Some, None, refl, sym, ap, subst, ◌∙◌, arith}
+use Rattle.std.proofs.Common.{◌≡◌, ℕ, ◌+◌, ◌*◌, ◌<◌, ◌≤◌, Bool, true, false, if◌then◌else◌, List, [], ◌∷◌, ◌++◌, map, Option, Some, None, sym, subst, arith}
 use Rattle.typed_trees.specs.Charge.{height_of_list}
 use Rattle.typed_trees.specs.Jumps.{ListStands}
 use Rattle.typed_trees.specs.WellTyped.{TypesHoldInList}
-use Rattle.meaning.specs.Outcomes.{State as SourceState, Outcome, Gave, Flow, Onward, Returned, Jumped}
+use Rattle.meaning.specs.Outcomes.{State as SourceState, Flow, Onward, Returned, Jumped}
 use Rattle.isa8080.specs.State.{Registers, State}
 use Rattle.treecode.specs.declared.lists.Range.{Range}
 use Rattle.treecode.specs.Lowered.{IsList}

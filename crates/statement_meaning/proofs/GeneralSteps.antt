@@ -1,5 +1,5 @@
 -- The step of an iterative DO in its general form does what it means, in each of its forms.
-use Rattle.std.proofs.Common.{◌≡◌, ℕ, ◌+◌, ◌*◌, ◌<◌, ◌≤◌, Bool, true, false, not, ◌&&◌, nat_eq, nat_lt, if◌then◌else◌, List, [], ◌∷◌, ◌++◌, map, Option, Some, None, refl, sym, ap, subst, ◌∙◌, arith}
+use Rattle.std.proofs.Common.{◌≡◌, ℕ, ◌*◌, ◌<◌, ◌≤◌, Bool, true, false, not, ◌&&◌, nat_lt, if◌then◌else◌, List, [], ◌∷◌, ◌++◌, map, Option, Some, None, refl, sym, ap, subst, ◌∙◌, arith}
 use Rattle.std.specs.Prelude.{IfSome}
 use Rattle.std.proofs.lemmas.Bool.{ltb-true}
 use Rattle.trees.specs.declared.declaration.ScalarType.{ScalarType}
@@ -27,11 +27,9 @@ use Rattle.treecode.specs.declared.statement.Iteration.{Iteration}
 use Rattle.treecode.specs.Lowered.{IsOptional, IsNoValue, IsSomeValue}
 use Rattle.steps8080.specs.declared.facts.Facts.{Facts}
 use Rattle.steps8080.specs.declared.step.LabelNumber.{LabelNumber}
-use Rattle.steps8080.specs.declared.step.Step.{Step}
 use Rattle.steps8080.specs.declared.step.Step.TheVariants as steps
 use Rattle.steps8080.specs.declared.step.Task.TheVariants as tasks
-use Rattle.steps8080.specs.Facts.{no_facts}
-use Rattle.steps8080.specs.Instructions.{copy, load, set, with_memory, with_register}
+use Rattle.steps8080.specs.Instructions.{copy, load, set, with_register}
 use Rattle.sites8080.specs.declared.site.Site.{Site}
 use Rattle.sites8080.specs.Queries.{known, number, place_in_memory}
 use Rattle.sites8080.specs.Site.{scalar as scalar_of}
@@ -58,7 +56,7 @@ use Rattle.statement_meaning.proofs.LoopCode.{Steps, address_step}
 use Rattle.statement_meaning.proofs.LoopEnds.{Iterates}
 use Rattle.statement_meaning.proofs.LoopFrameSums.{add_de_in_frame, high_sum_code}
 use Rattle.statement_meaning.proofs.LoopMeaning.{stepped_with, stepped_with_is}
-use Rattle.statement_meaning.proofs.LoopSteps.{HasStep, count_byte, count_word}
+use Rattle.statement_meaning.proofs.LoopSteps.{count_byte, count_word}
 use Rattle.statement_meaning.proofs.LoopSums.{HasAdded, add_byte, add_word_to_byte}
 use Rattle.statement_meaning.proofs.LoopTests.{byte_step, word_step}
 use Rattle.statement_meaning.proofs.LoopTurns.{Loop}

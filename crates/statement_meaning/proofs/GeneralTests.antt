@@ -1,12 +1,11 @@
 -- The test of an iterative DO in its general form does what it means, in each of its forms.
-use Rattle.std.proofs.Common.{◌≡◌, ℕ, ◌+◌, ◌*◌, ◌%◌, ◌<◌, ◌≤◌, Bool, true, false, nat_le, nat_eq, if◌then◌else◌, List, [], ◌∷◌, ◌++◌, Option, Some, None, refl, sym, ap, subst, ◌∙◌, arith}
+use Rattle.std.proofs.Common.{◌≡◌, ℕ, ◌+◌, ◌%◌, ◌≤◌, Bool, true, false, nat_le, nat_eq, if◌then◌else◌, [], ◌∷◌, ◌++◌, Option, Some, None, refl, sym, ap, ◌∙◌, arith}
 use Rattle.std.proofs.lemmas.Bool.{leb-true, leb-false, eqb-true}
 use Rattle.trees.specs.declared.declaration.ScalarType.{ScalarType}
 use Rattle.trees.specs.declared.declaration.ScalarType.TheVariants.{Byte, Address}
 use Rattle.typed_trees.specs.ExpressionTypes.{type_of}
 use Rattle.meaning.specs.Meaning.{value}
 use Rattle.meaning.specs.Outcomes.{State as SourceState, Gave}
-use Rattle.meaning.specs.Values.{values_of}
 use Rattle.isa8080.specs.declared.instr.Condition.TheVariants.{Carry, NoCarry}
 use Rattle.isa8080.specs.declared.instr.Instr.TheVariants.{Accumulate, AccumulateImmediate, Inx, Xchg}
 use Rattle.isa8080.specs.declared.instr.Operand.TheVariants.{M}
@@ -30,8 +29,7 @@ use Rattle.statements8080.specs.declared.bound.Test.{Test}
 use Rattle.statements8080.specs.declared.bound.Test.TheVariants as tests
 use Rattle.statements8080.specs.declared.iteration.Counter.{Counter}
 use Rattle.statements8080.specs.Bodies.{whole}
-use Rattle.statements8080.specs.Counters.{counter_place}
-use Rattle.statements8080.specs.Tests.{computed_test, facts_of_test, known_test, test_of, test_steps, word_at, word_test, word_test_by}
+use Rattle.statements8080.specs.Tests.{computed_test, facts_of_test, known_test, test_of, test_steps, word_at, word_test_by}
 use Rattle.codegen8080.specs.declared.meeting.Here.{Here}
 use Rattle.codegen8080.specs.Generated.{load_byte_steps, load_word_steps, site_of}
 use Rattle.exprgen8080.specs.Emission.{knowing}
@@ -45,7 +43,7 @@ use Rattle.statement_meaning.proofs.LoopCode.{Steps, address_step}
 use Rattle.statement_meaning.proofs.LoopRules.{HasTurns}
 use Rattle.statement_meaning.proofs.LoopTests.{HasLast, always_tests, byte_below_tests, byte_step, byte_tests, byte_with_word_tests, frame_word_tests, word_below_tests, word_step, word_tests}
 use Rattle.statement_meaning.proofs.LoopTurns.{Loop, Runs, from_list}
-use Rattle.statement_meaning.proofs.PlannedParts.{Stand, byte_parted, code_parted, with_known, word_parted}
+use Rattle.statement_meaning.proofs.PlannedParts.{Stand, byte_parted, code_parted, word_parted}
 use Rattle.statement_meaning.proofs.TestedLoops.{word_test as word_compare}
 
 -- the code of a comparison with a number

@@ -42,7 +42,6 @@ pub mod LoopFrameSums
 pub mod GeneralSteps
 pub mod PlaceTests
 pub mod GeneralDo
-pub mod AllStatements
 pub mod KnownLoops
 pub mod FirstValues
 pub mod FirstStored

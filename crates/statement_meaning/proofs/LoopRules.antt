@@ -3,7 +3,6 @@
 use Rattle.std.proofs.Common.{◌≡◌, ℕ, ◌+◌, ◌*◌, ◌/◌, ◌%◌, ◌<◌, ◌≤◌, Bool, true, false, not, nat_lt, nat_le, if◌then◌else◌, List, [], ◌∷◌, refl, sym, ap, subst, ◌∙◌, arith}
 use Rattle.std.proofs.lemmas.Bool.{ltb-true, ltb-false, lt-ltb, le-ltb, leb-true, leb-false}
 use Rattle.mem80.specs.Memory.{byte_at}
-use Rattle.mem80.proofs.MemoryLemmas.{byte_small}
 use Rattle.trees.specs.declared.declaration.ScalarType.{ScalarType}
 use Rattle.trees.specs.declared.declaration.ScalarType.TheVariants.{Byte, Address}
 use Rattle.typed_trees.specs.Charge.{height_of}
@@ -27,7 +26,7 @@ use Rattle.treecode.specs.declared.expression.ExpressionNumber.{ExpressionNumber
 use Rattle.treecode.specs.Lowered.{IsExpressionIn}
 use Rattle.code_facts.specs.Holding.{IsSteady}
 use Rattle.code_meaning.specs.Landing.{Does, at_place}
-use Rattle.code_meaning.proofs.ByteResults.{borrow_shows, borrow_shows_more, same_test, word_borrow}
+use Rattle.code_meaning.proofs.ByteResults.{borrow_shows, borrow_shows_more, word_borrow}
 use Rattle.code_meaning.proofs.Landing.{after_step}
 use Rattle.steps8080.specs.declared.facts.Facts.{Facts}
 use Rattle.steps8080.specs.declared.step.LabelNumber.{LabelNumber}
@@ -39,7 +38,7 @@ use Rattle.task_meaning.specs.Contexts.{Context, IsSound, nodes_in}
 use Rattle.task_meaning.specs.Steps.{PartThere, PlainThere}
 use Rattle.task_meaning.specs.Tasks.{Know}
 use Rattle.task_meaning.proofs.LocationWords.{word_known}
-use Rattle.task_meaning.proofs.Stages.{Stage, at_registers, does_same, has_less_room, script_of, then_does_where}
+use Rattle.task_meaning.proofs.Stages.{Stage, at_registers, has_less_room, script_of, then_does_where}
 use Rattle.statement_meaning.specs.Bodies.{BodyContext, IsSoundBody}
 use Rattle.statement_meaning.proofs.CountedBytes.{Goes}
 use Rattle.statement_meaning.proofs.CountedVariables.{IsCounted, variable_address, variable_place}

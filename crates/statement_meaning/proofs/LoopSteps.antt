@@ -1,8 +1,7 @@
 -- The step of an iterative DO in general, counting by 1: the variable is counted where it lies, and where it becomes 0 the
 -- loop ends.
-use Rattle.std.proofs.Common.{◌≡◌, ◌≢◌, ℕ, zero, suc, ◌+◌, ◌*◌, ◌/◌, ◌%◌, ◌<◌, ◌≤◌, ◌==◌, Bool, true, false, not, nat_le, List, [], ◌∷◌, ◌++◌, length, slice_index, slice_set, refl, sym, ap, subst, ◌∙◌, arith}
+use Rattle.std.proofs.Common.{◌≡◌, ◌≢◌, ℕ, ◌+◌, ◌*◌, ◌/◌, ◌%◌, ◌<◌, ◌≤◌, ◌==◌, Bool, true, false, not, nat_le, List, [], ◌∷◌, slice_set, refl, sym, ap, subst, ◌∙◌, arith}
 use Rattle.std.proofs.lemmas.Bool.{eqb-true, eqb-false}
-use Rattle.std.proofs.lemmas.List.{length-set}
 use Rattle.mem80.specs.declared.memory.TheConstants.{MEMORY_SIZE}
 use Rattle.mem80.specs.Memory.{byte_at}
 use Rattle.mem80.proofs.MemoryLemmas.{byte_small}
@@ -29,7 +28,6 @@ use Rattle.code_meaning.proofs.ByteResults.{count_shows, same_test}
 use Rattle.code_meaning.proofs.Landing.{after_step}
 use Rattle.steps8080.specs.declared.facts.Facts.{Facts}
 use Rattle.steps8080.specs.declared.step.LabelNumber.{LabelNumber}
-use Rattle.steps8080.specs.declared.step.Step.{Step}
 use Rattle.steps8080.specs.declared.step.Step.TheVariants as steps
 use Rattle.steps8080.specs.Facts.{no_facts}
 use Rattle.task_meaning.specs.Tasks.{address_on_machine}
@@ -41,7 +39,7 @@ use Rattle.task_meaning.proofs.Writing.{byte_written}
 use Rattle.statement_meaning.specs.Bodies.{BodyContext, IsSoundBody}
 use Rattle.statement_meaning.proofs.CountedBytes.{Goes, stays}
 use Rattle.statement_meaning.proofs.CountedVariables.{IsCounted, variable_address, variable_place}
-use Rattle.statement_meaning.proofs.LoopCode.{Steps, address_step, address_then, byte_then, jump_then, knowing_nothing}
+use Rattle.statement_meaning.proofs.LoopCode.{Steps, address_step, address_then, byte_then, jump_then}
 use Rattle.statement_meaning.proofs.LoopMeaning.{next_tests, stepped_by, stepped_with, stepped_with_is}
 use Rattle.statement_meaning.proofs.LoopRules.{Checks, checks_at, next_word, sum_jumps}
 use Rattle.statement_meaning.proofs.LoopTurns.{Loop, Out, StageAt, after_list}

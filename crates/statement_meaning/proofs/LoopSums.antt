@@ -4,21 +4,19 @@ use Rattle.std.proofs.lemmas.Bool.{leb-true, leb-false, le-leb, lt-leb, eqb-true
 use Rattle.std.specs.Int.Bits.{or_self}
 use Rattle.mem80.specs.Memory.{byte_at}
 use Rattle.mem80.proofs.MemoryLemmas.{byte_small}
-use Rattle.trees.specs.declared.declaration.ScalarType.TheVariants.{Byte, Address}
+use Rattle.trees.specs.declared.declaration.ScalarType.TheVariants.{Byte}
 use Rattle.typed_trees.specs.Charge.{height_of}
 use Rattle.typed_trees.specs.ExpressionTypes.{type_of}
 use Rattle.typed_trees.specs.TypedTrees.{TypedExpression}
 use Rattle.typed_trees.specs.WellTyped.{TypesHold}
-use Rattle.meaning.specs.Access.{Place as SourcePlace}
 use Rattle.meaning.specs.Meaning.{next_turn, step_value, value}
-use Rattle.meaning.specs.Outcomes.{State as SourceState, Outcome, Gave, then_do, Flow, Onward}
+use Rattle.meaning.specs.Outcomes.{State as SourceState, Gave, then_do, Onward}
 use Rattle.meaning.specs.Values.{values_of}
 use Rattle.isa8080.specs.declared.instr.Condition.TheVariants.{Carry, NotZero}
 use Rattle.isa8080.specs.declared.instr.Instr.TheVariants.{Accumulate, MovToMemory, Xchg}
 use Rattle.isa8080.specs.declared.instr.Operand.TheVariants.{M}
 use Rattle.isa8080.specs.declared.instr.Operation.TheVariants.{Add, AddWithCarry, Or}
 use Rattle.isa8080.specs.declared.instr.Register.TheVariants.{A, D, E}
-use Rattle.isa8080.specs.Arithmetic.{add_of}
 use Rattle.isa8080.specs.Flags.{bit}
 use Rattle.isa8080.specs.State.{Registers, word}
 use Rattle.asm8080.specs.declared.item.WordForm.TheVariants.{JumpWhere}
@@ -30,7 +28,6 @@ use Rattle.code_meaning.proofs.ByteResults.{carry_shows, same_test}
 use Rattle.code_meaning.proofs.Landing.{after_step}
 use Rattle.steps8080.specs.declared.facts.Facts.{Facts}
 use Rattle.steps8080.specs.declared.step.LabelNumber.{LabelNumber}
-use Rattle.steps8080.specs.declared.step.Step.{Step}
 use Rattle.steps8080.specs.declared.step.Step.TheVariants as steps
 use Rattle.steps8080.specs.Instructions.{copy, set, with_register}
 use Rattle.task_meaning.specs.Contexts.{distances_in, nodes_in}

@@ -1,5 +1,5 @@
 -- The test of an iterative DO in general, by its form: the last value against the variable.
-use Rattle.std.proofs.Common.{◌≡◌, ℕ, ◌+◌, ◌*◌, ◌/◌, ◌%◌, ◌<◌, ◌≤◌, Bool, true, false, not, nat_lt, if◌then◌else◌, List, [], ◌∷◌, ◌++◌, Some, refl, sym, ap, subst, ◌∙◌, arith}
+use Rattle.std.proofs.Common.{◌≡◌, ℕ, ◌+◌, ◌*◌, ◌/◌, ◌%◌, ◌<◌, ◌≤◌, Bool, true, false, not, nat_lt, if◌then◌else◌, List, [], ◌∷◌, ◌++◌, Some, refl, ap, subst, ◌∙◌, arith}
 use Rattle.std.proofs.lemmas.Bool.{ltb-true}
 use Rattle.mem80.specs.Memory.{byte_at}
 use Rattle.mem80.proofs.MemoryLemmas.{byte_small}
@@ -12,13 +12,12 @@ use Rattle.meaning.specs.Meaning.{value}
 use Rattle.meaning.specs.Outcomes.{State as SourceState, Outcome, Gave, then_do, taking_one, Onward}
 use Rattle.meaning.specs.Values.{values_of}
 use Rattle.isa8080.specs.declared.instr.Condition.TheVariants.{Carry, NoCarry}
-use Rattle.isa8080.specs.declared.instr.Instr.{Instr}
 use Rattle.isa8080.specs.declared.instr.Instr.TheVariants.{Accumulate, AccumulateImmediate, Inx, Xchg}
 use Rattle.isa8080.specs.declared.instr.Operand.TheVariants.{M}
 use Rattle.isa8080.specs.declared.instr.Operation.TheVariants.{Compare, Subtract, SubtractWithBorrow}
 use Rattle.isa8080.specs.declared.instr.Pair.TheVariants.{Hl}
 use Rattle.isa8080.specs.declared.instr.Register.TheVariants.{A, D, E, H, L}
-use Rattle.isa8080.specs.State.{Registers, word, wrap}
+use Rattle.isa8080.specs.State.{Registers, wrap}
 use Rattle.asm8080.specs.declared.item.WordForm.TheVariants.{Jump, JumpWhere}
 use Rattle.treecode.specs.declared.expression.ExpressionNumber.{ExpressionNumber}
 use Rattle.treecode.specs.Lowered.{IsExpressionIn}
@@ -42,11 +41,11 @@ use Rattle.task_meaning.proofs.Stages.{at_instructions, does_same, script_of}
 use Rattle.statement_meaning.specs.Bodies.{BodyContext}
 use Rattle.statement_meaning.proofs.CaseForms.{high_is_less}
 use Rattle.statement_meaning.proofs.CountedBytes.{Goes}
-use Rattle.statement_meaning.proofs.CountedVariables.{IsCounted, variable_address, variable_place}
+use Rattle.statement_meaning.proofs.CountedVariables.{variable_address, variable_place}
 use Rattle.statement_meaning.proofs.LoadedVariables.{byte_loaded, word_loaded}
 use Rattle.statement_meaning.proofs.LoopCode.{Steps, address_step, address_then, jump_always, knowing_nothing}
 use Rattle.statement_meaning.proofs.LoopMeaning.{counted_read, scalar_at, scalar_small}
-use Rattle.statement_meaning.proofs.LoopRules.{ComesToA, ComesToHl, HasTurns, address_of_variable_known, after_last, byte_comes, byte_known, from_test_is, if_not_above, next_word, not_above, operate_then, operated, pair_is_less, place_known, test_jumps, word_comes}
+use Rattle.statement_meaning.proofs.LoopRules.{HasTurns, address_of_variable_known, after_last, byte_comes, byte_known, from_test_is, if_not_above, next_word, not_above, operate_then, operated, pair_is_less, place_known, test_jumps, word_comes}
 use Rattle.statement_meaning.proofs.LoopTurns.{Loop, Out, StageAt, from_list, from_test, to_turn}
 use Rattle.statement_meaning.proofs.SteadyReads.{steady_byte_read, steady_read}
 use Rattle.statement_meaning.proofs.TestedLoops.{word_test}

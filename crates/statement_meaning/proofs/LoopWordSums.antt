@@ -1,14 +1,13 @@
 -- The step of an iterative DO whose variable is an ADDRESS, where it is added: it comes into DE, and is added to the variable in
 -- memory.
-use Rattle.std.proofs.Common.{◌≡◌, ℕ, ◌+◌, ◌*◌, ◌/◌, ◌%◌, ◌<◌, ◌≤◌, List, [], ◌∷◌, ◌++◌, Option, Some, None, refl, sym, ap, subst, ◌∙◌, arith}
+use Rattle.std.proofs.Common.{◌≡◌, ℕ, ◌+◌, ◌*◌, ◌/◌, ◌%◌, ◌<◌, ◌≤◌, List, [], ◌∷◌, Option, Some, None, refl, ap, ◌∙◌, arith}
 use Rattle.mem80.specs.Memory.{byte_at}
 use Rattle.trees.specs.declared.declaration.ScalarType.TheVariants.{Address}
-use Rattle.typed_trees.specs.Charge.{height_of}
 use Rattle.typed_trees.specs.ExpressionTypes.{type_of}
 use Rattle.typed_trees.specs.TypedTrees.{TypedExpression}
-use Rattle.meaning.specs.Meaning.{next_turn, step_value, value}
+use Rattle.meaning.specs.Meaning.{next_turn, value}
 use Rattle.meaning.specs.Access.{write_scalar}
-use Rattle.meaning.specs.Outcomes.{State as SourceState, Outcome, Gave, then_do, Flow, Onward}
+use Rattle.meaning.specs.Outcomes.{State as SourceState, Outcome, then_do, Flow}
 use Rattle.meaning.specs.Values.{as_type}
 use Rattle.isa8080.specs.declared.instr.Condition.TheVariants.{Carry}
 use Rattle.isa8080.specs.declared.instr.Instr.TheVariants.{Dad, Xchg}
@@ -18,7 +17,7 @@ use Rattle.asm8080.specs.declared.item.WordForm.TheVariants.{JumpWhere, LoadPair
 use Rattle.treecode.specs.declared.expression.ExpressionNumber.{ExpressionNumber}
 use Rattle.treecode.specs.declared.place.Location.TheVariants as locations
 use Rattle.treecode.specs.declared.place.Place.{Place}
-use Rattle.code_facts.specs.Holding.{IsSteady, location_at, place_at}
+use Rattle.code_facts.specs.Holding.{location_at, place_at}
 use Rattle.code_meaning.specs.Landing.{Does, at_place}
 use Rattle.steps8080.specs.declared.facts.Facts.{Facts}
 use Rattle.steps8080.specs.declared.step.LabelNumber.{LabelNumber}
@@ -40,12 +39,12 @@ use Rattle.statement_meaning.proofs.CountedBytes.{stays}
 use Rattle.statement_meaning.proofs.CountedVariables.{variable_address, variable_place}
 use Rattle.statement_meaning.proofs.LoadedVariables.{word_loaded}
 use Rattle.statement_meaning.proofs.LoopCode.{Steps}
-use Rattle.statement_meaning.proofs.LoopMeaning.{scalar_at, stepped_by, stepped_with, stepped_with_is}
+use Rattle.statement_meaning.proofs.LoopMeaning.{scalar_at, stepped_by, stepped_with}
 use Rattle.statement_meaning.proofs.LoopRules.{Checks, checks_at, of_any_type, sum_jumps, word_comes}
 use Rattle.statement_meaning.proofs.LoopSteps.{HasStep}
 use Rattle.statement_meaning.proofs.LoopSums.{HasAdded}
 use Rattle.statement_meaning.proofs.LoopTests.{word_step}
-use Rattle.statement_meaning.proofs.LoopTurns.{Loop, Out, StageAt, after_list}
+use Rattle.statement_meaning.proofs.LoopTurns.{Loop, Out, StageAt}
 use Rattle.statement_meaning.proofs.SteadyReads.{steady_read}
 use Rattle.statement_meaning.proofs.WordCode.{shld_then, with_word}
 

@@ -1,11 +1,11 @@
 -- The test of an ADDRESS in memory against an ADDRESS at a place, which stays there.
-use Rattle.std.proofs.Common.{◌≡◌, ℕ, ◌+◌, ◌*◌, ◌/◌, ◌%◌, ◌<◌, ◌≤◌, ◌⊎◌, inl, inr, false, not, nat_lt, List, [], ◌∷◌, ◌++◌, map, Option, Some, None, refl, sym, ap, subst, ◌∙◌, arith}
+use Rattle.std.proofs.Common.{◌≡◌, ℕ, ◌+◌, ◌*◌, ◌/◌, ◌%◌, ◌≤◌, ◌⊎◌, inl, inr, false, not, nat_lt, List, [], ◌∷◌, Option, Some, None, refl, sym, ap, subst, ◌∙◌, arith}
 use Rattle.mem80.specs.Memory.{byte_at}
 use Rattle.mem80.proofs.MemoryLemmas.{byte_small}
 use Rattle.trees.specs.declared.declaration.ScalarType.{ScalarType}
 use Rattle.trees.specs.declared.declaration.ScalarType.TheVariants.{Byte, Address}
 use Rattle.meaning.specs.Meaning.{value}
-use Rattle.meaning.specs.Outcomes.{State as SourceState, Outcome, Gave, then_do}
+use Rattle.meaning.specs.Outcomes.{State as SourceState, Outcome, Gave}
 use Rattle.isa8080.specs.declared.instr.Condition.TheVariants.{NoCarry}
 use Rattle.isa8080.specs.declared.instr.Operation.TheVariants.{Subtract, SubtractWithBorrow}
 use Rattle.isa8080.specs.declared.instr.Register.TheVariants.{H, L}
@@ -34,7 +34,6 @@ use Rattle.std.specs.Prelude.{option_and_then}
 use Rattle.sites8080.specs.Widths.{direct_word, word_in_memory, word_of}
 use Rattle.exprgen8080.specs.Emission.{knowing}
 use Rattle.codegen8080.specs.Generated.{load_word_steps, site_of}
-use Rattle.statements8080.specs.declared.bound.Test.TheVariants as tests
 use Rattle.statements8080.specs.Bodies.{whole}
 use Rattle.statements8080.specs.Tests.{test_steps, word_at, word_of_form}
 use Rattle.task_meaning.specs.Steps.{PlainThere, WordThere}
@@ -48,7 +47,7 @@ use Rattle.statement_meaning.proofs.CountedVariables.{variable_address, variable
 use Rattle.statement_meaning.proofs.GeneralParts.{all_code}
 use Rattle.statement_meaning.proofs.GeneralTests.{PlaceTests}
 use Rattle.statement_meaning.proofs.KnownLoops.{at_site}
-use Rattle.statement_meaning.proofs.LoadedVariables.{HoldsWord, word_loaded}
+use Rattle.statement_meaning.proofs.LoadedVariables.{word_loaded}
 use Rattle.statement_meaning.proofs.LoopCode.{Steps}
 use Rattle.statement_meaning.proofs.LoopMeaning.{counted_read, scalar_at}
 use Rattle.statement_meaning.proofs.LoopRules.{HasTurns, address_of_variable_known, after_last, from_test_is, if_not_above, pair_is_less, test_jumps}
