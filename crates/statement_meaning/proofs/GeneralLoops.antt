@@ -20,14 +20,15 @@ use Rattle.statements8080.specs.Tests.{facts_of_test, test_of, test_steps}
 use Rattle.codegen8080.specs.declared.meeting.Here.{Here}
 use Rattle.codegen8080.specs.Generated.{common}
 use Rattle.statement_meaning.specs.Bodies.{BodyContext}
-use Rattle.statement_meaning.proofs.GeneralParts.{AreCode, LabelParted, RunParted, StepDoes, TestDoes, label_parted, list_goes, run_parted, weaker_checks}
+use Rattle.statement_meaning.proofs.GeneralParts.{AreCode, LabelParted, RunParted, StepDoes, TestDoes, label_parted, run_parted, weaker_checks}
 use Rattle.statement_meaning.proofs.LoopCode.{jump_always}
 use Rattle.statement_meaning.proofs.LoopEnds.{EndsKnown, Iterates, ends_known, goes_at_end}
 use Rattle.statement_meaning.proofs.LoopRules.{Checks}
 use Rattle.statement_meaning.proofs.LoopTests.{Enters}
-use Rattle.statement_meaning.proofs.LoopTurns.{Loop, Runs, from_list, turns_do}
+use Rattle.statement_meaning.proofs.LoopTurns.{Loop, Runs, from_list, turns_do, list_goes}
 use Rattle.statement_meaning.proofs.MetFacts.{first_meets, second_meets}
 use Rattle.statement_meaning.proofs.PlannedParts.{ListParted, Stand, again_parted, code_parted, jumped_parted, list_parted, with_known}
+use Rattle.statement_meaning.proofs.CountedBytes.{Goes}
 
 -- what the steps of a loop are, by what its code is: those of the step and of the test are code, and do what they mean
 pub record FormsDo
@@ -106,7 +107,7 @@ general_turns {at = at} loop head list site counter first waiting is_tested turn
     ends : EndsKnown loop true (nth_label first 2) tested.known tested.middle
     ends = ends_known loop true (nth_label first 2) (with_known label.found tested.known) tested.middle tested.rest
 
-    ends_there : (limit : ℕ) → Rattle.statement_meaning.proofs.CountedBytes.Goes loop limit no_facts
+    ends_there : (limit : ℕ) → Goes loop limit no_facts
         (at.context.activation.layout.place_of (nth_label first 2).index)
     ends_there limit = goes_at_end loop limit no_facts (at.context.activation.layout.place_of (nth_label first 2).index) (ends.after refl) (ends.label refl)
 

@@ -1,16 +1,10 @@
 -- Parts of the general form of an iterative DO: code that stands before other steps, the label of the test, and what is asked
 -- of the step and of the test.
-use Rattle.std.proofs.Common.{◌≡◌, ℕ, ◌+◌, ◌*◌, ◌<◌, ◌≤◌, Bool, true, false, if◌then◌else◌, List, [], ◌∷◌, ◌++◌, map, Option, Some, None, sym, subst, arith}
-use Rattle.typed_trees.specs.Charge.{height_of_list}
-use Rattle.typed_trees.specs.Jumps.{ListStands}
-use Rattle.typed_trees.specs.WellTyped.{TypesHoldInList}
-use Rattle.meaning.specs.Outcomes.{State as SourceState, Flow, Onward, Returned, Jumped}
-use Rattle.isa8080.specs.State.{Registers, State}
-use Rattle.treecode.specs.declared.lists.Range.{Range}
-use Rattle.treecode.specs.Lowered.{IsList}
+use Rattle.std.proofs.Common.{◌≡◌, ℕ, ◌<◌, ◌≤◌, Bool, true, false, if◌then◌else◌, List, [], ◌∷◌, ◌++◌, map, Option, Some, None, sym, subst}
+use Rattle.meaning.specs.Outcomes.{State as SourceState, Onward}
+use Rattle.isa8080.specs.State.{Registers}
 use Rattle.code_facts.proofs.Changes.{no_facts_hold}
 use Rattle.code_meaning.specs.Landing.{Does, at_place}
-use Rattle.code_meaning.proofs.Landing.{gives, then_does}
 use Rattle.steps8080.specs.declared.facts.Facts.{Facts}
 use Rattle.steps8080.specs.declared.step.LabelNumber.{LabelNumber}
 use Rattle.steps8080.specs.declared.step.Step.{Step}
@@ -20,11 +14,10 @@ use Rattle.statements8080.specs.declared.plan.Planned.{Planned}
 use Rattle.statements8080.specs.declared.plan.Planned.TheVariants as planned
 use Rattle.codegen8080.specs.declared.meeting.Here.{Here}
 use Rattle.codegen8080.specs.Generated.{arriving, carried_steps, here_after, known_here, met, waiting_after}
-use Rattle.task_meaning.specs.Contexts.{nodes_in}
 use Rattle.task_meaning.specs.Tasks.{Know}
 use Rattle.task_meaning.proofs.Stages.{script_of}
-use Rattle.statement_meaning.specs.Bodies.{BodyContext, Leaves}
-use Rattle.statement_meaning.specs.Statements.{ListDoes, NonePlanned, StepPlanned}
+use Rattle.statement_meaning.specs.Bodies.{BodyContext}
+use Rattle.statement_meaning.specs.Statements.{NonePlanned, StepPlanned}
 use Rattle.statement_meaning.proofs.CountedBytes.{Goes}
 use Rattle.statement_meaning.proofs.LoopCode.{Steps, mark_then, steps_over}
 use Rattle.statement_meaning.proofs.LoopRules.{Checks}
@@ -193,41 +186,3 @@ pub weaker_checks :
 weaker_checks loop limit facts found place enters checks u now memory fewer stage =
     checks u now memory fewer
     (record { below = stage.below; room = stage.room; ready = stage.ready; known = enters now memory stage.known })
-
--- the list of a turn, and what comes after it where its end is reached, if the code goes on there
-pub list_goes :
-    {at : BodyContext} (loop : Loop at) (bound : ℕ) (range : Range) (facts : Facts) (after : Here) (from middle : ℕ)
-    (t : SourceState) (r : Registers) (memory : List ℕ)
-    → ListDoes at facts range from after middle
-    → IsList (nodes_in at.context) at.context.storage at.labels bound range loop.list
-    → TypesHoldInList at.context.typed at.context.within loop.list
-    → ListStands loop.list
-    → 2 + 2 * height_of_list loop.list ≤ loop.need
-    → t.budget < loop.budget
-    → StageAt at loop.need loop.base t facts r memory
-    → (after.goes_on ≡ true → (u : SourceState) (now : Registers) (memory_now : List ℕ)
-    → u.budget ≤ t.budget
-    → StageAt at loop.need loop.base u after.facts now memory_now
-    → Does (script_of at.context) u.budget 0 (at_place middle now memory_now u.events) (after_list loop Onward u) (Out loop))
-    → Does (script_of at.context) t.budget 0 (at_place from r memory t.events) (from_list loop t) (Out loop)
-list_goes {at = at} loop bound range facts after from middle t r memory does is types stand fits less stage rest =
-    let enough = stage.room.enough in
-    then_does
-    (does bound loop.list is types stand loop.base t r memory stage.below
-    (record { depth = stage.room.depth; enough = omega (arith, enough, fits); even = stage.room.even }) stage.ready stage.known)
-    (λ flow u end leaves spent. by_flow flow u end leaves spent)
-  where
-    by_flow : (flow : Flow) (u : SourceState) (end : State)
-        → Leaves at loop.base middle after t.budget flow u end
-        → u.budget ≤ t.budget
-        → Does (script_of at.context) u.budget 0 end (after_list loop flow u) (Out loop)
-    by_flow Onward u end goes spent =
-        let comes = goes.comes in
-        let below = stage.below in
-        subst (λ (state : State). Does (script_of at.context) u.budget 0 state (after_list loop Onward u) (Out loop)) (sym comes.is_at)
-        (rest goes.goes_on u comes.r comes.memory spent
-        (record { below = omega (arith, below, spent); room = stage.room; ready = comes.ready; known = comes.holds }))
-    by_flow (Returned value) u end comes spent = gives comes
-    by_flow (Jumped label) u end comes spent =
-        let before = comes.spent in
-        gives (record { place = comes.place; lies = comes.lies; spent = omega (arith, before, less); comes = comes.comes })

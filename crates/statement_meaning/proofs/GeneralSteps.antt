@@ -9,7 +9,7 @@ use Rattle.typed_trees.specs.ExpressionTypes.{type_of}
 use Rattle.typed_trees.specs.TypedTrees.{TypedExpression}
 use Rattle.typed_trees.specs.WellTyped.{TypesHold}
 use Rattle.meaning.specs.Meaning.{step_value, value}
-use Rattle.meaning.specs.Outcomes.{State as SourceState, Outcome, Gave, then_do}
+use Rattle.meaning.specs.Outcomes.{State as SourceState, Gave, then_do, Onward}
 use Rattle.meaning.specs.Values.{values_of}
 use Rattle.isa8080.specs.declared.instr.Condition.TheVariants.{Carry, NotZero, Zero}
 use Rattle.isa8080.specs.declared.instr.Instr.TheVariants.{Accumulate, Dad, Inr, Inx, MovToMemory, Xchg}
@@ -37,8 +37,8 @@ use Rattle.statements8080.specs.declared.iteration.Counter.{Counter}
 use Rattle.statements8080.specs.declared.plan.Planned.{Planned}
 use Rattle.statements8080.specs.declared.plan.Planned.TheVariants as planned
 use Rattle.statements8080.specs.Bodies.{whole}
-use Rattle.statements8080.specs.Counters.{counts_by_one}
-use Rattle.statements8080.specs.Iterations.{add_de_steps, add_steps, count_at_hl_steps, count_steps, is_byte, is_byte_type, loop_labels, step_in_de_steps, step_steps, sum_of_byte_steps, sum_of_word_steps}
+use Rattle.statements8080.specs.Counters.{counts_by_one, counter_place}
+use Rattle.statements8080.specs.Iterations.{add_de_steps, add_steps, count_at_hl_steps, count_steps, is_byte, is_byte_type, loop_labels, step_in_de_steps, step_steps, sum_of_byte_steps, sum_of_word_steps, add_byte_steps, add_word_to_byte_steps}
 use Rattle.statements8080.specs.Plans.{jump, nth_label, part, plain, word}
 use Rattle.codegen8080.specs.declared.meeting.Here.{Here}
 use Rattle.codegen8080.specs.Generated.{load_word_steps, site_of}
@@ -59,7 +59,7 @@ use Rattle.statement_meaning.proofs.LoopMeaning.{stepped_with, stepped_with_is}
 use Rattle.statement_meaning.proofs.LoopSteps.{count_byte, count_word}
 use Rattle.statement_meaning.proofs.LoopSums.{HasAdded, add_byte, add_word_to_byte}
 use Rattle.statement_meaning.proofs.LoopTests.{byte_step, word_step}
-use Rattle.statement_meaning.proofs.LoopTurns.{Loop}
+use Rattle.statement_meaning.proofs.LoopTurns.{Loop, after_list}
 use Rattle.statement_meaning.proofs.LoopWordSums.{add_de_in_memory, comes_to_de, to_de}
 use Rattle.statement_meaning.proofs.PlannedParts.{Stand, word_parted}
 
@@ -99,14 +99,14 @@ unfolding sum_of_byte_steps
 add_is_code Byte site counter step end = by (is_byte site step)
   where
     by : (byte : Bool)
-        → AreCode (if byte then Rattle.statements8080.specs.Iterations.add_byte_steps counter step end
-        else Rattle.statements8080.specs.Iterations.add_word_to_byte_steps counter step end)
+        → AreCode (if byte then add_byte_steps counter step end
+        else add_word_to_byte_steps counter step end)
     by true = (tt, (tt, (tt, (tt, (tt, tt)))))
     by false = (tt, (tt, (tt, (tt, (tt, (tt, (tt, (tt, (tt, (tt, (tt, tt)))))))))))
 add_is_code Address site counter step end =
-    both_code (step_in_de_steps site step) (add_de_steps (Rattle.statements8080.specs.Counters.counter_place counter) counter end)
+    both_code (step_in_de_steps site step) (add_de_steps (counter_place counter) counter end)
     (subst AreCode (sym (in_de_is site step)) (in_de_is_code (known site step) step))
-    (add_de_is_code (Rattle.statements8080.specs.Counters.counter_place counter) counter end)
+    (add_de_is_code (counter_place counter) counter end)
 
 -- the code of a step is code alone
 pub step_is_code : (site : Site) (counter : Counter) (step : Option ExpressionNumber) (first : ℕ)
@@ -194,8 +194,8 @@ module _
     where
       by : (byte : Bool) → is_byte site step ≡ byte
           → Stand at here waiting from
-          (if byte then Rattle.statements8080.specs.Iterations.add_byte_steps (counter Byte counted) step (nth_label first 2)
-          else Rattle.statements8080.specs.Iterations.add_word_to_byte_steps (counter Byte counted) step (nth_label first 2)) after to
+          (if byte then add_byte_steps (counter Byte counted) step (nth_label first 2)
+          else add_word_to_byte_steps (counter Byte counted) step (nth_label first 2)) after to
           → StepDoes loop (nth_label first 1) (nth_label first 2) jumps here.facts from after.facts to
       by true byte stand limit less ends at_test checks t r memory fewer stage =
           add_byte loop limit step tree (nth_label first 2) t r memory
@@ -226,7 +226,7 @@ module _
       de_code None stand = all_code (word_step step ∷ steps.Plain Xchg ∷ []) stand
 
       value_is : (t : SourceState)
-          → Rattle.statement_meaning.proofs.LoopTurns.after_list loop Rattle.meaning.specs.Outcomes.Onward t
+          → after_list loop Onward t
           ≡ then_do (value at.context.later at.context.activation.around tree t) (stepped_with loop Address)
       value_is t =
           stepped_with_is loop Address t same

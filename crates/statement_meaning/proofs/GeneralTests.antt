@@ -20,10 +20,10 @@ use Rattle.treecode.specs.declared.place.Place.{Place}
 use Rattle.steps8080.specs.declared.facts.Facts.{Facts}
 use Rattle.steps8080.specs.declared.step.LabelNumber.{LabelNumber}
 use Rattle.steps8080.specs.declared.step.Step.TheVariants as steps
-use Rattle.steps8080.specs.Instructions.{copy, low, with_register}
+use Rattle.steps8080.specs.Instructions.{copy, low, with_register, high}
 use Rattle.steps8080.specs.Step.{plain}
 use Rattle.sites8080.specs.declared.site.Site.{Site}
-use Rattle.sites8080.specs.Queries.{number}
+use Rattle.sites8080.specs.Queries.{number, place_in_memory}
 use Rattle.sites8080.specs.Site.{scalar as scalar_of}
 use Rattle.statements8080.specs.declared.bound.Test.{Test}
 use Rattle.statements8080.specs.declared.bound.Test.TheVariants as tests
@@ -45,14 +45,16 @@ use Rattle.statement_meaning.proofs.LoopTests.{HasLast, always_tests, byte_below
 use Rattle.statement_meaning.proofs.LoopTurns.{Loop, Runs, from_list}
 use Rattle.statement_meaning.proofs.PlannedParts.{Stand, byte_parted, code_parted, word_parted}
 use Rattle.statement_meaning.proofs.TestedLoops.{word_test as word_compare}
+use Rattle.statements8080.specs.Plans.{all, jump}
+use Rattle.statements8080.specs.declared.plan.Planned.TheVariants.{LoadWord}
 
 -- the code of a comparison with a number
 below_code :
     {at : BodyContext} {here after : Here} {waiting : Option Facts} {from to : ℕ} (last : ℕ) (turn : LabelNumber) (none : Bool)
     → Stand at here waiting from
-    ((if none then Rattle.statements8080.specs.Plans.all (word_compare last true)
-    else Rattle.statements8080.specs.Plans.all (word_compare last false))
-    ++ (Rattle.statements8080.specs.Plans.jump (JumpWhere Carry) turn ∷ [])) after to
+    ((if none then all (word_compare last true)
+    else all (word_compare last false))
+    ++ (jump (JumpWhere Carry) turn ∷ [])) after to
     → Steps at.context here.facts from (plain (word_compare last none) ++ (steps.Jump (JumpWhere Carry) turn ∷ [])) after.facts to
 below_code last turn true stand = all_code (plain (word_compare last true) ++ (steps.Jump (JumpWhere Carry) turn ∷ [])) stand
 below_code last turn false stand = all_code (plain (word_compare last false) ++ (steps.Jump (JumpWhere Carry) turn ∷ [])) stand
@@ -65,11 +67,11 @@ test_is_code counter (tests.ByteBelow bound) turn = (tt, (tt, (tt, tt)))
 test_is_code counter (tests.WordBelow bound) turn = (tt, by (nat_eq (bound % 256) 0))
   where
     by : (none : Bool)
-        → AreCode ((if none then Rattle.statements8080.specs.Plans.all (copy A H ∷ AccumulateImmediate Compare (Rattle.steps8080.specs.Instructions.high bound) ∷ [])
-        else Rattle.statements8080.specs.Plans.all
+        → AreCode ((if none then all (copy A H ∷ AccumulateImmediate Compare (high bound) ∷ [])
+        else all
         (copy A L ∷ AccumulateImmediate Subtract (low bound)
-        ∷ copy A H ∷ AccumulateImmediate SubtractWithBorrow (Rattle.steps8080.specs.Instructions.high bound) ∷ []))
-        ++ (Rattle.statements8080.specs.Plans.jump (JumpWhere Carry) turn ∷ []))
+        ∷ copy A H ∷ AccumulateImmediate SubtractWithBorrow (high bound) ∷ []))
+        ++ (jump (JumpWhere Carry) turn ∷ []))
     by true = (tt, (tt, (tt, tt)))
     by false = (tt, (tt, (tt, (tt, (tt, tt)))))
 test_is_code counter (tests.Byte last) turn = (tt, (tt, (tt, (tt, tt))))
@@ -186,14 +188,14 @@ test_does {at = at} loop scalar last facts turn {here = here} {after = after} {w
       where
         by_location : (location : Location) → counted.location ≡ location
             → (other : Option Place) → word_at site last ≡ other
-            → Does_ Address counted (word_test_by (Rattle.sites8080.specs.Queries.place_in_memory (Some location)) other last)
+            → Does_ Address counted (word_test_by (place_in_memory (Some location)) other last)
         by_location (locations.Static own) lies (Some other) there stand limit turn_facts runs enters goes t r memory fewer stage =
             places counted own other here after waiting from to same lies there stand limit turn_facts runs enters goes t r memory fewer stage
         by_location (locations.Static own) lies None there stand limit turn_facts runs enters goes t r memory fewer stage =
             let first = code_parted (word_step last ∷ steps.Plain Xchg ∷ [])
-            (Rattle.statements8080.specs.declared.plan.Planned.TheVariants.LoadWord (whole (loop.head).variable)
-            ∷ (Rattle.statements8080.specs.Plans.all (copy A E ∷ with_register Subtract L ∷ copy A D ∷ with_register SubtractWithBorrow H ∷ [])
-            ++ (Rattle.statements8080.specs.Plans.jump (JumpWhere NoCarry) turn ∷ []))) here from stand in
+            (LoadWord (whole (loop.head).variable)
+            ∷ (all (copy A E ∷ with_register Subtract L ∷ copy A D ∷ with_register SubtractWithBorrow H ∷ [])
+            ++ (jump (JumpWhere NoCarry) turn ∷ []))) here from stand in
             let loaded = word_parted first.rest in
             word_tests loop limit last turn turn_facts t r memory (turns_there Address same counted limit turn_facts runs) has
             first.stand

@@ -1,5 +1,5 @@
 -- The step of an iterative DO whose variable is an ADDRESS in the frame: DE is added to it, byte by byte.
-use Rattle.std.proofs.Common.{◌≡◌, ◌≢◌, ℕ, ◌+◌, ◌*◌, ◌/◌, ◌%◌, ◌<◌, ◌≤◌, Bool, true, false, nat_le, List, [], ◌∷◌, slice_set, refl, sym, ap, subst, ◌∙◌, arith}
+use Rattle.std.proofs.Common.{◌≡◌, ℕ, ◌+◌, ◌*◌, ◌/◌, ◌%◌, ◌<◌, ◌≤◌, Bool, true, false, nat_le, List, [], ◌∷◌, slice_set, refl, sym, ap, subst, ◌∙◌, arith}
 use Rattle.std.proofs.lemmas.Bool.{leb-true, leb-false, le-leb, lt-leb}
 use Rattle.mem80.specs.declared.memory.TheConstants.{MEMORY_SIZE}
 use Rattle.mem80.specs.Memory.{byte_at}
@@ -35,7 +35,7 @@ use Rattle.statement_meaning.proofs.CountedVariables.{variable_address, variable
 use Rattle.statement_meaning.proofs.LoopCode.{Steps, address_step, address_then, byte_then, load_then}
 use Rattle.statement_meaning.proofs.LoopMeaning.{stepped_by, stepped_with}
 use Rattle.statement_meaning.proofs.LoopRules.{Checks, checks_at, next_word, sum_jumps}
-use Rattle.statement_meaning.proofs.LoopSteps.{HasStep}
+use Rattle.statement_meaning.proofs.LoopSteps.{HasStep, other_byte}
 use Rattle.statement_meaning.proofs.LoopTurns.{Loop, Out, StageAt}
 use Rattle.statement_meaning.proofs.LoopWordSums.{ComesToDe}
 
@@ -62,9 +62,6 @@ high_carry false low high d e n one two small is =
     same_test (nat_le 256 (high + d + 0)) (nat_le 65536 (low + 256 * high + n))
     (λ past. let more = leb-true 256 (high + d + 0) past in le-leb 65536 (low + 256 * high + n) (omega (arith, one, two, small, under, more)))
     (λ within. let less = leb-false 256 (high + d + 0) within in lt-leb 65536 (low + 256 * high + n) (omega (arith, one, two, small, under, less)))
-
-other_byte : (address : ℕ) → address < MEMORY_SIZE → wrap (address + 1) ≢ address
-other_byte address small same = omega (arith, small, same)
 
 -- what follows the low byte
 abbrev pub high_sum_code : LabelNumber → List Step

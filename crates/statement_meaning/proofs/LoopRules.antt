@@ -1,6 +1,6 @@
 -- Rules for code of loops in general: values of parts, operations with a byte of memory, and the jumps after a test and
 -- after a sum.
-use Rattle.std.proofs.Common.{◌≡◌, ℕ, ◌+◌, ◌*◌, ◌/◌, ◌%◌, ◌<◌, ◌≤◌, Bool, true, false, not, nat_lt, nat_le, if◌then◌else◌, List, [], ◌∷◌, refl, sym, ap, subst, ◌∙◌, arith}
+use Rattle.std.proofs.Common.{◌≡◌, ℕ, ◌+◌, ◌*◌, ◌/◌, ◌%◌, ◌<◌, ◌≤◌, Bool, true, false, not, nat_lt, nat_le, if◌then◌else◌, List, [], ◌∷◌, refl, sym, ap, subst, ◌∙◌, arith, Some}
 use Rattle.std.proofs.lemmas.Bool.{ltb-true, ltb-false, lt-ltb, le-ltb, leb-true, leb-false}
 use Rattle.mem80.specs.Memory.{byte_at}
 use Rattle.trees.specs.declared.declaration.ScalarType.{ScalarType}
@@ -45,6 +45,7 @@ use Rattle.statement_meaning.proofs.CountedVariables.{IsCounted, variable_addres
 use Rattle.statement_meaning.proofs.LoopCode.{Steps, jump_then, knowing_nothing, steps_over}
 use Rattle.statement_meaning.proofs.LoopMeaning.{next_tests}
 use Rattle.statement_meaning.proofs.LoopTurns.{Loop, Out, Runs, StageAt, from_list, from_test, to_turn}
+use Rattle.isa8080.specs.Step.{step_of}
 
 -- where the value of a part is: its low byte in A,
 pub record ComesToA (number : ℕ) (scalar : ScalarType) (now : Registers) : Type 0 where
@@ -214,7 +215,7 @@ test_jumps {at = at} loop limit turn turn_facts {facts = facts} {found = found} 
     (λ passed rest. above (nat_lt last number) refl (sym shows ∙ passed) rest)
   where
     below : (is_above : Bool) → nat_lt last number ≡ is_above → not (nat_lt last number) ≡ true
-        → Rattle.isa8080.specs.Step.step_of (script_of at.context) (at_place from r memory t.events)
+        → step_of (script_of at.context) (at_place from r memory t.events)
         ≡ at_place (at.context.activation.layout.place_of turn.index) r memory t.events
         → Does (script_of at.context) t.budget 0 (at_place from r memory t.events)
         (if is_above then Gave Onward t else taking_one t (from_list loop)) (Out loop)
@@ -298,7 +299,7 @@ pub byte_known :
     {context : Context} {variable : ℕ} {scalar : ScalarType} (counted : IsCounted context variable scalar) (r : Registers) (memory : List ℕ)
     → r.a ≡ byte_at memory (variable_address context variable)
     → IsSteady context.activation (variable_address context variable)
-    → Know context (record no_facts { byte_in_a = Rattle.std.proofs.Common.Some counted.location }) r memory
+    → Know context (record no_facts { byte_in_a = Some counted.location }) r memory
 byte_known {context = context} counted r memory a steady = record {
   byte_holds = (a ∙ ap (byte_at memory) counted.is_there,
       subst (λ (n : ℕ). IsSteady context.activation n) counted.is_there steady);
@@ -311,7 +312,7 @@ byte_known {context = context} counted r memory a steady = record {
 pub place_known :
     {context : Context} {variable : ℕ} {scalar : ScalarType} (counted : IsCounted context variable scalar) (r : Registers) (memory : List ℕ)
     → word r.h r.l ≡ variable_address context variable
-    → Know context (record no_facts { address_in_hl = Rattle.std.proofs.Common.Some counted.location }) r memory
+    → Know context (record no_facts { address_in_hl = Some counted.location }) r memory
 place_known counted r memory hl =
     record { byte_holds = tt; word_holds = tt; address_holds = hl ∙ counted.is_there; zero_holds = tt }
 
@@ -322,7 +323,7 @@ pub address_of_variable_known :
     → r.h ≡ byte_at memory (wrap (variable_address context variable + 1))
     → IsSteady context.activation (variable_address context variable)
     → IsSteady context.activation (wrap (variable_address context variable + 1))
-    → Know context (record no_facts { word_in_hl = Rattle.std.proofs.Common.Some counted.location }) r memory
+    → Know context (record no_facts { word_in_hl = Some counted.location }) r memory
 address_of_variable_known {context = context} counted r memory low high steady steady_too =
     word_known context r memory counted.location
     (subst (λ (n : ℕ). IsSteady context.activation n) counted.is_there steady)

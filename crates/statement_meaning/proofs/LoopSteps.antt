@@ -1,7 +1,7 @@
 -- The step of an iterative DO in general, counting by 1: the variable is counted where it lies, and where it becomes 0 the
 -- loop ends.
 use Rattle.std.proofs.Common.{◌≡◌, ◌≢◌, ℕ, ◌+◌, ◌*◌, ◌/◌, ◌%◌, ◌<◌, ◌≤◌, ◌==◌, Bool, true, false, not, nat_le, List, [], ◌∷◌, slice_set, refl, sym, ap, subst, ◌∙◌, arith}
-use Rattle.std.proofs.lemmas.Bool.{eqb-true, eqb-false}
+use Rattle.std.proofs.lemmas.Bool.{eqb-true, eqb-false, le-leb, lt-leb}
 use Rattle.mem80.specs.declared.memory.TheConstants.{MEMORY_SIZE}
 use Rattle.mem80.specs.Memory.{byte_at}
 use Rattle.mem80.proofs.MemoryLemmas.{byte_small}
@@ -37,7 +37,7 @@ use Rattle.task_meaning.proofs.Stages.{at_instructions, does_same, script_of}
 use Rattle.task_meaning.proofs.WordWriting.{first_fits, next_address, second_fits, then_next}
 use Rattle.task_meaning.proofs.Writing.{byte_written}
 use Rattle.statement_meaning.specs.Bodies.{BodyContext, IsSoundBody}
-use Rattle.statement_meaning.proofs.CountedBytes.{Goes, stays}
+use Rattle.statement_meaning.proofs.CountedBytes.{Goes, stays, one_more_now}
 use Rattle.statement_meaning.proofs.CountedVariables.{IsCounted, variable_address, variable_place}
 use Rattle.statement_meaning.proofs.LoopCode.{Steps, address_step, address_then, byte_then, jump_then}
 use Rattle.statement_meaning.proofs.LoopMeaning.{next_tests, stepped_by, stepped_with, stepped_with_is}
@@ -54,15 +54,12 @@ pub record HasStep
   pub less : limit < loop.budget
   pub ends : Goes loop limit no_facts (at.context.activation.layout.place_of end.index)
 
-one_more_now : (n : ℕ) → (n + 1) % 256 ≡ (n + 1) % 256 % 256
-one_more_now n = omega arith
-
 -- what a BYTE that is counted comes to
 top_is : (n : ℕ) → n < 256 → (n == 255) ≡ nat_le 256 (n + 1)
 top_is n small =
     same_test (n == 255) (nat_le 256 (n + 1))
-    (λ is. let same = eqb-true n 255 is in Rattle.std.proofs.lemmas.Bool.le-leb 256 (n + 1) (omega (arith, same)))
-    (λ is. let differ = eqb-false n 255 is in Rattle.std.proofs.lemmas.Bool.lt-leb 256 (n + 1) (omega (arith, differ, small)))
+    (λ is. let same = eqb-true n 255 is in le-leb 256 (n + 1) (omega (arith, same)))
+    (λ is. let differ = eqb-false n 255 is in lt-leb 256 (n + 1) (omega (arith, differ, small)))
 
 -- a BYTE is counted by 1
 pub count_byte :
@@ -129,10 +126,10 @@ sum_high_more low high two is = omega (arith, two, is)
 sum_top : (low high : ℕ) → high < 256 → low ≡ 255 → (high == 255) ≡ nat_le 65536 (low + 256 * high + 1)
 sum_top low high small is =
     same_test (high == 255) (nat_le 65536 (low + 256 * high + 1))
-    (λ top. let same = eqb-true high 255 top in Rattle.std.proofs.lemmas.Bool.le-leb 65536 (low + 256 * high + 1) (omega (arith, same, is)))
-    (λ less. let differ = eqb-false high 255 less in Rattle.std.proofs.lemmas.Bool.lt-leb 65536 (low + 256 * high + 1) (omega (arith, differ, small, is)))
+    (λ top. let same = eqb-true high 255 top in le-leb 65536 (low + 256 * high + 1) (omega (arith, same, is)))
+    (λ less. let differ = eqb-false high 255 less in lt-leb 65536 (low + 256 * high + 1) (omega (arith, differ, small, is)))
 
-other_byte : (address : ℕ) → address < MEMORY_SIZE → wrap (address + 1) ≢ address
+pub other_byte : (address : ℕ) → address < MEMORY_SIZE → wrap (address + 1) ≢ address
 other_byte address small same = omega (arith, small, same)
 
 not_past : (low high : ℕ) → low < 256 → high < 256 → low ≢ 255 → 65536 ≤ low + 256 * high + 1 → ⊥

@@ -1,5 +1,5 @@
 -- The step of an iterative DO in general, where it is added to the variable: where the sum passes the type the loop ends.
-use Rattle.std.proofs.Common.{◌≡◌, ◌≢◌, ℕ, ◌+◌, ◌*◌, ◌/◌, ◌%◌, ◌<◌, ◌≤◌, ◌==◌, Bool, true, false, not, nat_le, List, [], ◌∷◌, ◌++◌, slice_set, Option, Some, refl, sym, ap, subst, ◌∙◌, arith}
+use Rattle.std.proofs.Common.{◌≡◌, ℕ, ◌+◌, ◌*◌, ◌/◌, ◌%◌, ◌<◌, ◌≤◌, ◌==◌, Bool, true, false, not, nat_le, List, [], ◌∷◌, slice_set, Option, Some, refl, sym, ap, subst, ◌∙◌, arith, bit_or}
 use Rattle.std.proofs.lemmas.Bool.{leb-true, leb-false, le-leb, lt-leb, eqb-true, eqb-false}
 use Rattle.std.specs.Int.Bits.{or_self}
 use Rattle.mem80.specs.Memory.{byte_at}
@@ -40,7 +40,7 @@ use Rattle.statement_meaning.proofs.LoopCode.{Steps, address_step, address_then,
 use Rattle.statement_meaning.proofs.LoopMeaning.{next_tests, stepped_by, stepped_with, stepped_with_is}
 use Rattle.statement_meaning.proofs.LoopRules.{Checks, byte_comes, checks_at, operate_then, operated, sum_jumps, word_comes}
 use Rattle.statement_meaning.proofs.LoopSteps.{HasStep}
-use Rattle.statement_meaning.proofs.LoopTests.{byte_step, word_step}
+use Rattle.statement_meaning.proofs.LoopTests.{byte_step, word_step, kept_a}
 use Rattle.statement_meaning.proofs.LoopTurns.{Loop, Out, StageAt, after_list}
 
 -- the step of a loop, as its code has it
@@ -49,9 +49,6 @@ pub record HasAdded {at : BodyContext} (loop : Loop at) (step : ExpressionNumber
   pub is : IsExpressionIn (nodes_in at.context) at.context.storage step tree
   pub types : TypesHold at.context.typed at.context.within tree
   pub fits : 2 * height_of tree ≤ loop.need
-
-kept_a : (a now n : ℕ) → now ≡ a → a ≡ n % 256 → n < 256 → now ≡ n
-kept_a a now n one two small = omega (arith, one, two, small)
 
 byte_sum : (a number n : ℕ) → a ≡ n → (a + number + 0) % 256 ≡ (number + n) % 256 % 256
 byte_sum a number n same = omega (arith, same)
@@ -124,7 +121,7 @@ none_carried false d e number n high low is none = let under = leb-false 256 (e 
 past_byte : (d carry sum : ℕ) → (d + carry) * 256 ≤ sum → 256 ≤ 0 + d + carry → 256 ≤ sum
 past_byte d carry sum great over = omega (arith, great, over)
 
-zero_shows_sum : (a sum : ℕ) → a < 256 → a * 256 ≤ sum → (a ≡ 0 → sum < 256) → not (Rattle.std.proofs.Common.bit_or a a == 0) ≡ nat_le 256 sum
+zero_shows_sum : (a sum : ℕ) → a < 256 → a * 256 ≤ sum → (a ≡ 0 → sum < 256) → not (bit_or a a == 0) ≡ nat_le 256 sum
 zero_shows_sum a sum small great none =
     ap (λ (n : ℕ). not (n == 0)) (or_self a)
     ∙ same_test (not (a == 0)) (nat_le 256 sum)

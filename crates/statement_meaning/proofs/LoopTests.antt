@@ -36,10 +36,9 @@ use Rattle.exprgen8080.specs.Emission.{knowing}
 use Rattle.statements8080.specs.Bodies.{whole}
 use Rattle.task_meaning.specs.Contexts.{nodes_in}
 use Rattle.task_meaning.specs.Tasks.{Know}
-use Rattle.task_meaning.proofs.RegisterCode.{AreOnRegisters, effect}
-use Rattle.task_meaning.proofs.Stages.{at_instructions, does_same, script_of}
+use Rattle.task_meaning.proofs.RegisterCode.{effect}
+use Rattle.task_meaning.proofs.Stages.{at_instructions, does_same, script_of, at_end}
 use Rattle.statement_meaning.specs.Bodies.{BodyContext}
-use Rattle.statement_meaning.proofs.CaseForms.{high_is_less}
 use Rattle.statement_meaning.proofs.CountedBytes.{Goes}
 use Rattle.statement_meaning.proofs.CountedVariables.{variable_address, variable_place}
 use Rattle.statement_meaning.proofs.LoadedVariables.{byte_loaded, word_loaded}
@@ -48,8 +47,7 @@ use Rattle.statement_meaning.proofs.LoopMeaning.{counted_read, scalar_at, scalar
 use Rattle.statement_meaning.proofs.LoopRules.{HasTurns, address_of_variable_known, after_last, byte_comes, byte_known, from_test_is, if_not_above, next_word, not_above, operate_then, operated, pair_is_less, place_known, test_jumps, word_comes}
 use Rattle.statement_meaning.proofs.LoopTurns.{Loop, Out, StageAt, from_list, from_test, to_turn}
 use Rattle.statement_meaning.proofs.SteadyReads.{steady_byte_read, steady_read}
-use Rattle.statement_meaning.proofs.TestedLoops.{word_test}
-use Rattle.statement_meaning.proofs.WordCode.{word_is_less}
+use Rattle.statement_meaning.proofs.TestedLoops.{word_test, low_is, on_registers, other_way, shows}
 
 -- the last value of a loop, as its code has it
 pub record HasLast {at : BodyContext} (loop : Loop at) (last : ExpressionNumber) : Type 0 where
@@ -64,12 +62,6 @@ Enters at facts turn_facts =
 
 byte_itself : (n : ℕ) → n < 256 → n % 256 ≡ n
 byte_itself n small = omega (arith, small)
-
-low_is : (n : ℕ) → n < 255 → (n + 1) % 256 ≡ n + 1
-low_is n less = omega (arith, less)
-
-other_way : (h l low high : ℕ) → l ≡ low → h ≡ high → 256 * h + l ≡ low + 256 * high
-other_way h l low high one two = omega (arith, one, two)
 
 whole_of : (h l n : ℕ) → h ≡ n / 256 → l ≡ n % 256 → 256 * h + l ≡ n
 whole_of h l n one two = omega (arith, one, two)
@@ -150,26 +142,12 @@ byte_below_tests {at = at} loop limit last turn turn_facts t r memory turns last
     (byte_known counted (effect (AccumulateImmediate Compare (low (last + 1)) ∷ []) now) memory_now a steady))
     goes)))))
 
--- an ADDRESS is less than a number
-on_registers : (last : ℕ) (none : Bool) → AreOnRegisters (word_test last none)
-on_registers last true = (tt, (tt, tt))
-on_registers last false = (tt, (tt, (tt, (tt, tt))))
-
-shows_less : (last : ℕ) (none : Bool) (r : Registers)
-    → r.l < 256
-    → last + 1 < 65536
-    → (none ≡ true → (last + 1) % 256 ≡ 0)
-    → (effect (word_test last none) r).flags.cy ≡ nat_lt (256 * r.h + r.l) (last + 1)
-shows_less last true r low small is =
-    borrow_shows r.h ((last + 1) / 256) (omega (arith, small))
-    ∙ high_is_less r.h r.l (last + 1) low small (is refl)
-shows_less last false r low small is = word_is_less r.h r.l (last + 1) low small
-
 keeps_hl : (last : ℕ) (none : Bool) (r : Registers)
     → ((effect (word_test last none) r).h ≡ r.h) × ((effect (word_test last none) r).l ≡ r.l)
 keeps_hl last true r = (refl, refl)
 keeps_hl last false r = (refl, refl)
 
+-- an ADDRESS is less than a number
 pub word_below_tests :
     {at : BodyContext} (loop : Loop at) (limit last : ℕ) (turn : LabelNumber) (turn_facts : Facts) (none : Bool)
     {facts loaded found : Facts} {from middle to : ℕ} (t : SourceState) (r : Registers) (memory : List ℕ)
@@ -200,7 +178,7 @@ word_below_tests {at = at} loop limit last turn turn_facts none t r memory turns
     counted_read Address t (if_not_above loop last) sound counted compared.ready
     (λ steady_again.
     test_jumps loop limit turn turn_facts Carry last (scalar_at Address memory_now address) t after memory_now turns
-    (shows_less last none now there.ready.registers.l little low_none
+    (shows last none now there.ready.registers.l little low_none
     ∙ ap (λ (n : ℕ). nat_lt n (last + 1))
     (other_way now.h now.l (byte_at memory_now address) (byte_at memory_now (wrap (address + 1))) in_hl.low in_hl.high)
     ∙ not_above (scalar_at Address memory_now address) last)
@@ -216,7 +194,7 @@ byte_step number = steps.Part (record { task = tasks.Byte number; pushed = 0 })
 abbrev pub word_step : ExpressionNumber → Step
 word_step number = steps.Part (record { task = tasks.Word number; pushed = 0 })
 
-kept_a : (a now n : ℕ) → now ≡ a → a ≡ n % 256 → n < 256 → now ≡ n
+pub kept_a : (a now n : ℕ) → now ≡ a → a ≡ n % 256 → n < 256 → now ≡ n
 kept_a a now n one two small = omega (arith, one, two, small)
 
 of_byte : (scalar : ScalarType) (n : ℕ) → scalar ≡ Byte → n < values_of scalar → n < 256
@@ -341,7 +319,7 @@ word_tests {at = at} loop limit last turn turn_facts {exchanged_facts = exchange
     (λ n u now memory_now known middle comes spent rest there.
     at_instructions (Xchg ∷ []) [] sound (tt, tt) rest there
     (λ place_exchanged known_exchanged over exchanged.
-    Rattle.task_meaning.proofs.Stages.at_end over exchanged
+    at_end over exchanged
     (λ exchanged_there.
     steady_read (variable_place at.context (loop.head).variable) u (if_not_above loop n) sound counted.fits
     (λ steady.

@@ -55,6 +55,7 @@ use Rattle.statement_meaning.proofs.LoopTests.{Enters, HasLast}
 use Rattle.statement_meaning.proofs.LoopTurns.{Loop, Out, StageAt, from_test}
 use Rattle.statement_meaning.proofs.PlannedParts.{word_parted}
 use Rattle.statement_meaning.proofs.SteadyReads.{steady_read}
+use Rattle.statement_meaning.proofs.TestedLoops.{other_way}
 
 -- the comparison with the word at a place, and the jump
 abbrev place_compare : Place → LabelNumber → List Step
@@ -68,9 +69,6 @@ same_number same = cc
 
 halves_of : (high low n : ℕ) → n % 256 ≡ low → n / 256 ≡ high → 256 * high + low ≡ n
 halves_of high low n one two = omega (arith, one, two)
-
-other_way : (h l low high : ℕ) → l ≡ low → h ≡ high → 256 * h + l ≡ low + 256 * high
-other_way h l low high one two = omega (arith, one, two)
 
 -- where the variable is in HL, and the last value at the place
 compared_with_place :
