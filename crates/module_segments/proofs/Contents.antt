@@ -27,7 +27,7 @@ use Rattle.treecode.specs.declared.place.Home.TheVariants as homes
 use Rattle.treecode.specs.Contents.{place_from, content_of, size_of_value as bytes_of_value, with_gap, with_gap_if_any, with_object, constant_object, static_object, with_constant, constants_from, constants_of, variables_from, variables_of, static_place}
 use Rattle.treecode.specs.Homes.{externals_of, homes_of}
 use Rattle.treecode.specs.Nodes.{home_at}
-use Rattle.module_segments.specs.internal.Places.{location_of_place, places_of_content, places_of_contents, AddsWord, AddWords}
+use Rattle.module_segments.specs.internal.Places.{location_of_place, places_of_content, places_of_contents, KeepsWord, KeepWords}
 use Rattle.module_segments.proofs.Homes.{IsLaidOut, place_further, any_lies}
 use Rattle.module_segments.proofs.Slots.{constant_small}
 
@@ -90,7 +90,7 @@ gap_if_any_places names before count = by (count == 0) refl
 -- a value
 place_from_further :
     (names : List External) (home : Home) (offset : ℕ)
-    → offset < 65536
+    → KeepsWord (Word (place_from home offset))
     → location_of_place names (place_from home offset)
     ≡ further_on (location_of_place names (static_place home)) offset
 place_from_further names (homes.Static place) offset below = place_further names place offset
@@ -106,27 +106,122 @@ value_places :
     (names : List External) (starts : List Home) (locations : ℕ → Location)
     → LieAs names starts locations
     → (value : InitialValue)
-    → AddsWord value
+    → KeepsWord (content_of starts value)
     → places_of_content names (content_of starts value) ≡ places_of_value locations value
-value_places names starts locations lie (ByteValue byte) adds = refl
-value_places names starts locations lie (WordValue word) adds = refl
-value_places names starts locations lie (LocationValue object offset) adds =
+value_places names starts locations lie (ByteValue byte) keeps = refl
+value_places names starts locations lie (WordValue word) keeps = refl
+value_places names starts locations lie (LocationValue object offset) keeps =
     ap places_of_location
-    (place_from_further names (home_at starts object) offset adds
+    (place_from_further names (home_at starts object) offset keeps
     ∙ ap (λ (location : Location). further_on location offset) (lie object))
 
 values_places :
     (names : List External) (starts : List Home) (locations : ℕ → Location)
     → LieAs names starts locations
     → (values : List InitialValue)
-    → AllByRecursion AddsWord values
+    → AllByRecursion KeepsWord (map (content_of starts) values)
     → places_of_contents names (map (content_of starts) values) ≡ flat_map (places_of_value locations) values
-values_places names starts locations lie [] add = refl
-values_places names starts locations lie (value ∷ values) add =
+values_places names starts locations lie [] keep = refl
+values_places names starts locations lie (value ∷ values) keep =
     ap (λ (first : Places). first ++ places_of_contents names (map (content_of starts) values))
-    (value_places names starts locations lie value add.0)
+    (value_places names starts locations lie value keep.0)
     ∙ ap (λ (rest : Places). places_of_value locations value ++ rest)
-    (values_places names starts locations lie values add.1)
+    (values_places names starts locations lie values keep.1)
+
+-- What holds of the numbers of all contents holds of those of each part.
+first_keep : (one other : List Content) → KeepWords (one ++ other) → KeepWords one
+first_keep [] other keep = tt
+first_keep (content ∷ one) other keep = (keep.0, first_keep one other keep.1)
+
+second_keep : (one other : List Content) → KeepWords (one ++ other) → KeepWords other
+second_keep [] other keep = keep
+second_keep (content ∷ one) other keep = second_keep one other keep.1
+
+gap_keeps : (before : List Content) (count : ℕ) → KeepWords (with_gap before count) → KeepWords before
+gap_keeps [] count keep = tt
+gap_keeps (Gap gap ∷ []) count keep = (tt, tt)
+gap_keeps (Byte byte ∷ others) count keep = (tt, gap_keeps others count keep.1)
+gap_keeps (Word place ∷ others) count keep = (keep.0, gap_keeps others count keep.1)
+gap_keeps (Gap gap ∷ next ∷ others) count keep = (tt, gap_keeps (next ∷ others) count keep.1)
+
+gap_if_any_keeps : (before : List Content) (count : ℕ) → KeepWords (with_gap_if_any before count) → KeepWords before
+gap_if_any_keeps before count = by (count == 0)
+  where
+    by : (none : Bool) → KeepWords (if none then before else with_gap before count) → KeepWords before
+    by true keep = keep
+    by false keep = gap_keeps before count keep
+
+object_keeps :
+    (starts : List Home) (object : TypedObject) (values : List InitialValue) (before : List Content)
+    → KeepWords (with_object starts object values before)
+    → KeepWords (before ++ map (content_of starts) values)
+object_keeps starts object values before keep =
+    gap_if_any_keeps (before ++ map (content_of starts) values)
+    (min (min (size_of_object object) 4294967295 - sum_by bytes_of_value values) 65535) keep
+
+static_keeps :
+    (starts : List Home) (object : TypedObject) (kind : TypedHome) (before : List Content)
+    → KeepWords (static_object starts object kind before)
+    → KeepWords before
+static_keeps starts object (InData values) before keep =
+    first_keep before (map (content_of starts) values) (object_keeps starts object values before keep)
+static_keeps starts object (InConstants values) before keep = keep
+static_keeps starts object (Placed at) before keep = keep
+static_keeps starts object (BasedOn base) before keep = keep
+static_keeps starts object Elsewhere before keep = keep
+static_keeps starts object Nowhere before keep = keep
+static_keeps starts object (InFrame procedure) before keep = keep
+
+variables_keep :
+    (starts : List Home) (objects : List TypedObject) (before : List Content)
+    → KeepWords (variables_from starts before objects)
+    → KeepWords before
+variables_keep starts [] before keep = keep
+variables_keep starts (object ∷ others) before keep =
+    static_keeps starts object object.home before
+    (variables_keep starts others (static_object starts object object.home before) keep)
+
+constant_keeps :
+    (starts : List Home) (object : TypedObject) (kind : TypedHome) (before : List Content)
+    → KeepWords (constant_object starts object kind before)
+    → KeepWords before
+constant_keeps starts object (InConstants values) before keep =
+    first_keep before (map (content_of starts) values) (object_keeps starts object values before keep)
+constant_keeps starts object (InData values) before keep = keep
+constant_keeps starts object (Placed at) before keep = keep
+constant_keeps starts object (BasedOn base) before keep = keep
+constant_keeps starts object Elsewhere before keep = keep
+constant_keeps starts object Nowhere before keep = keep
+constant_keeps starts object (InFrame procedure) before keep = keep
+
+item_keeps :
+    (typed : TypedModule) (starts : List Home) (item : ConstantItem) (before : List Content)
+    → KeepWords (with_constant typed starts item before)
+    → KeepWords before
+item_keeps typed starts (ConstantObject number) before = by (slice_get typed.objects number)
+  where
+    by : (found : Option TypedObject)
+        → KeepWords
+        (option_map_or (λ (object : TypedObject). constant_object starts object object.home before) found before)
+        → KeepWords before
+    by None keep = keep
+    by (Some object) keep = constant_keeps starts object object.home before keep
+item_keeps typed starts (ConstantList number) before = by (slice_get typed.constants.lists number)
+  where
+    by : (found : Option (List ℕ))
+        → KeepWords (option_map_or (λ (bytes : List ℕ). before ++ map Byte bytes) found before)
+        → KeepWords before
+    by None keep = keep
+    by (Some bytes) keep = first_keep before (map Byte bytes) keep
+
+constants_keep :
+    (typed : TypedModule) (starts : List Home) (items : List ConstantItem) (before : List Content)
+    → KeepWords (constants_from typed starts before items)
+    → KeepWords before
+constants_keep typed starts [] before keep = keep
+constants_keep typed starts (item ∷ others) before keep =
+    item_keeps typed starts item before
+    (constants_keep typed starts others (with_constant typed starts item before) keep)
 
 -- values take as many bytes in both forms
 same_size : (value : InitialValue) → bytes_of_value value ≡ size_of_value value
@@ -147,20 +242,20 @@ object_places :
     (names : List External) (starts : List Home) (locations : ℕ → Location) (object : TypedObject)
     (values : List InitialValue) (before : List Content)
     → LieAs names starts locations
-    → AllByRecursion AddsWord values
+    → AllByRecursion KeepsWord (map (content_of starts) values)
     → size_of_object object ≤ 65535
     → places_of_contents names (with_object starts object values before)
     ≡ places_of_contents names before
     ++ (flat_map (places_of_value locations) values
     ++ unset (size_of_object object - sum_by size_of_value values))
-object_places names starts locations object values before lie add small =
+object_places names starts locations object values before lie keep small =
     gap_if_any_places names (before ++ map (content_of starts) values)
     (min (min (size_of_object object) 4294967295 - sum_by bytes_of_value values) 65535)
     ∙ ap (λ (first : Places).
     first ++ unset (min (min (size_of_object object) 4294967295 - sum_by bytes_of_value values) 65535))
     (flat_map-append (places_of_content names) before (map (content_of starts) values)
     ∙ ap (λ (filled : Places). places_of_contents names before ++ filled)
-    (values_places names starts locations lie values add))
+    (values_places names starts locations lie values keep))
     ∙ ap (λ (count : ℕ).
     (places_of_contents names before ++ flat_map (places_of_value locations) values) ++ unset count)
     (rest (size_of_object object) (sum_by bytes_of_value values) (sum_by size_of_value values)
@@ -182,42 +277,43 @@ variable_places :
     (kind : TypedHome) (before : List Content)
     → object.home ≡ kind
     → LieAs names starts locations
-    → AllByRecursion AddsWord (values_in kind)
+    → KeepWords (static_object starts object kind before)
     → bytes_in_data kind object ≤ 65535
     → places_of_contents names (static_object starts object kind before)
     ≡ places_of_contents names before ++ places_by_home locations object kind
-variable_places names starts locations object (InData values) before is lie add small =
-    object_places names starts locations object values before lie add small
+variable_places names starts locations object (InData values) before is lie keep small =
+    object_places names starts locations object values before lie
+    (second_keep before (map (content_of starts) values) (object_keeps starts object values before keep)) small
     ∙ ap (λ (kind : TypedHome).
     places_of_contents names before
     ++ (flat_map (places_of_value locations) (values_in kind)
     ++ unset (size_of_object object - bytes_filled kind))) (sym is)
-variable_places names starts locations object (InConstants values) before is lie add small =
+variable_places names starts locations object (InConstants values) before is lie keep small =
     sym (append-nil (places_of_contents names before))
-variable_places names starts locations object (Placed at) before is lie add small =
+variable_places names starts locations object (Placed at) before is lie keep small =
     sym (append-nil (places_of_contents names before))
-variable_places names starts locations object (BasedOn base) before is lie add small =
+variable_places names starts locations object (BasedOn base) before is lie keep small =
     sym (append-nil (places_of_contents names before))
-variable_places names starts locations object Elsewhere before is lie add small =
+variable_places names starts locations object Elsewhere before is lie keep small =
     sym (append-nil (places_of_contents names before))
-variable_places names starts locations object Nowhere before is lie add small =
+variable_places names starts locations object Nowhere before is lie keep small =
     sym (append-nil (places_of_contents names before))
-variable_places names starts locations object (InFrame procedure) before is lie add small =
+variable_places names starts locations object (InFrame procedure) before is lie keep small =
     sym (append-nil (places_of_contents names before))
 
 variables_places :
     (names : List External) (starts : List Home) (locations : ℕ → Location) (objects : List TypedObject)
     (before : List Content)
     → LieAs names starts locations
-    → AllByRecursion (λ (object : TypedObject). All AddsWord (values_in object.home)) objects
+    → KeepWords (variables_from starts before objects)
     → data_bytes objects ≤ 65535
     → places_of_contents names (variables_from starts before objects)
     ≡ places_of_contents names before
     ++ flat_map (λ (object : TypedObject). places_by_home locations object object.home) objects
-variables_places names starts locations [] before lie add small =
+variables_places names starts locations [] before lie keep small =
     sym (append-nil (places_of_contents names before))
-variables_places names starts locations (object ∷ others) before lie add small =
-    variables_places names starts locations others (static_object starts object object.home before) lie add.1
+variables_places names starts locations (object ∷ others) before lie keep small =
+    variables_places names starts locations others (static_object starts object object.home before) lie keep
     (omega (
       arith,
       small,
@@ -226,7 +322,7 @@ variables_places names starts locations (object ∷ others) before lie add small
     ∙ ap (λ (first : Places).
     first ++ flat_map (λ (object : TypedObject). places_by_home locations object object.home) others)
     (variable_places names starts locations object object.home before refl lie
-    (recursion_from_All AddsWord (values_in object.home) add.0)
+    (variables_keep starts others (static_object starts object object.home before) keep)
     (omega (
       arith,
       small,
@@ -239,14 +335,13 @@ variables_places names starts locations (object ∷ others) before lie add small
 pub data_agrees :
     (typed : TypedModule) (storage : Storage)
     → IsLaidOut typed storage
-    → AddWords typed
+    → KeepWords (variables_of typed (homes_of typed storage))
     → places_of_contents (externals_of typed) (variables_of typed (homes_of typed storage))
     ≡ data_places typed
 unfolding variables_of
-data_agrees typed storage laid add =
+data_agrees typed storage laid keep =
     variables_places (externals_of typed) (homes_of typed storage) (location_of typed) typed.objects []
-    (λ number. any_lies typed storage number laid)
-    (recursion_from_All (λ (object : TypedObject). All AddsWord (values_in object.home)) typed.objects add)
+    (λ number. any_lies typed storage number laid) keep
     laid.stored.data_fits
 
 -- what stands among the constants has DATA
@@ -342,32 +437,34 @@ data_object_places :
     → object.home ≡ kind
     → HasData kind
     → LieAs names starts locations
-    → AllByRecursion AddsWord (values_in kind)
+    → KeepWords (constant_object starts object kind before)
     → ((values : List InitialValue) → object.home ≡ InConstants values → size_of_object object ≤ 65535)
     → places_of_contents names (constant_object starts object kind before)
     ≡ places_of_contents names before ++ places_of_object locations object
-data_object_places names starts locations object (InConstants values) before is has lie add small =
-    object_places names starts locations object values before lie add (small values is)
+data_object_places names starts locations object (InConstants values) before is has lie keep small =
+    object_places names starts locations object values before lie
+    (second_keep before (map (content_of starts) values) (object_keeps starts object values before keep))
+    (small values is)
     ∙ ap (λ (kind : TypedHome).
     places_of_contents names before
     ++ (flat_map (places_of_value locations) (values_in kind)
     ++ unset (size_of_object object - bytes_filled kind))) (sym is)
-data_object_places names starts locations object (InData values) before is has lie add small = absurd has
-data_object_places names starts locations object (Placed at) before is has lie add small = absurd has
-data_object_places names starts locations object (BasedOn base) before is has lie add small = absurd has
-data_object_places names starts locations object Elsewhere before is has lie add small = absurd has
-data_object_places names starts locations object Nowhere before is has lie add small = absurd has
-data_object_places names starts locations object (InFrame procedure) before is has lie add small = absurd has
+data_object_places names starts locations object (InData values) before is has lie keep small = absurd has
+data_object_places names starts locations object (Placed at) before is has lie keep small = absurd has
+data_object_places names starts locations object (BasedOn base) before is has lie keep small = absurd has
+data_object_places names starts locations object Elsewhere before is has lie keep small = absurd has
+data_object_places names starts locations object Nowhere before is has lie keep small = absurd has
+data_object_places names starts locations object (InFrame procedure) before is has lie keep small = absurd has
 
 -- an item of the constants
 item_places :
     (typed : TypedModule) (storage : Storage) (item : ConstantItem) (before : List Content)
     → IsLaidOut typed storage
-    → AddWords typed
+    → KeepWords (with_constant typed (homes_of typed storage) item before)
     → IsConstant typed item
     → places_of_contents (externals_of typed) (with_constant typed (homes_of typed storage) item before)
     ≡ places_of_contents (externals_of typed) before ++ places_of_constant typed item
-item_places typed storage (ConstantList number) before laid add is =
+item_places typed storage (ConstantList number) before laid keep is =
     by (slice_get typed.constants.lists number)
   where
     by :
@@ -380,44 +477,46 @@ item_places typed storage (ConstantList number) before laid add is =
         flat_map-append (places_of_content (externals_of typed)) before (map Byte bytes)
         ∙ ap (λ (list : Places). places_of_contents (externals_of typed) before ++ list)
         (list_places (externals_of typed) bytes)
-item_places typed storage (ConstantObject number) before laid add is =
-    by (slice_get typed.objects number) refl
+item_places typed storage (ConstantObject number) before laid keep is =
+    by (slice_get typed.objects number) refl keep
   where
     by :
         (found : Option TypedObject)
         → slice_get typed.objects number ≡ found
+        → KeepWords
+        (option_map_or
+        (λ (object : TypedObject). constant_object (homes_of typed storage) object object.home before) found
+        before)
         → places_of_contents (externals_of typed)
         (option_map_or
         (λ (object : TypedObject). constant_object (homes_of typed storage) object object.home before) found
         before)
         ≡ places_of_contents (externals_of typed) before
         ++ option_map_or (places_of_object (location_of typed)) found []
-    by None found = sym (append-nil (places_of_contents (externals_of typed) before))
-    by (Some object) found =
+    by None found keep = sym (append-nil (places_of_contents (externals_of typed) before))
+    by (Some object) found keep =
         data_object_places (externals_of typed) (homes_of typed storage)
         (location_of typed) object object.home
         before refl (is.1 number object (omega arith) found) (λ n. any_lies typed storage n laid)
-        (recursion_from_All AddsWord (values_in object.home)
-        (of_all (λ (object : TypedObject). All AddsWord (values_in object.home)) typed.objects number object
-        (recursion_from_All
-        (λ (object : TypedObject). All AddsWord (values_in object.home)) typed.objects add)
-        found))
+        keep
         (λ values home_is. constant_small typed storage number object values laid.stored found home_is)
 
 items_places :
     (typed : TypedModule) (storage : Storage) (items : List ConstantItem) (before : List Content)
     → IsLaidOut typed storage
-    → AddWords typed
+    → KeepWords (constants_from typed (homes_of typed storage) before items)
     → AllByRecursion (IsConstant typed) items
     → places_of_contents (externals_of typed) (constants_from typed (homes_of typed storage) before items)
     ≡ places_of_contents (externals_of typed) before ++ flat_map (places_of_constant typed) items
-items_places typed storage [] before laid add are =
+items_places typed storage [] before laid keep are =
     sym (append-nil (places_of_contents (externals_of typed) before))
-items_places typed storage (item ∷ others) before laid add are =
+items_places typed storage (item ∷ others) before laid keep are =
     items_places typed storage others
-    (with_constant typed (homes_of typed storage) item before) laid add are.1
+    (with_constant typed (homes_of typed storage) item before) laid keep are.1
     ∙ ap (λ (first : Places). first ++ flat_map (places_of_constant typed) others)
-    (item_places typed storage item before laid add are.0)
+    (item_places typed storage item before laid
+    (constants_keep typed (homes_of typed storage) others (with_constant typed (homes_of typed storage) item before)
+    keep) are.0)
     ∙ append_assoc (places_of_contents (externals_of typed) before) (places_of_constant typed item)
     (flat_map (places_of_constant typed) others)
 
@@ -425,12 +524,12 @@ items_places typed storage (item ∷ others) before laid add are =
 pub constants_agree :
     (typed : TypedModule) (storage : Storage)
     → IsLaidOut typed storage
-    → AddWords typed
+    → KeepWords (constants_of typed (homes_of typed storage))
     → places_of_contents (externals_of typed) (constants_of typed (homes_of typed storage))
     ≡ constant_places typed
 unfolding constants_of
-constants_agree typed storage laid add =
-    items_places typed storage typed.constants.items [] laid add
+constants_agree typed storage laid keep =
+    items_places typed storage typed.constants.items [] laid keep
     (items_constant typed typed.constants.items
     (subst (AllByRecursion (NumbersData 0 typed.objects)) (sym laid.storable.objects)
     (numbers_data 0 typed.objects)))

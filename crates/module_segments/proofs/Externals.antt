@@ -12,13 +12,13 @@ use Rattle.treecode.specs.declared.module.ExternalName.{ExternalName}
 use Rattle.treecode.specs.Homes.{external_object, external_name, externals_of, is_global_object, latest, external_from, external_number}
 
 -- an index at which a name stands, counted on from some before
-record StandsAt (names : List ExternalName) (external : ExternalName) (count number : ℕ) : Type 0 where
-  index : ℕ
-  number_is : number ≡ count + index
-  name_is : slice_get names index ≡ Some external
+pub record StandsAt (names : List ExternalName) (external : ExternalName) (count number : ℕ) : Type 0 where
+  pub index : ℕ
+  pub number_is : number ≡ count + index
+  pub name_is : slice_get names index ≡ Some external
 
 -- what is found is the index of the name; nothing is found where nothing is wanted
-abbrev Finds : (any : Bool) → List ExternalName → ExternalName → (count : ℕ) → Option ℕ → Type 0
+abbrev pub Finds : (any : Bool) → List ExternalName → ExternalName → (count : ℕ) → Option ℕ → Type 0
 Finds any names external count None = any ≡ false
 Finds any names external count (Some number) = StandsAt names external count number
 
@@ -55,7 +55,7 @@ finds_more any names external count false (Some name) None same named after befo
 finds_more any names external count false (Some name) (Some number) same named after before =
     later_stands name names external count number after
 
-finds :
+pub finds :
     (typed : TypedModule) (wanted : GlobalItem → Bool) (external : ExternalName)
     → ((item : GlobalItem) → wanted item ≡ true → external_name typed item ≡ Some external)
     → (count : ℕ) (items : List GlobalItem)

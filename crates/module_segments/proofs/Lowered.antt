@@ -19,7 +19,7 @@ use Rattle.treecode.specs.Contents.{constants_of, variables_of}
 use Rattle.treecode.specs.Homes.{externals_of, homes_of, number_of_place, place_after}
 use Rattle.treecode.specs.Lowered.{IsLowered}
 use Rattle.treecode.specs.Nodes.{home_at, nodes_of}
-use Rattle.module_segments.specs.internal.Places.{location_of_place, places_of_contents, AddWords}
+use Rattle.module_segments.specs.internal.Places.{location_of_place, places_of_contents, KeepWords}
 use Rattle.module_segments.proofs.Contents.{constants_agree, data_agrees}
 use Rattle.module_segments.proofs.Homes.{IsLaidOut, LiesAt, object_lies, place_further}
 
@@ -37,47 +37,49 @@ as_module typed storage tree f lowered =
 pub code_is :
     (typed : TypedModule) (storage : Storage) (tree : TreeModule)
     → IsLaidOut typed storage
-    → AddWords typed
+    → KeepWords tree.constants.items
     → IsLowered typed storage tree
     → places_of_contents tree.externals.items tree.constants.items ≡ places_in typed Code
-code_is typed storage tree laid add lowered =
+code_is typed storage tree laid keep lowered =
     ap (places_of_contents tree.externals.items) lowered.constants
     ∙ as_module typed storage tree
     (λ names starts. places_of_contents names (constants_of typed starts)) lowered
-    ∙ constants_agree typed storage laid add
+    ∙ constants_agree typed storage laid
+    (subst KeepWords (lowered.constants ∙ ap (constants_of typed) lowered.homes) keep)
 
 -- The data segment has the bytes that the module's has.
 pub data_is :
     (typed : TypedModule) (storage : Storage) (tree : TreeModule)
     → IsLaidOut typed storage
-    → AddWords typed
+    → KeepWords tree.variables.items
     → IsLowered typed storage tree
     → places_of_contents tree.externals.items tree.variables.items ≡ places_in typed Data
-data_is typed storage tree laid add lowered =
+data_is typed storage tree laid keep lowered =
     ap (places_of_contents tree.externals.items) lowered.variables
     ∙ as_module typed storage tree
     (λ names starts. places_of_contents names (variables_of typed starts)) lowered
-    ∙ data_agrees typed storage laid add
+    ∙ data_agrees typed storage laid
+    (subst KeepWords (lowered.variables ∙ ap (variables_of typed) lowered.homes) keep)
 
 -- So both are as long as what they hold takes.
 pub code_length :
     (typed : TypedModule) (storage : Storage) (tree : TreeModule)
     → IsLaidOut typed storage
-    → AddWords typed
+    → KeepWords tree.constants.items
     → IsLowered typed storage tree
     → length (places_of_contents tree.externals.items tree.constants.items) ≡ constant_bytes typed
-code_length typed storage tree laid add lowered =
-    ap (λ (bytes : Places). length bytes) (code_is typed storage tree laid add lowered)
+code_length typed storage tree laid keep lowered =
+    ap (λ (bytes : Places). length bytes) (code_is typed storage tree laid keep lowered)
     ∙ constants_length typed laid.storable
 
 pub data_length_is :
     (typed : TypedModule) (storage : Storage) (tree : TreeModule)
     → IsLaidOut typed storage
-    → AddWords typed
+    → KeepWords tree.variables.items
     → IsLowered typed storage tree
     → length (places_of_contents tree.externals.items tree.variables.items) ≡ data_bytes typed.objects
-data_length_is typed storage tree laid add lowered =
-    ap (λ (bytes : Places). length bytes) (data_is typed storage tree laid add lowered)
+data_length_is typed storage tree laid keep lowered =
+    ap (λ (bytes : Places). length bytes) (data_is typed storage tree laid keep lowered)
     ∙ data_length typed laid.storable
 
 -- Each object lies where tree code has it.

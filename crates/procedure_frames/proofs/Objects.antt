@@ -47,7 +47,7 @@ number_is typed procedure heading number object sized fit frames_fit stands foun
     )
 
 -- at that number it stands, with its size
-entry_is :
+pub entry_is :
     (typed : TypedModule) (procedure : ℕ) (heading : TypedProcedure) (number : ℕ) (object : TypedObject)
     → TakeBytes typed
     → ParametersFit typed

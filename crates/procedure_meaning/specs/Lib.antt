@@ -1,3 +1,6 @@
 pub mod Calls
 pub mod Modules
+pub mod Contexts
 pub mod Procedures
+pub mod Premises
+pub mod Main

@@ -1,13 +1,15 @@
 -- Where the code of a module of a program lies, and what is true of the module.
-use Rattle.std.specs.Prelude.{◌≡◌, ◌≢◌, ℕ, ◌<◌, ◌+◌, true, false, Bool, List, ◌++◌, [], ◌∷◌, Some, None, length, slice_get}
+use Rattle.std.specs.Prelude.{◌≡◌, ◌≢◌, ℕ, ◌<◌, ◌+◌, true, false, All, Bool, List, ◌++◌, [], ◌∷◌, Some, None, length, slice_get}
 use Rattle.std.specs.Borrow.{Bor}
 use Rattle.mem80.specs.declared.memory.TheConstants.{MEMORY_SIZE}
 use Rattle.object_modules.specs.declared.segment.Segment.TheVariants.{Stack}
 use Rattle.object_modules.specs.declared.segment.Target.TheVariants.{InSegment, External}
 use Rattle.ports.specs.Input.{IsScript}
 use Rattle.typed_trees.specs.Frames.{FramesFit, ParametersFit}
+use Rattle.typed_trees.specs.Globals.{ListsGlobals}
 use Rattle.typed_trees.specs.Jumps.{JumpsAreSound}
-use Rattle.typed_trees.specs.TypedTrees.{TypedModule}
+use Rattle.typed_trees.specs.Sizes.{size_of_object}
+use Rattle.typed_trees.specs.TypedTrees.{InData, InFrame, TypedModule, TypedObject, TypedProcedure}
 use Rattle.typed_trees.specs.WellTyped.{IsWellTyped}
 use Rattle.layout.specs.Joined.{InProgram, IsJoined}
 use Rattle.layout.specs.Storage.{Storage}
@@ -32,6 +34,7 @@ use Rattle.treecode.specs.Lowered.{IsLowered}
 use Rattle.treecode.specs.Nodes.{home_at, nodes_of}
 use Rattle.treecode.specs.Resolved.{Resolves}
 use Rattle.frames.specs.Frames.{HasNothing, IsPlanOf}
+use Rattle.procedure_frames.specs.internal.Objects.{TakeBytes}
 use Rattle.code_meaning.specs.Activations.{Activation, IsThere, PlacementLies}
 use Rattle.code_facts.specs.Holding.{place_at}
 use Rattle.steps8080.specs.Facts.{no_facts}
@@ -84,9 +87,9 @@ EndIs body called false here list = list ≡ []
 -- the code of a procedure stands at its entry: how it begins, its body, and its end
 pub record ProcedureStands (code : ModuleCode) (procedure : TreeProcedure) (entry : ℕ) : Type 0 where
   pub body : Body
-  pub tree : body.tree ≡ code.tree
+  pub tree : body.tree.now ≡ code.tree.now
   pub is_procedure : body.procedure.now ≡ procedure
-  pub frame : IsPlanOf procedure body.frame.now
+  pub frame : procedure.kind ≡ kinds.Reentrant → IsPlanOf procedure body.frame.now
   pub first : ℕ
   pub begins : List Item
   pub begun : Here
@@ -103,7 +106,7 @@ pub record ProcedureStands (code : ModuleCode) (procedure : TreeProcedure) (entr
 -- statements, and the machine halts.
 pub record MainStands (code : ModuleCode) (start : ℕ) : Type 0 where
   pub body : Body
-  pub tree : body.tree ≡ code.tree
+  pub tree : body.tree.now ≡ code.tree.now
   pub is_main : body.procedure.now ≡ code.tree.now.main
   pub frame : HasNothing body.frame.now
   pub statements : List Item
@@ -114,20 +117,48 @@ pub record MainStands (code : ModuleCode) (start : ℕ) : Type 0 where
       IsThere (bare code)
       (items.WithWord (LoadPair Sp) (AtTarget (InSegment Stack) 0) ∷ (statements ++ (items.Plain Hlt ∷ []))) start to
 
+-- objects live in the frames of REENTRANT procedures alone
+abbrev pub FramesAreReentrant : TypedModule → Type 0
+FramesAreReentrant typed =
+    (object number : ℕ) (found : TypedObject) (heading : TypedProcedure)
+    → slice_get typed.objects object ≡ Some found
+    → slice_get typed.procedures number ≡ Some heading
+    → found.home ≡ InFrame number
+    → heading.is_reentrant ≡ true
+
+-- variables of the data segment without AT and INITIAL have no byte in common
+abbrev pub VariablesAreApart : ModuleCode → Type 0
+VariablesAreApart code =
+    (one other : ℕ) (first second : TypedObject) (left right : Place) (offset distance : ℕ)
+    → one ≢ other
+    → slice_get code.typed.objects one ≡ Some first
+    → slice_get code.typed.objects other ≡ Some second
+    → first.home ≡ InData []
+    → second.home ≡ InData []
+    → home_at code.tree.now.homes.items one ≡ Static left
+    → home_at code.tree.now.homes.items other ≡ Static right
+    → offset < size_of_object first
+    → distance < size_of_object second
+    → wrap (place_at code.layout left + offset) ≢ wrap (place_at code.layout right + distance)
+
 -- What is true of a module of a program and of where its code lies, where the entries of procedures are these.
 pub record ModuleLies (code : ModuleCode) (entries : Entries) : Type 0 where
   pub is_module : slice_get code.program.modules code.number ≡ Some code.typed
   pub joined : IsJoined code.program.modules
+  pub globals : All ListsGlobals code.program.modules
   pub types : IsWellTyped code.typed
   pub jumps : JumpsAreSound code.typed
   pub frames : FramesFit code.typed
   pub parameters : ParametersFit code.typed
+  pub reentrant : FramesAreReentrant code.typed
+  pub sized : TakeBytes code.typed
   pub bases : BasesStandBefore code.typed
   pub lists : length code.storage.lists ≡ length code.typed.constants.lists
   pub lowered : IsLowered code.typed code.storage code.tree.now
   pub numbers : NumbersAreWords (nodes_of code.tree.now)
   pub script : IsScript code.program.script
   pub placed : PlacementLies code.program
+  pub apart : VariablesAreApart code
   pub resolves : (room : ℕ)
       → Resolves (surroundings_in code room) code.tree.now.homes.items code.storage (place_at code.layout)
   pub words : (object : ℕ) (place : Place) → home_at code.tree.now.homes.items object ≡ Static place

@@ -50,7 +50,7 @@ here_if_public (InFrame procedure) is = tt
 here_if_public Elsewhere is = absurd is
 
 -- the position of the first that passes a test
-first_position : {X : Type 0} {A : Type 0} (p : X → Bool) (from : ℕ) (all : List X) (number : ℕ)
+pub first_position : {X : Type 0} {A : Type 0} (p : X → Bool) (from : ℕ) (all : List X) (number : ℕ)
     → position_from p from all ≡ Some number
     → ((at : ℕ) (x : X) → number ≡ from + at → slice_get all at ≡ Some x → p x ≡ true → A) → A
 first_position p from [] number e then_is = absurd (none-some number e)
@@ -67,7 +67,7 @@ first_position {X} {A} p from (first ∷ all) number e then_is =
     by false is e rest = rest e
 
 -- what is found in modules is found in one of them
-found_place : {A : Type 0} (from : ℕ) (in_one : TypedModule → Option ℕ) (modules : List TypedModule)
+pub found_place : {A : Type 0} (from : ℕ) (in_one : TypedModule → Option ℕ) (modules : List TypedModule)
     (place : InProgram)
     → first_found from in_one modules ≡ Some place
     → ((at : ℕ) (its : TypedModule) → place.number_of_module ≡ from + at → slice_get modules at ≡ Some its
@@ -92,7 +92,7 @@ found_place {A} from in_one (first ∷ others) place e then_is =
         nothing_more n = omega arith
 
 -- both of two tests
-both_hold : (one other : Bool) → (one && other) ≡ true → (one ≡ true) × (other ≡ true)
+pub both_hold : (one other : Bool) → (one && other) ≡ true → (one ≡ true) × (other ≡ true)
 both_hold true other e = (refl, e)
 both_hold false other e = absurd (let bad : false ≡ true = e in cc)
 
@@ -129,7 +129,7 @@ module _
     (is : IsInMemory plan modules objects merged image before after)
   where
     -- a public of a module, and where it lies
-    public_lies :
+    pub public_lies :
         (number_of_module place : ℕ) (typed : TypedModule) (public : Public)
         → (at : IsLinked plan modules objects merged before after number_of_module typed)
         → slice_get (at.linked.object).publics place ≡ Some public

@@ -149,9 +149,9 @@ entry_is at list number found one own end sound less there is =
         | None ↦ end
       ]) its
           ∙ ap (λ (of : Option Statement). elim of as (λ (one : Option Statement). LabelNumber) [
-        | Some found ↦ entry_of_statement at.body found own end
-        | None ↦ end
-      ]) is_now,
+            | Some found ↦ entry_of_statement at.body found own end
+            | None ↦ end
+          ]) is_now,
     )
 
 pub from_none : (n : ℕ) → 0 + n ≡ n

@@ -135,7 +135,15 @@ same_written {context = context} {one = one} {other = other} {u = u} Address pla
 
 nowhere : State
 nowhere = running (record {
-  a = 0; b = 0; c = 0; d = 0; e = 0; h = 0; l = 0; sp = 0; pc = 0;
+  a = 0;
+  b = 0;
+  c = 0;
+  d = 0;
+  e = 0;
+  h = 0;
+  l = 0;
+  sp = 0;
+  pc = 0;
   flags = record { s = false; z = false; ac = false; p = false; cy = false };
 }) [] []
 

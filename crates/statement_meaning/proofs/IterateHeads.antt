@@ -133,9 +133,10 @@ pub number_of_head :
     → number (knowing (site_of at.body) facts) of ≡ Some n
     → ((s : SourceState) → value at.context.later at.context.activation.around tree s ≡ Gave n s) × (n < 65536)
 number_of_head {of = of} {tree = tree} facts n sound is types known =
-    let there = ap (λ (one : Site). number (knowing one facts) of) sound.site ∙ known in
-    (number_is facts n sound.sound is types there,
-    no_greater (type_of tree) n (number_small facts n sound.sound is types there))
+    let there = ap (λ (one : Site). number (knowing one facts) of) sound.site ∙ known in (
+      number_is facts n sound.sound is types there,
+      no_greater (type_of tree) n (number_small facts n sound.sound is types there),
+    )
 
 -- counting by 1 to a number
 pub to_known_is :

@@ -72,80 +72,80 @@ module _
     (budget_is : s.budget ≡ loop.budget)
     (stage : StageAt at loop.need loop.base s facts r memory)
     (general : GeneralEnters loop head list facts label from s r memory)
-    where
-  abbrev site : Site
-  site = knowing (site_of at.body) facts
+  where
+    abbrev site : Site
+    site = knowing (site_of at.body) facts
 
-  abbrev counter : Counter
-  counter = counter_of site head
+    abbrev counter : Counter
+    counter = counter_of site head
 
-  abbrev Enters : Type 0
-  Enters = Does (script_of at.context) s.budget 0 (at_place from r memory s.events) (whole_loop loop s) (Out loop)
+    abbrev Enters : Type 0
+    Enters = Does (script_of at.context) s.budget 0 (at_place from r memory s.events) (whole_loop loop s) (Out loop)
 
-  abbrev Planned_so : List Planned → Type 0
-  Planned_so others = Stand at (going true facts) None from (first_steps at.body site counter head.first ++ others) loop.after loop.to
+    abbrev Planned_so : List Planned → Type 0
+    Planned_so others = Stand at (going true facts) None from (first_steps at.body site counter head.first ++ others) loop.after loop.to
 
-  stores :
-      (others : List Planned) → Planned_so others
-      → Does (script_of at.context) s.budget 1 (at_place from r memory s.events) (first_stored loop s) (FirstThere loop others)
-  stores others stand = first_stores loop head list facts from others s r memory iterates stand stage
+    stores :
+        (others : List Planned) → Planned_so others
+        → Does (script_of at.context) s.budget 1 (at_place from r memory s.events) (first_stored loop s) (FirstThere loop others)
+    stores others stand = first_stores loop head list facts from others s r memory iterates stand stage
 
-  by_turns :
-      (is_tested : Bool)
-      → (is_tested ≡ false → KnownEntry site head true)
-      → Planned_so (turns_steps site counter head is_tested list label)
-      → Enters
-  by_turns is_tested entry stand = by_last (number site head.last) refl stand
-    where
-      in_general : IsGeneral site head → Planned_so (general_steps site counter head is_tested list label) → Enters
-      in_general is stand = general is_tested is (stores _ stand) entry
+    by_turns :
+        (is_tested : Bool)
+        → (is_tested ≡ false → KnownEntry site head true)
+        → Planned_so (turns_steps site counter head is_tested list label)
+        → Enters
+    by_turns is_tested entry stand = by_last (number site head.last) refl stand
+      where
+        in_general : IsGeneral site head → Planned_so (general_steps site counter head is_tested list label) → Enters
+        in_general is stand = general is_tested is (stores _ stand) entry
 
-      by_place :
-          (last : ℕ) → number site head.last ≡ Some last
-          → (in_place : Bool) → counts_in_place site counter head ≡ in_place
-          → Planned_so
-          (if in_place then to_known_steps counter last is_tested list label
-          else general_steps site counter head is_tested list label)
-          → Enters
-      by_place last last_is true is stand =
-          to_known_enters loop head list facts label last is_tested from s r memory iterates last_is is budget_is stage
-          (stores _ stand) entry
-      by_place last last_is false is stand = in_general (NotInPlace is) stand
+        by_place :
+            (last : ℕ) → number site head.last ≡ Some last
+            → (in_place : Bool) → counts_in_place site counter head ≡ in_place
+            → Planned_so
+            (if in_place then to_known_steps counter last is_tested list label
+            else general_steps site counter head is_tested list label)
+            → Enters
+        by_place last last_is true is stand =
+            to_known_enters loop head list facts label last is_tested from s r memory iterates last_is is budget_is stage
+            (stores _ stand) entry
+        by_place last last_is false is stand = in_general (NotInPlace is) stand
 
-      by_last :
-          (known : Option ℕ) → number site head.last ≡ known
-          → Planned_so
-          (elim known as (λ (given : Option ℕ). List Planned) [
-            | Some last ↦
-                if counts_in_place site counter head then to_known_steps counter last is_tested list label
-                else general_steps site counter head is_tested list label
-            | None ↦ general_steps site counter head is_tested list label
-          ])
-          → Enters
-      by_last (Some last) last_is stand = by_place last last_is (counts_in_place site counter head) refl stand
-      by_last None last_is stand = in_general (NoNumber last_is) stand
+        by_last :
+            (known : Option ℕ) → number site head.last ≡ known
+            → Planned_so
+            (elim known as (λ (given : Option ℕ). List Planned) [
+              | Some last ↦
+                  if counts_in_place site counter head then to_known_steps counter last is_tested list label
+                  else general_steps site counter head is_tested list label
+              | None ↦ general_steps site counter head is_tested list label
+            ])
+            → Enters
+        by_last (Some last) last_is stand = by_place last last_is (counts_in_place site counter head) refl stand
+        by_last None last_is stand = in_general (NoNumber last_is) stand
 
-  -- where the first value is known to be above the last one
-  never_entered : KnownEntry site head false → Planned_so [] → Enters
-  never_entered entry stand =
-      let last_is = number_of_head facts entry.last iterates.sound (iterates.is).last iterates.last_types entry.last_is in
-      enters_never loop (loop.head).scalar entry.last from facts [] s r memory iterates.sound refl last_is.0 iterates.counted
-      (stores [] stand) budget_is stage
-      (λ known place u now memory_now ends there.
-      let is_over = over ends in
-      goes_at_end loop u.budget known place is_over.here_is is_over.to_is u now memory_now (omega arith) there)
-      (λ u now memory_now is ready_now steady.
-      leb-false _ _ (entry_value loop head list facts false s u iterates entry is stage.ready ready_now steady))
+    -- where the first value is known to be above the last one
+    never_entered : KnownEntry site head false → Planned_so [] → Enters
+    never_entered entry stand =
+        let last_is = number_of_head facts entry.last iterates.sound (iterates.is).last iterates.last_types entry.last_is in
+        enters_never loop (loop.head).scalar entry.last from facts [] s r memory iterates.sound refl last_is.0 iterates.counted
+        (stores [] stand) budget_is stage
+        (λ known place u now memory_now ends there.
+        let is_over = over ends in
+        goes_at_end loop u.budget known place is_over.here_is is_over.to_is u now memory_now (omega arith) there)
+        (λ u now memory_now is ready_now steady.
+        leb-false _ _ (entry_value loop head list facts false s u iterates entry is stage.ready ready_now steady))
 
-  pub iterate_enters : Planned_so (turns_if_any (has_a_turn site counter head) site counter head list label) → Enters
-  iterate_enters stand = by (has_a_turn site counter head) refl stand
-    where
-      by : (turn : Option Bool) → has_a_turn site counter head ≡ turn
-          → Planned_so (turns_if_any turn site counter head list label)
-          → Enters
-      by (Some true) is stand = by_turns false (λ _. known_entry site head true is) stand
-      by (Some false) is stand = never_entered (known_entry site head false is) stand
-      by None is stand = by_turns true (λ tested. let never : ⊥ = cc in absurd never) stand
+    pub iterate_enters : Planned_so (turns_if_any (has_a_turn site counter head) site counter head list label) → Enters
+    iterate_enters stand = by (has_a_turn site counter head) refl stand
+      where
+        by : (turn : Option Bool) → has_a_turn site counter head ≡ turn
+            → Planned_so (turns_if_any turn site counter head list label)
+            → Enters
+        by (Some true) is stand = by_turns false (λ _. known_entry site head true is) stand
+        by (Some false) is stand = never_entered (known_entry site head false is) stand
+        by None is stand = by_turns true (λ tested. let never : ⊥ = cc in absurd never) stand
 
 -- an iterative DO does what it says, where counting in general does
 pub iterate_does :

@@ -13,7 +13,6 @@ pub mod Singles
 pub mod Firsts
 pub mod Assignments
 pub mod Assigned
-pub mod Together
 pub mod SameValues
 pub mod SameParts
 pub mod QuietParts
@@ -59,3 +58,4 @@ pub mod Counted
 pub mod IterateHeads
 pub mod ToKnownLoops
 pub mod Iterated
+pub mod Together

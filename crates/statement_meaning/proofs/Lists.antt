@@ -252,114 +252,114 @@ module _
     (at_labels : (label skipped : ℕ) (others : TypedStatements)
     → dropped skipped statements ≡ MoreStatements (LabelStatement label) others
     → FromLabel at label (height_of_statements statements) others last to)
-    where
-  -- what follows a flow out of statements of the list
-  abbrev caught : Flow → SourceState → Outcome Flow
-  caught flow t = caught_in at.context.later at.context.activation.around (ListOf first_label places statements) flow t
+  where
+    -- what follows a flow out of statements of the list
+    abbrev caught : Flow → SourceState → Outcome Flow
+    caught flow t = caught_in at.context.later at.context.activation.around (ListOf first_label places statements) flow t
 
-  -- the list does what it says from each of its labels on, in runs of less than a number
-  abbrev FromLabels : ℕ → Type 0
-  FromLabels fuel =
-      (label : ℕ) (others : TypedStatements) (t : SourceState) (r : Registers) (memory : List ℕ)
-      → FromLabel at label (height_of_statements statements) others last to
-      → (from : ℕ) → LabelLies at label from
-      → t.budget < fuel
-      → Between at need base t no_facts r memory
-      → Does (script_of at.context) t.budget 0 (at_place from r memory t.events)
-      (then_do (done_all at.context.later at.context.activation.around others t) caught) (Leaves at base to last t.budget)
+    -- the list does what it says from each of its labels on, in runs of less than a number
+    abbrev FromLabels : ℕ → Type 0
+    FromLabels fuel =
+        (label : ℕ) (others : TypedStatements) (t : SourceState) (r : Registers) (memory : List ℕ)
+        → FromLabel at label (height_of_statements statements) others last to
+        → (from : ℕ) → LabelLies at label from
+        → t.budget < fuel
+        → Between at need base t no_facts r memory
+        → Does (script_of at.context) t.budget 0 (at_place from r memory t.events)
+        (then_do (done_all at.context.later at.context.activation.around others t) caught) (Leaves at base to last t.budget)
 
-  landing :
-      (fuel label before : ℕ) (t : SourceState) (end : State) (rest : Option TypedStatements)
-      → FromLabels fuel
-      → rest_from label (ListOf first_label places statements) ≡ rest
-      → suc t.budget < at.context.number
-      → t.budget < fuel
-      → t.budget ≤ before
-      → HasRoom at.context.activation at.context.activation.level 0 need
-      → ComesToLabel at base before label t end
-      → Does (script_of at.context) t.budget 0 end
-      (landed at.context.later at.context.activation.around (ListOf first_label places statements) label rest t)
-      (Leaves at base to last before)
-  landing fuel label before t end None labels is below less fewer room comes = gives comes
-  landing fuel label before t end (Some rest) labels is below less fewer room comes =
-      let found = rest_at first_label label places statements rest lists.0 is in
-      let equal : dropped found.count statements ≡ MoreStatements (LabelStatement label) found.others =
-      found.dropped_is ∙ found.begins in
-      let bound = sound.number in
-      let there = comes.comes in
-      let goes : Does (script_of at.context) t.budget 0 end
-      (rest_of (later_by sound.bound) (ListOf first_label places statements)
-      (MoreStatements (LabelStatement label) found.others) at.context.activation.around t) (Leaves at base to last before) =
-      subst (λ (later : Later). Does (script_of at.context) t.budget 0 end
-      (rest_of later (ListOf first_label places statements)
-      (MoreStatements (LabelStatement label) found.others) at.context.activation.around t) (Leaves at base to last before))
-      sound.later
-      (subst (λ (s : State). Does (script_of at.context) t.budget 0 s
-      (then_do (done_all at.context.later at.context.activation.around found.others t) caught) (Leaves at base to last before))
-      (sym there.is_at)
-      (does_later before fewer
-      (labels label found.others t there.r there.memory (at_labels label found.count found.others equal) comes.place comes.lies
-      less
-      (record {
-        below = omega (arith, below);
-        room = room;
-        ready = there.ready;
-        known = no_facts_hold;
-      })))) in
-      subst (λ (one : TypedStatements). Does (script_of at.context) t.budget 0 end
-      (at.context.later.onto (ListOf first_label places statements) one at.context.activation.around t)
-      (Leaves at base to last before)) (sym found.begins)
-      (subst (λ (later : Later). Does (script_of at.context) t.budget 0 end
-      (later.onto (ListOf first_label places statements) (MoreStatements (LabelStatement label) found.others)
-      at.context.activation.around t) (Leaves at base to last before)) (sym sound.later)
-      (does_same _
-      (onto_is sound.bound (ListOf first_label places statements) (MoreStatements (LabelStatement label) found.others)
-      at.context.activation.around t (omega (arith, below, bound)))
-      goes))
+    landing :
+        (fuel label before : ℕ) (t : SourceState) (end : State) (rest : Option TypedStatements)
+        → FromLabels fuel
+        → rest_from label (ListOf first_label places statements) ≡ rest
+        → suc t.budget < at.context.number
+        → t.budget < fuel
+        → t.budget ≤ before
+        → HasRoom at.context.activation at.context.activation.level 0 need
+        → ComesToLabel at base before label t end
+        → Does (script_of at.context) t.budget 0 end
+        (landed at.context.later at.context.activation.around (ListOf first_label places statements) label rest t)
+        (Leaves at base to last before)
+    landing fuel label before t end None labels is below less fewer room comes = gives comes
+    landing fuel label before t end (Some rest) labels is below less fewer room comes =
+        let found = rest_at first_label label places statements rest lists.0 is in
+        let equal : dropped found.count statements ≡ MoreStatements (LabelStatement label) found.others =
+        found.dropped_is ∙ found.begins in
+        let bound = sound.number in
+        let there = comes.comes in
+        let goes : Does (script_of at.context) t.budget 0 end
+        (rest_of (later_by sound.bound) (ListOf first_label places statements)
+        (MoreStatements (LabelStatement label) found.others) at.context.activation.around t) (Leaves at base to last before) =
+        subst (λ (later : Later). Does (script_of at.context) t.budget 0 end
+        (rest_of later (ListOf first_label places statements)
+        (MoreStatements (LabelStatement label) found.others) at.context.activation.around t) (Leaves at base to last before))
+        sound.later
+        (subst (λ (s : State). Does (script_of at.context) t.budget 0 s
+        (then_do (done_all at.context.later at.context.activation.around found.others t) caught) (Leaves at base to last before))
+        (sym there.is_at)
+        (does_later before fewer
+        (labels label found.others t there.r there.memory (at_labels label found.count found.others equal) comes.place comes.lies
+        less
+        (record {
+          below = omega (arith, below);
+          room = room;
+          ready = there.ready;
+          known = no_facts_hold;
+        })))) in
+        subst (λ (one : TypedStatements). Does (script_of at.context) t.budget 0 end
+        (at.context.later.onto (ListOf first_label places statements) one at.context.activation.around t)
+        (Leaves at base to last before)) (sym found.begins)
+        (subst (λ (later : Later). Does (script_of at.context) t.budget 0 end
+        (later.onto (ListOf first_label places statements) (MoreStatements (LabelStatement label) found.others)
+        at.context.activation.around t) (Leaves at base to last before)) (sym sound.later)
+        (does_same _
+        (onto_is sound.bound (ListOf first_label places statements) (MoreStatements (LabelStatement label) found.others)
+        at.context.activation.around t (omega (arith, below, bound)))
+        goes))
 
-  catching :
-      (fuel before : ℕ) (flow : Flow) (t : SourceState) (end : State)
-      → FromLabels fuel
-      → before < at.context.number
-      → before ≤ fuel
-      → t.budget ≤ before
-      → HasRoom at.context.activation at.context.activation.level 0 need
-      → Leaves at base to last before flow t end
-      → Does (script_of at.context) t.budget 0 end (caught flow t) (Leaves at base to last before)
-  catching fuel before Onward t end labels below less fewer room leaves = gives leaves
-  catching fuel before (Returned value) t end labels below less fewer room leaves = gives leaves
-  catching fuel before (Jumped label) t end labels below less fewer room leaves =
-      let spent = leaves.spent in
-      landing fuel label before t end (rest_from label (ListOf first_label places statements)) labels refl
-      (omega (arith, spent, below)) (omega (arith, spent, less)) fewer room leaves
+    catching :
+        (fuel before : ℕ) (flow : Flow) (t : SourceState) (end : State)
+        → FromLabels fuel
+        → before < at.context.number
+        → before ≤ fuel
+        → t.budget ≤ before
+        → HasRoom at.context.activation at.context.activation.level 0 need
+        → Leaves at base to last before flow t end
+        → Does (script_of at.context) t.budget 0 end (caught flow t) (Leaves at base to last before)
+    catching fuel before Onward t end labels below less fewer room leaves = gives leaves
+    catching fuel before (Returned value) t end labels below less fewer room leaves = gives leaves
+    catching fuel before (Jumped label) t end labels below less fewer room leaves =
+        let spent = leaves.spent in
+        landing fuel label before t end (rest_from label (ListOf first_label places statements)) labels refl
+        (omega (arith, spent, below)) (omega (arith, spent, less)) fewer room leaves
 
-  -- statements of the list, and then what they jump to
-  statements_do :
-      (fuel : ℕ) {here : Here} {first count from bound : ℕ} {trees : TypedStatements}
-      → FromLabels fuel
-      → AllDo at here first count from last to
-      → AreStatements (nodes_in at.context) at.context.storage at.labels bound first count trees
-      → TypesHoldInStatements at.context.typed at.context.within trees
-      → ListsStandInStatements trees
-      → (s : SourceState) (r : Registers) (memory : List ℕ)
-      → s.budget ≤ fuel
-      → here.goes_on ≡ true
-      → height_of_statements trees ≤ height_of_statements statements
-      → Between at need base s here.facts r memory
-      → Does (script_of at.context) s.budget 0 (at_place from r memory s.events)
-      (then_do (done_all at.context.later at.context.activation.around trees s) caught) (Leaves at base to last s.budget)
-  statements_do fuel labels each are types stand s r memory less goes_on lower stage =
-      then_does (all_do at each are types stand need base s r memory goes_on (omega (arith, lower, fits)) stage)
-      (λ flow t end leaves fewer. catching fuel s.budget flow t end labels stage.below less fewer stage.room leaves)
+    -- statements of the list, and then what they jump to
+    statements_do :
+        (fuel : ℕ) {here : Here} {first count from bound : ℕ} {trees : TypedStatements}
+        → FromLabels fuel
+        → AllDo at here first count from last to
+        → AreStatements (nodes_in at.context) at.context.storage at.labels bound first count trees
+        → TypesHoldInStatements at.context.typed at.context.within trees
+        → ListsStandInStatements trees
+        → (s : SourceState) (r : Registers) (memory : List ℕ)
+        → s.budget ≤ fuel
+        → here.goes_on ≡ true
+        → height_of_statements trees ≤ height_of_statements statements
+        → Between at need base s here.facts r memory
+        → Does (script_of at.context) s.budget 0 (at_place from r memory s.events)
+        (then_do (done_all at.context.later at.context.activation.around trees s) caught) (Leaves at base to last s.budget)
+    statements_do fuel labels each are types stand s r memory less goes_on lower stage =
+        then_does (all_do at each are types stand need base s r memory goes_on (omega (arith, lower, fits)) stage)
+        (λ flow t end leaves fewer. catching fuel s.budget flow t end labels stage.below less fewer stage.room leaves)
 
-  from_labels : (fuel : ℕ) → FromLabels fuel
-  from_labels zero label others t r memory is from lies less stage = absurd (omega (arith, less))
-  from_labels (suc fuel) label others t r memory is from lies less stage =
-      subst (λ (place : ℕ). Does (script_of at.context) t.budget 0 (at_place place r memory t.events)
-      (then_do (done_all at.context.later at.context.activation.around others t) caught) (Leaves at base to last t.budget))
-      (same_place at label is.from from sound is.lies lies)
-      (statements_do fuel (from_labels fuel) is.each is.are is.types is.lists t r memory (omega (arith, less)) refl is.fits
-      stage)
+    from_labels : (fuel : ℕ) → FromLabels fuel
+    from_labels zero label others t r memory is from lies less stage = absurd (omega (arith, less))
+    from_labels (suc fuel) label others t r memory is from lies less stage =
+        subst (λ (place : ℕ). Does (script_of at.context) t.budget 0 (at_place place r memory t.events)
+        (then_do (done_all at.context.later at.context.activation.around others t) caught) (Leaves at base to last t.budget))
+        (same_place at label is.from from sound is.lies lies)
+        (statements_do fuel (from_labels fuel) is.each is.are is.types is.lists t r memory (omega (arith, less)) refl is.fits
+        stage)
 
 -- a list whose statements do what they say
 pub list_does :

@@ -219,9 +219,10 @@ word_loaded {context = context} {top = top} {need = need} {more = more} {from = 
         let high_is : now.h ≡ byte_at memory (wrap (address + 1)) =
         loaded_high (byte_at memory here) (byte_at memory (wrap (here + 1))) low high
         ∙ ap (λ (n : ℕ). byte_at memory (wrap (n + 1))) (sym at_here) in
-        word_goes LoadHl place r now memory sound there (record { ready = stage.ready; known = stage.known })
-        (subst (λ (n : ℕ). IsSteady context.activation n) at_here steady,
-        subst (λ (n : ℕ). IsSteady context.activation (wrap (n + 1))) at_here steady_too) refl
+        word_goes LoadHl place r now memory sound there (record { ready = stage.ready; known = stage.known }) (
+          subst (λ (n : ℕ). IsSteady context.activation n) at_here steady,
+          subst (λ (n : ℕ). IsSteady context.activation (wrap (n + 1))) at_here steady_too,
+        ) refl
         (λ known.
         held_word address (locations.Static place) low_is high_is steady steady_too at_here rest
         (record {
@@ -229,7 +230,11 @@ word_loaded {context = context} {top = top} {need = need} {more = more} {from = 
           room = stage.room;
           ready = ready_with_registers refl
               (record {
-                a = held.a; b = held.b; c = held.c; d = held.d; e = held.e;
+                a = held.a;
+                b = held.b;
+                c = held.c;
+                d = held.d;
+                e = held.e;
                 h = subst (λ (n : ℕ). n < 256) (sym high_is) (byte_small memory (wrap (address + 1)) mem);
                 l = subst (λ (n : ℕ). n < 256) (sym low_is) (byte_small memory address mem);
               }) stage.ready;

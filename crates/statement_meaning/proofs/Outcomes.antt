@@ -29,14 +29,16 @@ pub does_good :
     → Does script budget more from outcome Other
 does_good {outcome = Gave found t} follows does =
     let lands = does.told in
-    record { told = record {
-      count = lands.count;
-      end = lands.end;
-      run = lands.run;
-      paid = lands.paid;
-      spent = lands.spent;
-      is_good = follows found t lands.end lands.spent lands.is_good;
-    } }
+    record {
+      told = record {
+        count = lands.count;
+        end = lands.end;
+        run = lands.run;
+        paid = lands.paid;
+        spent = lands.spent;
+        is_good = follows found t lands.end lands.spent lands.is_good;
+      };
+    }
 does_good {outcome = Stopped Ended t} follows does = record { told = does.told }
 does_good {outcome = Stopped More t} follows does = record { told = does.told }
 does_good {outcome = Stopped (Outside reason) t} follows does = record { told = tt }
@@ -79,8 +81,10 @@ taking_does {A = A} {script = script} {from = from} {to = to} {Good = Good} t go
     none : t.budget ≡ 0 → Does script t.budget 0 from (Stopped More t) Good
     none zero_is =
         after_step step
-        (record { told = subst (λ (n : ℕ). Lands script n 0 to 0 (IsLeft Running t.events)) (sym zero_is)
-        (landed script 0 to (IsLeft Running t.events) (record { status_is = runs; events_are = events })) })
+        (record {
+          told = subst (λ (n : ℕ). Lands script n 0 to 0 (IsLeft Running t.events)) (sym zero_is)
+              (landed script 0 to (IsLeft Running t.events) (record { status_is = runs; events_are = events }));
+        })
 
     some : (t.budget == 0) ≡ false → Does script t.budget 0 from (go (record t { budget = t.budget - 1 })) Good
     some not_zero =

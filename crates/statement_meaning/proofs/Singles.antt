@@ -133,136 +133,136 @@ module _
     (fits : 2 * height_of tree ≤ need)
     {B : Type 0} (go : Unit {0} → SourceState → Outcome B) (Good : B → SourceState → State → Type 0)
     (others : List Planned) (last : Here) (to : ℕ)
-    where
-  -- what follows the target
-  abbrev pub Rest : Type 0
-  Rest =
-      (here : Here) (place : ℕ) (u : SourceState) (r : Registers) (memory : List ℕ)
-      → here.goes_on ≡ true
-      → Stand at here None place others last to
-      → Between at need base u here.facts r memory
-      → Does (script_of at.context) u.budget 0 (at_place place r memory u.events) (go tt u) Good
+  where
+    -- what follows the target
+    abbrev pub Rest : Type 0
+    Rest =
+        (here : Here) (place : ℕ) (u : SourceState) (r : Registers) (memory : List ℕ)
+        → here.goes_on ≡ true
+        → Stand at here None place others last to
+        → Between at need base u here.facts r memory
+        → Does (script_of at.context) u.budget 0 (at_place place r memory u.events) (go tt u) Good
 
-  -- the target gets the value, with a step to spare
-  abbrev pub Goal : (to_tree : TypedTarget) (from : ℕ) (s : SourceState) (r : Registers) (memory : List ℕ) → Type 0
-  Goal to_tree from s r memory =
-      Does (script_of at.context) s.budget 1 (at_place from r memory s.events)
-      (then_do (value at.context.later at.context.activation.around tree s)
-      (λ n t. then_do (stored at.context.later at.context.activation.around to_tree n t) go)) Good
+    -- the target gets the value, with a step to spare
+    abbrev pub Goal : (to_tree : TypedTarget) (from : ℕ) (s : SourceState) (r : Registers) (memory : List ℕ) → Type 0
+    Goal to_tree from s r memory =
+        Does (script_of at.context) s.budget 1 (at_place from r memory s.events)
+        (then_do (value at.context.later at.context.activation.around tree s)
+        (λ n t. then_do (stored at.context.later at.context.activation.around to_tree n t) go)) Good
 
-  -- through a register
-  pub through :
-      (scalar there : ScalarType) (bound : ℕ) (target : Target) (to_tree : TypedTarget)
-      (from : ℕ) (here : Here) (s : SourceState) (r : Registers) (memory : List ℕ)
-      → here.goes_on ≡ true
-      → Stand at here None from
-      (part (value_task there of) 0 ∷ part (tasks.Store (from_type target there) false) 0 ∷ others) last to
-      → IsTarget (nodes_in at.context) at.context.storage bound target to_tree
-      → TypesHoldInTarget at.context.typed at.context.within scalar to_tree
-      → 2 + 2 * height_of_target to_tree ≤ need
-      → ((n : ℕ) → n < values_of (type_of tree) → Suits to_tree n (as_register there n))
-      → Between at need base s here.facts r memory
-      → Rest
-      → Goal to_tree from s r memory
-  through scalar there bound target to_tree from here s r memory goes stand target_is target_types tall suits stage rest =
-      let first = part_first stand in
-      let second = part_first first.rest in
-      at_any_value at there from first.middle of first.does is types fits stage
-      (λ n u now kept in_register small is_small next.
-      target_spares at scalar there first.middle second.middle n (as_register there n) target to_tree go second.does target_is target_types
-      (suits n is_small) small tall in_register next
-      (λ v here_now held there_now. rest (going here.goes_on second.known) second.middle v here_now held goes second.rest there_now))
-
-  -- the value is a number
-  module _ (known : ℕ) (value_is : (s : SourceState) → value at.context.later at.context.activation.around tree s ≡ Gave known s) where
-    of_number :
-        (to_tree : TypedTarget) (from : ℕ) (s : SourceState) (r : Registers) (memory : List ℕ)
-        → Does (script_of at.context) s.budget 1 (at_place from r memory s.events)
-        (then_do (stored at.context.later at.context.activation.around to_tree known s) go) Good
+    -- through a register
+    pub through :
+        (scalar there : ScalarType) (bound : ℕ) (target : Target) (to_tree : TypedTarget)
+        (from : ℕ) (here : Here) (s : SourceState) (r : Registers) (memory : List ℕ)
+        → here.goes_on ≡ true
+        → Stand at here None from
+        (part (value_task there of) 0 ∷ part (tasks.Store (from_type target there) false) 0 ∷ others) last to
+        → IsTarget (nodes_in at.context) at.context.storage bound target to_tree
+        → TypesHoldInTarget at.context.typed at.context.within scalar to_tree
+        → 2 + 2 * height_of_target to_tree ≤ need
+        → ((n : ℕ) → n < values_of (type_of tree) → Suits to_tree n (as_register there n))
+        → Between at need base s here.facts r memory
+        → Rest
         → Goal to_tree from s r memory
-    of_number to_tree from s r memory does =
-        does_same _
-        (ap (λ (given : Outcome ℕ). then_do given (λ n t. then_do (stored at.context.later at.context.activation.around to_tree n t) go))
-        (value_is s)) does
-
-    -- a BYTE
-    pub byte_number :
-        (from_scalar : ScalarType) (bound : ℕ) (reference : Reference) (part_tree : TypedReference)
-        (from : ℕ) (here : Here) (s : SourceState) (r : Registers) (memory : List ℕ)
-        → here.goes_on ≡ true
-        → Stand at here None from (part (tasks.Address reference) 0 ∷ plain (Mvi M (low known)) ∷ others) last to
-        → IsReference (nodes_in at.context) at.context.storage bound reference part_tree
-        → RefersToScalar at.context.typed at.context.within Byte part_tree
-        → TypesHoldInReference at.context.typed at.context.within part_tree
-        → 2 + 2 * height_of_reference part_tree ≤ need
-        → Between at need base s here.facts r memory
-        → Rest
-        → Goal (StoredIn from_scalar Byte part_tree) from s r memory
-    byte_number from_scalar bound reference part_tree from here s r memory goes stand reference_is refers part_types tall stage rest =
+    through scalar there bound target to_tree from here s r memory goes stand target_is target_types tall suits stage rest =
         let first = part_first stand in
-        let second = plain_first first.rest in
-        of_number (StoredIn from_scalar Byte part_tree) from s r memory
-        (does_same _
-        (then_again (located at.context.later at.context.activation.around part_tree s)
-        (λ place t. write_scalar at.context.activation.around.program Byte place (as_type Byte known) t) go)
-        (at_address at Byte from first.middle reference
-        (λ place t. then_do (write_scalar at.context.activation.around.program Byte place (as_type Byte known) t) go)
-        sound first.does reference_is refers part_types (omega (arith, tall)) stage
-        (λ place u now kept found given next.
-        let held = next.ready.registers in
-        does_same _
-        (ap (λ (n : ℕ). then_do (write_byte at.context.activation.around.program place n u) go) (low_again known))
-        (byte_goes at (Mvi M (low known)) first.middle place (known % 256) u now now kept go sound second.there (omega arith) given.hl
-        (located_fits at.context Byte part_tree place s u sound.sound refers found) (λ steady. tt) refl refl held next
-        (λ v there_now. rest (going here.goes_on (after first.known (Mvi M (low known)))) _ v now _ goes second.rest there_now)))))
+        let second = part_first first.rest in
+        at_any_value at there from first.middle of first.does is types fits stage
+        (λ n u now kept in_register small is_small next.
+        target_spares at scalar there first.middle second.middle n (as_register there n) target to_tree go second.does target_is target_types
+        (suits n is_small) small tall in_register next
+        (λ v here_now held there_now. rest (going here.goes_on second.known) second.middle v here_now held goes second.rest there_now))
 
-    -- an ADDRESS, byte by byte
-    pub word_number :
-        (from_scalar : ScalarType) (bound : ℕ) (reference : Reference) (part_tree : TypedReference)
-        (from : ℕ) (here : Here) (s : SourceState) (r : Registers) (memory : List ℕ)
-        → here.goes_on ≡ true
-        → known < 65536
-        → Stand at here None from (number_steps reference known ++ others) last to
-        → IsReference (nodes_in at.context) at.context.storage bound reference part_tree
-        → RefersToScalar at.context.typed at.context.within Address part_tree
-        → TypesHoldInReference at.context.typed at.context.within part_tree
-        → 2 + 2 * height_of_reference part_tree ≤ need
-        → Between at need base s here.facts r memory
-        → Rest
-        → Goal (StoredIn from_scalar Address part_tree) from s r memory
-    word_number from_scalar bound reference part_tree from here s r memory goes small stand reference_is refers part_types high_fits stage rest =
-        let first = part_first stand in
-        let second = plain_first first.rest in
-        let third = plain_first second.rest in
-        let fourth = plain_first third.rest in
-        let program = at.context.activation.around.program in
-        let same : as_type Address known ≡ known = omega (arith, small) in
-        of_number (StoredIn from_scalar Address part_tree) from s r memory
-        (subst (λ (n : ℕ). Does (script_of at.context) s.budget 1 (at_place from r memory s.events)
-        (then_do (then_do (located at.context.later at.context.activation.around part_tree s)
-        (λ place t. write_scalar program Address place n t)) go) Good) (sym same)
-        (does_same _
-        (then_again (located at.context.later at.context.activation.around part_tree s)
-        (λ place t. write_scalar program Address place known t) go)
-        (at_address at Address from first.middle reference
-        (λ place t. then_do (write_scalar program Address place known t) go)
-        sound first.does reference_is refers part_types (omega (arith, high_fits)) stage
-        (λ place u now kept found given next.
-        let held = next.ready.registers in
-        let two_fit = located_fits at.context Address part_tree place s u sound.sound refers found in
-        let two : Registers = record now { h = high_byte (wrap (word now.h now.l + 1)); l = low_byte (wrap (word now.h now.l + 1)) } in
-        does_same _
-        (then_again (write_byte program place (known % 256) u) (λ _ t. write_byte program (next_place place) (known / 256) t) go)
-        (byte_goes at (Mvi M (low known)) first.middle place (known % 256) u now now kept
-        (λ _ t. then_do (write_byte program (next_place place) (known / 256) t) go) sound second.there (omega arith) given.hl
-        (first_fits at.context.activation place two_fit) (λ steady. tt) refl refl held next
-        (λ v once.
-        without_more
-        (registers_go now two sound.sound third.there (record { ready = once.ready; known = once.known }) tt refl refl
-        (record { a = held.a; b = held.b; c = held.c; d = held.d; e = held.e; h = omega arith; l = omega arith })
-        (λ on_two.
-        byte_goes at (Mvi M (high known)) _ (next_place place) (known / 256) v two two _ go sound fourth.there (omega (arith, small))
-        (after_one now.h now.l (address_on_machine at.context.activation place) given.hl ∙ sym (next_address at.context.activation place))
-        (second_fits at.context.activation place two_fit) (λ steady. tt) refl refl on_two.ready.registers
-        (record { below = once.below; room = once.room; ready = on_two.ready; known = on_two.known })
-        (λ w there_now. rest (going here.goes_on _) _ w two _ goes fourth.rest there_now)))))))))
+    -- the value is a number
+    module _ (known : ℕ) (value_is : (s : SourceState) → value at.context.later at.context.activation.around tree s ≡ Gave known s) where
+      of_number :
+          (to_tree : TypedTarget) (from : ℕ) (s : SourceState) (r : Registers) (memory : List ℕ)
+          → Does (script_of at.context) s.budget 1 (at_place from r memory s.events)
+          (then_do (stored at.context.later at.context.activation.around to_tree known s) go) Good
+          → Goal to_tree from s r memory
+      of_number to_tree from s r memory does =
+          does_same _
+          (ap (λ (given : Outcome ℕ). then_do given (λ n t. then_do (stored at.context.later at.context.activation.around to_tree n t) go))
+          (value_is s)) does
+
+      -- a BYTE
+      pub byte_number :
+          (from_scalar : ScalarType) (bound : ℕ) (reference : Reference) (part_tree : TypedReference)
+          (from : ℕ) (here : Here) (s : SourceState) (r : Registers) (memory : List ℕ)
+          → here.goes_on ≡ true
+          → Stand at here None from (part (tasks.Address reference) 0 ∷ plain (Mvi M (low known)) ∷ others) last to
+          → IsReference (nodes_in at.context) at.context.storage bound reference part_tree
+          → RefersToScalar at.context.typed at.context.within Byte part_tree
+          → TypesHoldInReference at.context.typed at.context.within part_tree
+          → 2 + 2 * height_of_reference part_tree ≤ need
+          → Between at need base s here.facts r memory
+          → Rest
+          → Goal (StoredIn from_scalar Byte part_tree) from s r memory
+      byte_number from_scalar bound reference part_tree from here s r memory goes stand reference_is refers part_types tall stage rest =
+          let first = part_first stand in
+          let second = plain_first first.rest in
+          of_number (StoredIn from_scalar Byte part_tree) from s r memory
+          (does_same _
+          (then_again (located at.context.later at.context.activation.around part_tree s)
+          (λ place t. write_scalar at.context.activation.around.program Byte place (as_type Byte known) t) go)
+          (at_address at Byte from first.middle reference
+          (λ place t. then_do (write_scalar at.context.activation.around.program Byte place (as_type Byte known) t) go)
+          sound first.does reference_is refers part_types (omega (arith, tall)) stage
+          (λ place u now kept found given next.
+          let held = next.ready.registers in
+          does_same _
+          (ap (λ (n : ℕ). then_do (write_byte at.context.activation.around.program place n u) go) (low_again known))
+          (byte_goes at (Mvi M (low known)) first.middle place (known % 256) u now now kept go sound second.there (omega arith) given.hl
+          (located_fits at.context Byte part_tree place s u sound.sound refers found) (λ steady. tt) refl refl held next
+          (λ v there_now. rest (going here.goes_on (after first.known (Mvi M (low known)))) _ v now _ goes second.rest there_now)))))
+
+      -- an ADDRESS, byte by byte
+      pub word_number :
+          (from_scalar : ScalarType) (bound : ℕ) (reference : Reference) (part_tree : TypedReference)
+          (from : ℕ) (here : Here) (s : SourceState) (r : Registers) (memory : List ℕ)
+          → here.goes_on ≡ true
+          → known < 65536
+          → Stand at here None from (number_steps reference known ++ others) last to
+          → IsReference (nodes_in at.context) at.context.storage bound reference part_tree
+          → RefersToScalar at.context.typed at.context.within Address part_tree
+          → TypesHoldInReference at.context.typed at.context.within part_tree
+          → 2 + 2 * height_of_reference part_tree ≤ need
+          → Between at need base s here.facts r memory
+          → Rest
+          → Goal (StoredIn from_scalar Address part_tree) from s r memory
+      word_number from_scalar bound reference part_tree from here s r memory goes small stand reference_is refers part_types high_fits stage rest =
+          let first = part_first stand in
+          let second = plain_first first.rest in
+          let third = plain_first second.rest in
+          let fourth = plain_first third.rest in
+          let program = at.context.activation.around.program in
+          let same : as_type Address known ≡ known = omega (arith, small) in
+          of_number (StoredIn from_scalar Address part_tree) from s r memory
+          (subst (λ (n : ℕ). Does (script_of at.context) s.budget 1 (at_place from r memory s.events)
+          (then_do (then_do (located at.context.later at.context.activation.around part_tree s)
+          (λ place t. write_scalar program Address place n t)) go) Good) (sym same)
+          (does_same _
+          (then_again (located at.context.later at.context.activation.around part_tree s)
+          (λ place t. write_scalar program Address place known t) go)
+          (at_address at Address from first.middle reference
+          (λ place t. then_do (write_scalar program Address place known t) go)
+          sound first.does reference_is refers part_types (omega (arith, high_fits)) stage
+          (λ place u now kept found given next.
+          let held = next.ready.registers in
+          let two_fit = located_fits at.context Address part_tree place s u sound.sound refers found in
+          let two : Registers = record now { h = high_byte (wrap (word now.h now.l + 1)); l = low_byte (wrap (word now.h now.l + 1)) } in
+          does_same _
+          (then_again (write_byte program place (known % 256) u) (λ _ t. write_byte program (next_place place) (known / 256) t) go)
+          (byte_goes at (Mvi M (low known)) first.middle place (known % 256) u now now kept
+          (λ _ t. then_do (write_byte program (next_place place) (known / 256) t) go) sound second.there (omega arith) given.hl
+          (first_fits at.context.activation place two_fit) (λ steady. tt) refl refl held next
+          (λ v once.
+          without_more
+          (registers_go now two sound.sound third.there (record { ready = once.ready; known = once.known }) tt refl refl
+          (record { a = held.a; b = held.b; c = held.c; d = held.d; e = held.e; h = omega arith; l = omega arith })
+          (λ on_two.
+          byte_goes at (Mvi M (high known)) _ (next_place place) (known / 256) v two two _ go sound fourth.there (omega (arith, small))
+          (after_one now.h now.l (address_on_machine at.context.activation place) given.hl ∙ sym (next_address at.context.activation place))
+          (second_fits at.context.activation place two_fit) (λ steady. tt) refl refl on_two.ready.registers
+          (record { below = once.below; room = once.room; ready = on_two.ready; known = on_two.known })
+          (λ w there_now. rest (going here.goes_on _) _ w two _ goes fourth.rest there_now)))))))))

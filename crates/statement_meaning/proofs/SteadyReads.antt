@@ -43,8 +43,10 @@ steady_read {A = A} {budget = budget} {more = more} {from = from} {Good = Good} 
         → is_declared context.activation.around.program (wrap (address + 1)) ≡ second
         → Does context.activation.around.program.script budget more from
         (then_do (read_scalar context.activation.around.program Address (InMemory address) s) go) Good
-    by_test true true one two = does (declared_is_steady context.activation address sound.lies one,
-        declared_is_steady context.activation (wrap (address + 1)) sound.lies two)
+    by_test true true one two = does (
+      declared_is_steady context.activation address sound.lies one,
+      declared_is_steady context.activation (wrap (address + 1)) sound.lies two,
+    )
     by_test true false one two =
         subst (λ (first : Bool). Does context.activation.around.program.script budget more from
         (outcome first (is_declared context.activation.around.program (wrap (address + 1)))) Good) (sym one)
@@ -59,8 +61,10 @@ steady_read {context = context} (InTheFrame object offset true) s go sound fits 
     let less : offset < context.activation.size object = omega (arith, within) in
     let less_too : offset + 1 < context.activation.size object = omega (arith, within) in
     let address : ℕ = wrap (context.activation.level + context.activation.distance object + offset) in
-    does (of_frame context.activation object offset address less (frame_is context object offset sound less),
-    of_frame context.activation object (offset + 1) (wrap (address + 1)) less_too (frame_next context object offset sound less_too))
+    does (
+      of_frame context.activation object offset address less (frame_is context object offset sound less),
+      of_frame context.activation object (offset + 1) (wrap (address + 1)) less_too (frame_next context object offset sound less_too),
+    )
 steady_read (InTheFrame object offset false) s go sound fits does = record { told = tt }
 
 -- and of a BYTE

@@ -32,7 +32,7 @@ use Rattle.sites8080.specs.Queries.{number}
 use Rattle.exprgen8080.specs.Emission.{knowing}
 use Rattle.statements8080.specs.declared.plan.Planned.TheVariants as planned
 use Rattle.statements8080.specs.Branches.{branch, forever_steps, tested_while_steps}
-use Rattle.statements8080.specs.Plans.{jump, mark, nth_label, plain}
+use Rattle.statements8080.specs.Plans.{jump, mark, nth_label}
 use Rattle.codegen8080.specs.declared.meeting.Here.{Here}
 use Rattle.codegen8080.specs.Generated.{jump_on_steps, site_of}
 use Rattle.codegen8080.specs.Statements.{statement_steps}
@@ -59,154 +59,154 @@ module _
     (lists : ListStands body)
     (fits : 2 * height_of tree ≤ need) (list_fits : 2 + 2 * height_of_list body ≤ need)
     (room : HasRoom at.context.activation at.context.activation.level 0 need)
-    where
-  abbrev loop : SourceState → Outcome Flow
-  loop s = done at.context.later at.context.activation.around (WhileStatement tree body) s
+  where
+    abbrev loop : SourceState → Outcome Flow
+    loop s = done at.context.later at.context.activation.around (WhileStatement tree body) s
 
-  -- a turn of the loop and what follows it
-  abbrev turn : SourceState → Outcome Flow
-  turn u = then_do (done_list at.context.later at.context.activation.around body u)
-      (after_turn at.context.later at.context.activation.around (WhileTurn tree body))
+    -- a turn of the loop and what follows it
+    abbrev turn : SourceState → Outcome Flow
+    turn u = then_do (done_list at.context.later at.context.activation.around body u)
+        (after_turn at.context.later at.context.activation.around (WhileTurn tree body))
 
-  -- the end of a turn
-  pub turn_ends :
-      (middle : Here) (place before : ℕ) (flow : Flow) (v : SourceState) (end : State)
-      → before < at.context.number
-      → v.budget < before
-      → Leaves at base place middle before flow v end
-      → ((r : Registers) (memory : List ℕ)
-      → middle.goes_on ≡ true
-      → IsReady at.context.activation at.context.activation.level base v.memory v.frame r memory
-      → Know at.context middle.facts r memory
-      → Does (script_of at.context) v.budget 0 (at_place place r memory v.events) (loop v) (Leaves at base to last before))
-      → Does (script_of at.context) v.budget 0 end
-      (after_turn at.context.later at.context.activation.around (WhileTurn tree body) flow v) (Leaves at base to last before)
-  turn_ends middle place before Onward v end below less leaves rest =
-      let comes = leaves.comes in
-      let number = sound.number in
-      subst (λ (later : Later). Does (script_of at.context) v.budget 0 end
-      (later.again (WhileTurn tree body) at.context.activation.around v) (Leaves at base to last before)) (sym sound.later)
-      (does_same _
-      (again_is sound.bound (WhileTurn tree body) at.context.activation.around v (omega (arith, less, below, number)))
-      (subst (λ (later : Later). Does (script_of at.context) v.budget 0 end
-      (done later at.context.activation.around (WhileStatement tree body) v) (Leaves at base to last before)) sound.later
-      (subst (λ (s : State). Does (script_of at.context) v.budget 0 s (loop v) (Leaves at base to last before)) (sym comes.is_at)
-      (rest comes.r comes.memory leaves.goes_on comes.ready comes.holds))))
-  turn_ends middle place before (Returned found) v end below less leaves rest = gives leaves
-  turn_ends middle place before (Jumped label) v end below less leaves rest = gives leaves
+    -- the end of a turn
+    pub turn_ends :
+        (middle : Here) (place before : ℕ) (flow : Flow) (v : SourceState) (end : State)
+        → before < at.context.number
+        → v.budget < before
+        → Leaves at base place middle before flow v end
+        → ((r : Registers) (memory : List ℕ)
+        → middle.goes_on ≡ true
+        → IsReady at.context.activation at.context.activation.level base v.memory v.frame r memory
+        → Know at.context middle.facts r memory
+        → Does (script_of at.context) v.budget 0 (at_place place r memory v.events) (loop v) (Leaves at base to last before))
+        → Does (script_of at.context) v.budget 0 end
+        (after_turn at.context.later at.context.activation.around (WhileTurn tree body) flow v) (Leaves at base to last before)
+    turn_ends middle place before Onward v end below less leaves rest =
+        let comes = leaves.comes in
+        let number = sound.number in
+        subst (λ (later : Later). Does (script_of at.context) v.budget 0 end
+        (later.again (WhileTurn tree body) at.context.activation.around v) (Leaves at base to last before)) (sym sound.later)
+        (does_same _
+        (again_is sound.bound (WhileTurn tree body) at.context.activation.around v (omega (arith, less, below, number)))
+        (subst (λ (later : Later). Does (script_of at.context) v.budget 0 end
+        (done later at.context.activation.around (WhileStatement tree body) v) (Leaves at base to last before)) sound.later
+        (subst (λ (s : State). Does (script_of at.context) v.budget 0 s (loop v) (Leaves at base to last before)) (sym comes.is_at)
+        (rest comes.r comes.memory leaves.goes_on comes.ready comes.holds))))
+    turn_ends middle place before (Returned found) v end below less leaves rest = gives leaves
+    turn_ends middle place before (Jumped label) v end below less leaves rest = gives leaves
 
-  -- a loop that is tested at its end
-  module _
-      (from pt pe : ℕ) (label : LabelNumber) (h : Here) (found : Facts)
-      (lies : at.context.activation.layout.place_of label.index ≡ from)
-      (list_does : ListDoes at no_facts list from h pt)
-      (branch_does : BranchDoes at.context no_facts condition label true 0 pt found pe)
-      (ends : (r : Registers) (memory : List ℕ) (before : ℕ) (t : SourceState)
-      → Between at need base t found r memory
-      → Does (script_of at.context) t.budget 0 (at_place pe r memory t.events) (Gave Onward t) (Leaves at base to last before))
+    -- a loop that is tested at its end
+    module _
+        (from pt pe : ℕ) (label : LabelNumber) (h : Here) (found : Facts)
+        (lies : at.context.activation.layout.place_of label.index ≡ from)
+        (list_does : ListDoes at no_facts list from h pt)
+        (branch_does : BranchDoes at.context no_facts condition label true 0 pt found pe)
+        (ends : (r : Registers) (memory : List ℕ) (before : ℕ) (t : SourceState)
+        → Between at need base t found r memory
+        → Does (script_of at.context) t.budget 0 (at_place pe r memory t.events) (Gave Onward t) (Leaves at base to last before))
       where
-    -- from the test on, in runs of less than a number
-    abbrev FromTest : ℕ → Type 0
-    FromTest fuel =
-        (s : SourceState) (r : Registers) (memory : List ℕ)
-        → s.budget < fuel
-        → s.budget < at.context.number
-        → IsReady at.context.activation at.context.activation.level base s.memory s.frame r memory
-        → Does (script_of at.context) s.budget 0 (at_place pt r memory s.events) (loop s) (Leaves at base to last s.budget)
+        -- from the test on, in runs of less than a number
+        abbrev FromTest : ℕ → Type 0
+        FromTest fuel =
+            (s : SourceState) (r : Registers) (memory : List ℕ)
+            → s.budget < fuel
+            → s.budget < at.context.number
+            → IsReady at.context.activation at.context.activation.level base s.memory s.frame r memory
+            → Does (script_of at.context) s.budget 0 (at_place pt r memory s.events) (loop s) (Leaves at base to last s.budget)
 
-    -- a turn, of which the budget was taken already
-    turns :
-        (fuel before : ℕ) (u : SourceState) (r : Registers) (memory : List ℕ)
-        → FromTest fuel
-        → before ≤ fuel
-        → before < at.context.number
-        → u.budget < before
-        → IsReady at.context.activation at.context.activation.level base u.memory u.frame r memory
-        → Does (script_of at.context) u.budget 0 (at_place from r memory u.events) (turn u) (Leaves at base to last before)
-    turns fuel before u r memory test less below fewer ready =
-        then_does
-        (list_does bound body is_list list_types lists base u r memory (omega (arith, fewer, below))
-        (has_less_room (2 + 2 * height_of_list body) list_fits room) ready no_facts_hold)
-        (λ flow v end leaves spent.
-        turn_ends h pt before flow v end below (omega (arith, spent, fewer))
-        (leaves_later at base pt h u.budget before flow v end (omega (arith, fewer)) leaves)
-        (λ now ended goes there known.
-        does_later before (omega (arith, spent, fewer))
-        (test v now ended (omega (arith, spent, fewer, less)) (omega (arith, spent, fewer, below)) there)))
+        -- a turn, of which the budget was taken already
+        turns :
+            (fuel before : ℕ) (u : SourceState) (r : Registers) (memory : List ℕ)
+            → FromTest fuel
+            → before ≤ fuel
+            → before < at.context.number
+            → u.budget < before
+            → IsReady at.context.activation at.context.activation.level base u.memory u.frame r memory
+            → Does (script_of at.context) u.budget 0 (at_place from r memory u.events) (turn u) (Leaves at base to last before)
+        turns fuel before u r memory test less below fewer ready =
+            then_does
+            (list_does bound body is_list list_types lists base u r memory (omega (arith, fewer, below))
+            (has_less_room (2 + 2 * height_of_list body) list_fits room) ready no_facts_hold)
+            (λ flow v end leaves spent.
+            turn_ends h pt before flow v end below (omega (arith, spent, fewer))
+            (leaves_later at base pt h u.budget before flow v end (omega (arith, fewer)) leaves)
+            (λ now ended goes there known.
+            does_later before (omega (arith, spent, fewer))
+            (test v now ended (omega (arith, spent, fewer, less)) (omega (arith, spent, fewer, below)) there)))
 
-    tested :
-        (fuel before n : ℕ) (t : SourceState) (end : State)
-        → FromTest fuel
-        → before ≤ fuel
-        → before < at.context.number
-        → t.budget ≤ before
-        → Parts at.context found tree label true at.context.activation.level base pe n t end
-        → Does (script_of at.context) t.budget 0 end
-        (if is_true n then taking_one t turn else Gave Onward t) (Leaves at base to last before)
-    tested fuel before n t end test less below fewer (Goes there holds step arrives) =
-        subst (λ (b : Bool). Does (script_of at.context) t.budget 0 end
-        (if b then taking_one t turn else Gave Onward t) (Leaves at base to last before)) (sym holds)
-        (taking_does t turn
-        (step ∙ arrives.is_at ∙ ap (λ (place : ℕ). at_place place arrives.r arrives.memory t.events) lies) refl refl
-        (λ one_less.
-        turns fuel before (record t { budget = t.budget - 1 }) arrives.r arrives.memory test less below (omega (arith, one_less, fewer))
-        arrives.ready))
-    tested fuel before n t end test less below fewer (Passes holds arrives) =
-        subst (λ (b : Bool). Does (script_of at.context) t.budget 0 end
-        (if b then taking_one t turn else Gave Onward t) (Leaves at base to last before)) (sym holds)
-        (subst (λ (s : State). Does (script_of at.context) t.budget 0 s (Gave Onward t) (Leaves at base to last before)) (sym arrives.is_at)
-        (ends arrives.r arrives.memory before t
-        (record { below = omega (arith, fewer, below); room = room; ready = arrives.ready; known = arrives.holds })))
+        tested :
+            (fuel before n : ℕ) (t : SourceState) (end : State)
+            → FromTest fuel
+            → before ≤ fuel
+            → before < at.context.number
+            → t.budget ≤ before
+            → Parts at.context found tree label true at.context.activation.level base pe n t end
+            → Does (script_of at.context) t.budget 0 end
+            (if is_true n then taking_one t turn else Gave Onward t) (Leaves at base to last before)
+        tested fuel before n t end test less below fewer (Goes there holds step arrives) =
+            subst (λ (b : Bool). Does (script_of at.context) t.budget 0 end
+            (if b then taking_one t turn else Gave Onward t) (Leaves at base to last before)) (sym holds)
+            (taking_does t turn
+            (step ∙ arrives.is_at ∙ ap (λ (place : ℕ). at_place place arrives.r arrives.memory t.events) lies) refl refl
+            (λ one_less.
+            turns fuel before (record t { budget = t.budget - 1 }) arrives.r arrives.memory test less below (omega (arith, one_less, fewer))
+            arrives.ready))
+        tested fuel before n t end test less below fewer (Passes holds arrives) =
+            subst (λ (b : Bool). Does (script_of at.context) t.budget 0 end
+            (if b then taking_one t turn else Gave Onward t) (Leaves at base to last before)) (sym holds)
+            (subst (λ (s : State). Does (script_of at.context) t.budget 0 s (Gave Onward t) (Leaves at base to last before)) (sym arrives.is_at)
+            (ends arrives.r arrives.memory before t
+            (record { below = omega (arith, fewer, below); room = room; ready = arrives.ready; known = arrives.holds })))
 
-    pub from_test : (fuel : ℕ) → FromTest fuel
-    from_test zero s r memory less below ready = absurd (omega (arith, less))
-    from_test (suc fuel) s r memory less below ready =
-        then_does
-        (branch_does _ tree is types at.context.activation.level base s r memory below (has_less_room (2 * height_of tree) fits room)
-        ready no_facts_hold)
-        (λ n t end parts spent. tested fuel s.budget n t end (from_test fuel) (omega (arith, less)) below spent parts)
+        pub from_test : (fuel : ℕ) → FromTest fuel
+        from_test zero s r memory less below ready = absurd (omega (arith, less))
+        from_test (suc fuel) s r memory less below ready =
+            then_does
+            (branch_does _ tree is types at.context.activation.level base s r memory below (has_less_room (2 * height_of tree) fits room)
+            ready no_facts_hold)
+            (λ n t end parts spent. tested fuel s.budget n t end (from_test fuel) (omega (arith, less)) below spent parts)
 
-  -- a loop without an end
-  module _
-      (from place : ℕ) (label : LabelNumber) (h : Here) (n : ℕ)
-      (lies : at.context.activation.layout.place_of label.index ≡ from)
-      (list_does : ListDoes at no_facts list from h place)
-      (jumps : h.goes_on ≡ true → IsThere at.context.activation (jump_item Jump label ∷ []) place (place + 3))
-      (holds : is_true n ≡ true)
-      (value_is : (s : SourceState) → value at.context.later at.context.activation.around tree s ≡ Gave n s)
+    -- a loop without an end
+    module _
+        (from place : ℕ) (label : LabelNumber) (h : Here) (n : ℕ)
+        (lies : at.context.activation.layout.place_of label.index ≡ from)
+        (list_does : ListDoes at no_facts list from h place)
+        (jumps : h.goes_on ≡ true → IsThere at.context.activation (jump_item Jump label ∷ []) place (place + 3))
+        (holds : is_true n ≡ true)
+        (value_is : (s : SourceState) → value at.context.later at.context.activation.around tree s ≡ Gave n s)
       where
-    -- a further turn takes one of the budget
-    pub loop_is : (s : SourceState) → loop s ≡ taking_one s turn
-    loop_is s =
-        ap (λ (given : Outcome ℕ). then_do given (λ m t. if is_true m then taking_one t turn else Gave Onward t)) (value_is s)
-        ∙ ap (λ (b : Bool). if b then taking_one s turn else Gave Onward s) holds
+        -- a further turn takes one of the budget
+        pub loop_is : (s : SourceState) → loop s ≡ taking_one s turn
+        loop_is s =
+            ap (λ (given : Outcome ℕ). then_do given (λ m t. if is_true m then taking_one t turn else Gave Onward t)) (value_is s)
+            ∙ ap (λ (b : Bool). if b then taking_one s turn else Gave Onward s) holds
 
-    -- from a turn on, of which the budget was taken already
-    pub from_top :
-        (fuel before : ℕ) (u : SourceState) (r : Registers) (memory : List ℕ)
-        → u.budget < fuel
-        → before < at.context.number
-        → u.budget < before
-        → IsReady at.context.activation at.context.activation.level base u.memory u.frame r memory
-        → Does (script_of at.context) u.budget 0 (at_place from r memory u.events) (turn u) (Leaves at base to last before)
-    from_top zero before u r memory less below fewer ready = absurd (omega (arith, less))
-    from_top (suc fuel) before u r memory less below fewer ready =
-        then_does
-        (list_does bound body is_list list_types lists base u r memory (omega (arith, fewer, below))
-        (has_less_room (2 + 2 * height_of_list body) list_fits room) ready no_facts_hold)
-        (λ flow v end leaves spent.
-        turn_ends h place before flow v end below (omega (arith, spent, fewer))
-        (leaves_later at base place h u.budget before flow v end (omega (arith, fewer)) leaves)
-        (λ now kept goes there known.
-        does_same _ (loop_is v)
-        (taking_does v turn
-        (word_step (script_of at.context) at.context.activation Jump (AtLabel label.index) [] place (place + 3) now kept v.events
-        sound.sound.lies there.shares.code (jumps goes)
-        ∙ ap (λ (one : ℕ). at_place one now kept v.events) lies)
-        refl refl
-        (λ one_less.
-        from_top fuel before (record v { budget = v.budget - 1 }) now kept (omega (arith, one_less, spent, less)) below
-        (omega (arith, one_less, spent, fewer)) there))))
+        -- from a turn on, of which the budget was taken already
+        pub from_top :
+            (fuel before : ℕ) (u : SourceState) (r : Registers) (memory : List ℕ)
+            → u.budget < fuel
+            → before < at.context.number
+            → u.budget < before
+            → IsReady at.context.activation at.context.activation.level base u.memory u.frame r memory
+            → Does (script_of at.context) u.budget 0 (at_place from r memory u.events) (turn u) (Leaves at base to last before)
+        from_top zero before u r memory less below fewer ready = absurd (omega (arith, less))
+        from_top (suc fuel) before u r memory less below fewer ready =
+            then_does
+            (list_does bound body is_list list_types lists base u r memory (omega (arith, fewer, below))
+            (has_less_room (2 + 2 * height_of_list body) list_fits room) ready no_facts_hold)
+            (λ flow v end leaves spent.
+            turn_ends h place before flow v end below (omega (arith, spent, fewer))
+            (leaves_later at base place h u.budget before flow v end (omega (arith, fewer)) leaves)
+            (λ now kept goes there known.
+            does_same _ (loop_is v)
+            (taking_does v turn
+            (word_step (script_of at.context) at.context.activation Jump (AtLabel label.index) [] place (place + 3) now kept v.events
+            sound.sound.lies there.shares.code (jumps goes)
+            ∙ ap (λ (one : ℕ). at_place one now kept v.events) lies)
+            refl refl
+            (λ one_less.
+            from_top fuel before (record v { budget = v.budget - 1 }) now kept (omega (arith, one_less, spent, less)) below
+            (omega (arith, one_less, spent, fewer)) there))))
 
 -- the steps of `JumpOn`
 jumps_on :

@@ -97,9 +97,10 @@ shld_then {context = context} {top = top} {need = need} {more = more} {from = fr
     ∙ ap (λ (n : ℕ). slice_set (slice_set memory address (low_byte (word r.h r.l))) (wrap (address + 1)) n) (high_part r.h r.l number h l)) in
     word_written place number t go sound small stage.ready fits
     (λ u events_same budget_same steady steady_too ready.
-    word_goes StoreHl static r r left sound there (record { ready = stage.ready; known = stage.known })
-    (subst (λ (n : ℕ). IsSteadyByte context.activation n) is_at steady,
-    subst (λ (n : ℕ). IsSteadyByte context.activation (wrap (n + 1))) is_at steady_too)
+    word_goes StoreHl static r r left sound there (record { ready = stage.ready; known = stage.known }) (
+      subst (λ (n : ℕ). IsSteadyByte context.activation n) is_at steady,
+      subst (λ (n : ℕ). IsSteadyByte context.activation (wrap (n + 1))) is_at steady_too,
+    )
     (ap (λ (bytes : List ℕ). at_place (from + 3) r bytes t.events) same)
     (λ known.
     subst (λ (events : List Event). Does script t.budget more (at_place (from + 3) r left events) (go tt u) Good) events_same

@@ -23,9 +23,9 @@ pub record BodyContext : Type 0 where
   pub body : Body
   pub labels : List ℕ
 
--- the body is that of the procedure, or of the main program, whose it is
+-- the body is that of the procedure whose it is; a main program does not return
 abbrev pub IsWithin : Within → Body → Type 0
-IsWithin WithinMain body = body.procedure.now.result ≡ None
+IsWithin WithinMain body = Unit {0}
 IsWithin (WithinProcedure number result) body = body.procedure.now.result ≡ result
 
 -- What is true of where a body is carried out: further turns and jumps are tied by a number that is not below the one

@@ -239,9 +239,9 @@ module _ (context : Context) (sound : IsSound context) (asked : BytesAsked conte
             elsewhere = sym (memory_same context sound facts node) ∙ here;
             free = free_by_form node unknown;
             scalar = ap (λ (found : Option Expression). elim found [
-                | Some one ↦ one.traits.scalar
-                | None ↦ scalars.Byte
-              ]) (node.at_site facts) ∙ node.scalar;
+              | Some one ↦ one.traits.scalar
+              | None ↦ scalars.Byte
+            ]) (node.at_site facts) ∙ node.scalar;
             relation = ap (λ (found : Option Expression).
                 option_and_then (λ (one : Expression). relation_of_form (knowing context.site facts) one.form) found) (node.at_site facts);
           })

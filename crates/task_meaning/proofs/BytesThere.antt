@@ -378,17 +378,18 @@ static_there context facts reference is =
           | Some subscript ↦ None
           | None ↦ location_at (located_at (base (home_at (nodes_in context).homes reference.object)) first second).base
         ] ≡ Some (locations.Static at))
-    by place begins first first_none second second_none =
-        (Rattle.treecode.specs.Homes.place_after (Rattle.treecode.specs.Homes.place_after (Rattle.treecode.specs.Homes.place_after place reference.offset) one) two,
-        ap (λ (found : Option IndexNode). elim (located_at (base (home_at (nodes_in context).homes reference.object)) found second).first [
-          | Some subscript ↦ None
-          | None ↦ location_at (located_at (base (home_at (nodes_in context).homes reference.object)) found second).base
-        ]) first_none
-        ∙ ap (λ (found : Option IndexNode). elim found [
-          | Some subscript ↦ None
-          | None ↦ location_at (base (home_at (nodes_in context).homes reference.object))
-        ]) second_none
-        ∙ ap (λ (home : Home). location_at (base home)) begins)
+    by place begins first first_none second second_none = (
+      Rattle.treecode.specs.Homes.place_after (Rattle.treecode.specs.Homes.place_after (Rattle.treecode.specs.Homes.place_after place reference.offset) one) two,
+      ap (λ (found : Option IndexNode). elim (located_at (base (home_at (nodes_in context).homes reference.object)) found second).first [
+        | Some subscript ↦ None
+        | None ↦ location_at (located_at (base (home_at (nodes_in context).homes reference.object)) found second).base
+      ]) first_none
+          ∙ ap (λ (found : Option IndexNode). elim found [
+            | Some subscript ↦ None
+            | None ↦ location_at (base (home_at (nodes_in context).homes reference.object))
+          ]) second_none
+          ∙ ap (λ (home : Home). location_at (base home)) begins,
+    )
 
 -- the code of the byte
 pub there_law :

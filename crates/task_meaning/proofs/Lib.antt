@@ -1,4 +1,5 @@
 pub mod Rules
+pub mod PlaceWords
 pub mod Nodes
 pub mod RegisterCode
 pub mod Addresses
@@ -39,6 +40,11 @@ pub mod NearStores
 pub mod StoreLaws
 pub mod NextBytes
 pub mod Ranges
+pub mod RangesOfBytes
+pub mod RangesOfTrees
+pub mod RangesOfStatements
+pub mod RangesOfCalls
+pub mod NumbersOfTrees
 pub mod Pairs
 pub mod WordArithmetic
 pub mod PairedWords

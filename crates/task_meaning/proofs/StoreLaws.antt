@@ -542,7 +542,6 @@ module _
       (located_fits context Address tree lies.place s s sound refers (lies.means s)) stand on
       (λ u final left then_middle then_found a high low word_is stands on_left.
       held lies u final left a high low word_is stands on_left))
-
     where
       held : {then_middle : ℕ} {then_found : Facts}
           (lies : LiesThere context tree (locations.Frame variable offset)) (u : SourceState)
@@ -596,10 +595,10 @@ module _
             | Some location ↦ elim location [
               | locations.Static place ↦ Word StoreHl place ∷ []
               | locations.Frame variable offset ↦ elim
-              (word_near (knowing context.site facts) (locations.Frame variable offset) pushed) [
-                | Some near ↦ store_near_steps near (locations.Frame variable offset)
-                | None ↦ store_hl_at_steps (the_goal Address) is_wanted pushed
-              ]
+                  (word_near (knowing context.site facts) (locations.Frame variable offset) pushed) [
+                    | Some near ↦ store_near_steps near (locations.Frame variable offset)
+                    | None ↦ store_hl_at_steps (the_goal Address) is_wanted pushed
+                  ]
             ]
           ]) last to
           → Goes Address Address
@@ -718,7 +717,7 @@ module _
           (elim location [
             | None ↦ store_a_at_steps (the_goal Address) pushed
             | Some location ↦ store_extended_steps (knowing context.site facts) (the_goal Address) location
-            pushed
+                pushed
           ]) last to
           → Goes Byte Address
       by None told stands = byte_to_word_at refers small stands

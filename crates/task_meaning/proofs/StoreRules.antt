@@ -443,8 +443,10 @@ word_known_at context (Some location) place number memory r lies h l word_is = r
   byte_holds = tt;
   word_holds = record {
     low_is = (l ∙ sym word_is.low ∙ ap (byte_at memory) lies, subst (λ (n : ℕ). IsSteady context.activation n) lies word_is.steady);
-    high_is = (h ∙ sym word_is.high ∙ ap (λ (n : ℕ). byte_at memory (wrap (n + 1))) lies,
-        subst (λ (n : ℕ). IsSteady context.activation (wrap (n + 1))) lies word_is.steady_too);
+    high_is = (
+      h ∙ sym word_is.high ∙ ap (λ (n : ℕ). byte_at memory (wrap (n + 1))) lies,
+      subst (λ (n : ℕ). IsSteady context.activation (wrap (n + 1))) lies word_is.steady_too,
+    );
   };
   address_holds = tt;
   zero_holds = tt;

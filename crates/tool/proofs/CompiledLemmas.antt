@@ -29,19 +29,21 @@ use Rattle.tool.specs.declared.fault.ToolFault.TheVariants.{TooManySources, Sour
 use Rattle.program_sources.specs.declared.sources.Source as declared_source
 use Rattle.program_sources.specs.Programs.{text_of, texts_of}
 use Rattle.tool.specs.Code.{module_code}
-use Rattle.tool.specs.Sources.{AreWithoutFault, HasCause, HasLongCode, IsInOrder, IsReadable, IsRefusedAlone, IsWithoutFault}
+use Rattle.tool.specs.Made.{IsMadeOf}
+use Rattle.tool.specs.Sources.{AreWithoutFault, HasCause, HasLongCode, IsInOrder, IsReadable, IsWithoutFault}
 use Rattle.tool.specs.internal.Compiling.{AreCompiled, HasCompileCause, HasGenerationCause, HasSourceCause, IsCompiled, module_in}
 
 pub is_compiled : (plan : Plan) (text : List ℕ) (one : Compiled) → IsSourceOf text (module_in one) → layout_view one.source.storage ≡ storage_with (module_in one) → IsStorable (module_in one) → JumpsAreSound (module_in one)
     → IsWellTyped (module_in one) → ListsGlobals (module_in one) → FramesFit (module_in one)
-    → (layout_view one.source.storage).constant_size ≤ length_of one.object segments.Code → one.is_served ≡ is_some (outputs_of (module_in one))
+    → IsMadeOf (module_in one) one.object → (layout_view one.source.storage).constant_size ≤ length_of one.object segments.Code → one.is_served ≡ is_some (outputs_of (module_in one))
     → one.code.items ≡ module_code plan (module_in one) → length one.code.items ≤ MOST_CODE → IsCompiled plan text one
-is_compiled plan text one source storage storable jumps types globals frames holds served code fits = record {
+is_compiled plan text one source storage storable jumps types globals frames made holds served code fits = record {
   source = source;
   storage = storage;
   storable = storable;
   jumps = jumps;
   types = (types, globals, frames);
+  made = made;
   constants = subst (λ (s : Storage). s.constant_size ≤ length_of one.object segments.Code) storage holds;
   served = served;
   code = code;

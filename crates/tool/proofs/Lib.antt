@@ -5,5 +5,6 @@ pub mod RunLemmas
 pub mod PlacedLemmas
 pub mod BuiltLemmas
 pub mod ExecutionLemmas
+pub mod MadeLemmas
 pub mod CompiledLemmas
 pub mod SourcesLemmas

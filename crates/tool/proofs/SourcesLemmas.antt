@@ -32,6 +32,7 @@ use Rattle.tool.specs.declared.fault.ToolFault.TheVariants.{TooManySources, Sour
 use Rattle.tool.specs.Code.{module_code, program_code}
 use Rattle.tool.specs.Construction.{Construction, IsConstruction, IsTyped, code_lengths}
 use Rattle.tool.specs.Image.{IsImageOfCode}
+use Rattle.tool.specs.Made.{AreMadeOf, IsImageOfObjects}
 use Rattle.tool.specs.Refusals.{IsRefusal}
 use Rattle.tool.specs.Sources.{AreWithoutFault, HasCause, IsInOrder, IsServed, IsWithoutFault, sources_before}
 use Rattle.tool.specs.internal.Compiling.{AreCompiled, HasBuildCause, IsBuiltFrom, IsOfImage, module_in}
@@ -160,6 +161,45 @@ module _ (plan : Plan) where
   served_all texts compiled modules is_served are is test all =
       test ∙ served_each texts compiled are (recursion_from_All IsServed (modules_in compiled) (subst (λ ms. All IsServed (map module_view ms)) is all))
 
+  -- and all modules are served where each source is
+  served_if : (typed : TypedModule) (found : Option (List Output)) → outputs_of typed ≡ found → is_some found ≡ true → IsServed typed
+  served_if typed (Some outputs) is test = (outputs, is)
+  served_if typed None is test = absurd (cc)
+
+  both_held : (first others : Bool) → (first && others) ≡ true → (first ≡ true) × (others ≡ true)
+  both_held true others both = (refl, both)
+  both_held false others both = absurd (cc)
+
+  each_served : (texts : List (List ℕ)) (compiled : List Compiled) → AreCompiled plan texts compiled → list_all (λ (one : Compiled). one.is_served) compiled ≡ true → AllByRecursion IsServed (modules_in compiled)
+  each_served [] [] are all = tt
+  each_served [] (one ∷ others) are all = absurd are
+  each_served (text ∷ texts) [] are all = absurd are
+  each_served (text ∷ texts) (one ∷ others) are all =
+      let both = both_held one.is_served (list_all (λ (other : Compiled). other.is_served) others) all in
+      (served_if (module_in one) (outputs_of (module_in one)) refl (sym are.0.served ∙ both.0), each_served texts others are.1 both.1)
+
+  false_unless : (test : Bool) → (test ≡ true → ⊥) → test ≡ false
+  false_unless true never = absurd (never refl)
+  false_unless false never = refl
+
+  pub unserved_some : (texts : List (List ℕ)) (compiled : List Compiled) (modules : List Typed) (is_served : Bool) → AreCompiled plan texts compiled → modules ≡ map typed_in compiled → is_served ≡ list_all (λ (one : Compiled). one.is_served) compiled
+      → (All IsServed (map module_view modules) → ⊥) → is_served ≡ false
+  unserved_some texts compiled modules is_served are is test never =
+      false_unless is_served
+      (λ all. never (subst (λ ms. All IsServed (map module_view ms)) (sym is) (All-from_recursion IsServed (modules_in compiled) (each_served texts compiled are (sym test ∙ all)))))
+
+  -- object modules are made of the modules
+  made_each : (texts : List (List ℕ)) (compiled : List Compiled) → AreCompiled plan texts compiled → AreMadeOf (modules_in compiled) (map (λ (one : Compiled). one.object) compiled)
+  made_each [] [] are = tt
+  made_each [] (one ∷ others) are = absurd are
+  made_each (text ∷ texts) [] are = absurd are
+  made_each (text ∷ texts) (one ∷ others) are = (are.0.made, made_each texts others are.1)
+
+  pub made_all : (texts : List (List ℕ)) (compiled : List Compiled) (modules : List Typed) (objects : List ObjectModule) → AreCompiled plan texts compiled → modules ≡ map typed_in compiled → objects ≡ map (λ (one : Compiled). one.object) compiled
+      → AreMadeOf (map module_view modules) objects
+  made_all texts compiled modules objects are is its =
+      subst (λ ms. AreMadeOf (map module_view ms) objects) (sym is) (subst (AreMadeOf (modules_in compiled)) (sym its) (made_each texts compiled are))
+
   pub program_built : (texts : List (List ℕ)) (compiled : List Compiled) (modules : List Typed) (built : Construction) → AreCompiled plan texts compiled → modules ≡ map typed_in compiled → IsBuiltFrom (map module_view modules) plan built
       → IsProgramOf texts (program_modules built.program)
   program_built texts compiled modules built are is from =
@@ -211,16 +251,21 @@ module _ (plan : Plan) where
   image_cause (ConstantsMissing file) modules lengths placed is of_image = absurd of_image
   image_cause (Program fault) modules lengths placed is of_image = absurd of_image
 
-  -- a program that was placed, with an image that is of its code where all of its modules are served
+  -- a program that was placed, with an image that is of its code where all of its modules are served, and else of its object
+  -- modules
   pub is_construction : (modules : List TypedModule) (lengths : List ℕ) (placed : Placed) (objects : List ObjectModule) (image : Absolute) → IsPlacedBy modules lengths plan placed → lengths ≡ code_lengths objects → length lengths ≡ length modules → All JumpsAreSound modules → All IsTyped modules
-      → (All IsServed modules → IsImageOfCode plan (program_code plan modules) image) → IsConstruction (construction_with placed plan objects image)
-  is_construction modules lengths placed objects image is its count jumps types served = record {
+      → All IsStorable modules → AreMadeOf modules objects → (All IsServed modules → IsImageOfCode plan (program_code plan modules) image) → ((All IsServed modules → ⊥) → IsImageOfObjects plan objects image)
+      → IsConstruction (construction_with placed plan objects image)
+  is_construction modules lengths placed objects image is its count jumps types storable made served linked = record {
     headline = λ all.
         program_agrees (program_modules placed.program) _ plan.stack_size plan image (subst IsJoined (sym is.program) is.joined) all
         (subst (λ ms. IsImageOfCode plan (program_code plan ms) image) (sym is.program) (served (subst (All IsServed) is.program all)));
+    linked = λ never. linked (λ all. never (subst (All IsServed) (sym is.program) all));
     joined = subst IsJoined (sym is.program) is.joined;
     jumps = subst (All JumpsAreSound) (sym is.program) jumps;
     types = subst (All IsTyped) (sym is.program) types;
+    storable = subst (All IsStorable) (sym is.program) storable;
+    made = subst (λ ms. AreMadeOf ms objects) (sym is.program) made;
     objects = sym (length_mapped (λ (object : ObjectModule). length_of object segments.Code) objects) ∙ sym (ap length its) ∙ count ∙ sym (ap length is.program);
     may_lie = rw (is.program, sym its) is.may_lie;
     lawful = rw is.program is.lawful;

@@ -3,6 +3,7 @@ use Rattle.std.specs.Prelude.{◌≡◌, ℕ, List, All, None, length, map}
 use Rattle.typed_trees.specs.Frames.{FramesFit}
 use Rattle.typed_trees.specs.Globals.{ListsGlobals}
 use Rattle.typed_trees.specs.Jumps.{JumpsAreSound}
+use Rattle.typed_trees.specs.Storable.{IsStorable}
 use Rattle.typed_trees.specs.TypedTrees.{TypedModule}
 use Rattle.typed_trees.specs.WellTyped.{IsWellTyped}
 use Rattle.layout.specs.Joined.{IsJoined}
@@ -19,6 +20,7 @@ use Rattle.object_modules.specs.declared.segment.Segment.TheVariants.{Code}
 use Rattle.locate.specs.Locating.{Absolute}
 use Rattle.program_sources.specs.Programs.{program_modules}
 use Rattle.tool.specs.Headline.{DoesWhatItSays}
+use Rattle.tool.specs.Made.{AreMadeOf, IsImageOfObjects}
 use Rattle.tool.specs.Sources.{IsServed}
 
 -- the joined program, the plan, the placement with what each byte of memory is by its table, the object modules of
@@ -39,17 +41,22 @@ code_lengths objects = map (λ (object : ObjectModule). length_of object Code) o
 abbrev pub IsTyped : TypedModule → Type 0
 IsTyped typed = IsWellTyped typed × ListsGlobals typed × FramesFit typed
 
--- where all modules are served, the image does what the program says, with the stack of the plan; the modules make a
--- program, which is well typed, whose jumps go to labels that are known, whose plan is not refused for the code segments
--- of the object modules, of which there is one for each module, and which lies lawfully where the plan puts it; the table
--- is of its bytes there
+-- where all modules are served, the image does what the program says, with the stack of the plan, and else it is the merge
+-- of the object modules, placed by the plan; the modules make a program, which is well typed, whose jumps go to labels that
+-- are known, whose storage fits, whose plan is not refused for the code segments of the object modules, of which there is
+-- one made of each module, and which lies lawfully where the plan puts it; the table is of its bytes there
 pub record IsConstruction (built : Construction) : Type 0 where
   pub headline :
       All IsServed (program_modules built.program)
       → DoesWhatItSays (program_modules built.program) built.placement built.plan.stack_size built.image
+  pub linked :
+      (All IsServed (program_modules built.program) → ⊥)
+      → IsImageOfObjects built.plan built.objects built.image
   pub joined : IsJoined (program_modules built.program)
   pub jumps : All JumpsAreSound (program_modules built.program)
   pub types : All IsTyped (program_modules built.program)
+  pub storable : All IsStorable (program_modules built.program)
+  pub made : AreMadeOf (program_modules built.program) built.objects
   pub objects : length built.objects ≡ length (program_modules built.program)
   pub may_lie :
       placing_refusal (plan_view built.plan) (program_modules built.program) (code_lengths built.objects) ≡ None

@@ -9,6 +9,7 @@ pub use Rattle.printed_runs.specs.Printing
 pub mod Code
 pub mod Image
 pub mod Headline
+pub mod Made
 pub mod Construction
 pub mod Execution
 pub mod Printed

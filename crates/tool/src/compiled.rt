@@ -15,6 +15,7 @@ ghost use Rattle.frontend.specs.Reading.{IsSourceOf};
 ghost use Rattle.object_modules.specs.Module.{length_of};
 ghost use Rattle.object_modules.specs.declared.segment.Segment.TheVariants as segments;
 ghost use Rattle.program_sources.specs.Programs.{texts_of};
+ghost use Rattle.tool.specs.Made.{IsMadeOf};
 ghost use Rattle.tool.specs.Sources.{AreWithoutFault, HasCause, IsInOrder, IsReadable, IsRefusedAlone};
 ghost use Rattle.tool.specs.declared.code.TheConstants.{MOST_CODE};
 ghost use Rattle.tool.specs.internal.Compiling.{AreCompiled, HasCompileCause, HasGenerationCause, HasSourceCause, IsCompiled};
@@ -24,6 +25,7 @@ use crate::fault::ToolFault;
 use codegen8080::generate;
 use failure::Failure;
 use frontend::{SourceModule, read_source};
+use home_words::hold_homes;
 use layout::Layout;
 use object_modules::{ObjectModule, Segment};
 use plans::Plan;
@@ -95,11 +97,15 @@ fn object_of(
     source: &SourceModule,
 ) -> Result<ObjectModule, Failure<ToolFault>>
     requires jumps { JumpsAreSound (module_view source.now.typed) }
+    requires storage { layout_view source.now.storage ≡ storage_with (module_view source.now.typed) }
+    ensures made { IfOk result (IsMadeOf (module_view source.now.typed)) }
     ensures holds { IfOk result
         (λ object. (layout_view source.now.storage).constant_size ≤ length_of object segments.Code) }
     ensures refused { IfFault result (HasGenerationCause file) }
 {
     let tree = lower(alloc, &source.typed, &source.storage)?;
+    tree.hold_words();
+    hold_homes(&tree);
     let generated = generate(alloc, &tree);
     drop(tree);
     match generated {
@@ -115,6 +121,7 @@ fn with_constants(
     source: &SourceModule,
     object: ObjectModule,
 ) -> Result<ObjectModule, Failure<ToolFault>>
+    ensures same { IfOk result (λ found. found ≡ object) }
     ensures holds { IfOk result
         (λ object. (layout_view source.now.storage).constant_size ≤ length_of object segments.Code) }
     ensures refused { IfFault result (HasGenerationCause file) }

@@ -1,8 +1,9 @@
 //! The bytes of a program at their places.
 
-ghost use Rattle.std.specs.Prelude.{◌≡◌, ◌+◌, IfOk, true};
+ghost use Rattle.std.specs.Prelude.{◌≡◌, ◌+◌, IfOk, false, true};
 ghost use Rattle.failure.specs.Failure.{IfFault};
 ghost use Rattle.tool.specs.Image.{IsImageOfCode};
+ghost use Rattle.tool.specs.Made.{IsImageOfObjects};
 ghost use Rattle.tool.specs.internal.Compiling.{IsOfImage};
 
 use crate::fault::ToolFault;
@@ -23,6 +24,7 @@ pub fn image_of(
     plan: &Plan,
 ) -> Result<Absolute, Failure<ToolFault>>
     ensures served { is_served ≡ true → IfOk result (IsImageOfCode plan.now code.items) }
+    ensures linked { is_served ≡ false → IfOk result (IsImageOfObjects plan.now objects.now) }
     ensures refused { IfFault result IsOfImage }
 {
     if is_served {
@@ -56,11 +58,13 @@ fn image_of_code(alloc: Global, code: Vec<u8>, plan: &Plan) -> Result<Absolute, 
 }
 
 // The image of the merge of object modules.
+#[tactic(auto, using(crate::proofs::MadeLemmas::is_linked))]
 fn image_of_objects(
     alloc: Global,
     objects: &[ObjectModule],
     plan: &Plan,
 ) -> Result<Absolute, Failure<ToolFault>>
+    ensures linked { IfOk result (IsImageOfObjects plan.now objects.now) }
     ensures refused { IfFault result IsOfImage }
 {
     let merged = match link(alloc, objects) {

@@ -1,6 +1,6 @@
 //! From sources to a program at its places.
 
-ghost use Rattle.std.specs.Prelude.{◌≡◌, ℕ, ◌<◌, ◌≤◌, All, length, map, Err, IfOk, true};
+ghost use Rattle.std.specs.Prelude.{◌≡◌, ℕ, ◌<◌, ◌≤◌, All, false, length, map, Err, IfOk, true};
 ghost use Rattle.words.specs.declared.limits.TheConstants.{LONGEST_SOURCE};
 ghost use Rattle.failure.specs.Failure.{IfFault};
 ghost use Rattle.typed_trees.specs.Jumps.{JumpsAreSound};
@@ -12,6 +12,7 @@ ghost use Rattle.program_sources.specs.Programs.{IsProgramOf, program_modules, t
 ghost use Rattle.tool.specs.Code.{program_code};
 ghost use Rattle.tool.specs.Construction.{IsConstruction, IsTyped, code_lengths};
 ghost use Rattle.tool.specs.Headline.{DoesWhatItSays};
+ghost use Rattle.tool.specs.Made.{AreMadeOf};
 ghost use Rattle.tool.specs.Sources.{HasCause, IsInOrder, IsServed};
 ghost use Rattle.tool.specs.Refusals.{IsRefusedBy};
 ghost use Rattle.tool.specs.internal.Compiling.{HasBuildCause, IsBuiltFrom};
@@ -79,8 +80,10 @@ fn build_program(
     requires storage { HaveStorage (map module_view parts.modules.items) parts.lengths.items }
     requires jumps { All JumpsAreSound (map module_view parts.modules.items) }
     requires types { All IsTyped (map module_view parts.modules.items) }
+    requires made { AreMadeOf (map module_view parts.modules.items) parts.objects.items }
     requires code { parts.code.items ≡ program_code plan.now (map module_view parts.modules.items) }
     requires served { All IsServed (map module_view parts.modules.items) → is_served ≡ true }
+    requires unserved { (All IsServed (map module_view parts.modules.items) → ⊥) → is_served ≡ false }
     ensures program { IfOk result (IsBuiltFrom (map module_view parts.modules.items) plan.now) }
     ensures refused { IfFault result
         (λ fault. HasBuildCause fault (map module_view parts.modules.items) parts.lengths.items plan.now) }

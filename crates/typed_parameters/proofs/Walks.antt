@@ -31,7 +31,7 @@ use Rattle.typed_parameters.proofs.OwnBlock.{Scan}
 use Rattle.typed_parameters.proofs.Parameters.{objects_are}
 
 -- parts that change constants alone
-abbrev Same : Progress → Progress → Type 0
+abbrev pub Same : Progress → Progress → Type 0
 Same before after = after.known ≡ before.known
 
 grown_known : {may : ℕ → Type 0} (before after : Progress) → Same before after → Grown may before after
@@ -43,19 +43,19 @@ grown_known before after same =
 none_below : (progress : Progress) (number : ℕ) → NoMore number → number < length progress.known.procedures
 none_below progress number none = absurd none
 
-value_same : (tree : ExpressionTree) (progress : Progress)
+pub value_same : (tree : ExpressionTree) (progress : Progress)
     → Gives (λ found. Same progress found.1) (value tree progress)
 value_same tree progress =
     gives_after (expression progress.known tree progress.constants) λ typed. gives_ok refl
 
-assignment_same : (targets : List ReferenceTree) (source : ExpressionTree) (progress : Progress)
+pub assignment_same : (targets : List ReferenceTree) (source : ExpressionTree) (progress : Progress)
     → Gives (λ found. Same progress found.1) (assignment targets source progress)
 assignment_same targets source progress =
     gives_after (destinations progress.known targets progress.constants) λ places.
     in_turn (value_same source (with_constants places.1 progress)) λ found same.
     gives_ok same
 
-call_same : (name : Identifier) (given : Given) (progress : Progress)
+pub call_same : (name : Identifier) (given : Given) (progress : Progress)
     → Gives (λ found. Same progress found.1) (call name given progress)
 call_same name given progress =
     gives_after (bound progress.known name) λ binding.
@@ -70,12 +70,12 @@ return_with_same line (Some scalar) (Some tree) progress =
 return_with_same line (Some scalar) None progress = gives_fault
 return_with_same line None (Some tree) progress = gives_fault
 
-return_same : (line : ℕ) (owner : Owner) (tree : Option ExpressionTree) (progress : Progress)
+pub return_same : (line : ℕ) (owner : Owner) (tree : Option ExpressionTree) (progress : Progress)
     → Gives (λ found. Same progress found.1) (return_from line owner tree progress)
 return_same line TheModule tree progress = gives_fault
 return_same line (OfProcedure number heading) tree progress = return_with_same line heading.result tree progress
 
-goto_same : (label : Identifier) (progress : Progress) → Gives (λ found. Same progress found.1) (goto label progress)
+pub goto_same : (label : Identifier) (progress : Progress) → Gives (λ found. Same progress found.1) (goto label progress)
 goto_same label progress =
     gives_after (goto_bound (line_of label) (jump_of progress.known.here label.name)) λ typed. gives_ok refl
 
@@ -84,7 +84,7 @@ step_same : (tree : Option ExpressionTree) (progress : Progress)
 step_same None progress = gives_ok refl
 step_same (Some tree) progress = in_turn (value_same tree progress) λ found same. gives_ok same
 
-iteration_same : (tree : IterationTree) (progress : Progress)
+pub iteration_same : (tree : IterationTree) (progress : Progress)
     → Gives (λ found. Same progress found.1) (iteration tree progress)
 iteration_same tree progress =
     gives_after (bound progress.known tree.variable) λ binding.

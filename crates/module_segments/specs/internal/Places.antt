@@ -1,11 +1,9 @@
 -- Places and contents of tree code as locations and bytes of a module that has no place in memory yet.
-use Rattle.std.specs.Prelude.{ℕ, ◌<◌, List, [], ◌∷◌, flat_map, replicate, All, None, slice_get}
+use Rattle.std.specs.Prelude.{ℕ, ◌<◌, List, [], ◌∷◌, flat_map, replicate, None, slice_get}
+use Rattle.std.specs.List.{AllByRecursion}
 use Rattle.std.specs.Option.{option_map_or}
-use Rattle.typed_trees.specs.declared.parts.InitialValue.TheVariants.{LocationValue}
-use Rattle.typed_trees.specs.declared.parts.InitialValue.{InitialValue}
-use Rattle.typed_trees.specs.TypedTrees.{Home, BasedOn, Elsewhere, InFrame, TypedObject, TypedModule}
+use Rattle.typed_trees.specs.TypedTrees.{Home, BasedOn, Elsewhere, InFrame}
 use Rattle.layout.specs.declared.slot.Segment.TheVariants as segments
-use Rattle.layout.specs.StartingMemory.{values_in}
 use Rattle.layout.specs.Segments.{Location, SegmentStart, ExternalName, Absolute, After, Places, places_of_bytes, places_of_location}
 use Rattle.treecode.specs.declared.module.Content.{Content}
 use Rattle.treecode.specs.declared.module.Content.TheVariants.{Byte, Word, Gap}
@@ -45,11 +43,11 @@ abbrev pub IsHere : Home → Type 0
 IsHere Elsewhere = ⊥
 IsHere home = Unit {0}
 
--- what INITIAL and DATA add to where an object lies is a word
-abbrev pub AddsWord : InitialValue → Type 0
-AddsWord (LocationValue object offset) = offset < 65536
-AddsWord value = Unit {0}
+-- a number among contents is a word
+abbrev pub KeepsWord : Content → Type 0
+KeepsWord (Word (places.Number number)) = number < 65536
+KeepsWord content = Unit {0}
 
--- in a module, as the code keeps what is added
-abbrev pub AddWords : TypedModule → Type 0
-AddWords typed = All (λ (object : TypedObject). All AddsWord (values_in object.home)) typed.objects
+-- and so is each
+abbrev pub KeepWords : List Content → Type 0
+KeepWords list = AllByRecursion KeepsWord list

@@ -21,20 +21,22 @@ use Rattle.tool.specs.declared.fault.ToolFault.{ToolFault}
 use Rattle.tool.specs.declared.fault.ToolFault.TheVariants.{Source, CodeTooLong, Code, ConstantsMissing, Program, Link, Locate}
 use Rattle.tool.specs.Code.{module_code}
 use Rattle.tool.specs.Construction.{Construction, IsTyped}
+use Rattle.tool.specs.Made.{IsMadeOf}
 use Rattle.tool.specs.Sources.{HasLongCode, IsReadable}
 
 -- the module of a source that is compiled
 abbrev pub module_in : Compiled → TypedModule
 module_in compiled = module_view compiled.source.typed
 
--- what a source is compiled to: its module, the storage of that, an object module that holds its constants, whether it
--- is served, and its code
+-- what a source is compiled to: its module, the storage of that, an object module that is made of it and holds its
+-- constants, whether it is served, and its code
 pub record IsCompiled (plan : Plan) (text : List ℕ) (compiled : Compiled) : Type 0 where
   pub source : IsSourceOf text (module_in compiled)
   pub storage : layout_view compiled.source.storage ≡ storage_with (module_in compiled)
   pub storable : IsStorable (module_in compiled)
   pub jumps : JumpsAreSound (module_in compiled)
   pub types : IsTyped (module_in compiled)
+  pub made : IsMadeOf (module_in compiled) compiled.object
   pub constants : constant_bytes (module_in compiled) ≤ length_of compiled.object segments.Code
   pub served : compiled.is_served ≡ is_some (outputs_of (module_in compiled))
   pub code : compiled.code.items ≡ module_code plan (module_in compiled)

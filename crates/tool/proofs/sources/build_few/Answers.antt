@@ -7,7 +7,7 @@ use Rattle.tool.specs.declared.compiled.Compiled.{Compiled}
 use Rattle.tool.specs.declared.fault.ToolFault.{ToolFault}
 use Rattle.tool.specs.Sources.{AreWithoutFault, HasCause, IsInOrder}
 use Rattle.tool.specs.internal.Compiling.{HasBuildCause}
-use Rattle.tool.proofs.SourcesLemmas.{build_cause, build_order, code_fits, count_fits, have_storage, jumps_all, lengths_fit, program_built, served_all, storages_fit, types_all}
+use Rattle.tool.proofs.SourcesLemmas.{build_cause, build_order, code_fits, count_fits, have_storage, jumps_all, lengths_fit, made_all, program_built, served_all, storages_fit, types_all, unserved_some}
 use Rattle.tool.proofs.sources.build_few.Goals as goal
 
 pub build_program-requires-clause-storages : goal.build_program-requires-clause-storages
@@ -36,6 +36,11 @@ pub build_program-requires-clause-types : goal.build_program-requires-clause-typ
 build_program-requires-clause-types c =
     types_all c.args.plan.now (texts_of c.args.sources.now) c.in_ok-compiled.compiled.items c.in_ok-parts.parts.modules.items c.in_ok-compiled.ensures.compiled c.in_ok-parts.ensures.modules
 
+pub build_program-requires-clause-made : goal.build_program-requires-clause-made
+build_program-requires-clause-made c =
+    made_all c.args.plan.now (texts_of c.args.sources.now) c.in_ok-compiled.compiled.items c.in_ok-parts.parts.modules.items c.in_ok-parts.parts.objects.items c.in_ok-compiled.ensures.compiled
+    c.in_ok-parts.ensures.modules c.in_ok-parts.ensures.objects
+
 pub build_program-requires-clause-code : goal.build_program-requires-clause-code
 build_program-requires-clause-code c =
     code_fits c.args.plan.now (texts_of c.args.sources.now) c.in_ok-compiled.compiled.items c.in_ok-parts.parts.modules.items c.in_ok-parts.parts.code.items c.in_ok-compiled.ensures.compiled
@@ -46,6 +51,12 @@ build_program-requires-clause-served c all =
     served_all c.args.plan.now (texts_of c.args.sources.now) c.in_ok-compiled.compiled.items c.in_ok-parts.parts.modules.items c.are_served-is_served.result c.in_ok-compiled.ensures.compiled c.in_ok-parts.ensures.modules
     (c.are_served-is_served.ensures ∙ ap (list_all (λ (one : Compiled). one.is_served)) c.as_slice.ensures.value)
     all
+
+pub build_program-requires-clause-unserved : goal.build_program-requires-clause-unserved
+build_program-requires-clause-unserved c never =
+    unserved_some c.args.plan.now (texts_of c.args.sources.now) c.in_ok-compiled.compiled.items c.in_ok-parts.parts.modules.items c.are_served-is_served.result c.in_ok-compiled.ensures.compiled c.in_ok-parts.ensures.modules
+    (c.are_served-is_served.ensures ∙ ap (list_all (λ (one : Compiled). one.is_served)) c.as_slice.ensures.value)
+    never
 
 pub returns-in_err-built-clause-refused : goal.returns-in_err-built-clause-refused
 returns-in_err-built-clause-refused c =

@@ -1,0 +1,34 @@
+-- The modules of a program, and where the code of each procedure begins.
+use Rattle.std.specs.Prelude.{◌≡◌, ℕ, List, Option, Some, slice_get}
+use Rattle.std.specs.Option.{option_map_or}
+use Rattle.object_modules.specs.Module.{ObjectModule}
+use Rattle.typed_trees.specs.TypedTrees.{TypedModule}
+use Rattle.layout.specs.Placing.{Plan as PlacingPlan}
+use Rattle.asm8080.specs.Items.{Layout}
+use Rattle.procedure_meaning.specs.Calls.{Entries}
+use Rattle.program_meaning.specs.Linked.{ModuleIs, module_layout}
+
+-- where labels lie by the numbers of a module, and its targets
+abbrev pub layout_of :
+    {plan : PlacingPlan} {modules : List TypedModule} {objects : List ObjectModule} {merged : ObjectModule}
+    {before after : List ℕ} {number : ℕ}
+    → ModuleIs plan modules objects merged before after number → Layout
+layout_of {plan = plan} {merged = merged} module_is =
+    module_layout plan merged module_is.at.linked module_is.generated.to module_is.generated.code
+    module_is.tree.externals.items
+
+-- each module of a program, by its number
+pub record ModulesAre
+    (plan : PlacingPlan) (modules : List TypedModule) (objects : List ObjectModule) (merged : ObjectModule)
+    (before after : List ℕ) : Type 0 where
+  pub at : (number : ℕ) → Option (ModuleIs plan modules objects merged before after number)
+  pub all : (number : ℕ) (typed : TypedModule) → slice_get modules number ≡ Some typed
+      → (module_is : ModuleIs plan modules objects merged before after number) × (at number ≡ Some module_is)
+
+-- where the code of a procedure begins
+abbrev pub entries_of :
+    {plan : PlacingPlan} {modules : List TypedModule} {objects : List ObjectModule} {merged : ObjectModule}
+    {before after : List ℕ}
+    → ModulesAre plan modules objects merged before after → Entries
+entries_of modules_are place =
+    option_map_or (λ module_is. (layout_of module_is).place_of place.number) (modules_are.at place.number_of_module) 0

@@ -1,0 +1,4 @@
+pub mod Agreement
+pub mod Linked
+pub mod Entering
+pub mod Typed

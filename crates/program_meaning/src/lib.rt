@@ -1,0 +1,2 @@
+//! What it means that the image of a program does what its sources say. Nothing here runs.
+#![tactic(auto)]

@@ -1,0 +1,1 @@
+pub use Rattle.typed_facts.specs.Facts
