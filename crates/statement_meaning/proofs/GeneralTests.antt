@@ -122,8 +122,8 @@ test_does {at = at} loop scalar last facts turn {here = here} {after = after} {w
     counter_of_type scalar counted = counter_for at (loop.head).variable scalar (Some counted.location)
 
     -- that a test does what it means where it stands
-    Does_ : (scalar : ScalarType) → IsCounted at.context (loop.head).variable scalar → Test → Type 0
-    Does_ scalar counted test =
+    MeansIt : (scalar : ScalarType) → IsCounted at.context (loop.head).variable scalar → Test → Type 0
+    MeansIt scalar counted test =
         Stand at here waiting from (test_steps (counter_of_type scalar counted) test turn) after to
         → TestDoes loop (facts_of_test (counter_of_type scalar counted) test) turn here.facts from after.facts to
 
@@ -137,11 +137,11 @@ test_does {at = at} loop scalar last facts turn {here = here} {after = after} {w
     by_known : (scalar : ScalarType) (same : (loop.head).scalar ≡ scalar) (counted : IsCounted at.context (loop.head).variable scalar)
         (known : ℕ)
         → ((s : SourceState) → value at.context.later at.context.activation.around (loop.head).last s ≡ Gave known s)
-        → Does_ scalar counted (known_test scalar known)
+        → MeansIt scalar counted (known_test scalar known)
     by_known Byte same counted known is = by (nat_le 255 known) refl
       where
         by : (great : Bool) → nat_le 255 known ≡ great
-            → Does_ Byte counted (if great then tests.Always else tests.ByteBelow (known + 1))
+            → MeansIt Byte counted (if great then tests.Always else tests.ByteBelow (known + 1))
         by true great stand limit turn_facts runs enters goes t r memory fewer stage =
             let most = leb-true 255 known great in
             always_tests loop limit known turn turn_facts Byte t r memory (turns_there Byte same counted limit turn_facts runs) (is t)
@@ -156,7 +156,7 @@ test_does {at = at} loop scalar last facts turn {here = here} {after = after} {w
     by_known Address same counted known is = by (nat_le 65535 known) refl
       where
         by : (great : Bool) → nat_le 65535 known ≡ great
-            → Does_ Address counted (if great then tests.Always else tests.WordBelow (known + 1))
+            → MeansIt Address counted (if great then tests.Always else tests.WordBelow (known + 1))
         by true great stand limit turn_facts runs enters goes t r memory fewer stage =
             let most = leb-true 65535 known great in
             always_tests loop limit known turn turn_facts Address t r memory (turns_there Address same counted limit turn_facts runs) (is t)
@@ -173,7 +173,7 @@ test_does {at = at} loop scalar last facts turn {here = here} {after = after} {w
 
     by_type : (scalar : ScalarType) (same : (loop.head).scalar ≡ scalar) (counted : IsCounted at.context (loop.head).variable scalar)
         (bound : ScalarType) → type_of (loop.head).last ≡ bound
-        → Does_ scalar counted (computed_test scalar bound site (counter_of_type scalar counted) last)
+        → MeansIt scalar counted (computed_test scalar bound site (counter_of_type scalar counted) last)
     by_type Byte same counted Byte is stand limit turn_facts runs enters goes t r memory fewer stage =
         byte_tests loop limit last turn turn_facts t r memory (turns_there Byte same counted limit turn_facts runs) has is
         (all_code (byte_step last ∷ address_step (loop.head).variable ∷ steps.Plain (Accumulate Compare M)
@@ -188,7 +188,7 @@ test_does {at = at} loop scalar last facts turn {here = here} {after = after} {w
       where
         by_location : (location : Location) → counted.location ≡ location
             → (other : Option Place) → word_at site last ≡ other
-            → Does_ Address counted (word_test_by (place_in_memory (Some location)) other last)
+            → MeansIt Address counted (word_test_by (place_in_memory (Some location)) other last)
         by_location (locations.Static own) lies (Some other) there stand limit turn_facts runs enters goes t r memory fewer stage =
             places counted own other here after waiting from to same lies there stand limit turn_facts runs enters goes t r memory fewer stage
         by_location (locations.Static own) lies None there stand limit turn_facts runs enters goes t r memory fewer stage =
@@ -211,7 +211,7 @@ test_does {at = at} loop scalar last facts turn {here = here} {after = after} {w
             ∷ steps.Jump (JumpWhere NoCarry) turn ∷ []) stand) enters fewer stage goes
 
     by_number : (found : Option ℕ) → number site last ≡ found
-        → Does_ scalar counted (elim found as (λ (found : Option ℕ). Test) [
+        → MeansIt scalar counted (elim found as (λ (found : Option ℕ). Test) [
           | Some known ↦ known_test scalar known
           | None ↦ computed_test scalar (scalar_of site last) site (counter_of_type scalar counted) last
         ])

@@ -1,10 +1,8 @@
 -- Statements of each form do what they say.
-use Rattle.std.proofs.Common.{ℕ, slice_get, Some, ◌≡◌}
+use Rattle.std.proofs.Common.{slice_get, Some, ◌≡◌}
 use Rattle.treecode.specs.declared.statement.Statement.{Statement}
 use Rattle.treecode.specs.declared.statement.Statement.TheVariants as statements
 use Rattle.treecode.specs.declared.statement.StatementNumber.{StatementNumber}
-use Rattle.steps8080.specs.declared.facts.Facts.{Facts}
-use Rattle.codegen8080.specs.declared.meeting.Here.{Here}
 use Rattle.task_meaning.specs.Contexts.{nodes_in}
 use Rattle.statement_meaning.specs.Bodies.{BodyContext, IsSoundBody}
 use Rattle.statement_meaning.specs.Statements.{StatementDoes, StatementStands, StatementsDo}
