@@ -52,7 +52,7 @@ Goes {at = at} loop limit facts place =
     → StageAt at loop.need loop.base u facts now memory_now
     → Does (script_of at.context) u.budget 0 (at_place place now memory_now u.events) (Gave Onward u) (Out loop)
 
-one_more_now : (n : ℕ) → (n + 1) % 256 ≡ (n + 1) % 256 % 256
+pub one_more_now : (n : ℕ) → (n + 1) % 256 ≡ (n + 1) % 256 % 256
 one_more_now n = omega arith
 
 -- INR M, and a jump to the turn

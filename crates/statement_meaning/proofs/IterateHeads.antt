@@ -100,7 +100,7 @@ counter_is {at = at} loop head list facts iterates =
     ∙ (iterates.counted).located facts)
 
 -- a step of 1
-one_step :
+pub one_step :
     (at : BodyContext) (facts : Facts) {step : Option ExpressionNumber} {tree : Option TypedExpression}
     → IsSoundBody at
     → IsOptional (nodes_in at.context) at.context.storage step tree

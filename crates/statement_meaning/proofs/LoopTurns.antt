@@ -188,7 +188,45 @@ at_turn loop limit place facts t r memory turns less stage =
     turns (record t { budget = budget }) r memory (omega (arith, less, is))
     (record { below = (let below = stage.below in omega (arith, below, is)); room = stage.room; ready = stage.ready; known = stage.known }))
 
--- the list of a turn, and what comes after it where its end is reached
+-- the list of a turn, and what comes after it where its end is reached, if the code goes on there
+pub list_goes :
+    {at : BodyContext} (loop : Loop at) (bound : ℕ) (range : Range) (facts : Facts) (after : Here) (from middle : ℕ)
+    (t : SourceState) (r : Registers) (memory : List ℕ)
+    → ListDoes at facts range from after middle
+    → IsList (nodes_in at.context) at.context.storage at.labels bound range loop.list
+    → TypesHoldInList at.context.typed at.context.within loop.list
+    → ListStands loop.list
+    → 2 + 2 * height_of_list loop.list ≤ loop.need
+    → t.budget < loop.budget
+    → StageAt at loop.need loop.base t facts r memory
+    → (after.goes_on ≡ true → (u : SourceState) (now : Registers) (memory_now : List ℕ)
+    → u.budget ≤ t.budget
+    → StageAt at loop.need loop.base u after.facts now memory_now
+    → Does (script_of at.context) u.budget 0 (at_place middle now memory_now u.events) (after_list loop Onward u) (Out loop))
+    → Does (script_of at.context) t.budget 0 (at_place from r memory t.events) (from_list loop t) (Out loop)
+list_goes {at = at} loop bound range facts after from middle t r memory does is types stand fits less stage rest =
+    let enough = stage.room.enough in
+    then_does
+    (does bound loop.list is types stand loop.base t r memory stage.below
+    (record { depth = stage.room.depth; enough = omega (arith, enough, fits); even = stage.room.even }) stage.ready stage.known)
+    (λ flow u end leaves spent. by_flow flow u end leaves spent)
+  where
+    by_flow : (flow : Flow) (u : SourceState) (end : State)
+        → Leaves at loop.base middle after t.budget flow u end
+        → u.budget ≤ t.budget
+        → Does (script_of at.context) u.budget 0 end (after_list loop flow u) (Out loop)
+    by_flow Onward u end goes spent =
+        let comes = goes.comes in
+        let below = stage.below in
+        subst (λ (state : State). Does (script_of at.context) u.budget 0 state (after_list loop Onward u) (Out loop)) (sym comes.is_at)
+        (rest goes.goes_on u comes.r comes.memory spent
+        (record { below = omega (arith, below, spent); room = stage.room; ready = comes.ready; known = comes.holds }))
+    by_flow (Returned value) u end comes spent = gives comes
+    by_flow (Jumped label) u end comes spent =
+        let before = comes.spent in
+        gives (record { place = comes.place; lies = comes.lies; spent = omega (arith, before, less); comes = comes.comes })
+
+-- whether it goes on there or not
 pub list_then :
     {at : BodyContext} (loop : Loop at) (bound : ℕ) (range : Range) (facts : Facts) (after : Here) (from middle : ℕ)
     (t : SourceState) (r : Registers) (memory : List ℕ)
@@ -204,27 +242,8 @@ pub list_then :
     → StageAt at loop.need loop.base u after.facts now memory_now
     → Does (script_of at.context) u.budget 0 (at_place middle now memory_now u.events) (after_list loop Onward u) (Out loop))
     → Does (script_of at.context) t.budget 0 (at_place from r memory t.events) (from_list loop t) (Out loop)
-list_then {at = at} loop bound range facts after from middle t r memory does is types stand fits less stage rest =
-    let enough = stage.room.enough in
-    then_does
-    (does bound loop.list is types stand loop.base t r memory stage.below
-    (record { depth = stage.room.depth; enough = omega (arith, enough, fits); even = stage.room.even }) stage.ready stage.known)
-    (λ flow u end leaves spent. by_flow flow u end leaves spent)
-  where
-    by_flow : (flow : Flow) (u : SourceState) (end : State)
-        → Leaves at loop.base middle after t.budget flow u end
-        → u.budget ≤ t.budget
-        → Does (script_of at.context) u.budget 0 end (after_list loop flow u) (Out loop)
-    by_flow Onward u end goes spent =
-        let comes = goes.comes in
-        let below = stage.below in
-        subst (λ (state : State). Does (script_of at.context) u.budget 0 state (after_list loop Onward u) (Out loop)) (sym comes.is_at)
-        (rest u comes.r comes.memory spent
-        (record { below = omega (arith, below, spent); room = stage.room; ready = comes.ready; known = comes.holds }))
-    by_flow (Returned value) u end comes spent = gives comes
-    by_flow (Jumped label) u end comes spent =
-        let before = comes.spent in
-        gives (record { place = comes.place; lies = comes.lies; spent = omega (arith, before, less); comes = comes.comes })
+list_then loop bound range facts after from middle t r memory does is types stand fits less stage rest =
+    list_goes loop bound range facts after from middle t r memory does is types stand fits less stage (λ goes_on. rest)
 
 -- a further turn is one from the test on
 pub next_is :

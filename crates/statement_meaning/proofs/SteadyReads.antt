@@ -1,5 +1,5 @@
 -- The bytes of a place that the source reads are steady, or it goes outside.
-use Rattle.std.proofs.Common.{◌≡◌, ℕ, ◌+◌, ◌*◌, ◌<◌, ◌≤◌, inl, Bool, true, false, if◌then◌else◌, refl, sym, subst, arith}
+use Rattle.std.proofs.Common.{◌≡◌, ℕ, ◌+◌, ◌*◌, ◌<◌, ◌≤◌, Bool, true, false, if◌then◌else◌, refl, sym, subst, arith}
 use Rattle.mem80.specs.Memory.{byte_at}
 use Rattle.trees.specs.declared.declaration.ScalarType.TheVariants.{Byte, Address}
 use Rattle.meaning.specs.declared.reason.Reason.TheVariants.{Byte as UndeclaredByte}

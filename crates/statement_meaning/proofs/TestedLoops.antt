@@ -1,15 +1,15 @@
 -- A BYTE is tested before the first turn of a loop to a known value.
-use Rattle.std.proofs.Common.{◌≡◌, ℕ, ◌+◌, ◌*◌, ◌/◌, ◌%◌, ◌<◌, ◌≤◌, Bool, true, false, not, nat_lt, if◌then◌else◌, List, [], ◌∷◌, ◌++◌, refl, sym, ap, subst, ◌∙◌, arith}
+use Rattle.std.proofs.Common.{◌≡◌, ℕ, ◌+◌, ◌*◌, ◌/◌, ◌%◌, ◌<◌, ◌≤◌, Bool, true, false, not, nat_lt, if◌then◌else◌, List, [], ◌∷◌, ◌++◌, refl, sym, ap, ◌∙◌, arith}
 use Rattle.std.proofs.lemmas.Bool.{ltb-true, ltb-false}
 use Rattle.mem80.specs.Memory.{byte_at}
 use Rattle.trees.specs.declared.declaration.ScalarType.{ScalarType}
 use Rattle.trees.specs.declared.declaration.ScalarType.TheVariants.{Byte, Address}
 use Rattle.meaning.specs.Access.{read_scalar}
-use Rattle.meaning.specs.Outcomes.{State as SourceState, Outcome, Gave, then_do, taking_one, Flow, Onward}
+use Rattle.meaning.specs.Outcomes.{State as SourceState, Outcome, Gave, then_do, taking_one, Onward}
 use Rattle.isa8080.specs.declared.instr.Condition.TheVariants.{NoCarry}
 use Rattle.isa8080.specs.declared.instr.Instr.TheVariants.{AccumulateImmediate}
 use Rattle.isa8080.specs.declared.instr.Operation.TheVariants.{Compare, Subtract, SubtractWithBorrow}
-use Rattle.isa8080.specs.State.{Registers, State, holds, wrap}
+use Rattle.isa8080.specs.State.{Registers, holds, wrap}
 use Rattle.asm8080.specs.declared.item.Reference.TheVariants.{AtLabel}
 use Rattle.asm8080.specs.declared.item.WordForm.TheVariants.{JumpWhere}
 use Rattle.code_meaning.specs.Landing.{Does, at_place}
@@ -31,7 +31,7 @@ use Rattle.statements8080.specs.Bodies.{whole}
 use Rattle.task_meaning.specs.Steps.{JumpThere, NoneThere}
 use Rattle.task_meaning.specs.Tasks.{Know}
 use Rattle.task_meaning.proofs.RegisterCode.{AreOnRegisters, effect}
-use Rattle.task_meaning.proofs.Stages.{Stage, at_instructions, does_same, script_of}
+use Rattle.task_meaning.proofs.Stages.{at_instructions, does_same, script_of}
 use Rattle.statement_meaning.specs.Bodies.{BodyContext, IsSoundBody}
 use Rattle.statement_meaning.proofs.CountedVariables.{IsCounted, variable_address, variable_place}
 use Rattle.statement_meaning.proofs.KnownLoops.{ToKnown}
@@ -48,7 +48,7 @@ abbrev pub first_test : (last : ℕ) → LabelNumber → List Step
 first_test last end =
     steps.Plain (AccumulateImmediate Compare (low (last + 1))) ∷ steps.Jump (JumpWhere NoCarry) end ∷ []
 
-low_is : (n : ℕ) → n < 255 → (n + 1) % 256 ≡ n + 1
+pub low_is : (n : ℕ) → n < 255 → (n + 1) % 256 ≡ n + 1
 low_is n less = omega (arith, less)
 
 taken_is : (b : Bool) → not b ≡ true → b ≡ false
@@ -162,11 +162,11 @@ word_test last false =
     copy A L ∷ AccumulateImmediate Subtract (low (last + 1))
     ∷ copy A H ∷ AccumulateImmediate SubtractWithBorrow (high (last + 1)) ∷ []
 
-on_registers : (last : ℕ) (none : Bool) → AreOnRegisters (word_test last none)
+pub on_registers : (last : ℕ) (none : Bool) → AreOnRegisters (word_test last none)
 on_registers last true = (tt, (tt, tt))
 on_registers last false = (tt, (tt, (tt, (tt, tt))))
 
-shows : (last : ℕ) (none : Bool) (r : Registers)
+pub shows : (last : ℕ) (none : Bool) (r : Registers)
     → r.l < 256
     → last + 1 < 65536
     → (none ≡ true → (last + 1) % 256 ≡ 0)
@@ -176,7 +176,7 @@ shows last true r low small is =
     ∙ high_is_less r.h r.l (last + 1) low small (is refl)
 shows last false r low small is = word_is_less r.h r.l (last + 1) low small
 
-other_way : (h l low high : ℕ) → l ≡ low → h ≡ high → 256 * h + l ≡ low + 256 * high
+pub other_way : (h l low high : ℕ) → l ≡ low → h ≡ high → 256 * h + l ≡ low + 256 * high
 other_way h l low high one two = omega (arith, one, two)
 
 -- the test of an ADDRESS to less than 65535

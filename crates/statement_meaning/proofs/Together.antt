@@ -1,18 +1,16 @@
 -- Statements of each form do what they say.
-use Rattle.std.proofs.Common.{ℕ, slice_get, Some, ◌≡◌}
+use Rattle.std.proofs.Common.{slice_get, Some, ◌≡◌}
 use Rattle.treecode.specs.declared.statement.Statement.{Statement}
 use Rattle.treecode.specs.declared.statement.Statement.TheVariants as statements
 use Rattle.treecode.specs.declared.statement.StatementNumber.{StatementNumber}
-use Rattle.steps8080.specs.declared.facts.Facts.{Facts}
-use Rattle.codegen8080.specs.declared.meeting.Here.{Here}
 use Rattle.task_meaning.specs.Contexts.{nodes_in}
 use Rattle.statement_meaning.specs.Bodies.{BodyContext, IsSoundBody}
 use Rattle.statement_meaning.specs.Statements.{StatementDoes, StatementStands, StatementsDo}
 use Rattle.statement_meaning.proofs.Assigned.{assignment_does}
 use Rattle.statement_meaning.proofs.CasesDo.{case_does}
 use Rattle.statement_meaning.proofs.Counted.{counts_do}
+use Rattle.statement_meaning.proofs.GeneralDo.{each_iterate_does}
 use Rattle.statement_meaning.proofs.Ifs.{if_does}
-use Rattle.statement_meaning.proofs.Iterated.{GeneralDoes, iterate_does}
 use Rattle.statement_meaning.proofs.Moves.{move_does}
 use Rattle.statement_meaning.proofs.Returns.{return_does}
 use Rattle.statement_meaning.proofs.Simple.{FormDoes, call_does, do_does, form_does, goto_does, halt_does, label_does, null_does}
@@ -22,8 +20,9 @@ use Rattle.statement_meaning.proofs.Whiles.{while_does}
 abbrev IsThatOne : BodyContext → StatementNumber → Statement → Type 0
 IsThatOne at number of = slice_get (nodes_in at.context).statements number.index ≡ Some of
 
-pub statements_do : (at : BodyContext) → IsSoundBody at → GeneralDoes at → StatementsDo at
-statements_do at sound general before number statement label from after to there stands = by statement there stands
+-- where the steps of each statement stand, its code does what it says
+pub statements_do : (at : BodyContext) → IsSoundBody at → StatementsDo at
+statements_do at sound before number statement label from after to there stands = by statement there stands
   where
     formed : {of : Statement} → IsThatOne at number of → FormDoes at before of from after to → StatementDoes at before number from after to
     formed {of = of} there does = form_does at before number of from after to there does
@@ -45,5 +44,5 @@ statements_do at sound general before number statement label from after to there
     by (statements.While condition list) there stands =
         formed there (while_does at before condition list label from after to sound stands)
     by (statements.Iterate head list) there stands =
-        formed there (iterate_does at before head list label from after to sound general stands)
+        formed there (each_iterate_does at before head list label from after to sound stands)
     by (statements.Case choice list) there stands = case_does at before number choice list label from after to sound there stands

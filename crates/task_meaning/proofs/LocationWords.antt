@@ -41,7 +41,7 @@ use Rattle.task_meaning.proofs.Rules.{GoesOn, holds_go, pushed_anywhere, ready_w
 use Rattle.task_meaning.proofs.Addresses.{frame_address, location_address_goes, nothing_goes, registers_end}
 
 -- a byte that is put where it is changes nothing
-set_same : (xs : List ℕ) (index : ℕ) → slice_set xs index (slice_index xs index) ≡ xs
+pub set_same : (xs : List ℕ) (index : ℕ) → slice_set xs index (slice_index xs index) ≡ xs
 set_same [] index = refl
 set_same (first ∷ xs) zero = refl
 set_same (first ∷ xs) (suc index) = ap (λ (others : List ℕ). first ∷ others) (set_same xs index)
