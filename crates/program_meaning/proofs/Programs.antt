@@ -1,6 +1,6 @@
 -- A program on the machine does what its source does.
-use Rattle.std.proofs.Common.{◌≡◌, ℕ, zero, suc, ◌+◌, ◌%◌, ◌<◌, ◌≤◌, Bool, true, false, not, cond, ◌&&◌, List, [], ◌∷◌, length, Option, Some, None, refl, sym, ap, subst, ◌∙◌, arith}
-use Rattle.std.specs.Prelude.{◌==◌, All, IfSome, slice_get, find, position, count_by, nat_lt, if◌then◌else◌}
+use Rattle.std.proofs.Common.{◌≡◌, ℕ, zero, suc, ◌+◌, ◌%◌, ◌<◌, ◌≤◌, Bool, true, false, not, cond, List, [], ◌∷◌, length, Option, Some, None, refl, sym, ap, subst, ◌∙◌, arith}
+use Rattle.std.specs.Prelude.{◌==◌, All, IfSome, slice_get, find, count_by, nat_lt, if◌then◌else◌}
 use Rattle.std.specs.List.{AllByRecursion, position_or_len}
 use Rattle.std.specs.Option.{option_map_or, option_or}
 use Rattle.std.proofs.lemmas.Bool.{eqb-true, lt-ltb}
@@ -40,7 +40,8 @@ use Rattle.isa8080.specs.State.{HoldBytes, Registers, wrap}
 use Rattle.task_meaning.specs.TreeNumbers.{HasTypes}
 use Rattle.task_meaning.proofs.NumbersOfTrees.{IsTypedCode}
 use Rattle.procedure_meaning.specs.Modules.{ModuleCode, ModuleLies}
-use Rattle.procedure_meaning.specs.Premises.{CallsOfModuleFit, ListsAreDone}
+use Rattle.procedure_meaning.specs.Premises.{CallsOfModuleFit}
+use Rattle.procedure_meaning.proofs.ListsDone.{lists_are_done}
 use Rattle.procedure_meaning.proofs.CallsFitting.{calls_of_module_fit, is_typed_code, program_has_types}
 use Rattle.procedure_meaning.proofs.KnownCalls.{ModuleIsThere}
 use Rattle.program_meaning.specs.Entering.{ModulesAre, entries_of, layout_of}
@@ -50,7 +51,7 @@ use Rattle.program_meaning.proofs.Entering.{start_lies}
 use Rattle.program_meaning.proofs.ModuleLies.{module_lies}
 use Rattle.program_meaning.proofs.ModuleStands.{code_of, parts_stand}
 use Rattle.layout.specs.Placing.{Plan as PlacingPlan}
-use Rattle.meaning.specs.Outcomes.{Ended, Gave, More, Onward, Stop, State as SourceState}
+use Rattle.meaning.specs.Outcomes.{Gave, Onward, Stop, State as SourceState}
 use Rattle.meaning.specs.Run.{NeverOutside, Run, main_done, number_of_main, run_of, source_run}
 use Rattle.isa8080.specs.Step.{running, state_after}
 use Rattle.isa8080.specs.declared.registers.Status.{Status}
@@ -171,7 +172,6 @@ main_has tree typed storage has is = by typed.main.body tree.main.body has.body 
     by _ range (IsListOf {first_label = first} {places = places} {trees = trees} are) some =
         by_count (length (nodes_of tree).statements) range.first range.count trees are (statement_there first places trees some)
 
-
 -- what holds of all holds of one by its number
 at_found : {X : Type 0} (P : X → Type 0) (all : List X) (number : ℕ) (one : X)
     → AllByRecursion P all → slice_get all number ≡ Some one → P one
@@ -188,10 +188,9 @@ module _
     (script : List (List ℕ)) (bytes : IsScript script) (is_memory : IsMemory after)
     (modules_are : ModulesAre plan modules objects merged before after)
     (sound :
-        (number : ℕ) (module_is : ModuleIs plan modules objects merged before after number)
-        → modules_are.at number ≡ Some module_is
-        → IsSoundlyTyped module_is.typed × HasWords module_is.tree)
-    (lists : ListsAreDone)
+    (number : ℕ) (module_is : ModuleIs plan modules objects merged before after number)
+    → modules_are.at number ≡ Some module_is
+    → IsSoundlyTyped module_is.typed × HasWords module_is.tree)
     (r : Registers) (registers : HoldBytes r)
   where
     abbrev program : Program
@@ -260,8 +259,8 @@ module _
         at_found (StartsAt (plan_of plan) image) (linked_modules objects) number module_is.at.linked
         (recursion_from_All (StartsAt (plan_of plan) image) (linked_modules objects) all) module_is.at.found in
         let start_is = module_is.generated.start
-            ∙ ap (λ (test : Bool).
-            if test then Some (place_of_label module_is.generated.code module_is.generated.code_bytes module_is.generated.start_label) else None) has in
+        ∙ ap (λ (test : Bool).
+        if test then Some (place_of_label module_is.generated.code module_is.generated.code_bytes module_is.generated.start_label) else None) has in
         subst (λ (start : Option ℕ). IfSome start (λ offset.
         image.start ≡ (piece_base (plan_of plan) module_is.at.linked.start segments.Code + offset) % MEMORY_SIZE)) start_is one
         ∙ start_lies plan modules objects merged image before after is number module_is has
@@ -308,7 +307,7 @@ module _
         let code : ModuleCode = code_at (position_or_len is_main modules) module_is in
         let lies = lies_at (position_or_len is_main modules) module_is one.1 in
         let ends = program_runs code (entries_of modules_are) place budget (placement_of plan modules objects).stack.len (start_state budget) r after
-        lies lists (there_at (suc budget)) (fit_at (position_or_len is_main modules) module_is (suc budget) one.1) (parts.main has) refl refl (omega arith) shares registers in
+        lies lists_are_done (there_at (suc budget)) (fit_at (position_or_len is_main modules) module_is (suc budget) one.1) (parts.main has) refl refl (omega arith) shares registers in
         let run_is : runs budget ≡ run_of (main_done budget module_is.typed (surroundings_in code (placement_of plan modules objects).stack.len) (start_state budget)) =
         ap (λ (found : Option TypedModule).
         run_of (option_map_or (λ (typed : TypedModule).
@@ -319,7 +318,7 @@ module _
         performs script (at_place image.start r after []) budget (runs budget)
         (subst (λ (run : Run). EndsAs script budget (at_place image.start r after []) run.end run.events) (sym run_is)
         (subst (λ (pc : ℕ).
-        EndsAs script budget (running (record r { pc = pc }) after []) 
+        EndsAs script budget (running (record r { pc = pc }) after [])
         (run_of (main_done budget module_is.typed (surroundings_in code (placement_of plan modules objects).stack.len) (start_state budget))).end
         (run_of (main_done budget module_is.typed (surroundings_in code (placement_of plan modules objects).stack.len) (start_state budget))).events)
         (start_wraps image.start place (starts (position_or_len is_main modules) module_is has)) ends))

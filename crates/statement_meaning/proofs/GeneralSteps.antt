@@ -126,147 +126,147 @@ module _
     {at : BodyContext} (loop : Loop at) (facts : Facts) (first : ℕ)
     (sound : IsSoundBody at)
     (enough : 2 ≤ loop.need)
-    where
-  abbrev site : Site
-  site = knowing (site_of at.body) facts
+  where
+    abbrev site : Site
+    site = knowing (site_of at.body) facts
 
-  abbrev counter : (scalar : ScalarType) → IsCounted at.context (loop.head).variable scalar → Counter
-  counter scalar counted = counter_for at (loop.head).variable scalar (Some counted.location)
+    abbrev counter : (scalar : ScalarType) → IsCounted at.context (loop.head).variable scalar → Counter
+    counter scalar counted = counter_for at (loop.head).variable scalar (Some counted.location)
 
-  -- counting by 1
-  pub count_does :
-      {here after : Here} {waiting : Option Facts} {from to : ℕ} (jumps : Bool)
-      (scalar : ScalarType) (same : (loop.head).scalar ≡ scalar) (counted : IsCounted at.context (loop.head).variable scalar)
-      → ((s : SourceState) → step_value at.context.later at.context.activation.around (loop.head).step s ≡ Gave 1 s)
-      → (scalar ≡ Address → jumps ≡ true)
-      → Stand at here waiting from (count_steps (counter scalar counted) (loop_labels first)) after to
-      → StepDoes loop (nth_label first 1) (nth_label first 2) jumps here.facts from after.facts to
-  count_does jumps Byte same counted one jumps_is stand limit less ends at_test checks t r memory fewer stage =
-      count_byte loop limit (nth_label first 2) t r memory
-      (record { sound = sound; scalar_is = same; counted = counted; enough = enough; less = less; ends = ends }) one
-      (all_code (address_step (loop.head).variable ∷ steps.Plain (Inr M) ∷ steps.Jump (JumpWhere Zero) (nth_label first 2) ∷ []) stand)
-      fewer stage checks
-  count_does jumps Address same counted one jumps_is stand limit less ends at_test checks t r memory fewer stage =
-      count_word loop limit (nth_label first 1) (nth_label first 2) t r memory
-      (record { sound = sound; scalar_is = same; counted = counted; enough = enough; less = less; ends = ends }) one
-      (all_code (address_step (loop.head).variable ∷ steps.Plain (Inr M) ∷ steps.Jump (JumpWhere NotZero) (nth_label first 1)
-      ∷ steps.Plain (Inx Hl) ∷ steps.Plain (Inr M) ∷ steps.Jump (JumpWhere Zero) (nth_label first 2) ∷ []) stand)
-      fewer stage (at_test (jumps_is refl)) checks
+    -- counting by 1
+    pub count_does :
+        {here after : Here} {waiting : Option Facts} {from to : ℕ} (jumps : Bool)
+        (scalar : ScalarType) (same : (loop.head).scalar ≡ scalar) (counted : IsCounted at.context (loop.head).variable scalar)
+        → ((s : SourceState) → step_value at.context.later at.context.activation.around (loop.head).step s ≡ Gave 1 s)
+        → (scalar ≡ Address → jumps ≡ true)
+        → Stand at here waiting from (count_steps (counter scalar counted) (loop_labels first)) after to
+        → StepDoes loop (nth_label first 1) (nth_label first 2) jumps here.facts from after.facts to
+    count_does jumps Byte same counted one jumps_is stand limit less ends at_test checks t r memory fewer stage =
+        count_byte loop limit (nth_label first 2) t r memory
+        (record { sound = sound; scalar_is = same; counted = counted; enough = enough; less = less; ends = ends }) one
+        (all_code (address_step (loop.head).variable ∷ steps.Plain (Inr M) ∷ steps.Jump (JumpWhere Zero) (nth_label first 2) ∷ []) stand)
+        fewer stage checks
+    count_does jumps Address same counted one jumps_is stand limit less ends at_test checks t r memory fewer stage =
+        count_word loop limit (nth_label first 1) (nth_label first 2) t r memory
+        (record { sound = sound; scalar_is = same; counted = counted; enough = enough; less = less; ends = ends }) one
+        (all_code (address_step (loop.head).variable ∷ steps.Plain (Inr M) ∷ steps.Jump (JumpWhere NotZero) (nth_label first 1)
+        ∷ steps.Plain (Inx Hl) ∷ steps.Plain (Inr M) ∷ steps.Jump (JumpWhere Zero) (nth_label first 2) ∷ []) stand)
+        fewer stage (at_test (jumps_is refl)) checks
 
-  -- a value that is surely a BYTE
-  surely_byte :
-      (step : ExpressionNumber) (tree : TypedExpression)
-      → HasAdded loop step tree
-      → is_byte site step ≡ true
-      → (s u : SourceState) (n : ℕ) → value at.context.later at.context.activation.around tree s ≡ Gave n u
-      → n < values_of (type_of tree) → n < 256
-  surely_byte step tree added byte s u n gave small = by (number site step) refl byte
-    where
-      same_number : {one other : ℕ} {t v : SourceState} → Gave one t ≡ Gave other v → one ≡ other
-      same_number same = cc
+    -- a value that is surely a BYTE
+    surely_byte :
+        (step : ExpressionNumber) (tree : TypedExpression)
+        → HasAdded loop step tree
+        → is_byte site step ≡ true
+        → (s u : SourceState) (n : ℕ) → value at.context.later at.context.activation.around tree s ≡ Gave n u
+        → n < values_of (type_of tree) → n < 256
+    surely_byte step tree added byte s u n gave small = by (number site step) refl byte
+      where
+        same_number : {one other : ℕ} {t v : SourceState} → Gave one t ≡ Gave other v → one ≡ other
+        same_number same = cc
 
-      by_type : (scalar : ScalarType) → type_of tree ≡ scalar → is_byte_type scalar ≡ true → n < 256
-      by_type Byte is byte = subst (λ (one : ScalarType). n < values_of one) is small
-      by_type Address is byte = let never : ⊥ = cc in absurd never
+        by_type : (scalar : ScalarType) → type_of tree ≡ scalar → is_byte_type scalar ≡ true → n < 256
+        by_type Byte is byte = subst (λ (one : ScalarType). n < values_of one) is small
+        by_type Address is byte = let never : ⊥ = cc in absurd never
 
-      by : (found : Option ℕ) → number site step ≡ found
-          → (elim found as (λ (found : Option ℕ). Bool) [ Some known ↦ nat_lt known 256 | None ↦ is_byte_type (scalar_of site step) ]) ≡ true
-          → n < 256
-      by (Some known) is byte =
-          let means = number_means facts known sound.sound added.is added.types
-          (ap (λ (one : Site). number (knowing one facts) step) sound.site ∙ is) s in
-          let same : n ≡ known = same_number (sym gave ∙ means) in
-          let less = ltb-true known 256 byte in
-          omega (arith, same, less)
-      by None is byte = by_type (scalar_of site step) (sym (scalar_there at sound facts step tree added.is)) byte
+        by : (found : Option ℕ) → number site step ≡ found
+            → (elim found as (λ (found : Option ℕ). Bool) [ Some known ↦ nat_lt known 256 | None ↦ is_byte_type (scalar_of site step) ]) ≡ true
+            → n < 256
+        by (Some known) is byte =
+            let means = number_means facts known sound.sound added.is added.types
+            (ap (λ (one : Site). number (knowing one facts) step) sound.site ∙ is) s in
+            let same : n ≡ known = same_number (sym gave ∙ means) in
+            let less = ltb-true known 256 byte in
+            omega (arith, same, less)
+        by None is byte = by_type (scalar_of site step) (sym (scalar_there at sound facts step tree added.is)) byte
 
-  -- adding
-  pub add_does :
-      {here after : Here} {waiting : Option Facts} {from to : ℕ} (jumps : Bool)
-      (scalar : ScalarType) (same : (loop.head).scalar ≡ scalar) (counted : IsCounted at.context (loop.head).variable scalar)
-      (step : ExpressionNumber) (tree : TypedExpression)
-      → HasAdded loop step tree
-      → Stand at here waiting from (add_steps scalar site (counter scalar counted) step (nth_label first 2)) after to
-      → StepDoes loop (nth_label first 1) (nth_label first 2) jumps here.facts from after.facts to
-  unfolding sum_of_byte_steps sum_of_word_steps
-  add_does {here = here} {after = after} {waiting = waiting} {from = from} {to = to} jumps Byte same counted step tree added stand =
-      by (is_byte site step) refl stand
-    where
-      by : (byte : Bool) → is_byte site step ≡ byte
-          → Stand at here waiting from
-          (if byte then add_byte_steps (counter Byte counted) step (nth_label first 2)
-          else add_word_to_byte_steps (counter Byte counted) step (nth_label first 2)) after to
-          → StepDoes loop (nth_label first 1) (nth_label first 2) jumps here.facts from after.facts to
-      by true byte stand limit less ends at_test checks t r memory fewer stage =
-          add_byte loop limit step tree (nth_label first 2) t r memory
-          (record { sound = sound; scalar_is = same; counted = counted; enough = enough; less = less; ends = ends }) added
-          (surely_byte step tree added byte)
-          (all_code (byte_step step ∷ address_step (loop.head).variable ∷ steps.Plain (Accumulate Add M) ∷ steps.Plain (MovToMemory A)
-          ∷ steps.Jump (JumpWhere Carry) (nth_label first 2) ∷ []) stand)
-          fewer stage checks
-      by false byte stand limit less ends at_test checks t r memory fewer stage =
-          add_word_to_byte loop limit step tree (nth_label first 2) t r memory
-          (record { sound = sound; scalar_is = same; counted = counted; enough = enough; less = less; ends = ends }) added
-          (all_code (word_step step ∷ steps.Plain Xchg ∷ address_step (loop.head).variable ∷ steps.Plain (copy A E)
-          ∷ steps.Plain (Accumulate Add M) ∷ steps.Plain (MovToMemory A) ∷ steps.Plain (set A 0)
-          ∷ steps.Plain (with_register AddWithCarry D)
-          ∷ steps.Jump (JumpWhere Carry) (nth_label first 2) ∷ steps.Plain (with_register Or A)
-          ∷ steps.Jump (JumpWhere NotZero) (nth_label first 2) ∷ []) stand)
-          fewer stage checks
-  add_does {here = here} {after = after} {waiting = waiting} {from = from} {to = to} jumps Address same counted step tree added stand =
-      by counted.location refl
-      (subst (λ (code : List Planned). Stand at here waiting from
-      (code ++ add_de_steps (place_in_memory (Some counted.location)) (counter Address counted) (nth_label first 2)) after to)
-      (in_de_is site step) stand)
-    where
-      -- the code by which the value comes into DE
-      de_code : {last : Here} {middle : ℕ} (found : Option Place) → Stand at here waiting from (in_de found step) last middle
-          → Steps at.context here.facts from (to_de found step) last.facts middle
-      de_code (Some place) stand = all_code (steps.Word (LoadPair De) place ∷ []) stand
-      de_code None stand = all_code (word_step step ∷ steps.Plain Xchg ∷ []) stand
+    -- adding
+    pub add_does :
+        {here after : Here} {waiting : Option Facts} {from to : ℕ} (jumps : Bool)
+        (scalar : ScalarType) (same : (loop.head).scalar ≡ scalar) (counted : IsCounted at.context (loop.head).variable scalar)
+        (step : ExpressionNumber) (tree : TypedExpression)
+        → HasAdded loop step tree
+        → Stand at here waiting from (add_steps scalar site (counter scalar counted) step (nth_label first 2)) after to
+        → StepDoes loop (nth_label first 1) (nth_label first 2) jumps here.facts from after.facts to
+    unfolding sum_of_byte_steps sum_of_word_steps
+    add_does {here = here} {after = after} {waiting = waiting} {from = from} {to = to} jumps Byte same counted step tree added stand =
+        by (is_byte site step) refl stand
+      where
+        by : (byte : Bool) → is_byte site step ≡ byte
+            → Stand at here waiting from
+            (if byte then add_byte_steps (counter Byte counted) step (nth_label first 2)
+            else add_word_to_byte_steps (counter Byte counted) step (nth_label first 2)) after to
+            → StepDoes loop (nth_label first 1) (nth_label first 2) jumps here.facts from after.facts to
+        by true byte stand limit less ends at_test checks t r memory fewer stage =
+            add_byte loop limit step tree (nth_label first 2) t r memory
+            (record { sound = sound; scalar_is = same; counted = counted; enough = enough; less = less; ends = ends }) added
+            (surely_byte step tree added byte)
+            (all_code (byte_step step ∷ address_step (loop.head).variable ∷ steps.Plain (Accumulate Add M) ∷ steps.Plain (MovToMemory A)
+            ∷ steps.Jump (JumpWhere Carry) (nth_label first 2) ∷ []) stand)
+            fewer stage checks
+        by false byte stand limit less ends at_test checks t r memory fewer stage =
+            add_word_to_byte loop limit step tree (nth_label first 2) t r memory
+            (record { sound = sound; scalar_is = same; counted = counted; enough = enough; less = less; ends = ends }) added
+            (all_code (word_step step ∷ steps.Plain Xchg ∷ address_step (loop.head).variable ∷ steps.Plain (copy A E)
+            ∷ steps.Plain (Accumulate Add M) ∷ steps.Plain (MovToMemory A) ∷ steps.Plain (set A 0)
+            ∷ steps.Plain (with_register AddWithCarry D)
+            ∷ steps.Jump (JumpWhere Carry) (nth_label first 2) ∷ steps.Plain (with_register Or A)
+            ∷ steps.Jump (JumpWhere NotZero) (nth_label first 2) ∷ []) stand)
+            fewer stage checks
+    add_does {here = here} {after = after} {waiting = waiting} {from = from} {to = to} jumps Address same counted step tree added stand =
+        by counted.location refl
+        (subst (λ (code : List Planned). Stand at here waiting from
+        (code ++ add_de_steps (place_in_memory (Some counted.location)) (counter Address counted) (nth_label first 2)) after to)
+        (in_de_is site step) stand)
+      where
+        -- the code by which the value comes into DE
+        de_code : {last : Here} {middle : ℕ} (found : Option Place) → Stand at here waiting from (in_de found step) last middle
+            → Steps at.context here.facts from (to_de found step) last.facts middle
+        de_code (Some place) stand = all_code (steps.Word (LoadPair De) place ∷ []) stand
+        de_code None stand = all_code (word_step step ∷ steps.Plain Xchg ∷ []) stand
 
-      value_is : (t : SourceState)
-          → after_list loop Onward t
-          ≡ then_do (value at.context.later at.context.activation.around tree t) (stepped_with loop Address)
-      value_is t =
-          stepped_with_is loop Address t same
-          ∙ ap (λ (one : Option TypedExpression). then_do (step_value at.context.later at.context.activation.around one t) (stepped_with loop Address)) added.is_step
+        value_is : (t : SourceState)
+            → after_list loop Onward t
+            ≡ then_do (value at.context.later at.context.activation.around tree t) (stepped_with loop Address)
+        value_is t =
+            stepped_with_is loop Address t same
+            ∙ ap (λ (one : Option TypedExpression). then_do (step_value at.context.later at.context.activation.around one t) (stepped_with loop Address)) added.is_step
 
-      known_there : known (knowing at.context.site facts) step ≡ known site step
-      known_there = ap (λ (one : Site). known (knowing one facts) step) sound.site
+        known_there : known (knowing at.context.site facts) step ≡ known site step
+        known_there = ap (λ (one : Site). known (knowing one facts) step) sound.site
 
-      by : (location : Location) → counted.location ≡ location
-          → Stand at here waiting from
-          (in_de (known site step) step ++ add_de_steps (place_in_memory (Some location)) (counter Address counted) (nth_label first 2)) after to
-          → StepDoes loop (nth_label first 1) (nth_label first 2) jumps here.facts from after.facts to
-      by (locations.Static place) lies stand limit less ends at_test checks t r memory fewer stage =
-          let parts = run_parted (in_de (known site step) step)
-          (planned.LoadWord (whole (loop.head).variable) ∷ plain (Dad De) ∷ word StoreHl place ∷ jump (JumpWhere Carry) (nth_label first 2) ∷ [])
-          here from (in_de_is_code (known site step) step) stand in
-          let loaded = word_parted parts.rest in
-          does_same _ (value_is t)
-          (comes_to_de loop facts (known site step) step tree (stepped_with loop Address) t r memory sound added known_there
-          (de_code (known site step) parts.first) stage
-          (λ n u now memory_now de spent there.
-          add_de_in_memory loop limit n (nth_label first 2) place u now memory_now
-          (record { sound = sound; scalar_is = same; counted = counted; enough = enough; less = less; ends = ends }) lies de
-          (at_site (λ one. load_word_steps one (whole (loop.head).variable)) sound loaded.stand)
-          (all_code (steps.Plain (Dad De) ∷ steps.Word StoreHl place ∷ steps.Jump (JumpWhere Carry) (nth_label first 2) ∷ []) loaded.rest)
-          (omega (arith, spent, fewer)) there checks))
-      by (locations.Frame variable offset) lies stand limit less ends at_test checks t r memory fewer stage =
-          let parts = run_parted (in_de (known site step) step)
-          (map planned.Code (address_step (loop.head).variable ∷ steps.Plain (load A) ∷ steps.Plain (with_register Add E) ∷ steps.Plain (MovToMemory A)
-          ∷ high_sum_code (nth_label first 2)))
-          here from (in_de_is_code (known site step) step) stand in
-          does_same _ (value_is t)
-          (comes_to_de loop facts (known site step) step tree (stepped_with loop Address) t r memory sound added known_there
-          (de_code (known site step) parts.first) stage
-          (λ n u now memory_now de spent there.
-          add_de_in_frame loop limit n (nth_label first 2) u now memory_now
-          (record { sound = sound; scalar_is = same; counted = counted; enough = enough; less = less; ends = ends }) de
-          (all_code (address_step (loop.head).variable ∷ steps.Plain (load A) ∷ steps.Plain (with_register Add E) ∷ steps.Plain (MovToMemory A)
-          ∷ high_sum_code (nth_label first 2)) parts.rest)
-          (omega (arith, spent, fewer)) there checks))
+        by : (location : Location) → counted.location ≡ location
+            → Stand at here waiting from
+            (in_de (known site step) step ++ add_de_steps (place_in_memory (Some location)) (counter Address counted) (nth_label first 2)) after to
+            → StepDoes loop (nth_label first 1) (nth_label first 2) jumps here.facts from after.facts to
+        by (locations.Static place) lies stand limit less ends at_test checks t r memory fewer stage =
+            let parts = run_parted (in_de (known site step) step)
+            (planned.LoadWord (whole (loop.head).variable) ∷ plain (Dad De) ∷ word StoreHl place ∷ jump (JumpWhere Carry) (nth_label first 2) ∷ [])
+            here from (in_de_is_code (known site step) step) stand in
+            let loaded = word_parted parts.rest in
+            does_same _ (value_is t)
+            (comes_to_de loop facts (known site step) step tree (stepped_with loop Address) t r memory sound added known_there
+            (de_code (known site step) parts.first) stage
+            (λ n u now memory_now de spent there.
+            add_de_in_memory loop limit n (nth_label first 2) place u now memory_now
+            (record { sound = sound; scalar_is = same; counted = counted; enough = enough; less = less; ends = ends }) lies de
+            (at_site (λ one. load_word_steps one (whole (loop.head).variable)) sound loaded.stand)
+            (all_code (steps.Plain (Dad De) ∷ steps.Word StoreHl place ∷ steps.Jump (JumpWhere Carry) (nth_label first 2) ∷ []) loaded.rest)
+            (omega (arith, spent, fewer)) there checks))
+        by (locations.Frame variable offset) lies stand limit less ends at_test checks t r memory fewer stage =
+            let parts = run_parted (in_de (known site step) step)
+            (map planned.Code (address_step (loop.head).variable ∷ steps.Plain (load A) ∷ steps.Plain (with_register Add E) ∷ steps.Plain (MovToMemory A)
+            ∷ high_sum_code (nth_label first 2)))
+            here from (in_de_is_code (known site step) step) stand in
+            does_same _ (value_is t)
+            (comes_to_de loop facts (known site step) step tree (stepped_with loop Address) t r memory sound added known_there
+            (de_code (known site step) parts.first) stage
+            (λ n u now memory_now de spent there.
+            add_de_in_frame loop limit n (nth_label first 2) u now memory_now
+            (record { sound = sound; scalar_is = same; counted = counted; enough = enough; less = less; ends = ends }) de
+            (all_code (address_step (loop.head).variable ∷ steps.Plain (load A) ∷ steps.Plain (with_register Add E) ∷ steps.Plain (MovToMemory A)
+            ∷ high_sum_code (nth_label first 2)) parts.rest)
+            (omega (arith, spent, fewer)) there checks))
 
 -- the step does what it means
 pub step_does :

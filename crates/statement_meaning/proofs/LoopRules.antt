@@ -165,7 +165,12 @@ operate_then {context = context} {from = from} {t = t} {r = r} {memory = memory}
     (ap (λ (n : ℕ). at_place (from + 1) (operated operation (byte_at memory n) r) memory t.events) hl) refl
     (record {
       a = gives_byte operation (byte_at memory address) r is held.a;
-      b = held.b; c = held.c; d = held.d; e = held.e; h = held.h; l = held.l;
+      b = held.b;
+      c = held.c;
+      d = held.d;
+      e = held.e;
+      h = held.h;
+      l = held.l;
     })
     tt
     (λ after. next _ _ rest after)
@@ -301,8 +306,10 @@ pub byte_known :
     → IsSteady context.activation (variable_address context variable)
     → Know context (record no_facts { byte_in_a = Some counted.location }) r memory
 byte_known {context = context} counted r memory a steady = record {
-  byte_holds = (a ∙ ap (byte_at memory) counted.is_there,
-      subst (λ (n : ℕ). IsSteady context.activation n) counted.is_there steady);
+  byte_holds = (
+    a ∙ ap (byte_at memory) counted.is_there,
+    subst (λ (n : ℕ). IsSteady context.activation n) counted.is_there steady,
+  );
   word_holds = tt;
   address_holds = tt;
   zero_holds = tt;

@@ -100,7 +100,9 @@ always_tests {at = at} loop limit last turn turn_facts scalar {from = from} t r 
         let jumps = jump_always turns.sound.sound stand stage in
         to_turn loop limit (at.context.activation.layout.place_of turn.index) turn_facts t from r memory turns.turns fewer
         (record {
-          below = stage.below; room = stage.room; ready = stage.ready;
+          below = stage.below;
+          room = stage.room;
+          ready = stage.ready;
           known = enters r memory (knowing_nothing stage).known;
         })
         jumps.0

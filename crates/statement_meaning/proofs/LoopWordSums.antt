@@ -94,7 +94,13 @@ comes_to_de {at = at} loop facts_of_site (Some place) step tree go s r memory so
       room = stage.room;
       ready = ready_with_registers refl
           (record {
-            a = held.a; b = held.b; c = held.c; d = high_small number small; e = low_small number; h = held.h; l = held.l;
+            a = held.a;
+            b = held.b;
+            c = held.c;
+            d = high_small number small;
+            e = low_small number;
+            h = held.h;
+            l = held.l;
           }) stage.ready;
       known = known;
     })))
