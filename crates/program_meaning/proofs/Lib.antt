@@ -10,3 +10,4 @@ pub mod Entering
 pub mod VariablesApart
 pub mod ModuleLies
 pub mod Programs
+pub mod MadePrograms

@@ -1,12 +1,12 @@
 -- A program on the machine does what its source does.
-use Rattle.std.proofs.Common.{◌≡◌, ℕ, zero, suc, ◌+◌, ◌%◌, ◌<◌, ◌≤◌, Bool, true, false, not, cond, List, [], ◌∷◌, length, Option, Some, None, refl, sym, ap, subst, ◌∙◌, arith}
+use Rattle.std.proofs.Common.{◌≡◌, ℕ, suc, ◌+◌, ◌%◌, ◌<◌, ◌≤◌, Bool, true, false, not, cond, List, [], ◌∷◌, length, Option, Some, None, refl, sym, ap, subst, ◌∙◌, arith}
 use Rattle.std.specs.Prelude.{◌==◌, All, IfSome, slice_get, find, count_by, nat_lt, if◌then◌else◌}
-use Rattle.std.specs.List.{AllByRecursion, position_or_len}
+use Rattle.std.specs.List.{position_or_len}
 use Rattle.std.specs.Option.{option_map_or, option_or}
 use Rattle.std.proofs.lemmas.Bool.{eqb-true, lt-ltb}
 use Rattle.std.proofs.lemmas.List.Folds.{find_at}
 use Rattle.std.proofs.lemmas.List.Sums.{sum_by-cons}
-use Rattle.std.proofs.lemmas.Option.{none-some, same_Some}
+use Rattle.std.proofs.lemmas.Option.{same_Some}
 use Rattle.std.proofs.lemmas.List.Elements.{recursion_from_All}
 use Rattle.mem80.specs.Memory.{IsMemory}
 use Rattle.mem80.specs.declared.memory.TheConstants.{MEMORY_SIZE}
@@ -29,6 +29,7 @@ use Rattle.object_images.specs.internal.InMemory.{StartsAt, piece_base}
 use Rattle.object_images.proofs.Starts.{main_starts}
 use Rattle.layout.specs.StartingMemory.{starting_memory}
 use Rattle.layout.proofs.Declared.{Decides-declared}
+use Rattle.layout.proofs.Segments.{of_all}
 use Rattle.layout.proofs.StartingBytes.{starts_as}
 use Rattle.program_images.specs.internal.AtPlans.{plan_of}
 use Rattle.program_memory.specs.internal.InMemory.{IsInMemory, placement_of}
@@ -172,13 +173,6 @@ main_has tree typed storage has is = by typed.main.body tree.main.body has.body 
     by _ range (IsListOf {first_label = first} {places = places} {trees = trees} are) some =
         by_count (length (nodes_of tree).statements) range.first range.count trees are (statement_there first places trees some)
 
--- what holds of all holds of one by its number
-at_found : {X : Type 0} (P : X → Type 0) (all : List X) (number : ℕ) (one : X)
-    → AllByRecursion P all → slice_get all number ≡ Some one → P one
-at_found P [] number one holds found = absurd (none-some one found)
-at_found P (first ∷ others) zero one holds found = subst P (same_Some first one found) holds.0
-at_found P (first ∷ others) (suc number) one holds found = at_found P others number one holds.1 found
-
 start_wraps : (start place : ℕ) → start ≡ wrap place → wrap place ≡ wrap start
 start_wraps start place is = omega (arith, is)
 
@@ -256,7 +250,7 @@ module _
         let all : All (StartsAt (plan_of plan) image) (linked_modules objects) =
         main_starts objects merged (plan_of plan) image is.placed.merge is.placed.placed in
         let one : StartsAt (plan_of plan) image module_is.at.linked =
-        at_found (StartsAt (plan_of plan) image) (linked_modules objects) number module_is.at.linked
+        of_all (StartsAt (plan_of plan) image) (linked_modules objects) number module_is.at.linked
         (recursion_from_All (StartsAt (plan_of plan) image) (linked_modules objects) all) module_is.at.found in
         let start_is = module_is.generated.start
         ∙ ap (λ (test : Bool).

@@ -1,6 +1,7 @@
 -- What is true of each module of a program as it was typed and lowered.
-use Rattle.std.specs.Prelude.{◌≡◌, ℕ, ◌<◌}
+use Rattle.std.specs.Prelude.{◌≡◌, ℕ, ◌<◌, List, [], ◌∷◌}
 use Rattle.mem80.specs.declared.memory.TheConstants.{MEMORY_SIZE}
+use Rattle.object_modules.specs.Module.{ObjectModule}
 use Rattle.typed_trees.specs.Frames.{FramesFit, ParametersFit}
 use Rattle.typed_trees.specs.Jumps.{JumpsAreSound}
 use Rattle.typed_trees.specs.TypedTrees.{TypedModule}
@@ -10,6 +11,7 @@ use Rattle.treecode.specs.declared.place.Home.TheVariants.{Static}
 use Rattle.treecode.specs.declared.place.Place.TheVariants.{Number}
 use Rattle.treecode.specs.Nodes.{NumbersAreWords, home_at, nodes_of}
 use Rattle.procedure_frames.specs.internal.Objects.{TakeBytes}
+use Rattle.generated_objects.specs.Made.{IsMadeOf}
 use Rattle.task_meaning.specs.Contexts.{BasesStandBefore}
 use Rattle.procedure_meaning.specs.Modules.{FramesAreReentrant}
 
@@ -27,3 +29,15 @@ pub record IsSoundlyTyped (typed : TypedModule) : Type 0 where
 pub record HasWords (tree : TreeModule) : Type 0 where
   pub numbers : NumbersAreWords (nodes_of tree)
   pub homes : (object number : ℕ) → home_at tree.homes.items object ≡ Static (Number number) → number < MEMORY_SIZE
+
+-- an object module is made of a module that is soundly typed, by tree code whose numbers are words
+pub record IsSoundlyMade (typed : TypedModule) (object : ObjectModule) : Type 0 where
+  pub made : IsMadeOf typed object
+  pub facts : IsSoundlyTyped typed
+  pub words : HasWords made.tree
+
+-- one for each module, in their order
+abbrev pub AreSoundlyMade : List TypedModule → List ObjectModule → Type 0
+AreSoundlyMade [] [] = Unit {0}
+AreSoundlyMade (typed ∷ others) (object ∷ objects) = IsSoundlyMade typed object × AreSoundlyMade others objects
+AreSoundlyMade modules objects = ⊥
