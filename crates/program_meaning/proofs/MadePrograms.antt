@@ -4,6 +4,7 @@ use Rattle.std.specs.Prelude.{slice_get}
 use Rattle.std.proofs.lemmas.Option.{none-some, same_Some}
 use Rattle.mem80.specs.declared.memory.TheConstants.{MEMORY_SIZE}
 use Rattle.mem80.specs.Memory.{IsMemory}
+use Rattle.ports.specs.declared.event.Event.{Event}
 use Rattle.ports.specs.Input.{IsScript}
 use Rattle.object_modules.specs.Image.{Image, image_of}
 use Rattle.object_modules.specs.Merge.{merge_of}
@@ -126,21 +127,21 @@ module _
     sound_module number module_is at_is = sound_so number module_is (slice_get modules number) refl at_is
 
     in_memory_does :
-        (script : List (List ℕ)) (r : Registers)
+        (script : List (List ℕ)) (events : List Event) (r : Registers)
         → IsScript script
         → IsMemory after
         → HoldBytes r
         → NeverOutside
         (λ (budget : ℕ).
-        source_run modules (placement_of plan modules objects) (placement_of plan modules objects).stack.len before script []
+        source_run modules (placement_of plan modules objects) (placement_of plan modules objects).stack.len before script events
         budget)
         → Agrees
         (λ (budget : ℕ).
-        source_run modules (placement_of plan modules objects) (placement_of plan modules objects).stack.len before script []
+        source_run modules (placement_of plan modules objects) (placement_of plan modules objects).stack.len before script events
         budget)
-        (λ (steps : ℕ). state_after script steps (at_place image.start r after []))
-    in_memory_does script r bytes is_memory registers never =
-        program_does plan modules objects merged image before after is script bytes is_memory modules_are sound_module r
+        (λ (steps : ℕ). state_after script steps (at_place image.start r after events))
+    in_memory_does script events r bytes is_memory registers never =
+        program_does plan modules objects merged image before after is script bytes is_memory modules_are sound_module events r
         registers never
 
 -- The machine performs exactly the port reads and writes of the source, in order and with the same values, and halts
@@ -156,20 +157,20 @@ pub made_program_does :
     → IsLoaded image.byte_at before after
     → length before ≡ MEMORY_SIZE
     → IsMemory after
-    → (script : List (List ℕ)) (r : Registers)
+    → (script : List (List ℕ)) (events : List Event) (r : Registers)
     → IsScript script
     → HoldBytes r
     → NeverOutside
     (λ (budget : ℕ).
-    source_run modules (placement_of plan modules objects) (placement_of plan modules objects).stack.len before script []
+    source_run modules (placement_of plan modules objects) (placement_of plan modules objects).stack.len before script events
     budget)
     → Agrees
     (λ (budget : ℕ).
-    source_run modules (placement_of plan modules objects) (placement_of plan modules objects).stack.len before script []
+    source_run modules (placement_of plan modules objects) (placement_of plan modules objects).stack.len before script events
     budget)
-    (λ (steps : ℕ). state_after script steps (at_place image.start r after []))
-made_program_does plan modules objects merged image before after joined made lawful merge placed loaded size is_memory script r bytes registers never =
+    (λ (steps : ℕ). state_after script steps (at_place image.start r after events))
+made_program_does plan modules objects merged image before after joined made lawful merge placed loaded size is_memory script events r bytes registers never =
     in_memory_does plan modules objects merged image before after made
     (is_in_memory plan modules objects merged image before after joined (are_made modules objects made) lawful merge
     placed loaded size)
-    script r bytes is_memory registers never
+    script events r bytes is_memory registers never

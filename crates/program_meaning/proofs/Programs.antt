@@ -185,7 +185,7 @@ module _
     (number : ℕ) (module_is : ModuleIs plan modules objects merged before after number)
     → modules_are.at number ≡ Some module_is
     → IsSoundlyTyped module_is.typed × HasWords module_is.tree)
-    (r : Registers) (registers : HoldBytes r)
+    (events : List Event) (r : Registers) (registers : HoldBytes r)
   where
     abbrev program : Program
     program = record { modules = modules; placement = placement_of plan modules objects; script = script }
@@ -277,18 +277,18 @@ module _
     start_state budget = record {
       memory = starting_memory modules (placement_of plan modules objects) before;
       frame = [];
-      events = [];
+      events = events;
       budget = budget;
     }
 
     abbrev runs : (budget : ℕ) → Run
     runs budget =
-        source_run modules (placement_of plan modules objects) (placement_of plan modules objects).stack.len before script []
+        source_run modules (placement_of plan modules objects) (placement_of plan modules objects).stack.len before script events
         budget
 
     -- for each budget
     each_run : (budget : ℕ)
-        → Performs script (at_place image.start r after []) budget (runs budget)
+        → Performs script (at_place image.start r after events) budget (runs budget)
     unfolding source_run start_state number
     each_run budget =
         let one = modules_are.all (position_or_len is_main modules) main.one main_at in
@@ -309,10 +309,10 @@ module _
         found (Gave Onward (start_state budget)))) (main.found ∙ ap (λ (typed : TypedModule). Some typed) same)
         ∙ ap (λ (at : ℕ).
         run_of (main_done budget module_is.typed (record { program = program; number_of_module = at; room = (placement_of plan modules objects).stack.len }) (start_state budget))) number_is in
-        performs script (at_place image.start r after []) budget (runs budget)
-        (subst (λ (run : Run). EndsAs script budget (at_place image.start r after []) run.end run.events) (sym run_is)
+        performs script (at_place image.start r after events) budget (runs budget)
+        (subst (λ (run : Run). EndsAs script budget (at_place image.start r after events) run.end run.events) (sym run_is)
         (subst (λ (pc : ℕ).
-        EndsAs script budget (running (record r { pc = pc }) after [])
+        EndsAs script budget (running (record r { pc = pc }) after events)
         (run_of (main_done budget module_is.typed (surroundings_in code (placement_of plan modules objects).stack.len) (start_state budget))).end
         (run_of (main_done budget module_is.typed (surroundings_in code (placement_of plan modules objects).stack.len) (start_state budget))).events)
         (start_wraps image.start place (starts (position_or_len is_main modules) module_is has)) ends))
@@ -320,5 +320,5 @@ module _
     -- The image on the machine performs exactly the source's port reads and writes, and halts exactly if the source ends.
     pub program_does :
         NeverOutside runs
-        → Agrees runs (λ (steps : ℕ). state_after script steps (at_place image.start r after []))
-    program_does never = agrees script (at_place image.start r after []) runs each_run never
+        → Agrees runs (λ (steps : ℕ). state_after script steps (at_place image.start r after events))
+    program_does never = agrees script (at_place image.start r after events) runs each_run never
