@@ -16,14 +16,13 @@ use Rattle.layout.specs.Lawful.{IsLawful}
 use Rattle.layout.specs.Placing.{Plan as PlacingPlan}
 use Rattle.meaning.specs.Run.{NeverOutside, source_run}
 use Rattle.isa8080.specs.State.{HoldBytes, Registers}
-use Rattle.isa8080.specs.Step.{state_after}
+use Rattle.isa8080.specs.Step.{running, state_after}
 use Rattle.codegen8080.specs.Modules.{IsGenerated}
 use Rattle.program_images.specs.internal.AtPlans.{plan_of}
 use Rattle.program_memory.specs.internal.InMemory.{IsInMemory, placement_of}
 use Rattle.program_memory.proofs.Modules.{is_linked}
 use Rattle.generated_objects.specs.Made.{AreMadeOf}
 use Rattle.generated_objects.proofs.Made.{is_in_memory}
-use Rattle.code_meaning.specs.Landing.{at_place}
 use Rattle.program_meaning.specs.Agreement.{Agrees}
 use Rattle.program_meaning.specs.Entering.{ModulesAre}
 use Rattle.program_meaning.specs.Linked.{ModuleIs}
@@ -139,7 +138,7 @@ module _
         (λ (budget : ℕ).
         source_run modules (placement_of plan modules objects) (placement_of plan modules objects).stack.len before script events
         budget)
-        (λ (steps : ℕ). state_after script steps (at_place image.start r after events))
+        (λ (steps : ℕ). state_after script steps (running (record r { pc = image.start }) after events))
     in_memory_does script events r bytes is_memory registers never =
         program_does plan modules objects merged image before after is script bytes is_memory modules_are sound_module events r
         registers never
@@ -168,7 +167,7 @@ pub made_program_does :
     (λ (budget : ℕ).
     source_run modules (placement_of plan modules objects) (placement_of plan modules objects).stack.len before script events
     budget)
-    (λ (steps : ℕ). state_after script steps (at_place image.start r after events))
+    (λ (steps : ℕ). state_after script steps (running (record r { pc = image.start }) after events))
 made_program_does plan modules objects merged image before after joined made lawful merge placed loaded size is_memory script events r bytes registers never =
     in_memory_does plan modules objects merged image before after made
     (is_in_memory plan modules objects merged image before after joined (are_made modules objects made) lawful merge

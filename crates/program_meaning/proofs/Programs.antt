@@ -58,7 +58,7 @@ use Rattle.isa8080.specs.Step.{running, state_after}
 use Rattle.isa8080.specs.declared.registers.Status.{Status}
 use Rattle.isa8080.specs.State.{State}
 use Rattle.procedure_meaning.specs.Main.{ComesTo as Arrived, EndsAs}
-use Rattle.code_meaning.specs.Landing.{IsLeft, at_place}
+use Rattle.code_meaning.specs.Landing.{IsLeft}
 use Rattle.program_meaning.specs.Agreement.{Agrees, ComesTo, Performs}
 use Rattle.program_meaning.proofs.Agreeing.{agrees}
 use Rattle.procedure_meaning.proofs.Main.{program_runs}
@@ -173,9 +173,6 @@ main_has tree typed storage has is = by typed.main.body tree.main.body has.body 
     by _ range (IsListOf {first_label = first} {places = places} {trees = trees} are) some =
         by_count (length (nodes_of tree).statements) range.first range.count trees are (statement_there first places trees some)
 
-start_wraps : (start place : ℕ) → start ≡ wrap place → wrap place ≡ wrap start
-start_wraps start place is = omega (arith, is)
-
 module _
     (plan : PlacingPlan) (modules : List TypedModule) (objects : List ObjectModule) (merged : ObjectModule)
     (image : Image) (before after : List ℕ) (is : IsInMemory plan modules objects merged image before after)
@@ -288,7 +285,7 @@ module _
 
     -- for each budget
     each_run : (budget : ℕ)
-        → Performs script (at_place image.start r after events) budget (runs budget)
+        → Performs script (running (record r { pc = image.start }) after events) budget (runs budget)
     unfolding source_run start_state number
     each_run budget =
         let one = modules_are.all (position_or_len is_main modules) main.one main_at in
@@ -309,16 +306,16 @@ module _
         found (Gave Onward (start_state budget)))) (main.found ∙ ap (λ (typed : TypedModule). Some typed) same)
         ∙ ap (λ (at : ℕ).
         run_of (main_done budget module_is.typed (record { program = program; number_of_module = at; room = (placement_of plan modules objects).stack.len }) (start_state budget))) number_is in
-        performs script (at_place image.start r after events) budget (runs budget)
-        (subst (λ (run : Run). EndsAs script budget (at_place image.start r after events) run.end run.events) (sym run_is)
+        performs script (running (record r { pc = image.start }) after events) budget (runs budget)
+        (subst (λ (run : Run). EndsAs script budget (running (record r { pc = image.start }) after events) run.end run.events) (sym run_is)
         (subst (λ (pc : ℕ).
         EndsAs script budget (running (record r { pc = pc }) after events)
         (run_of (main_done budget module_is.typed (surroundings_in code (placement_of plan modules objects).stack.len) (start_state budget))).end
         (run_of (main_done budget module_is.typed (surroundings_in code (placement_of plan modules objects).stack.len) (start_state budget))).events)
-        (start_wraps image.start place (starts (position_or_len is_main modules) module_is has)) ends))
+        (sym (starts (position_or_len is_main modules) module_is has)) ends))
 
     -- The image on the machine performs exactly the source's port reads and writes, and halts exactly if the source ends.
     pub program_does :
         NeverOutside runs
-        → Agrees runs (λ (steps : ℕ). state_after script steps (at_place image.start r after events))
-    program_does never = agrees script (at_place image.start r after events) runs each_run never
+        → Agrees runs (λ (steps : ℕ). state_after script steps (running (record r { pc = image.start }) after events))
+    program_does never = agrees script (running (record r { pc = image.start }) after events) runs each_run never
