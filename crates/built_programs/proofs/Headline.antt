@@ -16,7 +16,7 @@ use Rattle.layout.specs.Lawful.{IsLawful}
 use Rattle.frontend.specs.Reading.{IsSourceOf}
 use Rattle.meaning.specs.Run.{NeverOutside, Run, source_run}
 use Rattle.isa8080.specs.State.{State}
-use Rattle.isa8080.specs.Step.{initial_registers}
+use Rattle.isa8080.specs.Step.{initial_registers, initial_state, state_after}
 use Rattle.module_segments.proofs.Slots.{stored}
 use Rattle.placing.specs.Views.{plan_view}
 use Rattle.locate.specs.Locating.{Absolute, IsAbsolute, loaded}
@@ -114,15 +114,14 @@ module _
     -- by LINK and LOCATE
     linked_does : IsImageOfObjects built.plan built.objects built.image
         → DoesWhatItSays modules as_planned built.plan.stack_size built.image
-    unfolding machine_run
+    unfolding machine_run placement_by
     linked_does linked memory script events is_memory is_script never =
         let placed = linked.placed in
-        let after : List ℕ = loaded built.image.pieces memory in
         agrees_so (source_run modules as_planned built.plan.stack_size memory script events)
         (machine_run built.image memory script events)
         (subst (λ (start : ℕ).
         Agrees (source_run modules as_planned built.plan.stack_size memory script events)
-        (λ (steps : ℕ). Rattle.isa8080.specs.Step.state_after script steps (Rattle.isa8080.specs.Step.initial_state (loaded built.image.pieces memory) events start)))
+        (λ (steps : ℕ). state_after script steps (initial_state (loaded built.image.pieces memory) events start)))
         (sym placed.start)
         (made_program_does (plan_view built.plan) modules built.objects linked.merged placed.image memory
         (loaded built.image.pieces memory)
