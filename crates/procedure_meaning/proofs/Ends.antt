@@ -59,7 +59,7 @@ plain_planned at {here = here} {last = last} i others (StepCarriedOut {known = k
   written = rest;
 }
 
--- The end does: where the code of the return stands behind it, with 0 in the register of a result.
+-- The end does: where the code of the return stands after it, with 0 in the register of a result.
 pub end_does :
     {A : Type 0} {outcome : Outcome A} {Good : A → SourceState → State → Type 0} {budget : ℕ}
     {base source : List ℕ} {frame : List (List ℕ)} {memory : List ℕ} {events : List Event}

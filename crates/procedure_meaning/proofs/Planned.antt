@@ -16,7 +16,7 @@ use Rattle.codegen8080.specs.declared.meeting.Here.{Here}
 use Rattle.codegen8080.specs.Generated.{AreCarriedOut, NoneCarriedOut, StepCarriedOut, carried_steps, here_after, site_of, waiting_after}
 use Rattle.statement_meaning.specs.Bodies.{BodyContext}
 
--- what is written behind the first items, where this is known then
+-- what is written after the first items, where this is known then
 pub record IsBehind
     (at : BodyContext) (first : List Item) (known : Facts) (others : List Planned) (list : List Item) (last : Here) :
     Type 0 where

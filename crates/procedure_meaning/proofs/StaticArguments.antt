@@ -69,7 +69,7 @@ module _ (at : BodyContext) (sound : IsSound at.context)
     (taken : (index : ℕ) → index < length others
     → IsTaken at others slots values entered (top + 2 + 2 * (length others - 1 - index)) index)
     (return_lies : ReturnLies top back entered) where
-  -- the machine behind the arguments on the stack, with the return address under its stack pointer
+  -- the machine after the arguments on the stack, with the return address under its stack pointer
   pub record IsBelow
       (known : Facts) (source memory : List ℕ) (r : Registers) (last : Here) (rest : List Planned) (to : ℕ)
       (facts : Facts) : Type 0 where

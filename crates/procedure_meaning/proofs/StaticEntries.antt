@@ -55,7 +55,7 @@ module _ (at : BodyContext) (sound : IsSound at.context)
   abbrev pub Good : Unit {0} → SourceState → State → Type 0
   Good given t end = HasBegun at to (top + 2 + 2 * (length slots - 1)) back begun.facts entered t end
 
-  -- behind the last instruction
+  -- after the last instruction
   pub finish :
       (held : Facts) (here : Here) (list : List Item) (from level : ℕ) (stacked : List ℕ) (r : Registers)
       (memory : List ℕ)

@@ -40,7 +40,7 @@ use Rattle.procedure_meaning.proofs.Planned.{IsBehind, plain_behind, word_behind
 use Rattle.procedure_meaning.proofs.Puts.{IsPart, Slot, put, put_down, put_nth}
 use Rattle.procedure_meaning.proofs.StaticStages.{Underway, pop_goes, store_form, store_goes}
 
--- items behind the first one
+-- items after the first one
 pub record PartedThere (activation : Activation) (first others : List Item) (from middle to : ℕ) : Type 0 where
   pub one : IsThere activation first from middle
   pub rest : IsThere activation others middle to

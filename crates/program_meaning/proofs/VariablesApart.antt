@@ -25,7 +25,7 @@ use Rattle.module_segments.proofs.Slots.{data_offset}
 use Rattle.code_facts.specs.Holding.{place_at}
 use Rattle.procedure_meaning.specs.Modules.{ModuleCode, VariablesAreApart}
 
--- the bytes of an object in the data segment are before those of each object behind it
+-- the bytes of an object in the data segment are before those of each object after it
 before : (objects : List TypedObject) (one other : ℕ) (found : TypedObject)
     → one < other
     → slice_get objects one ≡ Some found
@@ -55,7 +55,7 @@ data_place names (places.Data other) offset same =
     ap (λ (number : ℕ). places.Data number) is
 data_place names (places.External other index) offset same = absurd (cc)
 
--- a variable of the data segment is behind those before it
+-- a variable of the data segment is after those before it
 in_data : (typed : TypedModule) (storage : Storage) (homes : List Home) (number : ℕ) (object : TypedObject)
     (place : Place)
     → IsLaidOut typed storage
@@ -81,8 +81,8 @@ bytes_differ : (base first size offset second length distance : ℕ)
     → second + length ≤ 65535
     → wrap (wrap (first + base) + offset) ≡ wrap (wrap (second + base) + distance)
     → ⊥
-bytes_differ base first size offset second length distance within behind inside fits same =
-    omega (arith, within, behind, inside, fits, same)
+bytes_differ base first size offset second length distance within beyond inside fits same =
+    omega (arith, within, beyond, inside, fits, same)
 
 order : (one other : ℕ) → one ≢ other → (one < other) ⊎ (other < one)
 order zero zero differ = absurd (differ refl)
@@ -112,7 +112,7 @@ module _ (code : ModuleCode) (laid : IsLaidOut code.typed code.storage)
   ordered one other first second left right offset distance less first_is second_is first_home second_home left_is right_is within inside same =
       bytes_differ (code.layout.address_of (InSegment segments.Data)) (data_bytes (take one code.typed.objects))
       (size_of_object first) offset (data_bytes (take other code.typed.objects)) (size_of_object second) distance within
-      (omega (arith, behind, first_size)) inside (omega (arith, last, second_size, fits))
+      (omega (arith, beyond, first_size)) inside (omega (arith, last, second_size, fits))
       (ap (λ (place : Place). wrap (place_at code.layout place + offset)) (sym left_place)
       ∙ same ∙ ap (λ (place : Place). wrap (place_at code.layout place + distance)) right_place)
     where
@@ -132,9 +132,9 @@ module _ (code : ModuleCode) (laid : IsLaidOut code.typed code.storage)
       second_size : bytes_in_data second.home second ≡ size_of_object second
       second_size = ap (λ (home : TypedHome). bytes_in_data home second) second_home
 
-      behind : data_bytes (take one code.typed.objects) + bytes_in_data first.home first
+      beyond : data_bytes (take one code.typed.objects) + bytes_in_data first.home first
           ≤ data_bytes (take other code.typed.objects)
-      behind = before code.typed.objects one other first less first_is
+      beyond = before code.typed.objects one other first less first_is
 
       last : data_bytes (take other code.typed.objects) + bytes_in_data second.home second
           ≤ data_bytes (take (suc other) code.typed.objects)

@@ -1,4 +1,4 @@
--- The table of DO CASE and the statements behind it.
+-- The table of DO CASE and the statements after it.
 use Rattle.std.proofs.Common.{◌≡◌, ℕ, zero, suc, ◌+◌, ◌-◌, ◌*◌, ◌<◌, Bool, true, false, nat_lt, nat_eq, if◌then◌else◌, List, [], ◌∷◌, ◌++◌, Option, Some, None, refl, sym, ap, subst, ◌∙◌, arith}
 use Rattle.std.proofs.lemmas.Bool.{ltb-false}
 use Rattle.std.proofs.lemmas.Option.{same_Some}
@@ -104,7 +104,7 @@ table_parted {at = at} {last = last} {waiting = waiting} {to = to} {others = oth
         next_index : (n k : ℕ) → suc n + k ≡ n + suc k
         next_index n k = omega arith
 
--- a statement of the list behind the table: where it is entered, and that it goes on to the end
+-- a statement of the list after the table: where it is entered, and that it goes on to the end
 pub record EntryStands (at : BodyContext) (own : LabelNumber) (found : StatementNumber) (after : Here) (to : ℕ) : Type 0 where
   pub place : ℕ
   pub here : Here
@@ -116,7 +116,7 @@ pub record EntryStands (at : BodyContext) (own : LabelNumber) (found : Statement
       → Stage at.context at.context.activation.level 0 need base u here.facts now memory_now
       → Does (script_of at.context) u.budget 0 (at_place middle now memory_now u.events) (Gave Onward u) (Leaves at base to after budget)
 
--- statements behind the table
+-- statements after the table
 pub record EntriesStand
     (at : BodyContext) (list : Range) (own end : LabelNumber) (from index left : ℕ) (after : Here) (to : ℕ) : Type 0 where
   pub end_is : at.context.activation.layout.place_of end.index ≡ to
@@ -193,7 +193,7 @@ no_statement none some = absurd cc
 not_both : {A : Type 0} {one : Bool} → one ≡ false → one ≡ true → A
 not_both untrue holds = absurd cc
 
--- the statements behind the table stand
+-- the statements after the table stand
 pub behind_parted :
     {at : BodyContext} {waiting : Option Facts} {after : Here} {to : ℕ} (list : Range) (own end : LabelNumber) (left index : ℕ)
     (here : Here) (from : ℕ)

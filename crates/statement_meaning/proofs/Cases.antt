@@ -151,14 +151,14 @@ pub record CaseParts (at : BodyContext) (list : Range) (bound : ℕ) (trees : Ty
 
 -- the statement of a number is entered by way of the table
 pub number_enters :
-    {at : BodyContext} {base : List ℕ} {to need bound from middle behind budget : ℕ} {after : Here} {trees : TypedStatements}
+    {at : BodyContext} {base : List ℕ} {to need bound from middle beyond budget : ℕ} {after : Here} {trees : TypedStatements}
     {facts last : Facts} {waiting : Option Facts} {others : List Rattle.statements8080.specs.declared.plan.Planned.Planned} {here end_here : Here}
     (list : Range) (table own end : LabelNumber) (number : ℕ) (u : SourceState) (r : Registers) (memory : List ℕ)
     → CaseParts at list bound trees
     → 2 + 2 * height_of_statements trees ≤ need
     → Steps at.context facts from (into_table table) last middle
     → TableStands at (λ (n : ℕ). entry_of at.body list n (label_at own n) end) here waiting middle 0 list.count others end_here to
-    → EntriesStand at list own end behind 0 list.count after to
+    → EntriesStand at list own end beyond 0 list.count after to
     → number < list.count
     → word r.d r.e ≡ number
     → u.budget ≤ budget
@@ -181,7 +181,7 @@ number_enters {at = at} {base = base} {to = to} {need = need} {bound = bound} {m
     (AtLabel (entry_of at.body list number (label_at own number) end).index) [] (middle + 3 * number) (middle + 3 * number + 3) now memory
     u.events parts.sound.sound.lies there.ready.shares.code jump)))
 
--- the whole code of a choice that is not known, behind the code of its number
+-- the whole code of a choice that is not known, after the code of its number
 pub record ChoiceStands
     (at : BodyContext) (list : Range) (table own end : LabelNumber) (before : Facts) (code : List Step) (from : ℕ) (after : Here) (to : ℕ) : Type 0 where
   pub known : Facts

@@ -59,7 +59,7 @@ use Rattle.statement_meaning.proofs.Cases.{bounded, choice_parted}
 use Rattle.statement_meaning.proofs.LoopCode.{steps_over}
 use Rattle.statement_meaning.proofs.PlannedParts.{Stand, code_parted, over, statement_parted}
 
--- the code behind that of the number
+-- the code after that of the number
 abbrev pub behind_number : BodyContext → Range → (table own end : LabelNumber) → List Planned
 behind_number at list table own end =
     into_table_steps table

@@ -51,7 +51,7 @@ use Rattle.statement_meaning.proofs.Meetings.{has_one_jump_is, meets_here, meets
 use Rattle.statement_meaning.proofs.Outcomes.{Between, does_later, ends_onward, taking_does, to_label}
 use Rattle.statement_meaning.proofs.Simple.{FormDoes}
 
--- a statement, and then the code behind it
+-- a statement, and then the code after it
 pub statement_then :
     {at : BodyContext} {base : List ℕ} {place to before budget : ℕ} {middle last : Here} {from : State}
     {outcome : Outcome Flow}
@@ -184,7 +184,7 @@ module _
         → Between at need base t known r memory
     stage t known r memory less ready knows = record { below = omega (arith, less, below); room = room; ready = ready; known = knows }
 
-    -- the first statement, where the code goes on behind it
+    -- the first statement, where the code goes on after it
     then_goes :
         (known : Facts) (from middle : ℕ) (h : Here) (t : SourceState) (r : Registers) (memory : List ℕ)
         → StatementDoes at known then_part from h middle

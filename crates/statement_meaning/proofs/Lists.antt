@@ -114,7 +114,7 @@ all_do at {here = here} {last = last} {to = to} {bound = bound} (MoreDo {middle 
     (all_do at rest are types.1 lists.1 need base t now ended goes parts.1
     (record { below = omega (arith, below, less); room = stage.room; ready = ready; known = known }))))
 
--- the statements of a list from a label on, behind the label
+-- the statements of a list from a label on, after the label
 pub record FromLabel
     (at : BodyContext) (label : ℕ) (height : ℕ) (others : TypedStatements) (last : Here) (to : ℕ) : Type 0 where
   pub first : ℕ
